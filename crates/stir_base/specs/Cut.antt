@@ -1,0 +1,12 @@
+-- A text cut in two at the first of its bytes that is a given one.
+use Rattle.std.specs.Prelude.{ℕ, ◌+◌, ◌==◌, Bool, not, List, take, drop, position, Option}
+use Rattle.std.specs.List.{list_all}
+use Rattle.std.specs.Option.{option_map}
+
+-- no byte of the text is this one
+abbrev pub lacks : ℕ → List ℕ → Bool
+lacks byte text = list_all (λ b. not (b == byte)) text
+
+-- what stands before the first such byte, and what behind it
+abbrev pub cut : ℕ → List ℕ → Option (List ℕ × List ℕ)
+cut byte text = option_map (λ place. (take place text, drop (place + 1) text)) (position (λ b. b == byte) text)
