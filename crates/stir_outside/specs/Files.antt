@@ -1,0 +1,36 @@
+-- What a shelf holds and counts.
+use Rattle.std.specs.Prelude.{ℕ, ◌≤◌, ◌<◌, ⊤, List, [], ◌∷◌, length, Option, Some, None, if◌then◌else◌}
+use Rattle.std.specs.Str.{bytes_eq}
+
+-- a finite map from names to contents, as a list of pairs of which the first of a name counts
+abbrev pub Files : Type 0
+Files = List (List ℕ × List ℕ)
+
+-- the content of the file of that name, where there is one
+abbrev pub file : List ℕ → Files → Option (List ℕ)
+file name [] = None
+file name (entry ∷ others) = if bytes_eq name entry.0 then Some entry.1 else file name others
+
+-- a fact about the file of that name, where the shelf tells its files
+abbrev pub OfFile : Option Files → List ℕ → (Option (List ℕ) → Type 0) → Type 0
+OfFile None name P = ⊤
+OfFile (Some files) name P = P (file name files)
+
+-- the content is longer than the limit
+abbrev pub IsLonger : ℕ → Option (List ℕ) → Type 0
+IsLonger limit None = ⊥
+IsLonger limit (Some content) = limit < length content
+
+-- how often files were read, missing, too long, or failed
+pub record Counts : Type 0 where
+  pub reads : ℕ
+  pub misses : ℕ
+  pub longs : ℕ
+  pub faults : ℕ
+
+-- no count fell, and none passed its last value
+pub record NoneFell (before now : Counts) : Type 0 where
+  pub reads : before.reads ≤ now.reads
+  pub misses : before.misses ≤ now.misses
+  pub longs : before.longs ≤ now.longs
+  pub faults : before.faults ≤ now.faults
