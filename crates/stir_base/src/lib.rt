@@ -1,5 +1,5 @@
 //! What the crates of this repository share below their own subjects: counts of faults and told
-//! content (definitions alone), a text cut at a byte, numbers in decimal digits, and lines.
+//! content (definitions alone), a text cut in two, numbers in decimal digits, and lines.
 #![tactic(auto)]
 
 mod decimal;
@@ -8,7 +8,7 @@ mod split;
 
 pub use decimal::read_number;
 pub use line::next_line;
-pub use split::cut;
+pub use split::{behind, cut};
 
 #[cfg(test)]
 mod tests;

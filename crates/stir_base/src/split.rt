@@ -1,6 +1,6 @@
 ghost use Rattle.std.specs.Prelude.{◌≡◌, ◌<◌, ◌==◌, ◌++◌, ◌∷◌, true, length, position, IfSome, IfNone};
-ghost use Rattle.std.specs.Option.{option_map};
-ghost use Rattle.stir_base.specs.Cut.{cut, lacks};
+ghost use Rattle.std.specs.Option.{option_copied, option_map};
+ghost use Rattle.stir_base.specs.Cut.{behind, cut, lacks};
 
 /// What stands before the first such byte of the text, and what stands behind it; `None` where the
 /// text has no such byte.
@@ -18,6 +18,18 @@ pub fn cut(text: &[u8], byte: u8) -> Option<(&[u8], &[u8])>
     let (front, _) = text.split_at(place);
     let (_, rest) = text.split_at(place + 1);
     Some((front, rest))
+}
+
+/// What stands behind the front of the text; `None` where the text doesn't begin with it.
+#[tactic(auto, using(crate::proofs::CutLaws::behind_split))]
+pub fn behind<'a>(text: &'a [u8], front: &[u8]) -> Option<&'a [u8]>
+    ensures exact { option_copied result ≡ behind front.now text.now }
+    ensures split { IfSome result (λ rest. text.now ≡ front.now ++ rest.now) }
+{
+    match text.strip_prefix(front) {
+        Some(rest) => Some(rest),
+        None => None,
+    }
 }
 
 fn first_place(text: &[u8], byte: u8) -> Option<usize>

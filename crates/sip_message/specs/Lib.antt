@@ -1,0 +1,3 @@
+pub mod Alphabet
+pub mod Fields
+pub mod Plain
