@@ -1,0 +1,107 @@
+-- Laws of the canonical number.
+use Rattle.std.proofs.Common.{◌≡◌, ℕ, Bool, true, false, cond, not, ◌==◌, List, [], ◌∷◌, ◌++◌, Some, None, arith, refl, sym, ◌∙◌, ap}
+use Rattle.std.proofs.lemmas.Bool.Decides.{nat_tests}
+use Rattle.std.specs.List.{list_all}
+use Rattle.std.specs.Option.{option_map}
+use Rattle.tn_values.specs.Number.{is_number_byte, is_number, exact}
+use Rattle.tn_values.specs.Local.{LocalView}
+use Rattle.tn_values.specs.Canon.{is_separator, plus, without_separators, is_national, with_country, number_of_kept, Canon, StandsFor, international, plain, national}
+use Rattle.tn_values.proofs.Conjunction.{both}
+use Rattle.tn_values.proofs.NumberFacts.{number_parts}
+
+-- ---- what a number keeps
+
+stays : (byte : ℕ) → is_number_byte byte ≡ true → not (is_separator byte) ≡ true
+stays byte h = grind (arith, nat_tests)
+
+bytes_stay : (text : List ℕ) → list_all is_number_byte text ≡ true → without_separators text ≡ text
+bytes_stay [] h = refl
+bytes_stay (byte ∷ rest) h =
+    let each = both (is_number_byte byte) (list_all is_number_byte rest) h in
+    ap (λ b. cond b (byte ∷ without_separators rest) (without_separators rest)) (stays byte each.0)
+    ∙ ap (λ kept. byte ∷ kept) (bytes_stay rest each.1)
+
+-- a number has no separators
+pub number_stays : (number : List ℕ) → is_number number ≡ true → without_separators number ≡ number
+number_stays number h = bytes_stay number (number_parts number h).bytes
+
+no_plus : (byte : ℕ) → is_number_byte byte ≡ true → (byte == plus) ≡ false
+no_plus byte h = grind (arith, nat_tests)
+
+-- a number has no `+` in front
+without_plus : (number : List ℕ) (local : LocalView) → is_number number ≡ true
+    → number_of_kept number local ≡ option_map (with_country local) (exact number)
+unfolding is_number
+without_plus [] local h = refl
+without_plus (first ∷ rest) local h =
+    let bytes = (number_parts (first ∷ rest) h).bytes in
+    let each = both (is_number_byte first) (list_all is_number_byte rest) bytes in
+    ap (λ b. cond b (exact rest) (option_map (with_country local) (exact (first ∷ rest)))) (no_plus first each.0)
+
+exact_number : (number : List ℕ) → is_number number ≡ true → exact number ≡ Some number
+exact_number number h = ap (λ b. cond b (Some number) None) h
+
+-- a number without a `+`
+plain_number : (number : List ℕ) (local : LocalView) → is_number number ≡ true → number_of_kept number local ≡ Some (with_country local number)
+plain_number number local h = without_plus number local h ∙ ap (option_map (with_country local)) (exact_number number h)
+
+-- ---- each way gives the number
+
+pub given : (text : List ℕ) (local : LocalView) (number : List ℕ) → StandsFor text local number → Canon text local ≡ Some number
+unfolding Canon
+given text local number (international h kept) = ap (λ k. number_of_kept k local) kept ∙ exact_number number h
+given text local number (plain h kept other) =
+    ap (λ k. number_of_kept k local) kept ∙ plain_number number local h ∙ ap (λ b. Some (cond b (local.country ++ number) number)) other
+given text local number (national digits h kept own whole) =
+    ap (λ k. number_of_kept k local) kept ∙ plain_number digits local h
+    ∙ ap (λ b. Some (cond b (local.country ++ digits) digits)) own ∙ ap Some (sym whole)
+
+-- ---- and each number comes in one of the ways
+
+exact_by : (text number : List ℕ) (b : Bool) → cond b (Some text) None ≡ Some number → (b ≡ true) × (text ≡ number)
+exact_by text number true h = (refl, cc)
+exact_by text number false h = cc
+
+completed_by : (text number : List ℕ) (local : LocalView) (b : Bool)
+    → option_map (with_country local) (cond b (Some text) None) ≡ Some number → (b ≡ true) × (with_country local text ≡ number)
+completed_by text number local true h = (refl, cc)
+completed_by text number local false h = cc
+
+completed_stands : (text kept number : List ℕ) (local : LocalView) (b : Bool) → is_national kept local ≡ b → is_number kept ≡ true
+    → without_separators text ≡ kept → cond b (local.country ++ kept) kept ≡ number → StandsFor text local number
+completed_stands text kept number local true own h is whole = national kept h is own (sym whole)
+completed_stands text kept number local false other h is same =
+    plain (ap is_number (sym same) ∙ h) (is ∙ same) (ap (λ k. is_national k local) (sym same) ∙ other)
+
+eq_plus : (first : ℕ) → (first == plus) ≡ true → first ≡ plus
+eq_plus first h = grind (arith, nat_tests)
+
+first_stands : (text rest number : List ℕ) (first : ℕ) (local : LocalView) (b : Bool) → (first == plus) ≡ b
+    → without_separators text ≡ first ∷ rest
+    → cond b (exact rest) (option_map (with_country local) (exact (first ∷ rest))) ≡ Some number → StandsFor text local number
+first_stands text rest number first local true found is h =
+    let read = exact_by rest number (is_number rest) h in
+    international (ap is_number (sym read.1) ∙ read.0) (is ∙ ap (λ b. b ∷ rest) (eq_plus first found) ∙ ap (λ r. plus ∷ r) read.1)
+first_stands text rest number first local false _ is h =
+    let read = completed_by (first ∷ rest) number local (is_number (first ∷ rest)) h in
+    completed_stands text (first ∷ rest) number local (is_national (first ∷ rest) local) refl read.0 is read.1
+
+kept_stands : (text kept number : List ℕ) (local : LocalView) → without_separators text ≡ kept
+    → number_of_kept kept local ≡ Some number → StandsFor text local number
+kept_stands text [] number local is h = cc
+kept_stands text (first ∷ rest) number local is h = first_stands text rest number first local (first == plus) refl is h
+
+pub stands : (text : List ℕ) (local : LocalView) (number : List ℕ) → Canon text local ≡ Some number → StandsFor text local number
+unfolding Canon
+stands text local number h = kept_stands text (without_separators text) number local refl h
+
+-- ---- a number reads back
+
+pub international_again : (text : List ℕ) (local : LocalView) (number : List ℕ) → is_number number ≡ true
+    → text ≡ plus ∷ number → Canon text local ≡ Some number
+international_again text local number h is =
+    given text local number (international h (ap without_separators is ∙ ap (λ kept. plus ∷ kept) (number_stays number h)))
+
+pub plain_again : (text : List ℕ) (local : LocalView) (number : List ℕ) → is_number number ≡ true
+    → text ≡ number → is_national number local ≡ false → Canon text local ≡ Some number
+plain_again text local number h is other = given text local number (plain h (ap without_separators is ∙ number_stays number h) other)

@@ -1,0 +1,5 @@
+pub mod Conjunction
+pub mod NumberFacts
+pub mod LocalFacts
+pub mod KeptFacts
+pub mod CanonLaws

@@ -1,0 +1,4 @@
+pub mod Digit
+pub mod Number
+pub mod Local
+pub mod Canon

@@ -1,0 +1,19 @@
+//! Telephone numbers: their exact and their canonical form.
+//!
+//! A [`Number`] is 1 to 15 bytes of `0-9 * #`, and contracts see it as the list of its bytes. [`Number::exact`] takes a
+//! text that is one, byte for byte, as the claims of a PASSporT have it (RFC 8225 section 5.2.1). [`Number::read`] brings
+//! the text of a SIP message to its canonical form (RFC 8224 section 8.3), with the country's digits that [`Local`] has.
+//! Nothing here takes memory.
+#![tactic(auto)]
+
+mod alphabet;
+mod kept;
+mod numbering;
+mod numbers;
+mod reading;
+
+pub use numbering::Local;
+pub use numbers::Number;
+
+#[cfg(test)]
+mod tests;

@@ -1,0 +1,194 @@
+//! A telephone number.
+ghost use Rattle.std.specs.Prelude.{◌≡◌, ◌≤◌, ◌↔◌, ◌∷◌, length, false, IsTrue, IfSome, Some, nat_eq, refl};
+ghost use Rattle.std.specs.Ordering.{nat_cmp};
+ghost use Rattle.std.specs.Hash as fed;
+ghost use Rattle.std.specs.Cmp.Lexicographic.{slice_cmp, nat_list_eq_equiv, nat_list_cmp_total, texts_ties, texts_po};
+ghost use Rattle.std.specs.Cmp.{partial_equiv_from_equiv};
+ghost use Rattle.std.specs.Cmp.Rules.{hashing};
+ghost use Rattle.std.specs.Fmt.{padded};
+ghost use Rattle.std.specs.Str.{bytes_eq};
+ghost use Rattle.std.proofs.Common.{rules};
+ghost use Rattle.tn_values.specs.Number.{exact, filled, is_number};
+ghost use Rattle.tn_values.specs.Canon.{Canon, is_national, plus, without_separators, StandsFor};
+
+use crate::alphabet::is_number;
+use crate::numbering::Local;
+use crate::reading::{canonical, is_read_as};
+use std::cmp::Ordering;
+use std::hash::{Hash, Hasher};
+use std::marker::Model;
+use std::{fmt, str};
+
+/// The most bytes of a number (RFC 8226 section 9, ITU-T E.164).
+const LONGEST: usize = 15;
+
+/// A telephone number: 1 to 15 bytes of `0-9 * #` (`TelephoneNumber` of RFC 8226 section 9).
+///
+/// A contract sees it as the list of its bytes, and equality, order, hash and `{}` are those of this list.
+#[derive(Clone, Copy)]
+pub struct Number {
+    bytes: [u8; LONGEST],
+    len: u8,
+}
+
+impl Model for Number {
+    ghost use Rattle.std.specs.Prelude.{ℕ, List, ◌≡◌, take, length, IsTrue, refl};
+    ghost use Rattle.tn_values.specs.Number.{filled, is_number};
+
+    ghost Value = { List ℕ };
+
+    ghost view = { λ n. take n.len n.bytes };
+
+    ghost invariant = { λ n. IsTrue (is_number (take n.len n.bytes)) × (length (take n.len n.bytes) ≡ n.len)
+        × (filled (take n.len n.bytes) ≡ n.bytes) };
+
+    ghost inverse = { λ text. record { bytes = filled text; len = length text } };
+
+    ghost inverse_ok = { λ n h. Prim.rw (h.2, h.1) refl };
+}
+
+impl Number {
+    /// The number that `text` is, byte for byte. None where it isn't 1 to 15 bytes of `0-9 * #`.
+    #[tactic(auto, unfolding(crate::specs::Number::is_number))]
+    pub fn exact(text: &[u8]) -> Option<Number>
+        ensures { result ≡ exact text.now }
+    {
+        if !is_number(text) {
+            return None;
+        }
+        Some(Number {
+            bytes: filled(text),
+            len: text.len() as u8,
+        })
+    }
+
+    /// The canonical number that `text` stands for, or None where there is none.
+    ///
+    /// The bytes `(`, `)`, `-`, `.` and space are dropped. Behind a leading `+` the text is international and stands as
+    /// it is. Otherwise a text of digits alone that is as long as a national number of `local` gets the country's digits
+    /// in front, and any other stands as it is. What is left has to be a number: 1 to 15 bytes of `0-9 * #`.
+    pub fn read(text: &[u8], local: &Local) -> Option<Number>
+        ensures canonical { result ≡ Canon text.now local.now }
+        ensures number { IfSome result (λ number. IsTrue (is_number number)) }
+    {
+        canonical(text, local)
+    }
+
+    /// Whether `text` stands for this number: whether [`Number::read`] gives it.
+    ///
+    /// Every number is read from its bytes behind a `+`, and from its bytes alone unless they are digits and as many as a
+    /// national number of `local` has.
+    pub fn is_read_from(&self, text: &[u8], local: &Local) -> bool
+        ensures canonical { IsTrue result ↔ (Canon text.now local.now ≡ Some self.now) }
+        ensures ways { IsTrue result ↔ StandsFor text.now local.now self.now }
+        ensures international { text.now ≡ plus ∷ self.now → IsTrue result }
+        ensures plain { text.now ≡ self.now → is_national self.now local.now ≡ false → IsTrue result }
+    {
+        is_read_as(text, self.bytes(), local)
+    }
+
+    /// Whether two texts stand for one number, or neither for any, as texts do that differ in their separators alone.
+    #[tactic(auto, unfolding(crate::specs::Canon::Canon))]
+    pub fn are_read_alike(left: &[u8], right: &[u8], local: &Local) -> bool
+        ensures canonical { IsTrue result ↔ (Canon left.now local.now ≡ Canon right.now local.now) }
+        ensures separators { without_separators left.now ≡ without_separators right.now → IsTrue result }
+    {
+        Number::read(left, local) == Number::read(right, local)
+    }
+
+    /// The bytes of the number, 1 to 15 of `0-9 * #`.
+    #[tactic(auto, unfolding(crate::specs::Number::is_number))]
+    pub fn bytes(&self) -> &[u8]
+        ensures value { result.now ≡ self.now }
+        ensures number { IsTrue (is_number self.now) }
+        ensures some { 1 ≤ length self.now }
+        ensures short { length self.now ≤ 15 }
+        ensures again { exact self.now ≡ Some self.now }
+    {
+        &self.bytes[..usize::from(self.len)]
+    }
+
+    /// The number as text, 1 to 15 characters of `0-9 * #`.
+    pub fn as_str(&self) -> &str
+        ensures { result.now ≡ self.now }
+    {
+        match str::from_utf8(self.bytes()) {
+            Ok(text) => text,
+            Err(_) => unreachable!(),
+        }
+    }
+}
+
+impl PartialEq for Number {
+    ghost eq = { bytes_eq };
+
+    ghost laws = { partial_equiv_from_equiv nat_list_eq_equiv };
+
+    fn eq(&self, other: &Number) -> bool {
+        self.bytes() == other.bytes()
+    }
+}
+
+impl Eq for Number {
+    ghost laws = { nat_list_eq_equiv };
+}
+
+impl PartialOrd for Number {
+    ghost partial_cmp = { λ a b. Some (slice_cmp nat_cmp a b) };
+
+    ghost laws = { texts_po };
+
+    fn partial_cmp(&self, other: &Number) -> Option<Ordering> {
+        Some(self.cmp(other))
+    }
+}
+
+/// By the bytes, as slices are ordered: `12` stands before `123`, and `123` before `13`.
+impl Ord for Number {
+    ghost cmp = { slice_cmp nat_cmp };
+
+    ghost total = { nat_list_cmp_total };
+
+    ghost matches_partial_cmp = { λ a b. refl };
+
+    ghost matches_eq = { texts_ties };
+
+    fn cmp(&self, other: &Number) -> Ordering {
+        self.bytes().cmp(&other.bytes())
+    }
+}
+
+impl Hash for Number {
+    ghost hash_input = { fed.slice fed.u8 };
+
+    ghost respects_eq = { Prim.search (hashing, rules) };
+
+    fn hash<H: Hasher>(&self, state: &mut H) {
+        self.bytes().hash(state);
+    }
+}
+
+impl fmt::Display for Number {
+    ghost output = { λ number. Some number };
+
+    ghost styled_output = { λ number spec. Some (padded spec number) };
+
+    fn fmt<W: fmt::Write>(&self, f: &mut fmt::Formatter<W>) -> fmt::Result {
+        f.pad(self.as_str())
+    }
+}
+
+impl fmt::Debug for Number {
+    fn fmt<W: fmt::Write>(&self, f: &mut fmt::Formatter<W>) -> fmt::Result {
+        f.debug_tuple("Number").field(&self.as_str()).finish()
+    }
+}
+
+fn filled(text: &[u8]) -> [u8; LONGEST]
+    requires { length text.now ≤ 15 }
+    ensures { result ≡ filled text.now }
+{
+    let mut bytes = [0; LONGEST];
+    bytes[..text.len()].copy_from_slice(text);
+    bytes
+}

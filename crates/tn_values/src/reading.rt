@@ -1,0 +1,63 @@
+//! From a text to its canonical number.
+ghost use Rattle.std.specs.Prelude.{◌≡◌, ◌↔◌, IsTrue, Some};
+ghost use Rattle.std.specs.Option.{option_map};
+ghost use Rattle.tn_values.specs.Number.{exact};
+ghost use Rattle.tn_values.specs.Canon.{Canon, is_national, with_country};
+
+use crate::alphabet::are_digits;
+use crate::kept::{Kept, kept_of};
+use crate::numbering::Local;
+use crate::numbers::Number;
+
+#[tactic(auto, unfolding(crate::specs::Canon::Canon, crate::specs::Number::is_number))]
+pub(crate) fn canonical(text: &[u8], local: &Local) -> Option<Number>
+    ensures { result ≡ Canon text.now local.now }
+{
+    let Some(kept) = kept_of(text) else {
+        return None;
+    };
+    match kept.bytes() {
+        [] => None,
+        [b'+', rest @ ..] => Number::exact(rest),
+        number => completed(number, local),
+    }
+}
+
+/// Whether `text` is read as the number of these bytes.
+pub(crate) fn is_read_as(text: &[u8], bytes: &[u8], local: &Local) -> bool
+    ensures { IsTrue result ↔ (Canon text.now local.now ≡ Some bytes.now) }
+{
+    match canonical(text, local) {
+        Some(number) => number.bytes() == bytes,
+        None => false,
+    }
+}
+
+/// The number of a text without `+`: with the country's digits in front where it is national.
+fn completed(text: &[u8], local: &Local) -> Option<Number>
+    ensures { result ≡ option_map (with_country local.now) (exact text.now) }
+{
+    if is_national(text, local) {
+        national_number(text, local)
+    } else {
+        Number::exact(text)
+    }
+}
+
+fn is_national(text: &[u8], local: &Local) -> bool
+    ensures { result ≡ is_national text.now local.now }
+{
+    text.len() == usize::from(local.national()) && are_digits(text)
+}
+
+#[tactic(auto, unfolding(crate::specs::Local::is_local, crate::specs::Number::is_number))]
+fn national_number(text: &[u8], local: &Local) -> Option<Number>
+    requires { IsTrue (is_national text.now local.now) }
+    ensures { result ≡ option_map (with_country local.now) (exact text.now) }
+{
+    let country = local.country();
+    let mut number = Kept::new();
+    number.extend(country.bytes());
+    number.extend(text);
+    Number::exact(number.bytes())
+}
