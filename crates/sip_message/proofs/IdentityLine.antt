@@ -1,5 +1,5 @@
 -- A plain Identity line has the token that is read from it, and no other line has one.
-use Rattle.std.proofs.Common.{◌≡◌, ℕ, ◌==◌, nat_eq, nat_le, Bool, true, false, not, ◌&&◌, cond, List, [], ◌∷◌, ◌++◌, length, Some, None, refl, ◌∙◌, ap, arith, codes, option_and_then, subst}
+use Rattle.std.proofs.Common.{◌≡◌, ℕ, ◌==◌, nat_eq, nat_le, Bool, true, false, not, ◌&&◌, cond, List, ◌∷◌, ◌++◌, length, Some, None, refl, ◌∙◌, ap, arith, codes, option_and_then, subst}
 use Rattle.std.specs.List.{list_all, starts_with}
 use Rattle.std.specs.Str.{bytes_eq}
 use Rattle.std.proofs.lemmas.Bool.Decides.{nat_tests}
@@ -7,15 +7,11 @@ use Rattle.std.proofs.lemmas.Option.{cond_some, option_and_then_some}
 use Rattle.std.proofs.lemmas.Slice.Eq.{bytes_eq-Decides}
 use Rattle.stir_base.specs.Cut.{behind, cut, lacks}
 use Rattle.stir_base.proofs.CutLaws.{behind_again, cut_again, behind_found, cut_found}
+use Rattle.stir_base.proofs.Passing.{both, each}
 use Rattle.sip_message.specs.Alphabet.{is_digest, is_digest_byte, is_uri, is_uri_byte}
 use Rattle.sip_message.specs.Plain.{IsIdentityLine, end_of, end_text, info_of, is_full_digest, token_before, token_of}
 
 -- ---- what is read is in the form
-
-both : (a b : Bool) → (a && b) ≡ true → (a ≡ true) × (b ≡ true)
-both true true h = (refl, refl)
-both true false h = absurd cc
-both false b h = absurd cc
 
 form : (line value rest behind_info uri end token t : List ℕ) → line ≡ codes "Identity: " ++ value → value ≡ token ++ 59 ∷ rest → rest ≡ codes "info=<" ++ behind_info → behind_info ≡ uri ++ 62 ∷ end
     → cond (is_full_digest token && is_uri uri && bytes_eq end end_text) (Some token) None ≡ Some t → IsIdentityLine line t
@@ -36,13 +32,6 @@ line_found line token h =
     form line value parts.1 rest ends.0 ends.1 parts.0 token (behind_found (codes "Identity: ") line value e1) (cut_found 59 value parts e2) (behind_found (codes "info=<") parts.1 rest e3) (cut_found 62 rest ends e4) h4))))
 
 -- ---- what is in the form is read
-
-each_by : (p q : ℕ → Bool) (b : ℕ) (bs : List ℕ) → (p b ≡ true → q b ≡ true) → (list_all p bs ≡ true → list_all q bs ≡ true) → list_all p (b ∷ bs) ≡ true → list_all q (b ∷ bs) ≡ true
-each_by p q b bs here below h = let t = both (p b) (list_all p bs) h in rw (here t.0, below t.1) refl
-
-each : (p q : ℕ → Bool) → ((b : ℕ) → p b ≡ true → q b ≡ true) → (xs : List ℕ) → list_all p xs ≡ true → list_all q xs ≡ true
-each p q implies [] h = refl
-each p q implies (b ∷ bs) h = each_by p q b bs (implies b) (each p q implies bs) h
 
 no_semicolon : (b : ℕ) → is_digest_byte b ≡ true → not (b == 59) ≡ true
 no_semicolon b h = grind (arith, nat_tests)
@@ -72,3 +61,13 @@ read_form token uri d u =
 
 pub line_only : (line token : List ℕ) → IsIdentityLine line token → token_of line ≡ Some token
 line_only line token i = ap token_of i.text ∙ read_form token i.uri i.digest_ok i.uri_ok
+
+not_true : (b : Bool) → not b ≡ true → b ≡ false
+not_true true h = absurd cc
+not_true false h = refl
+
+-- the token that is read doesn't begin with two dots
+pub line_full : (line token : List ℕ) → token_of line ≡ Some token → starts_with nat_eq token (codes "..") ≡ false
+line_full line token h =
+    let i = line_found line token h in
+    not_true (starts_with nat_eq token (codes "..")) (both (is_digest token) (not (starts_with nat_eq token (codes ".."))) i.digest_ok).1

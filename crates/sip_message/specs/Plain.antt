@@ -1,6 +1,6 @@
 -- The plain INVITE: a message head without continuation lines whose only Identity line, if it has one, has one exact form
 -- (this project's own first profile of RFC 3261, section 7, and RFC 8224, section 4).
-use Rattle.std.specs.Prelude.{◌≡◌, ℕ, Bool, true, false, ◌&&◌, ◌||◌, not, nat_le, nat_eq, List, [], ◌∷◌, ◌++◌, length, filter, Option, Some, None, codes, option_and_then, if◌then◌else◌}
+use Rattle.std.specs.Prelude.{◌≡◌, ℕ, Bool, true, false, ◌&&◌, ◌||◌, not, nat_le, nat_eq, List, [], ◌∷◌, ◌++◌, length, filter, Option, Some, None, codes, option_and_then, IfSome, if◌then◌else◌}
 use Rattle.std.specs.List.{starts_with, ends_with, list_all}
 use Rattle.std.specs.Option.{option_map, option_map_or}
 use Rattle.std.specs.Str.{bytes_eq, str_eq_ignore_ascii_case}
@@ -16,6 +16,10 @@ most_message_bytes = 65535
 -- a digest in the full form, which is none that begins with two dots
 abbrev pub is_full_digest : List ℕ → Bool
 is_full_digest text = is_digest text && not (starts_with nat_eq text (codes ".."))
+
+-- the token, where there is one, doesn't begin with two dots
+abbrev pub IsFull : Option (List ℕ) → Type 0
+IsFull token = IfSome token (λ text. starts_with nat_eq text (codes "..") ≡ false)
 
 -- the line is `Identity: token;info=<uri>;alg=ES256;ppt="shaken"`, byte for byte
 pub record IsIdentityLine (line token : List ℕ) : Type 0 where

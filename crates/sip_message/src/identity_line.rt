@@ -2,7 +2,7 @@ ghost use Rattle.std.specs.Prelude.{◌≡◌, ℕ, List, IfSome, Some};
 ghost use Rattle.std.specs.List.{list_all};
 ghost use Rattle.std.specs.Option.{option_copied};
 ghost use Rattle.sip_message.specs.Alphabet.{is_digest, is_digest_byte, is_uri, is_uri_byte};
-ghost use Rattle.sip_message.specs.Plain.{IsIdentityLine, is_full_digest, token_of};
+ghost use Rattle.sip_message.specs.Plain.{IsFull, IsIdentityLine, is_full_digest, token_of};
 
 use stir_base::{behind, cut};
 
@@ -11,9 +11,10 @@ const MOST_DIGEST_BYTES: usize = 8192;
 const MOST_URI_BYTES: usize = 2048;
 
 // The token of an Identity line in its plain form.
-#[tactic(auto, using(crate::proofs::IdentityLine::line_found, crate::proofs::IdentityLine::line_only))]
+#[tactic(auto, using(crate::proofs::IdentityLine::line_found, crate::proofs::IdentityLine::line_only, crate::proofs::IdentityLine::line_full))]
 pub(crate) fn identity_token(line: &[u8]) -> Option<&[u8]>
     ensures exact { option_copied result ≡ token_of line.now }
+    ensures full { IsFull (option_copied result) }
     ensures found { IfSome result (λ token. IsIdentityLine line.now token.now) }
     ensures only { (token : List ℕ) → IsIdentityLine line.now token → option_copied result ≡ Some token }
 {

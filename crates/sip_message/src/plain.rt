@@ -1,8 +1,8 @@
-ghost use Rattle.std.specs.Prelude.{◌≡◌, Option, List, ℕ, Some, option_and_then};
+ghost use Rattle.std.specs.Prelude.{IfSome, ◌≡◌, Option, List, ℕ, Some, option_and_then};
 ghost use Rattle.std.specs.Option.{option_copied, option_map};
 ghost use Rattle.stir_base.specs.Cut.{lacks};
 ghost use Rattle.stir_base.specs.Line.{lines};
-ghost use Rattle.sip_message.specs.Plain.{head, is_identity_name, is_name, is_start, plain};
+ghost use Rattle.sip_message.specs.Plain.{IsFull, head, is_identity_name, is_name, is_start, plain};
 ghost use Rattle.sip_message.specs.Fields.{fields_after, turn};
 
 use crate::identity_line::identity_token;
@@ -23,7 +23,8 @@ impl<'a> Plain<'a> {
     #[tactic(auto, using(crate::proofs::Fields::plain_headed, crate::proofs::Fields::plain_no_head, crate::proofs::Fields::plain_long, crate::proofs::Fields::plain_not_started))]
     /// Reads the head of a message of at most 65,535 bytes; `None` where it isn't plain.
     pub fn read(bytes: &'a [u8]) -> Option<Plain<'a>>
-        ensures { option_map (λ message. option_copied message.token) result ≡ plain bytes.now }
+        ensures exact { option_map (λ message. option_copied message.token) result ≡ plain bytes.now }
+        ensures full { IfSome result (λ message. IsFull (option_copied message.token)) }
     {
         if bytes.len() > MOST_MESSAGE_BYTES {
             return None;
@@ -46,7 +47,8 @@ fn is_start(line: &[u8]) -> bool
 
 // The fields up to the empty line that ends the head.
 fn read_fields(bytes: &[u8]) -> Option<Plain<'_>>
-    ensures { option_map (λ message. option_copied message.token) result ≡ fields_after None (lines bytes.now) }
+    ensures exact { option_map (λ message. option_copied message.token) result ≡ fields_after None (lines bytes.now) }
+    ensures full { IfSome result (λ message. IsFull (option_copied message.token)) }
 {
     let mut message = Plain { token: None };
     let mut rest = bytes;
@@ -65,7 +67,9 @@ fn read_fields(bytes: &[u8]) -> Option<Plain<'_>>
 
 // What was read of the fields, with this one.
 fn read_field<'a>(message: Plain<'a>, line: &'a [u8]) -> Option<Plain<'a>>
-    ensures { option_map (λ read. option_copied read.token) result ≡ turn (option_copied message.entry.token) line.now }
+    requires { IsFull (option_copied message.token) }
+    ensures exact { option_map (λ read. option_copied read.token) result ≡ turn (option_copied message.entry.token) line.now }
+    ensures full { IfSome result (λ read. IsFull (option_copied read.token)) }
 {
     let Some((name, _)) = cut(line, b':') else {
         return None;

@@ -1,5 +1,5 @@
 -- A text of decimal digits without a leading zero is what `decimal` writes of the number it says, and no other text is.
-use Rattle.std.proofs.Common.{◌≡◌, ◌≢◌, ℕ, suc, zero, ◌^◌, ◌<◌, ◌≤◌, Bool, true, false, ◌&&◌, cond, List, [], ◌∷◌, length, get_or, Some, None, Result, Err, refl, sym, arith, ap, ◌∙◌, subst, ◌⊎◌, inl, inr, nat_le, nat_lt}
+use Rattle.std.proofs.Common.{not, ◌==◌, ◌≡◌, ◌≢◌, ℕ, suc, zero, ◌^◌, ◌<◌, ◌≤◌, Bool, true, false, ◌&&◌, cond, List, [], ◌∷◌, length, get_or, Some, None, Result, Err, refl, sym, arith, ap, ◌∙◌, subst, ◌⊎◌, inl, inr, nat_le, nat_lt}
 use Rattle.std.specs.Char.{is_ascii_digit}
 use Rattle.std.specs.Int.{IsInRange}
 use Rattle.std.specs.List.{list_all}
@@ -11,6 +11,8 @@ use Rattle.std.proofs.lemmas.Bool.Decides.{nat_tests}
 use Rattle.std.proofs.lemmas.Fmt.{IsAscii-from_digits, decimal-digits_value, digits_value-decimal, digits_decimal, decimal_nonempty, first_decimal, decimal_digit}
 use Rattle.std.proofs.lemmas.Str.{IsUtf8-from_ascii}
 use Rattle.std.proofs.lemmas.Str.Parse.{IsNumeralModel, numerals_by_value, parse_digits}
+use Rattle.stir_base.specs.Cut.{lacks}
+use Rattle.stir_base.proofs.Passing.{each}
 use Rattle.stir_base.specs.Decimal.{is_decimal, number_up_to}
 
 abbrev IsDigits : List ℕ → Type 0
@@ -65,6 +67,9 @@ number_unparsed E most text digits e same low h p =
     let large : most < digits_value 10 text = elim (below_or_not (digits_value 10 text) (2 ^ 64) (nat_lt (digits_value 10 text) (2 ^ 64)) refl) [ inl small ↦ absurd (q (some, small)) | inr big ↦ omega (arith, big) ] in
     rw (h, above _ _ large) refl
 
+no_digit : (b byte : ℕ) → is_ascii_digit b ≡ true → is_ascii_digit byte ≡ false → not (b == byte) ≡ true
+no_digit b byte d other = grind (arith, nat_tests)
+
 -- what a number found says of the text
 found : (most : ℕ) (text : List ℕ) (n : ℕ) (t : Bool) → is_decimal text ≡ t → (u : Bool) → nat_le (digits_value 10 text) most ≡ u
     → cond (t && u) (Some (digits_value 10 text)) None ≡ Some n → (is_decimal text ≡ true) × (digits_value 10 text ≤ most) × (digits_value 10 text ≡ n)
@@ -78,6 +83,16 @@ number_written most text n low h =
     let p = passes text f.0 in
     let small : digits_value 10 text < 2 ^ 64 = omega (arith, f.1) in
     sym (ap decimal (sym f.2) ∙ decimal-digits_value own text p.digits p.some p.no_zero small)
+
+-- the number found is within the limit
+pub number_within : (most : ℕ) (text : List ℕ) (n : ℕ) → number_up_to most text ≡ Some n → n ≤ most
+number_within most text n h =
+    let f = found most text n (is_decimal text) refl (nat_le (digits_value 10 text) most) refl h in
+    omega (arith, f.1, f.2)
+
+-- a byte that is no digit stands in no number
+pub decimal_lacks : (n byte : ℕ) → n < 2 ^ 64 → is_ascii_digit byte ≡ false → lacks byte (decimal n) ≡ true
+decimal_lacks n byte h other = each is_ascii_digit (λ b. not (b == byte)) (λ b d. no_digit b byte d other) (decimal n) (digits_decimal own n h)
 
 no_zero_first : (n : ℕ) → n < 2 ^ 64 → get_or (decimal n) 0 0 ≡ 48 → length (decimal n) ≡ 1
 no_zero_first zero h e = ap length (decimal_digit 0 (omega arith))

@@ -1,0 +1,9 @@
+pub mod Fault
+pub mod Elem
+pub mod Next
+pub mod Integer
+pub mod BitString
+pub mod Boolean
+pub mod Moment
+pub mod Time
+pub mod Put

@@ -1,0 +1,70 @@
+-- What reading one element off the front of some bytes gives, with the ordered table of its faults.
+use Rattle.std.specs.Prelude.{ℕ, ◌+◌, ◌*◌, ◌==◌, List, length, take, drop, nat_lt, slice_index, bit_and, Result, Ok, Err, if◌then◌else◌}
+use Rattle.std.specs.Borrow.{Bor}
+use Rattle.der_reader.specs.declared.element.Der.{Der}
+use Rattle.der_reader.specs.declared.element.Header.{Header}
+use Rattle.der_reader.specs.declared.fault.DerFault.{DerFault}
+use Rattle.der_reader.specs.Fault.{short_at, high_tag_at, bad_length_at}
+use Rattle.der_reader.specs.Elem.{Element, element_of}
+
+-- The length of one byte, below 0x80.
+abbrev short_header : List ℕ → Result Header DerFault
+short_header bytes =
+    Ok (record { tag = slice_index bytes 0; size = 2; content_size = slice_index bytes 1 })
+
+-- The length of one byte behind 81: it is the shortest from 0x80 on.
+abbrev one_byte_header : List ℕ → Result Header DerFault
+one_byte_header bytes =
+    if nat_lt (length bytes) 3 then Err (short_at (length bytes))
+    else (if nat_lt (slice_index bytes 2) 0x80 then Err (bad_length_at 1)
+    else Ok (record { tag = slice_index bytes 0; size = 3; content_size = slice_index bytes 2 }))
+
+-- The length of two bytes behind 82: it is the shortest from 0x0100 on.
+abbrev two_byte_header : List ℕ → Result Header DerFault
+two_byte_header bytes =
+    if nat_lt (length bytes) 4 then Err (short_at (length bytes))
+    else (if slice_index bytes 2 == 0 then Err (bad_length_at 1)
+    else Ok (record {
+      tag = slice_index bytes 0;
+      size = 4;
+      content_size = slice_index bytes 2 * 0x100 + slice_index bytes 3;
+    }))
+
+-- Tag and length, or the first fault, in this order: no byte, a high tag number, no length byte,
+-- a first length byte of 80 or above 82, length bytes missing, a length that isn't the shortest.
+unfoldable pub header_at : List ℕ → Result Header DerFault
+header_at bytes =
+    if length bytes == 0 then Err (short_at 0)
+    else (if bit_and (slice_index bytes 0) 0x1F == 0x1F then Err (high_tag_at 0)
+    else (if length bytes == 1 then Err (short_at 1)
+    else (if nat_lt (slice_index bytes 1) 0x80 then short_header bytes
+    else (if slice_index bytes 1 == 0x81 then one_byte_header bytes
+    else (if slice_index bytes 1 == 0x82 then two_byte_header bytes
+    else Err (bad_length_at 1))))))
+
+-- the element that the bytes begin with and the rest, where the content is all there
+abbrev pub content_at : List ℕ → Header → Result (Element × List ℕ) DerFault
+content_at bytes header =
+    if nat_lt (length bytes) (header.size + header.content_size) then Err (short_at (length bytes))
+    else Ok (
+      record {
+        tag = header.tag;
+        whole = take (header.size + header.content_size) bytes;
+        content = take header.content_size (drop header.size bytes);
+      },
+      drop (header.size + header.content_size) bytes,
+    )
+
+-- what behind tag and length follows, or their fault
+abbrev pub next_behind : List ℕ → Result Header DerFault → Result (Element × List ℕ) DerFault
+next_behind bytes (Ok header) = content_at bytes header
+next_behind bytes (Err fault) = Err fault
+
+-- The element that the bytes begin with and the rest, or the first fault.
+unfoldable pub next_at : List ℕ → Result (Element × List ℕ) DerFault
+next_at bytes = next_behind bytes (header_at bytes)
+
+-- an answer of `Der::next` as plain data
+abbrev pub next_view : Result (Der × Bor (List ℕ)) DerFault → Result (Element × List ℕ) DerFault
+next_view (Ok found) = Ok (element_of found.0, found.1.now)
+next_view (Err fault) = Err fault

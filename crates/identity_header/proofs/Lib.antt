@@ -1,0 +1,9 @@
+pub mod Shorter
+pub mod Turns
+pub mod Heads
+pub mod ValueLaw
+pub mod States
+pub mod ParamLaw
+pub mod FieldLaw
+pub mod Rows
+pub mod Written

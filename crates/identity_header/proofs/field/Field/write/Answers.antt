@@ -1,0 +1,7 @@
+-- What was written is the spelling of the parts, which is in the grammar.
+use Rattle.std.proofs.lemmas.Result.{IfOk-weaker}
+use Rattle.identity_header.proofs.Written.{reads_back}
+use Rattle.identity_header.proofs.field.Field.write.Goals as goal
+
+pub returns-clause-reads_back : goal.returns-clause-reads_back
+returns-clause-reads_back c = IfOk-weaker c.spell.result _ _ (λ text e. reads_back _ _ _ c.self.view_is c.self.invariant e) c.spell.ensures

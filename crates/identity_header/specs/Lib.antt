@@ -1,0 +1,5 @@
+pub mod Parts
+pub mod FieldText
+pub mod Spelling
+pub mod Reading
+pub mod Views

@@ -1,0 +1,153 @@
+ghost use Rattle.std.specs.Prelude.{◌≡◌, ◌≤◌, ◌↔◌, length, IsTrue, IfSome};
+ghost use Rattle.std.specs.List.{prefix_len, list_all};
+ghost use Rattle.std.specs.Option.{option_copied};
+ghost use Rattle.text_grammar.specs.Grammar.{Any, Run};
+ghost use Rattle.identity_header.specs.Parts as parts;
+ghost use Rattle.identity_header.specs.Spelling as spelling;
+
+/// The most bytes of a token.
+pub(crate) const DIGEST_MOST: usize = 8192;
+
+/// The most bytes of a uri.
+pub(crate) const URI_MOST: usize = 2048;
+
+// A byte of the token: letters, digits, `-`, `_`, `.`.
+pub(crate) fn is_digest_byte(byte: u8) -> bool
+    ensures { result ≡ parts.is_digest_byte byte }
+{
+    byte.is_ascii_alphanumeric() || matches!(byte, b'-' | b'_' | b'.')
+}
+
+// A byte of the uri: visible ASCII without `"`, `<`, `>` and backslash.
+pub(crate) fn is_uri_byte(byte: u8) -> bool
+    ensures { result ≡ parts.is_uri_byte byte }
+{
+    byte.is_ascii_graphic() && !matches!(byte, b'"' | b'<' | b'>' | b'\\')
+}
+
+// A byte of a value that stands without quotes.
+pub(crate) fn is_bare_byte(byte: u8) -> bool
+    ensures { result ≡ parts.is_bare_byte byte }
+{
+    byte.is_ascii_graphic() && !matches!(byte, b';' | b',' | b'"' | b'<' | b'>' | b'\\')
+}
+
+// A byte of a value between quotes.
+pub(crate) fn is_quoted_byte(byte: u8) -> bool
+    ensures { result ≡ parts.is_quoted_byte byte }
+{
+    byte >= b' ' && !matches!(byte, b'"' | b'\\' | 0x7f)
+}
+
+fn all_digest(text: &[u8]) -> bool
+    ensures { result ≡ list_all parts.is_digest_byte text.now }
+{
+    text.iter().all(|byte| is_digest_byte(*byte))
+}
+
+fn all_uri(text: &[u8]) -> bool
+    ensures { result ≡ list_all parts.is_uri_byte text.now }
+{
+    text.iter().all(|byte| is_uri_byte(*byte))
+}
+
+fn all_bare(text: &[u8]) -> bool
+    ensures { result ≡ list_all parts.is_bare_byte text.now }
+{
+    text.iter().all(|byte| is_bare_byte(*byte))
+}
+
+fn all_quoted(text: &[u8]) -> bool
+    ensures { result ≡ list_all parts.is_quoted_byte text.now }
+{
+    text.iter().all(|byte| is_quoted_byte(*byte))
+}
+
+/// Whether a text is a token: 1 to 8192 digest bytes.
+pub(crate) fn is_digest(text: &[u8]) -> bool
+    ensures { IsTrue result ↔ Run parts.is_digest_byte 8192 text.now }
+{
+    match text.len() {
+        1..=DIGEST_MOST => all_digest(text),
+        _ => false,
+    }
+}
+
+/// Whether a text is a uri: 1 to 2048 uri bytes.
+pub(crate) fn is_uri(text: &[u8]) -> bool
+    ensures { IsTrue result ↔ Run parts.is_uri_byte 2048 text.now }
+{
+    match text.len() {
+        1..=URI_MOST => all_uri(text),
+        _ => false,
+    }
+}
+
+/// Whether a value, where there is one, may stand between quotes.
+pub(crate) fn may_be_quoted(value: Option<&[u8]>) -> bool
+    ensures { IsTrue result ↔ IfSome (option_copied value.entry) (Any parts.is_quoted_byte) }
+{
+    match value {
+        Some(text) => all_quoted(text),
+        None => true,
+    }
+}
+
+/// Whether a value may stand without quotes: one or more bare bytes.
+pub(crate) fn is_bare(text: &[u8]) -> bool
+    ensures { result ≡ spelling.is_bare text.now }
+{
+    !text.is_empty() && all_bare(text)
+}
+
+// How many digest bytes a text begins with.
+pub(crate) fn digest_len(text: &[u8]) -> usize
+    ensures count { result ≡ prefix_len parts.is_digest_byte text.now }
+    ensures within { result ≤ length text.now }
+{
+    for (place, byte) in text.iter().enumerate() {
+        if !is_digest_byte(*byte) {
+            return place;
+        }
+    }
+    text.len()
+}
+
+// How many uri bytes a text begins with.
+pub(crate) fn uri_len(text: &[u8]) -> usize
+    ensures count { result ≡ prefix_len parts.is_uri_byte text.now }
+    ensures within { result ≤ length text.now }
+{
+    for (place, byte) in text.iter().enumerate() {
+        if !is_uri_byte(*byte) {
+            return place;
+        }
+    }
+    text.len()
+}
+
+// How many bare bytes a text begins with.
+pub(crate) fn bare_len(text: &[u8]) -> usize
+    ensures count { result ≡ prefix_len parts.is_bare_byte text.now }
+    ensures within { result ≤ length text.now }
+{
+    for (place, byte) in text.iter().enumerate() {
+        if !is_bare_byte(*byte) {
+            return place;
+        }
+    }
+    text.len()
+}
+
+// How many bytes a text begins with that may stand between quotes.
+pub(crate) fn quoted_len(text: &[u8]) -> usize
+    ensures count { result ≡ prefix_len parts.is_quoted_byte text.now }
+    ensures within { result ≤ length text.now }
+{
+    for (place, byte) in text.iter().enumerate() {
+        if !is_quoted_byte(*byte) {
+            return place;
+        }
+    }
+    text.len()
+}

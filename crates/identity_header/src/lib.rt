@@ -1,0 +1,14 @@
+//! The value of a SIP Identity header field (RFC 8224, section 4.1): the signed token, the place of its certificates, and
+//! the parameters `alg` and `ppt`.
+#![tactic(auto)]
+
+mod bytes;
+mod field;
+mod params;
+
+pub use field::{Field, FieldFault};
+// The refused allocation, which is all that can fail when a field is written.
+pub use std::alloc::AllocError as Memory;
+
+#[cfg(test)]
+mod tests;

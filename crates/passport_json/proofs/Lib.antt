@@ -1,0 +1,3 @@
+pub mod ObjectLaws
+pub mod PartLaws
+pub mod TokenLaws

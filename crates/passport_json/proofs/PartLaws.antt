@@ -1,0 +1,49 @@
+-- A text with exactly two dots is cut into its three texts, and into no other.
+use Rattle.std.proofs.Common.{◌≡◌, ℕ, suc, ◌+◌, ◌≤◌, Bool, true, false, ◌==◌, nat_lt, List, [], ◌∷◌, ◌++◌, length, take, drop, Some, refl, arith, ap, length-append}
+use Rattle.std.specs.List.{position_or_len}
+use Rattle.std.proofs.lemmas.Bool.Decides.{nat_tests}
+use Rattle.stir_base.specs.Cut.{cut, lacks}
+use Rattle.passport_json.specs.Parts.{PartTexts, AreParts, parts_of, dot, signing_of}
+
+abbrev is_byte : ℕ → ℕ → Bool
+is_byte byte b = b == byte
+
+place_by : (byte x : ℕ) (xs b : List ℕ) (t : Bool) → (x == byte) ≡ t → lacks byte (x ∷ xs) ≡ true
+    → (lacks byte xs ≡ true → position_or_len (is_byte byte) (xs ++ byte ∷ b) ≡ length xs)
+    → position_or_len (is_byte byte) ((x ∷ xs) ++ byte ∷ b) ≡ length (x ∷ xs)
+place_by byte x xs b true e h below = let k = rw e at h in absurd cc
+place_by byte x xs b false e h below = let k = rw e at h in rw (e, below k) (omega arith)
+
+place : (byte : ℕ) (a b : List ℕ) → lacks byte a ≡ true → position_or_len (is_byte byte) (a ++ byte ∷ b) ≡ length a
+place byte [] b h = let e : (byte == byte) ≡ true = grind (arith, nat_tests) in rw e refl
+place byte (x ∷ xs) b h = place_by byte x xs b (x == byte) refl h (place byte xs b)
+
+take_front : (a b : List ℕ) → take (length a) (a ++ b) ≡ a
+take_front [] b = refl
+take_front (x ∷ xs) b = rw (take_front xs b) refl
+
+drop_front : (byte : ℕ) (a b : List ℕ) → drop (length a + 1) (a ++ byte ∷ b) ≡ b
+drop_front byte [] b = refl
+drop_front byte (x ∷ xs) b = let e : suc (length xs) + 1 ≡ suc (length xs + 1) = omega arith in rw e (drop_front byte xs b)
+
+cut_again : (byte : ℕ) (a b : List ℕ) → lacks byte a ≡ true → cut byte (a ++ byte ∷ b) ≡ Some (a, b)
+cut_again byte a b h =
+    let within : nat_lt (length a) (length (a ++ byte ∷ b)) ≡ true = grind (arith, nat_tests, length-append a (byte ∷ b)) in
+    rw (place byte a b h, within, take_front a (byte ∷ b), drop_front byte a b) refl
+
+pub parts_again : (text : List ℕ) (parts : PartTexts) → AreParts text parts → parts_of text ≡ Some parts
+parts_again text parts are =
+    rw (are.joined, cut_again dot parts.header (parts.payload ++ dot ∷ parts.signature) are.header, cut_again dot parts.payload parts.signature are.payload, are.signature) refl
+
+take_through : (byte : ℕ) (a b c : List ℕ) → take (length a + 1 + length b) (a ++ byte ∷ (b ++ c)) ≡ a ++ byte ∷ b
+take_through byte [] b c = let e : 1 + length b ≡ suc (length b) = omega arith in rw e (rw (take_front b c) refl)
+take_through byte (x ∷ xs) b c =
+    let e : suc (length xs) + 1 + length b ≡ suc (length xs + 1 + length b) = omega arith in
+    rw e (rw (take_through byte xs b c) refl)
+
+pub signing_taken : (text : List ℕ) (parts : PartTexts) → AreParts text parts → take (length parts.header + 1 + length parts.payload) text ≡ signing_of parts
+signing_taken text parts are = rw are.joined (take_through dot parts.header parts.payload (dot ∷ parts.signature))
+
+pub signing_within : (text : List ℕ) (parts : PartTexts) → AreParts text parts → length parts.header + 1 + length parts.payload ≤ length text
+signing_within text parts are =
+    omega (arith, ap length are.joined, length-append parts.header (dot ∷ (parts.payload ++ dot ∷ parts.signature)), length-append parts.payload (dot ∷ parts.signature))

@@ -1,0 +1,104 @@
+-- The checks in their order give what the relation says of a text.
+use Rattle.std.proofs.Common.{◌≡◌, ◌≢◌, ℕ, false, List, [], ◌∷◌, length, None, Result, Ok, Err, refl, sym, subst, ◌∙◌}
+use Rattle.base64.proofs.EngineFacts.{decode_of-encode_of}
+use Rattle.base64.specs.Engines.{url_safe_no_pad}
+use Rattle.base64.specs.GeneralPurpose.{encode_of}
+use Rattle.base64.specs.Rfc4648.{encode_symbols}
+use Rattle.serde_json.proofs.OnLiterals.{serde_json_on_literals}
+use Rattle.serde_json.specs.Data.{Data}
+use Rattle.serde_json.specs.Read.{read}
+use Rattle.passport_json.specs.declared.fault.TokenFault.{TokenFault}
+use Rattle.passport_json.specs.declared.fault.TokenFault.TheVariants.{Parts, Base64, Json, SignatureLength, Memory}
+use Rattle.passport_json.specs.Object.{IsObjectText}
+use Rattle.passport_json.specs.Parts.{PartTexts, AreParts, one_is_empty, signing_of}
+use Rattle.passport_json.specs.Reading.{Gives, IsOkUnlessMemory}
+use Rattle.passport_json.specs.Token.{IsBase64, TokenText, checked_parts, checked_base64, checked_signature, read_full}
+use Rattle.passport_json.specs.View.{TokenView}
+use Rattle.passport_json.proofs.ObjectLaws.{json_again}
+use Rattle.passport_json.proofs.PartLaws.{parts_again}
+
+base64_again : (part : ℕ) (text bytes : List ℕ) → IsBase64 text bytes → checked_base64 part text ≡ Ok bytes
+base64_again part text bytes is = rw (is.encoded, decode_of-encode_of url_safe_no_pad bytes refl is.are_bytes) refl
+
+none_empty : (a b : List ℕ) → a ≢ [] → b ≢ [] → one_is_empty a b ≡ false
+none_empty [] b x y = absurd (x refl)
+none_empty (a ∷ more) [] x y = absurd (y refl)
+none_empty (a ∷ more) (b ∷ bs) x y = refl
+
+checked_again : (text : List ℕ) (parts : PartTexts) → AreParts text parts → one_is_empty parts.header parts.payload ≡ false → checked_parts text ≡ Ok parts
+checked_again text parts are both = rw (parts_again text parts are, both) refl
+
+signature_again : (bytes : List ℕ) → length bytes ≡ 64 → checked_signature bytes ≡ Ok bytes
+signature_again bytes e = rw e refl
+
+pub token_again : (text : List ℕ) (token : TokenView) → TokenText text token → read_full text ≡ Ok token
+unfolding read_full
+token_again text token t =
+    rw (
+      checked_again text t.parts t.are_parts (none_empty t.parts.header t.parts.payload t.has_header t.has_payload),
+      base64_again 1 t.parts.header t.header_bytes t.header_encoded,
+      base64_again 2 t.parts.payload t.payload_bytes t.payload_encoded,
+      base64_again 3 t.parts.signature token.signature t.signature_encoded,
+      signature_again token.signature t.signature_length,
+      json_again 1 t.header_bytes token.header t.header_object,
+      json_again 2 t.payload_bytes token.payload t.payload_object,
+      ← t.signing_received,
+    ) refl
+
+refused : (text : List ℕ) (token : TokenView) → TokenText text token → (fault : TokenFault) → read_full text ≡ Err fault → ⊥
+refused text token t fault e =
+    let same : ◌≡◌ {A = Result TokenView TokenFault} (Ok token) (Err fault) = sym (token_again text token t) ∙ e in
+    absurd cc
+
+pub token_unique : (text : List ℕ) (one other : TokenView) → TokenText text one → TokenText text other → one ≡ other
+token_unique text one other a b =
+    let e : ◌≡◌ {A = Result TokenView TokenFault} (Ok one) (Ok other) = sym (token_again text one a) ∙ token_again text other b in
+    cc
+
+pub token_only : (text : List ℕ) (result : Result TokenView TokenFault) → Gives (λ token. token) result (read_full text)
+    → (token : TokenView) → TokenText text token → IsOkUnlessMemory result (λ read. read ≡ token)
+token_only text (Ok read) gives token t =
+    let e : ◌≡◌ {A = Result TokenView TokenFault} (Ok read) (Ok token) = sym gives ∙ token_again text token t in
+    cc
+token_only text (Err Parts) gives token t = absurd (refused text token t Parts gives)
+token_only text (Err (Base64 part)) gives token t = absurd (refused text token t (Base64 part) gives)
+token_only text (Err (Json part)) gives token t = absurd (refused text token t (Json part) gives)
+token_only text (Err SignatureLength) gives token t = absurd (refused text token t SignatureLength gives)
+token_only text (Err Memory) gives token t = tt
+
+no_bytes : (bytes : List ℕ) → [] ≡ encode_of url_safe_no_pad bytes → bytes ≡ []
+unfolding encode_symbols
+no_bytes [] e = refl
+no_bytes (a ∷ []) e = absurd cc
+no_bytes (a ∷ b ∷ []) e = absurd cc
+no_bytes (a ∷ b ∷ c ∷ rest) e = absurd cc
+
+empty_is_no_object : (value : Data) → IsObjectText [] value → ⊥
+unfolding serde_json_on_literals
+empty_is_no_object value t = let e : read [] ≡ None = refl in let some = t.read_as in absurd cc
+
+not_empty : (text bytes : List ℕ) (value : Data) → IsBase64 text bytes → IsObjectText bytes value → text ≢ []
+not_empty text bytes value is t empty =
+    let none : bytes ≡ [] = no_bytes bytes (sym empty ∙ is.encoded) in
+    let P : List ℕ → Type 0 = λ b. IsObjectText b value in
+    empty_is_no_object value (subst P none t)
+
+pub token_text : (text : List ℕ) (parts : PartTexts) (header_bytes payload_bytes signature_bytes received signing signature : List ℕ) (header payload : Data)
+    → AreParts text parts → IsBase64 parts.header header_bytes → IsBase64 parts.payload payload_bytes → IsBase64 parts.signature signature_bytes
+    → (signature ≡ signature_bytes) × (length signature_bytes ≡ 64) → IsObjectText header_bytes header → IsObjectText payload_bytes payload
+    → received ≡ signing_of parts → signing ≡ received → TokenText text (record { header = header; payload = payload; signing = signing; signature = signature })
+token_text text parts header_bytes payload_bytes signature_bytes received signing signature header payload are h p s n ho po e copied = record {
+  parts = parts;
+  header_bytes = header_bytes;
+  payload_bytes = payload_bytes;
+  are_parts = are;
+  has_header = not_empty parts.header header_bytes header h ho;
+  has_payload = not_empty parts.payload payload_bytes payload p po;
+  header_encoded = h;
+  payload_encoded = p;
+  signature_encoded = rw n.0 s;
+  signature_length = rw n.0 n.1;
+  header_object = ho;
+  payload_object = po;
+  signing_received = copied ∙ e;
+}

@@ -1,0 +1,9 @@
+pub mod DataCode
+pub mod Fault
+pub mod IssuedAt
+pub mod Object
+pub mod Parts
+pub mod Reading
+pub mod Seen
+pub mod Token
+pub mod View

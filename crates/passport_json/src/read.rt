@@ -1,0 +1,70 @@
+ghost use Rattle.std.specs.Prelude.{◌≡◌, false, length, IfOk};
+ghost use Rattle.serde_json.specs.View.{view};
+ghost use Rattle.passport_json.specs.Object.{IsObjectText};
+ghost use Rattle.passport_json.specs.Parts.{AreParts, one_is_empty};
+ghost use Rattle.passport_json.specs.Reading.{Gives};
+ghost use Rattle.passport_json.specs.Seen.{texts_of};
+ghost use Rattle.passport_json.specs.Token.{IsBase64, checked_parts, checked_base64, checked_signature, checked_json};
+
+use crate::fault::TokenFault;
+use crate::parts::{Parts, one_is_empty, parts_of};
+use base64::DecodeAllocError;
+use base64::engine::general_purpose::URL_SAFE_NO_PAD;
+use serde_json::Value;
+use std::alloc::Global;
+
+pub(crate) fn checked_parts(text: &[u8]) -> Result<Parts<'_>, TokenFault>
+    ensures exact { Gives texts_of result (checked_parts text.now) }
+    ensures parts { IfOk result (λ parts. AreParts text.now (texts_of parts)) }
+    ensures both { IfOk result (λ parts. one_is_empty parts.header.now parts.payload.now ≡ false) }
+{
+    let Some(parts) = parts_of(text) else {
+        return Err(TokenFault::Parts);
+    };
+    if one_is_empty(parts.header, parts.payload) {
+        return Err(TokenFault::Parts);
+    }
+    Ok(parts)
+}
+
+pub(crate) fn checked_base64(alloc: Global, text: &[u8], part: u8) -> Result<Vec<u8>, TokenFault>
+    ensures exact { Gives (λ bytes. bytes.items) result (checked_base64 part text.now) }
+    ensures encoded { IfOk result (λ bytes. IsBase64 text.now bytes.items) }
+{
+    match URL_SAFE_NO_PAD.decode(alloc, text) {
+        Ok(bytes) => Ok(bytes),
+        Err(DecodeAllocError::DecodeError(_)) => Err(TokenFault::Base64 { part }),
+        Err(DecodeAllocError::OutOfMemory) => Err(TokenFault::Memory),
+    }
+}
+
+pub(crate) fn checked_signature(bytes: Vec<u8>) -> Result<[u8; 64], TokenFault>
+    ensures exact { result ≡ checked_signature bytes.items }
+    ensures whole { IfOk result (λ signature. (signature ≡ bytes.items) × (length bytes.items ≡ 64)) }
+{
+    match <[u8; 64]>::try_from(bytes.as_slice()) {
+        Ok(signature) => Ok(signature),
+        Err(_) => Err(TokenFault::SignatureLength),
+    }
+}
+
+#[tactic(auto, using(crate::proofs::ObjectLaws::json_object, crate::proofs::ObjectLaws::json_other, crate::proofs::ObjectLaws::json_text, crate::proofs::ObjectLaws::json_unread))]
+pub(crate) fn checked_json(alloc: Global, bytes: Vec<u8>, part: u8) -> Result<Value, TokenFault>
+    ensures exact { Gives view result (checked_json part bytes.items) }
+    ensures object { IfOk result (λ value. IsObjectText bytes.items (view value)) }
+{
+    let value = match Value::from_slice(alloc, &bytes) {
+        Ok(value) => value,
+        Err(error) => {
+            if error.is_memory() {
+                return Err(TokenFault::Memory);
+            }
+            return Err(TokenFault::Json { part });
+        }
+    };
+    if value.is_object() {
+        Ok(value)
+    } else {
+        Err(TokenFault::Json { part })
+    }
+}

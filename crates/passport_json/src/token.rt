@@ -1,0 +1,124 @@
+ghost use Rattle.std.specs.Prelude.{◌≡◌, ℕ, false, Some, IfOk, IfSome, codes};
+ghost use Rattle.std.specs.Bool.{nat_eq};
+ghost use Rattle.std.specs.List.{starts_with};
+ghost use Rattle.passport_json.specs.IssuedAt.{issued_at, IsIssuedAt};
+ghost use Rattle.passport_json.specs.Reading.{Gives, IsOkUnlessMemory};
+ghost use Rattle.passport_json.specs.Token.{TokenText, read_full};
+ghost use Rattle.passport_json.specs.View.{TokenView};
+ghost use Rattle.serde_json.specs.View.{view};
+
+use crate::fault::TokenFault;
+use crate::parts::signing_of;
+use crate::read::{checked_base64, checked_json, checked_parts, checked_signature};
+use serde_json::Value;
+use std::alloc::Global;
+use std::marker::Model;
+
+/// The last second of the year 9999, in Unix time.
+const LAST_SECOND: u64 = 253_402_300_799;
+
+/// A PASSporT in its full form (RFC 8225, section 3): header and payload as JSON objects, the 64 bytes of the
+/// signature, and the text that was signed. In contracts it is the record of these four.
+#[derive(Debug, Drop)]
+pub struct Token {
+    header: Value,
+    payload: Value,
+    signing: Vec<u8>,
+    signature: [u8; 64],
+}
+
+impl Model for Token {
+    ghost use Rattle.serde_json.specs.View.{view as data_view};
+    ghost use Rattle.passport_json.specs.View.{TokenView, token_code};
+
+    ghost Value = { TokenView };
+
+    ghost coded = { token_code };
+
+    ghost view = { λ t. record {
+      header = data_view t.header;
+      payload = data_view t.payload;
+      signing = t.signing.items;
+      signature = t.signature;
+    } };
+}
+
+impl Token {
+    /// Reads a token in its full form: three texts with a dot between each two, all in base64url, of which the
+    /// first two are JSON objects and the third is 64 bytes. The checks are made in this order, and the first
+    /// that is broken is the fault: `Parts`, `Base64` of part 1, 2 and 3, `SignatureLength`, `Json` of part 1
+    /// and 2. `Memory` may come for any text. The text may not begin with two dots, which is another form
+    /// (RFC 8225, section 7).
+    pub fn read_full(alloc: Global, text: &[u8]) -> Result<Token, TokenFault>
+        requires { starts_with nat_eq text.now (codes "..") ≡ false }
+        ensures exact { Gives (λ token. token) result (read_full text.now) }
+        ensures found { IfOk result (λ token. TokenText text.now token) }
+        ensures only { (token : TokenView) → TokenText text.now token
+            → IsOkUnlessMemory result (λ read. read ≡ token) }
+        ensures unique { (one other : TokenView) → TokenText text.now one → TokenText text.now other
+            → one ≡ other }
+    {
+        checked_token(alloc, text)
+    }
+
+    /// The header, a JSON object (RFC 8225, section 4).
+    pub fn header(&self) -> &Value
+        ensures { view result.now ≡ self.now.header }
+    {
+        &self.header
+    }
+
+    /// The payload, a JSON object (RFC 8225, section 5).
+    pub fn payload(&self) -> &Value
+        ensures { view result.now ≡ self.now.payload }
+    {
+        &self.payload
+    }
+
+    /// What was signed: the received text before its second dot, byte for byte (RFC 7515, section 2).
+    pub fn signing(&self) -> &[u8]
+        ensures { result.now ≡ self.now.signing }
+    {
+        &self.signing
+    }
+
+    /// The signature's bytes (RFC 7518, section 3.4).
+    pub fn signature(&self) -> &[u8; 64]
+        ensures { result.now ≡ self.now.signature }
+    {
+        &self.signature
+    }
+
+    /// When the token was issued, in Unix seconds: the payload's `iat` (RFC 8225, section 5.1.1), where it is a
+    /// number written as an integer that 64 bits hold, and not past the year 9999; else `None`.
+    pub fn issued_at(&self) -> Option<u64>
+        ensures exact { result ≡ issued_at self.now.payload }
+        ensures found { IfSome result (λ seconds. IsIssuedAt self.now.payload seconds) }
+        ensures only { (seconds : ℕ) → IsIssuedAt self.now.payload seconds → result ≡ Some seconds }
+    {
+        let seconds = self.payload.get("iat").and_then(Value::as_u64);
+        seconds.filter(|seconds| *seconds <= LAST_SECOND)
+    }
+}
+
+// The checks in their order, each part decoded once.
+#[tactic(auto, unfolding(crate::specs::Token::read_full))]
+fn checked_token(alloc: Global, text: &[u8]) -> Result<Token, TokenFault>
+    ensures exact { Gives (λ token. token) result (read_full text.now) }
+    ensures found { IfOk result (λ token. TokenText text.now token) }
+{
+    let parts = checked_parts(text)?;
+    let header_bytes = checked_base64(alloc, parts.header, 1)?;
+    let payload_bytes = checked_base64(alloc, parts.payload, 2)?;
+    let signature_bytes = checked_base64(alloc, parts.signature, 3)?;
+    let signature = checked_signature(signature_bytes)?;
+    let header = checked_json(alloc, header_bytes, 1)?;
+    let payload = checked_json(alloc, payload_bytes, 2)?;
+    let signing = Vec::from_slice(alloc, signing_of(text, &parts))?;
+    Ok(Token {
+        header,
+        payload,
+        signing,
+        signature,
+    })
+}

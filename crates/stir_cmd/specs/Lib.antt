@@ -1,0 +1,5 @@
+pub mod Answer
+pub mod Causes
+pub mod Entry
+pub mod Rules
+pub mod Seen

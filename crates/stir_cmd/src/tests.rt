@@ -1,0 +1,2 @@
+mod outside;
+mod rows;

@@ -1,0 +1,4 @@
+pub mod Lists
+pub mod Laws
+pub mod Pieces
+pub mod Runs

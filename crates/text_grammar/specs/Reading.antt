@@ -1,0 +1,55 @@
+-- Readers on lists of bytes: each gives what it read, or the rest of the text from where it can't go on.
+use Rattle.std.specs.Prelude.{ℕ, Bool, List, [], ◌∷◌, take, drop, Result, Ok, Err, ◌==◌, if◌then◌else◌}
+use Rattle.std.specs.List.{prefix_len}
+use Rattle.text_grammar.specs.Bytes.{lower}
+
+abbrev pub Read : Type 0 → Type 0
+Read X = Result X (List ℕ)
+
+infixl 10 ◌>>=◌
+abbrev pub ◌>>=◌ : {A B : Type 0} → Read A → (A → Read B) → Read B
+(Ok x) >>= f = f x
+(Err left) >>= f = Err left
+
+-- one byte of this class: what stands behind it
+abbrev pub one_at : (ℕ → Bool) → List ℕ → Read (List ℕ)
+one_at p [] = Err []
+one_at p (b ∷ rest) = if p b then Ok rest else Err (b ∷ rest)
+
+abbrev pub byte_at : ℕ → List ℕ → Read (List ℕ)
+byte_at c text = one_at (λ b. b == c) text
+
+-- this letter, in either case
+abbrev pub letter_at : ℕ → List ℕ → Read (List ℕ)
+letter_at c text = one_at (λ b. lower b == c) text
+
+-- this word, in letters of either case
+abbrev pub word_at : List ℕ → List ℕ → Read (List ℕ)
+word_at [] text = Ok text
+word_at (c ∷ word) text = letter_at c text >>= word_at word
+
+-- what stands behind the bytes of this class
+abbrev pub skip : (ℕ → Bool) → List ℕ → List ℕ
+skip p text = drop (prefix_len p text) text
+
+-- the first bytes, where there are some, and what stands behind them
+abbrev pub some_at : ℕ → List ℕ → Read (List ℕ × List ℕ)
+some_at count text = if count == 0 then Err text else Ok (take count text, drop count text)
+
+-- one or more bytes of this class, all that stand here
+abbrev pub many_at : (ℕ → Bool) → List ℕ → Read (List ℕ × List ℕ)
+many_at p text = some_at (prefix_len p text) text
+
+-- one or more bytes of this class, all that stand here up to a limit
+abbrev pub run_at : (ℕ → Bool) → ℕ → List ℕ → Read (List ℕ × List ℕ)
+run_at p most text = some_at (prefix_len p (take most text)) text
+
+-- the end of the text, where x was read
+abbrev pub end_at : {A : Type 0} → A → List ℕ → Read A
+end_at x [] = Ok x
+end_at x (b ∷ rest) = Err (b ∷ rest)
+
+-- one reader where the first byte is of this class, and the other one elsewhere
+abbrev pub either_at : {A : Type 0} → (ℕ → Bool) → (List ℕ → Read A) → (List ℕ → Read A) → List ℕ → Read A
+either_at p r s [] = s []
+either_at p r s (b ∷ rest) = if p b then r (b ∷ rest) else s (b ∷ rest)

@@ -1,0 +1,131 @@
+//! What the readers of text formats share: byte classes, and in `specs/` and `proofs/` grammars, readers on lists, and the
+//! laws that join them.
+#![tactic(auto)]
+
+ghost use Rattle.std.specs.Prelude.{◌≡◌, ◌≤◌, length, map, take};
+ghost use Rattle.std.specs.List.{prefix_len};
+ghost use Rattle.text_grammar.specs.Bytes as bytes;
+ghost use Rattle.text_grammar.specs.Reading as reading;
+ghost use Rattle.text_grammar.specs.Gives.{Gives, slice_view, split_view};
+
+/// Where a reader can't go on: the rest of the text from there.
+#[derive(Clone, Copy, Debug)]
+pub struct Stop<'a> {
+    pub left: &'a [u8],
+}
+
+/// Whether a byte is a space or a tab.
+pub fn is_blank(byte: u8) -> bool
+    ensures { result ≡ bytes.is_blank byte }
+{
+    matches!(byte, b' ' | b'\t')
+}
+
+/// Whether a byte may stand in a name: RFC 3261, section 25.1, `token`.
+pub fn is_name_byte(byte: u8) -> bool
+    ensures { result ≡ bytes.is_name_byte byte }
+{
+    byte.is_ascii_alphanumeric() || b"-.!%*_+'~`".contains(&byte)
+}
+
+/// The byte, with a letter A to Z as a to z.
+pub fn lower(byte: u8) -> u8
+    ensures { result ≡ bytes.lower byte }
+{
+    byte.to_ascii_lowercase()
+}
+
+/// Whether a text is a word, in letters of either case; the word is given in small letters.
+pub fn is_word(text: &[u8], word: &[u8]) -> bool
+    requires { map bytes.lower word.now ≡ word.now }
+    ensures { result ≡ bytes.is_word word.now text.now }
+{
+    text.eq_ignore_ascii_case(word)
+}
+
+/// How many blanks a text begins with.
+pub fn blank_count(text: &[u8]) -> usize
+    ensures count { result ≡ prefix_len bytes.is_blank text.now }
+    ensures within { result ≤ length text.now }
+{
+    for (place, byte) in text.iter().enumerate() {
+        if !is_blank(*byte) {
+            return place;
+        }
+    }
+    text.len()
+}
+
+/// How many name bytes a text begins with.
+pub fn name_len(text: &[u8]) -> usize
+    ensures count { result ≡ prefix_len bytes.is_name_byte text.now }
+    ensures within { result ≤ length text.now }
+{
+    for (place, byte) in text.iter().enumerate() {
+        if !is_name_byte(*byte) {
+            return place;
+        }
+    }
+    text.len()
+}
+
+/// What stands behind the blanks that a text begins with.
+pub fn skip_blanks(text: &[u8]) -> &[u8]
+    ensures { result.now ≡ reading.skip bytes.is_blank text.now }
+{
+    &text[blank_count(text)..]
+}
+
+/// What stands behind this byte; a text that doesn't begin with it is refused.
+pub fn byte_at(byte: u8, text: &[u8]) -> Result<&[u8], Stop<'_>>
+    ensures { Gives slice_view result (reading.byte_at byte text.now) }
+{
+    match text {
+        [first, rest @ ..] if *first == byte => Ok(rest),
+        _ => Err(Stop { left: text }),
+    }
+}
+
+/// What stands behind this letter, in either case; the letter is given as a small one.
+pub fn letter_at(letter: u8, text: &[u8]) -> Result<&[u8], Stop<'_>>
+    ensures { Gives slice_view result (reading.letter_at letter text.now) }
+{
+    match text {
+        [first, rest @ ..] if lower(*first) == letter => Ok(rest),
+        _ => Err(Stop { left: text }),
+    }
+}
+
+/// What stands behind this word, in letters of either case; the word is given in small letters.
+pub fn word_at<'a>(word: &[u8], text: &'a [u8]) -> Result<&'a [u8], Stop<'a>>
+    ensures { Gives slice_view result (reading.word_at word.now text.now) }
+{
+    let mut left = text;
+    for letter in word {
+        left = letter_at(*letter, left)?;
+    }
+    Ok(left)
+}
+
+/// The first bytes of a text, at most this many.
+pub fn front(text: &[u8], most: usize) -> &[u8]
+    ensures bytes { result.now ≡ take most text.now }
+    ensures within { length result.now ≤ length text.now }
+{
+    if text.len() <= most {
+        text
+    } else {
+        &text[..most]
+    }
+}
+
+/// The first bytes of a text, and what stands behind them; none are refused.
+pub fn some_at(count: usize, text: &[u8]) -> Result<(&[u8], &[u8]), Stop<'_>>
+    requires { count ≤ length text.now }
+    ensures { Gives split_view result (reading.some_at count text.now) }
+{
+    if count == 0 {
+        return Err(Stop { left: text });
+    }
+    Ok(text.split_at(count))
+}
