@@ -3,3 +3,4 @@ pub mod FieldText
 pub mod Spelling
 pub mod Reading
 pub mod Views
+pub mod Read

@@ -39,12 +39,15 @@ impl<'a> Model for Field<'a> {
 }
 
 impl<'a> Field<'a> {
+    ghost use Rattle.identity_header.specs.Read.{read};
+
     /// Reads the value of an Identity header field, in one pass. The value is shorter than 4,294,967,295 bytes.
     ///
     /// A value outside the grammar is refused, and the fault tells the length of the longest front of the value with which
     /// a value of the grammar begins.
     pub fn read(value: &'a [u8]) -> Result<Field<'a>, FieldFault>
         requires { length value.now < 4294967295 }
+        ensures exact { result ≡ read value.now }
 
         // What is read is in the grammar.
         ensures found { IfOk result (λ f. FieldText f value.now) }

@@ -1,3 +1,7 @@
+pub mod CompactLaws
 pub mod ObjectLaws
+pub mod OrderLaws
 pub mod PartLaws
+pub mod PlainLaws
 pub mod TokenLaws
+pub mod UriLaws

@@ -8,16 +8,17 @@ use Rattle.serde_json.proofs.OnLiterals.{serde_json_on_literals}
 use Rattle.serde_json.specs.Data.{Data}
 use Rattle.serde_json.specs.Read.{read}
 use Rattle.passport_json.specs.declared.fault.TokenFault.{TokenFault}
-use Rattle.passport_json.specs.declared.fault.TokenFault.TheVariants.{Parts, Base64, Json, SignatureLength, Memory}
+use Rattle.passport_json.specs.declared.fault.TokenFault.TheVariants.{Parts, Base64, Json, SignatureLength, Compact, Memory}
+use Rattle.passport_json.specs.Base64.{IsBase64}
 use Rattle.passport_json.specs.Object.{IsObjectText}
 use Rattle.passport_json.specs.Parts.{PartTexts, AreParts, one_is_empty, signing_of}
 use Rattle.passport_json.specs.Reading.{Gives, IsOkUnlessMemory}
-use Rattle.passport_json.specs.Token.{IsBase64, TokenText, checked_parts, checked_base64, checked_signature, read_full}
+use Rattle.passport_json.specs.Token.{FullText, checked_parts, checked_base64, checked_signature, read_full}
 use Rattle.passport_json.specs.View.{TokenView}
 use Rattle.passport_json.proofs.ObjectLaws.{json_again}
 use Rattle.passport_json.proofs.PartLaws.{parts_again}
 
-base64_again : (part : ℕ) (text bytes : List ℕ) → IsBase64 text bytes → checked_base64 part text ≡ Ok bytes
+pub base64_again : (part : ℕ) (text bytes : List ℕ) → IsBase64 text bytes → checked_base64 part text ≡ Ok bytes
 base64_again part text bytes is = rw (is.encoded, decode_of-encode_of url_safe_no_pad bytes refl is.are_bytes) refl
 
 none_empty : (a b : List ℕ) → a ≢ [] → b ≢ [] → one_is_empty a b ≡ false
@@ -25,13 +26,13 @@ none_empty [] b x y = absurd (x refl)
 none_empty (a ∷ more) [] x y = absurd (y refl)
 none_empty (a ∷ more) (b ∷ bs) x y = refl
 
-checked_again : (text : List ℕ) (parts : PartTexts) → AreParts text parts → one_is_empty parts.header parts.payload ≡ false → checked_parts text ≡ Ok parts
+pub checked_again : (text : List ℕ) (parts : PartTexts) → AreParts text parts → one_is_empty parts.header parts.payload ≡ false → checked_parts text ≡ Ok parts
 checked_again text parts are both = rw (parts_again text parts are, both) refl
 
-signature_again : (bytes : List ℕ) → length bytes ≡ 64 → checked_signature bytes ≡ Ok bytes
+pub signature_again : (bytes : List ℕ) → length bytes ≡ 64 → checked_signature bytes ≡ Ok bytes
 signature_again bytes e = rw e refl
 
-pub token_again : (text : List ℕ) (token : TokenView) → TokenText text token → read_full text ≡ Ok token
+pub token_again : (text : List ℕ) (token : TokenView) → FullText text token → read_full text ≡ Ok token
 unfolding read_full
 token_again text token t =
     rw (
@@ -43,28 +44,34 @@ token_again text token t =
       json_again 1 t.header_bytes token.header t.header_object,
       json_again 2 t.payload_bytes token.payload t.payload_object,
       ← t.signing_received,
+      ← t.is_full,
     ) refl
 
-refused : (text : List ℕ) (token : TokenView) → TokenText text token → (fault : TokenFault) → read_full text ≡ Err fault → ⊥
-refused text token t fault e =
-    let same : ◌≡◌ {A = Result TokenView TokenFault} (Ok token) (Err fault) = sym (token_again text token t) ∙ e in
+refused : (given : Result TokenView TokenFault) (token : TokenView) (fault : TokenFault) → given ≡ Ok token → given ≡ Err fault → ⊥
+refused given token fault ok e =
+    let same : ◌≡◌ {A = Result TokenView TokenFault} (Ok token) (Err fault) = sym ok ∙ e in
     absurd cc
 
-pub token_unique : (text : List ℕ) (one other : TokenView) → TokenText text one → TokenText text other → one ≡ other
+pub only_of : (result given : Result TokenView TokenFault) → Gives (λ token. token) result given
+    → (token : TokenView) → given ≡ Ok token → IsOkUnlessMemory result (λ read. read ≡ token)
+only_of (Ok read) given gives token ok =
+    let e : ◌≡◌ {A = Result TokenView TokenFault} (Ok read) (Ok token) = sym gives ∙ ok in
+    cc
+only_of (Err Parts) given gives token ok = absurd (refused given token Parts ok gives)
+only_of (Err (Base64 part)) given gives token ok = absurd (refused given token (Base64 part) ok gives)
+only_of (Err (Json part)) given gives token ok = absurd (refused given token (Json part) ok gives)
+only_of (Err SignatureLength) given gives token ok = absurd (refused given token SignatureLength ok gives)
+only_of (Err Compact) given gives token ok = absurd (refused given token Compact ok gives)
+only_of (Err Memory) given gives token ok = tt
+
+pub token_unique : (text : List ℕ) (one other : TokenView) → FullText text one → FullText text other → one ≡ other
 token_unique text one other a b =
     let e : ◌≡◌ {A = Result TokenView TokenFault} (Ok one) (Ok other) = sym (token_again text one a) ∙ token_again text other b in
     cc
 
 pub token_only : (text : List ℕ) (result : Result TokenView TokenFault) → Gives (λ token. token) result (read_full text)
-    → (token : TokenView) → TokenText text token → IsOkUnlessMemory result (λ read. read ≡ token)
-token_only text (Ok read) gives token t =
-    let e : ◌≡◌ {A = Result TokenView TokenFault} (Ok read) (Ok token) = sym gives ∙ token_again text token t in
-    cc
-token_only text (Err Parts) gives token t = absurd (refused text token t Parts gives)
-token_only text (Err (Base64 part)) gives token t = absurd (refused text token t (Base64 part) gives)
-token_only text (Err (Json part)) gives token t = absurd (refused text token t (Json part) gives)
-token_only text (Err SignatureLength) gives token t = absurd (refused text token t SignatureLength gives)
-token_only text (Err Memory) gives token t = tt
+    → (token : TokenView) → FullText text token → IsOkUnlessMemory result (λ read. read ≡ token)
+token_only text result gives token t = only_of result (read_full text) gives token (token_again text token t)
 
 no_bytes : (bytes : List ℕ) → [] ≡ encode_of url_safe_no_pad bytes → bytes ≡ []
 unfolding encode_symbols
@@ -86,7 +93,7 @@ not_empty text bytes value is t empty =
 pub token_text : (text : List ℕ) (parts : PartTexts) (header_bytes payload_bytes signature_bytes received signing signature : List ℕ) (header payload : Data)
     → AreParts text parts → IsBase64 parts.header header_bytes → IsBase64 parts.payload payload_bytes → IsBase64 parts.signature signature_bytes
     → (signature ≡ signature_bytes) × (length signature_bytes ≡ 64) → IsObjectText header_bytes header → IsObjectText payload_bytes payload
-    → received ≡ signing_of parts → signing ≡ received → TokenText text (record { header = header; payload = payload; signing = signing; signature = signature })
+    → received ≡ signing_of parts → signing ≡ received → FullText text (record { header = header; payload = payload; signing = signing; signature = signature; compact = false })
 token_text text parts header_bytes payload_bytes signature_bytes received signing signature header payload are h p s n ho po e copied = record {
   parts = parts;
   header_bytes = header_bytes;
@@ -101,4 +108,5 @@ token_text text parts header_bytes payload_bytes signature_bytes received signin
   header_object = ho;
   payload_object = po;
   signing_received = copied ∙ e;
+  is_full = refl;
 }

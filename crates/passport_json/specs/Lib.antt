@@ -1,9 +1,15 @@
+pub mod Base64
+pub mod Compact
 pub mod DataCode
+pub mod Deterministic
 pub mod Fault
 pub mod IssuedAt
 pub mod Object
 pub mod Parts
+pub mod Passport
 pub mod Reading
 pub mod Seen
+pub mod Signing
 pub mod Token
+pub mod Uri
 pub mod View

@@ -1,7 +1,7 @@
 -- What a reader's result says of a text, where want of memory is free.
 use Rattle.std.specs.Prelude.{◌≡◌, Result, Ok, Err}
 use Rattle.passport_json.specs.declared.fault.TokenFault.{TokenFault}
-use Rattle.passport_json.specs.declared.fault.TokenFault.TheVariants.{Parts, Base64, Json, SignatureLength, Memory}
+use Rattle.passport_json.specs.declared.fault.TokenFault.TheVariants.{Parts, Base64, Json, SignatureLength, Compact, Memory}
 
 -- the next step, where this one gave a value; else its fault
 infixl 10 ◌>>=◌
@@ -15,6 +15,7 @@ IsFaultOf Parts read = read ≡ Err Parts
 IsFaultOf (Base64 part) read = read ≡ Err (Base64 part)
 IsFaultOf (Json part) read = read ≡ Err (Json part)
 IsFaultOf SignatureLength read = read ≡ Err SignatureLength
+IsFaultOf Compact read = read ≡ Err Compact
 IsFaultOf Memory read = Unit {0}
 
 -- the result is what the definition gives, seen so; or memory was wanting

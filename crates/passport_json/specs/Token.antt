@@ -1,24 +1,23 @@
--- A PASSporT in its full form: header, payload and signature in base64url, with dots between (RFC 8225, section 3;
--- RFC 7515, section 7.1; RFC 4648, section 5 without padding).
-use Rattle.std.specs.Prelude.{◌≡◌, ◌≢◌, ℕ, ◌==◌, List, [], length, Option, Some, None, Result, Ok, Err, if◌then◌else◌}
+-- The text of a PASSporT (RFC 8225, sections 3 and 7; RFC 7515, section 7.1; RFC 4648, section 5 without padding): in its
+-- full form header, payload and signature in base64url, with dots between; in its compact form the signature alone.
+use Rattle.std.specs.Prelude.{◌≡◌, ◌≢◌, ◌⊎◌, ℕ, ◌==◌, false, List, [], length, Option, Some, None, Result, Ok, Err, codes, if◌then◌else◌}
+use Rattle.std.specs.Bool.{nat_eq}
+use Rattle.std.specs.List.{starts_with}
 use Rattle.base64.specs.declared.decode.DecodeError.{DecodeError}
 use Rattle.base64.specs.Engines.{url_safe_no_pad}
-use Rattle.base64.specs.GeneralPurpose.{encode_of, decode_of, IsBytes}
+use Rattle.base64.specs.GeneralPurpose.{decode_of}
 use Rattle.serde_json.specs.Data.{Data}
 use Rattle.passport_json.specs.declared.fault.TokenFault.{TokenFault}
 use Rattle.passport_json.specs.declared.fault.TokenFault.TheVariants.{Parts, Base64, Json, SignatureLength}
+use Rattle.passport_json.specs.Base64.{IsBase64}
+use Rattle.passport_json.specs.Compact.{CallView, CompactText, checked_base, rebuilt}
 use Rattle.passport_json.specs.Object.{IsObjectText, object_of}
 use Rattle.passport_json.specs.Parts.{PartTexts, AreParts, parts_of, one_is_empty, signing_of}
 use Rattle.passport_json.specs.Reading.{◌>>=◌}
 use Rattle.passport_json.specs.View.{TokenView}
 
--- the text is the base64url encoding of these bytes, without padding and without spare bits
-pub record IsBase64 (text bytes : List ℕ) : Type 0 where
-  pub are_bytes : IsBytes bytes
-  pub encoded : text ≡ encode_of url_safe_no_pad bytes
-
 -- the text is a token in its full form, and this is what it holds
-pub record TokenText (text : List ℕ) (token : TokenView) : Type 0 where
+pub record FullText (text : List ℕ) (token : TokenView) : Type 0 where
   pub parts : PartTexts
   pub header_bytes : List ℕ
   pub payload_bytes : List ℕ
@@ -32,6 +31,11 @@ pub record TokenText (text : List ℕ) (token : TokenView) : Type 0 where
   pub header_object : IsObjectText header_bytes token.header
   pub payload_object : IsObjectText payload_bytes token.payload
   pub signing_received : token.signing ≡ signing_of parts
+  pub is_full : token.compact ≡ false
+
+-- the text is a token in its full form; or in its compact form, for a call that has all that this form leaves out
+abbrev pub TokenText : List ℕ → CallView → TokenView → Type 0
+TokenText text call token = FullText text token ⊎ CompactText text call token
 
 -- ---- the checks in their order, each with its fault
 
@@ -73,4 +77,17 @@ read_full text = do
   signature ← checked_signature signature_bytes
   header ← checked_json 1 header_bytes
   payload ← checked_json 2 payload_bytes
-  Ok (record { header = header; payload = payload; signing = signing_of parts; signature = signature })
+  Ok (record { header = header; payload = payload; signing = signing_of parts; signature = signature; compact = false })
+
+-- the same of a text that begins with two dots, whose first two texts are the encoding of no bytes
+unfoldable pub read_compact : CallView → List ℕ → Result TokenView TokenFault
+read_compact call text = do
+  parts ← checked_parts text
+  signature_bytes ← checked_base64 3 parts.signature
+  signature ← checked_signature signature_bytes
+  passport ← checked_base call
+  Ok (rebuilt passport signature)
+
+-- what the text holds for a call, in either form, or the first check that it breaks
+unfoldable pub read_token : CallView → List ℕ → Result TokenView TokenFault
+read_token call text = if starts_with nat_eq text (codes "..") then read_compact call text else read_full text

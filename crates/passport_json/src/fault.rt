@@ -3,7 +3,7 @@ ghost use Rattle.std.specs.Prelude.{◌≡◌};
 use std::alloc::AllocError;
 use thiserror::Error;
 
-/// Why a text is not a token: the first check that it breaks, in the order that `Token::read_full` gives.
+/// Why a text is not a token: the first check that it breaks, in the order that `Token::read` gives.
 #[derive(Clone, Copy, Debug, PartialEq, Eq, Error)]
 pub enum TokenFault {
     /// The text doesn't have exactly two dots, or exactly one of the first two of the three texts around
@@ -19,6 +19,10 @@ pub enum TokenFault {
     /// The signature is not 64 bytes.
     #[error("the token's signature is not 64 bytes")]
     SignatureLength,
+    /// The token is in its compact form, and the call has no Date, no calling or no called number, or its
+    /// Identity header field has a PASSporT type.
+    #[error("the message lacks what a token in its compact form leaves out")]
+    Compact,
     /// Memory was wanting, and nothing is said of the text.
     #[error("out of memory")]
     Memory,
@@ -27,8 +31,8 @@ pub enum TokenFault {
 impl TokenFault {
     ghost use Rattle.passport_json.specs.Fault.{fault_number};
 
-    /// The fault's number in this project's reports: 1 to 4 in the order Parts, Base64, Json,
-    /// SignatureLength; `None` for want of memory, which is no fault of the text.
+    /// The fault's number in this project's reports: 1 to 5 in the order Parts, Base64, Json,
+    /// SignatureLength, Compact; `None` for want of memory, which is no fault of the text.
     pub fn number(self) -> Option<u8>
         ensures { result ≡ fault_number self }
     {
@@ -37,6 +41,7 @@ impl TokenFault {
             TokenFault::Base64 { .. } => Some(2),
             TokenFault::Json { .. } => Some(3),
             TokenFault::SignatureLength => Some(4),
+            TokenFault::Compact => Some(5),
             TokenFault::Memory => None,
         }
     }

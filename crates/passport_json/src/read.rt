@@ -1,10 +1,11 @@
 ghost use Rattle.std.specs.Prelude.{◌≡◌, false, length, IfOk};
 ghost use Rattle.serde_json.specs.View.{view};
+ghost use Rattle.passport_json.specs.Base64.{IsBase64};
 ghost use Rattle.passport_json.specs.Object.{IsObjectText};
 ghost use Rattle.passport_json.specs.Parts.{AreParts, one_is_empty};
 ghost use Rattle.passport_json.specs.Reading.{Gives};
 ghost use Rattle.passport_json.specs.Seen.{texts_of};
-ghost use Rattle.passport_json.specs.Token.{IsBase64, checked_parts, checked_base64, checked_signature, checked_json};
+ghost use Rattle.passport_json.specs.Token.{checked_parts, checked_base64, checked_signature, checked_json};
 
 use crate::fault::TokenFault;
 use crate::parts::{Parts, one_is_empty, parts_of};

@@ -178,6 +178,7 @@ fn numbers_the_faults(rt: HostRuntime) {
         (TokenFault::Base64 { part: 3 }, Some(2)),
         (TokenFault::Json { part: 2 }, Some(3)),
         (TokenFault::SignatureLength, Some(4)),
+        (TokenFault::Compact, Some(5)),
         (TokenFault::Memory, None),
     ];
     for (fault, wanted) in rows {

@@ -1,30 +1,38 @@
-ghost use Rattle.std.specs.Prelude.{◌≡◌, ℕ, false, Some, IfOk, IfSome, codes};
+ghost use Rattle.std.specs.Prelude.{◌≡◌, ℕ, true, false, Some, IfOk, IfSome, IsTrue, codes};
 ghost use Rattle.std.specs.Bool.{nat_eq};
 ghost use Rattle.std.specs.List.{starts_with};
+ghost use Rattle.passport_json.specs.Compact.{CompactText, rebuilt};
 ghost use Rattle.passport_json.specs.IssuedAt.{issued_at, IsIssuedAt};
 ghost use Rattle.passport_json.specs.Reading.{Gives, IsOkUnlessMemory};
-ghost use Rattle.passport_json.specs.Token.{TokenText, read_full};
+ghost use Rattle.passport_json.specs.Seen.{call_of, passport_of};
+ghost use Rattle.passport_json.specs.Token.{FullText, TokenText, read_compact, read_full, read_token};
+ghost use Rattle.passport_json.specs.Uri.{is_uri};
 ghost use Rattle.passport_json.specs.View.{TokenView};
 ghost use Rattle.serde_json.specs.View.{view};
 
+use crate::compact::{Base, checked_base, header_of, payload_of};
 use crate::fault::TokenFault;
 use crate::parts::signing_of;
 use crate::read::{checked_base64, checked_json, checked_parts, checked_signature};
+use crate::signing::signing_input;
+use crate::view::View;
+use crate::writing::deterministic;
 use serde_json::Value;
-use std::alloc::Global;
+use std::alloc::{AllocError, Global};
 use std::marker::Model;
 
 /// The last second of the year 9999, in Unix time.
 const LAST_SECOND: u64 = 253_402_300_799;
 
-/// A PASSporT in its full form (RFC 8225, section 3): header and payload as JSON objects, the 64 bytes of the
-/// signature, and the text that was signed. In contracts it is the record of these four.
+/// A PASSporT (RFC 8225, section 3): header and payload as JSON objects, the text that was signed, the 64 bytes of the
+/// signature, and whether it came in its compact form (section 7). In contracts it is the record of these five.
 #[derive(Debug, Drop)]
 pub struct Token {
     header: Value,
     payload: Value,
     signing: Vec<u8>,
     signature: [u8; 64],
+    compact: bool,
 }
 
 impl Model for Token {
@@ -40,10 +48,35 @@ impl Model for Token {
       payload = data_view t.payload;
       signing = t.signing.items;
       signature = t.signature;
+      compact = t.compact;
     } };
 }
 
 impl Token {
+    /// Reads a token in its full form, or in its compact form (RFC 8225, section 7), where the first two of the
+    /// three texts around its dots are empty and header and payload are built again: `view` gives what the message
+    /// and its Identity header field say, and they are those of the PASSporT without a type that says the same.
+    ///
+    /// The checks are made in this order, and the first that is broken is the fault: `Parts`, `Base64` of part 1, 2
+    /// and 3, `SignatureLength`; then `Compact` in the compact form, and `Json` of part 1 and 2 in the full form.
+    /// `Memory` may come for any text. The view's `info` is a URI ([`is_uri`](crate::is_uri) tells).
+    #[tactic(auto, using(crate::proofs::CompactLaws::only_dots, crate::proofs::CompactLaws::only_else, crate::proofs::CompactLaws::read_unique), unfolding(crate::specs::Token::read_token))]
+    pub fn read(alloc: Global, text: &[u8], view: &View<'_>) -> Result<Token, TokenFault>
+        requires { IsTrue (is_uri view.now.info.now) }
+        ensures exact { Gives (λ token. token) result (read_token (call_of view.now) text.now) }
+        ensures found { IfOk result (λ token. TokenText text.now (call_of view.now) token) }
+        ensures only { (token : TokenView) → TokenText text.now (call_of view.now) token
+            → IsOkUnlessMemory result (λ read. read ≡ token) }
+        ensures unique { (one other : TokenView) → TokenText text.now (call_of view.now) one
+            → TokenText text.now (call_of view.now) other → one ≡ other }
+    {
+        if text.starts_with(b"..") {
+            checked_compact(alloc, text, view)
+        } else {
+            Token::read_full(alloc, text)
+        }
+    }
+
     /// Reads a token in its full form: three texts with a dot between each two, all in base64url, of which the
     /// first two are JSON objects and the third is 64 bytes. The checks are made in this order, and the first
     /// that is broken is the fault: `Parts`, `Base64` of part 1, 2 and 3, `SignatureLength`, `Json` of part 1
@@ -52,10 +85,10 @@ impl Token {
     pub fn read_full(alloc: Global, text: &[u8]) -> Result<Token, TokenFault>
         requires { starts_with nat_eq text.now (codes "..") ≡ false }
         ensures exact { Gives (λ token. token) result (read_full text.now) }
-        ensures found { IfOk result (λ token. TokenText text.now token) }
-        ensures only { (token : TokenView) → TokenText text.now token
+        ensures found { IfOk result (λ token. FullText text.now token) }
+        ensures only { (token : TokenView) → FullText text.now token
             → IsOkUnlessMemory result (λ read. read ≡ token) }
-        ensures unique { (one other : TokenView) → TokenText text.now one → TokenText text.now other
+        ensures unique { (one other : TokenView) → FullText text.now one → FullText text.now other
             → one ≡ other }
     {
         checked_token(alloc, text)
@@ -75,7 +108,8 @@ impl Token {
         &self.payload
     }
 
-    /// What was signed: the received text before its second dot, byte for byte (RFC 7515, section 2).
+    /// What was signed (RFC 7515, section 2): of the full form the received text before its second dot, byte for
+    /// byte; of the compact form the signing input of the deterministic header and payload.
     pub fn signing(&self) -> &[u8]
         ensures { result.now ≡ self.now.signing }
     {
@@ -87,6 +121,13 @@ impl Token {
         ensures { result.now ≡ self.now.signature }
     {
         &self.signature
+    }
+
+    /// Whether the token came in its compact form (RFC 8225, section 7).
+    pub fn compact(&self) -> bool
+        ensures { result ≡ self.now.compact }
+    {
+        self.compact
     }
 
     /// When the token was issued, in Unix seconds: the payload's `iat` (RFC 8225, section 5.1.1), where it is a
@@ -105,7 +146,7 @@ impl Token {
 #[tactic(auto, unfolding(crate::specs::Token::read_full))]
 fn checked_token(alloc: Global, text: &[u8]) -> Result<Token, TokenFault>
     ensures exact { Gives (λ token. token) result (read_full text.now) }
-    ensures found { IfOk result (λ token. TokenText text.now token) }
+    ensures found { IfOk result (λ token. FullText text.now token) }
 {
     let parts = checked_parts(text)?;
     let header_bytes = checked_base64(alloc, parts.header, 1)?;
@@ -120,5 +161,42 @@ fn checked_token(alloc: Global, text: &[u8]) -> Result<Token, TokenFault>
         payload,
         signing,
         signature,
+        compact: false,
+    })
+}
+
+// A text whose first two parts are empty. They are the encoding of no bytes, so that the third is decoded first.
+#[tactic(auto, unfolding(crate::specs::Token::read_compact))]
+fn checked_compact(alloc: Global, text: &[u8], view: &View<'_>) -> Result<Token, TokenFault>
+    requires uri { IsTrue (is_uri view.now.info.now) }
+    requires dots { starts_with nat_eq text.now (codes "..") ≡ true }
+    ensures exact { Gives (λ token. token) result (read_compact (call_of view.now) text.now) }
+    ensures found { IfOk result (λ token. CompactText text.now (call_of view.now) token) }
+{
+    let parts = checked_parts(text)?;
+    let decoded = checked_base64(alloc, parts.signature, 3)?;
+    let signature = checked_signature(decoded)?;
+    match checked_base(view) {
+        Ok(base) => Ok(rebuilt(alloc, &base, signature)?),
+        Err(fault) => Err(fault),
+    }
+}
+
+// The token of a PASSporT without a type.
+fn rebuilt(alloc: Global, base: &Base<'_>, signature: [u8; 64]) -> Result<Token, AllocError>
+    requires { IsTrue (is_uri base.now.info.now) }
+    ensures exact { IfOk result (λ token. token ≡ rebuilt (passport_of base.now) signature) }
+{
+    let header = header_of(alloc, base)?;
+    let payload = payload_of(alloc, base)?;
+    let header_text = deterministic(alloc, &header)?;
+    let payload_text = deterministic(alloc, &payload)?;
+    let signing = signing_input(alloc, &header_text, &payload_text)?;
+    Ok(Token {
+        header,
+        payload,
+        signing,
+        signature,
+        compact: true,
     })
 }

@@ -1,2 +1,14 @@
-pub mod Fields
-pub mod IdentityLine
+pub mod AddressLaws
+pub mod AnswerLaws
+pub mod Bytes
+pub mod ContinuationSteps
+pub mod FieldLineLaws
+pub mod FieldSteps
+pub mod FormLaws
+pub mod HeadLaws
+pub mod HeadSteps
+pub mod LineSteps
+pub mod PlaceLaws
+pub mod ShortLaws
+pub mod StartLaws
+pub mod ValueSteps

@@ -1,10 +1,20 @@
-//! The head of a SIP message (RFC 3261, section 7).
+//! The head of a SIP message (RFC 3261, section 7): [`Message`] with its fields and telephone numbers.
 #![tactic(auto)]
 
-mod identity_line;
-mod plain;
+mod address;
+mod alphabet;
+mod fault;
+mod field;
+mod field_line;
+mod head;
+mod known;
+mod lines;
+mod message;
+mod start_line;
+mod value;
 
-pub use plain::Plain;
+pub use fault::{FormFault, MessageFault};
+pub use message::Message;
 
 #[cfg(test)]
 mod tests;

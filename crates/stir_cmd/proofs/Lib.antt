@@ -1,3 +1,5 @@
 pub mod EntryLaws
+pub mod FieldSteps
+pub mod OutcomeLaws
 pub mod Reply
 pub mod RuleLaws

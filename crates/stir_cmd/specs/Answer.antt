@@ -1,11 +1,12 @@
 -- What the program answers to an input, as a line and a status.
-use Rattle.std.specs.Prelude.{ℕ, List, ◌++◌, codes, Option, Some, None, Result, Ok, Err}
+use Rattle.std.specs.Prelude.{ℕ, List, ◌++◌, codes, Option, Some, None, Result, Ok, Err, if◌then◌else◌}
 use Rattle.std.specs.Fmt.{decimal}
-use Rattle.sip_message.specs.Plain.{plain}
+use Rattle.sip_message.specs.Reading.{read}
 use Rattle.stir_outside.specs.declared.transfer.ReadFault.{ReadFault}
 use Rattle.stir_outside.specs.declared.transfer.ReadFault.TheVariants.{Source, Memory as ReadMemory}
 use Rattle.stir_cmd.specs.Entry.{Entry, entry}
-use Rattle.stir_cmd.specs.Rules.{code, first, rules}
+use Rattle.stir_cmd.specs.Call.{Call, fields_of}
+use Rattle.stir_cmd.specs.Rules.{code, first, form_rules, is_not_built, token_rules}
 use Rattle.stir_cmd.specs.declared.answer.Answer.{Answer}
 use Rattle.stir_cmd.specs.declared.answer.Answer.TheVariants.{Judged, NotOneEntry}
 use Rattle.stir_cmd.specs.declared.program.Fault.{Fault}
@@ -14,18 +15,20 @@ use Rattle.stir_cmd.specs.declared.verdict.Outcome.{Outcome}
 use Rattle.stir_cmd.specs.declared.verdict.Outcome.TheVariants.{Screened, Refused, NotBuilt}
 use Rattle.stir_cmd.specs.declared.verdict.Refusal.{Refusal}
 
--- a call without a broken rule is screened
-abbrev pub or_screened : Option Refusal → Outcome
-or_screened None = Screened
-or_screened (Some refusal) = Refused refusal
+-- a call is refused by its first broken rule, and otherwise this comes of it
+abbrev pub refused_or : Option Refusal → Outcome → Outcome
+refused_or None other = other
+refused_or (Some refusal) other = Refused refusal
 
--- a message that isn't plain is not built yet; any other is judged by the rules
-abbrev pub outcome_of : ℕ → Option (Option (List ℕ)) → Outcome
-outcome_of moment None = NotBuilt
-outcome_of moment (Some token) = or_screened (first rules (record { moment = moment; token = token }))
+-- the rules on what is there, then what isn't judged yet, then the rules on what the PASSporT says
+abbrev pub outcome_of : Call → Outcome
+outcome_of call = refused_or (first form_rules call) (if is_not_built (fields_of call) then NotBuilt else refused_or (first token_rules call) Screened)
+
+abbrev pub call_of : Entry → Call
+call_of entered = record { moment = entered.moment; message = read entered.message }
 
 abbrev pub judged : Entry → Outcome
-judged call = outcome_of call.moment (plain call.message)
+judged entered = outcome_of (call_of entered)
 
 abbrev pub answer_of : Option Entry → Answer
 answer_of None = NotOneEntry

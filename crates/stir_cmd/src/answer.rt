@@ -1,11 +1,9 @@
 ghost use Rattle.std.specs.Prelude.{◌≡◌, ℕ, IfOk, string_bytes};
-ghost use Rattle.stir_cmd.specs.Answer.{answer, answer_line, answer_status, judged, outcome_line, outcome_status};
-ghost use Rattle.stir_cmd.specs.Seen.{entry_of};
+ghost use Rattle.stir_cmd.specs.Answer.{answer, answer_line, answer_status, outcome_line};
 
-use crate::entry::{LogEntry, read_entry};
-use crate::screen::{code, screen};
+use crate::entry::read_entry;
+use crate::judge::{code, judge};
 use crate::verdict::Outcome;
-use sip_message::Plain;
 use std::alloc::{AllocError, Global};
 
 /// The answer to an input.
@@ -24,18 +22,6 @@ pub(crate) fn answer_to(alloc: Global, input: &[u8]) -> Result<Answer, AllocErro
     match read_entry(input) {
         Some(call) => Ok(Answer::Judged(judge(alloc, &call)?)),
         None => Ok(Answer::NotOneEntry),
-    }
-}
-
-fn judge(alloc: Global, call: &LogEntry<'_>) -> Result<Outcome, AllocError>
-    ensures { IfOk result (λ outcome. outcome ≡ judged (entry_of call.now)) }
-{
-    let Some(message) = Plain::read(call.message) else {
-        return Ok(Outcome::NotBuilt);
-    };
-    match screen(alloc, &message, call.moment)? {
-        Some(refusal) => Ok(Outcome::Refused(refusal)),
-        None => Ok(Outcome::Screened),
     }
 }
 

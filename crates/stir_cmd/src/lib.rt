@@ -3,8 +3,9 @@
 
 mod answer;
 mod entry;
+mod fields;
+mod judge;
 mod program;
-mod screen;
 mod verdict;
 
 pub use program::run;

@@ -3,6 +3,7 @@ ghost use Rattle.std.specs.Bool.{OnFalse};
 ghost use Rattle.std.specs.Io.KnownBytes.{IsAtEnd};
 ghost use Rattle.stir_base.specs.Count.{Rose};
 ghost use Rattle.stir_cmd.specs.Answer.{answer_line, answer_status, fault_line, fault_status, line_of, status_of};
+ghost use Rattle.stir_cmd.specs.Rules.{GivesLeast, form_rules, token_rules};
 ghost use Rattle.stir_cmd.specs.Causes.{EndsAs, HasCauses, HasReason, Ran, TakesAtMost, is_verify};
 
 use crate::answer::{Answer, answer_to};
@@ -50,6 +51,7 @@ const SINK_FAILED: u8 = 4;
 /// The bytes of one entry and one more.
 const MOST_INPUT: usize = 131_094;
 
+#[tactic(auto, using(crate::proofs::RuleLaws::gives_least))]
 /// The program: takes the words after its name, reads the input, writes one line and gives the status with
 /// which the program ends.
 ///
@@ -73,6 +75,10 @@ pub fn run<R: Threads + Sync, S: Shelf, I: Source, O: Sink>(
     ensures limited { TakesAtMost 131094 (I.left input.old) (I.left input.new) }
     ensures unread { OnFalse (is_verify (map (λ word. word.now) words.now)) (input.new ≡ input.old) }
     ensures no_file { shelf.new ≡ shelf.old }
+
+    // The rule that a refusal names is the first that the call breaks: those before it hold.
+    ensures first_form { GivesLeast form_rules }
+    ensures first_token { GivesLeast token_rules }
 {
     match reply_to(alloc, words, input) {
         Ok(answer) => report(alloc, sink, &answer),

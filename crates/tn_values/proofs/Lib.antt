@@ -3,3 +3,7 @@ pub mod NumberFacts
 pub mod LocalFacts
 pub mod KeptFacts
 pub mod CanonLaws
+pub mod ValueLaws
+pub mod SetLaws
+pub mod WalkLaws
+pub mod WithinLaws

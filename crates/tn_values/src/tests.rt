@@ -1,4 +1,5 @@
 use super::*;
+use std::alloc::Global;
 use std::hash::{DefaultHasher, Hash, Hasher};
 use std::test::Fail;
 
@@ -143,5 +144,132 @@ fn numbers_compare_hash_and_print_as_their_bytes(rt: HostRuntime) -> Result<(), 
     );
     let copy = local;
     assert_eq!(rt; copy, local);
+    Ok(())
+}
+
+fn number_of(text: &str) -> Result<Number, Fail> {
+    Ok(Number::exact(text.as_bytes()).ok_or("a number")?)
+}
+
+fn span_of(start: &str, size: &str) -> Result<Span, Fail> {
+    let size: u64 = size.parse()?;
+    Ok(Span::new(number_of(start)?, size).ok_or("a span")?)
+}
+
+// The set of a text: `start+size` is a span, and any other word is a single number.
+fn set_of(alloc: Global, text: &str) -> Result<NumberSet, Fail> {
+    let mut spans = Vec::new(alloc);
+    let mut singles = Vec::new(alloc);
+    for word in text.split_whitespace() {
+        match word.split_once('+') {
+            Some((start, size)) => spans.push(span_of(start, size)?)?,
+            None => singles.push(number_of(word)?)?,
+        }
+    }
+    Ok(NumberSet::build(spans, singles)?)
+}
+
+#[test]
+fn spans_begin_with_digits_and_are_not_empty(rt: HostRuntime) -> Result<(), Fail> {
+    for (start, size, want) in [
+        ("12155551000", 100, true),
+        ("000", 1, true),
+        ("999999999999999", u64::MAX, true),
+        ("12155551000", 0, false),
+        ("*67", 1, false),
+        ("12#", 1, false),
+    ] {
+        let span = Span::new(number_of(start)?, size);
+        assert_eq!(rt; span.is_some(), want, "at {start} {size}");
+    }
+    let span = span_of("007", "5")?;
+    assert_eq!(rt; span.start(), number_of("007")?);
+    assert_eq!(rt; span.size(), 5);
+    Ok(())
+}
+
+#[test]
+fn sets_hold_the_numbers_of_their_spans_and_singles(rt: HostRuntime) -> Result<(), Fail> {
+    let set = set_of(
+        rt.alloc(),
+        "12155551000+100 9990+11 007+5 99+18446744073709551615 123456789012345+18446744073709551615 *67 0 12155551050 5",
+    )?;
+    for (number, want) in [
+        ("12155550999", false),
+        ("12155551000", true),
+        ("12155551050", true),
+        ("12155551099", true),
+        ("12155551100", false),
+        ("2155551000", false),
+        ("9989", false),
+        ("9990", true),
+        ("9999", true),
+        ("10000", false),
+        ("0000", false),
+        ("006", false),
+        ("007", true),
+        ("011", true),
+        ("012", false),
+        ("7", false),
+        ("07", false),
+        ("0007", false),
+        ("98", false),
+        ("99", true),
+        ("00", false),
+        ("0", true),
+        ("05", false),
+        ("123456789012344", false),
+        ("999999999999999", true),
+        ("*67", true),
+        ("#67", false),
+    ] {
+        assert_eq!(rt; set.has(&number_of(number)?), want, "at {number}");
+    }
+    assert_eq!(rt; set.spans().len(), 5);
+    assert_eq!(rt; set.singles().len(), 4);
+    Ok(())
+}
+
+#[test]
+fn sets_are_within_others_by_their_numbers(rt: HostRuntime) -> Result<(), Fail> {
+    for (child, parent, want) in [
+        ("", "", true),
+        ("", "12155551000+100", true),
+        ("12155551000+100", "", false),
+        ("12155551000+100", "12155551000+50 12155551050+50", true),
+        ("12155551000+100", "12155551000+50 12155551051+49", false),
+        ("12155551000+100", "12155551030+90 12155550990+50", true),
+        ("12155551000+100", "12155551000+99", false),
+        ("12155551000+100", "12155551001+99", false),
+        (
+            "12155551000+100",
+            "12155551051+49 12155551000+50 12155551050",
+            true,
+        ),
+        ("12155551050", "12155551000+100", true),
+        ("12155551100", "12155551000+100", false),
+        ("07+4", "10 08 09 07", true),
+        ("07+4", "10 8 9 7", false),
+        ("00+1", "0+10", false),
+        ("9990+11", "9990+10", true),
+        ("0+18446744073709551615", "0+5 5+5", true),
+        (
+            "999999999999999+18446744073709551615",
+            "999999999999999",
+            true,
+        ),
+        (
+            "000000000000000+18446744073709551615",
+            "000000000000000+999999999999999 999999999999999",
+            true,
+        ),
+        ("*67", "067+900 #67", false),
+        ("*67", "067+900 *67", true),
+        ("167+1", "*67 #67", false),
+    ] {
+        let set = set_of(rt.alloc(), child)?;
+        let whole = set_of(rt.alloc(), parent)?;
+        assert_eq!(rt; set.within(&whole), want, "at {child} in {parent}");
+    }
     Ok(())
 }

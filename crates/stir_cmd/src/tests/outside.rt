@@ -77,7 +77,7 @@ pub fn run_on<R: Threads + Sync>(
 
 const EMPTY_MESSAGE: &[u8] = b"@1 0\n";
 
-const ITS_LINE: &[u8] = b"1 not-built - - -\n";
+const ITS_LINE: &[u8] = b"1 refused 400 1 0.0\n";
 
 #[test]
 fn refuses_other_words_and_reads_nothing(rt: HostRuntime) -> Result<(), Fail> {
@@ -149,7 +149,7 @@ fn takes_at_most_one_byte_more_than_an_entry(rt: HostRuntime) -> Result<(), Fail
         log.push(b'x')?;
     }
     let done = run_on(&rt, rt.alloc(), &["verify"], log.as_slice(), &[], &[])?;
-    assert_eq!(rt; done.sink.bytes(), ITS_LINE);
+    assert_eq!(rt; done.sink.bytes(), b"1 refused 400 1 0.65535\n".as_slice());
     log.extend_from_slice(b"yz")?;
     let done = run_on(&rt, rt.alloc(), &["verify"], log.as_slice(), &[], &[])?;
     assert_eq!(rt; done.status, 5);

@@ -2,7 +2,9 @@
 
 use super::outside::run_on;
 use std::alloc::{AllocError, Global};
+use std::process::Abort;
 use std::test::Fail;
+use std::thread::Threads;
 
 // `{"alg":"ES256","ppt":"shaken","typ":"passport","x5u":"https://cert.example.org/passport.cer"}`
 const HEADER: &str =
@@ -47,166 +49,180 @@ fn log(alloc: Global, moment: u64, line: &str) -> Result<String, AllocError> {
     format!(in alloc; "@{moment} {length}\n{message}")
 }
 
+// What the program writes for the input is the line, with the status that goes with it.
+fn assert_line<R: Threads + Sync + Abort>(
+    rt: &R,
+    alloc: Global,
+    input: &[u8],
+    line: &str,
+) -> Result<(), AllocError> {
+    let done = run_on(rt, alloc, &["verify"], input, &[], &[])?;
+    assert_eq!(rt; done.sink.bytes(), line.as_bytes(), "{line}");
+    let status = if line == "1 screened - - -\n" { 0 } else { 1 };
+    assert_eq!(rt; done.status, status, "{line}");
+    Ok(())
+}
+
 #[test]
-fn judges_one_plain_call(rt: HostRuntime) -> Result<(), Fail> {
+fn judges_the_token_and_its_age(rt: HostRuntime) -> Result<(), Fail> {
     let alloc = rt.alloc();
-    // moment, payload, letters of the signature, what stands behind the token, line, status
-    let rows: [(u64, &str, usize, &str, &str, u8); 22] = [
-        (1_443_208_345, PAYLOAD, 86, PLAIN, "1 screened - - -\n", 0),
-        (
-            1_443_208_345,
-            PAYLOAD,
-            84,
-            PLAIN,
-            "1 refused 438 6 1.4\n",
-            1,
-        ),
-        (
-            1_443_208_345,
-            PAYLOAD,
-            85,
-            PLAIN,
-            "1 refused 438 6 1.2\n",
-            1,
-        ),
-        (1_443_208_405, PAYLOAD, 86, PLAIN, "1 screened - - -\n", 0),
-        (
-            1_443_208_406,
-            PAYLOAD,
-            86,
-            PLAIN,
-            "1 refused 403 9 1.0\n",
-            1,
-        ),
-        (1_443_208_285, PAYLOAD, 86, PLAIN, "1 screened - - -\n", 0),
-        (
-            1_443_208_284,
-            PAYLOAD,
-            86,
-            PLAIN,
-            "1 refused 403 9 1.0\n",
-            1,
-        ),
-        (0, PAYLOAD, 86, PLAIN, "1 refused 403 9 1.0\n", 1),
-        (
-            253_402_300_799,
-            PAYLOAD,
-            86,
-            PLAIN,
-            "1 refused 403 9 1.0\n",
-            1,
-        ),
+    // moment, payload, letters of the signature, line
+    let rows: [(u64, &str, usize, &str); 20] = [
+        (1_443_208_345, PAYLOAD, 86, "1 screened - - -\n"),
+        (1_443_208_345, PAYLOAD, 84, "1 refused 438 6 1.4\n"),
+        (1_443_208_345, PAYLOAD, 85, "1 refused 438 6 1.2\n"),
+        (1_443_208_405, PAYLOAD, 86, "1 screened - - -\n"),
+        (1_443_208_406, PAYLOAD, 86, "1 refused 403 9 1.0\n"),
+        (1_443_208_285, PAYLOAD, 86, "1 screened - - -\n"),
+        (1_443_208_284, PAYLOAD, 86, "1 refused 403 9 1.0\n"),
+        (0, PAYLOAD, 86, "1 refused 403 9 1.0\n"),
+        (253_402_300_799, PAYLOAD, 86, "1 refused 403 9 1.0\n"),
         // A call that is stale too is refused for what can't be read.
-        (0, PAYLOAD, 84, PLAIN, "1 refused 438 6 1.4\n", 1),
-        (
-            1_443_208_345,
-            PAYLOAD,
-            86,
-            ";info=<u>;alg=ES256;ppt=shaken\r\n",
-            "1 not-built - - -\n",
-            1,
-        ),
-        (
-            1_443_208_345,
-            PAYLOAD,
-            86,
-            ";info=<u>\r\n",
-            "1 not-built - - -\n",
-            1,
-        ),
-        // No dot, an array, no object, and the values of `iat`: an integer within the limit, with a
-        // point, negative, a text, at the limit, past it, past 64 bits, absent, and twice.
-        (
-            1_443_208_345,
-            "e30.e30",
-            86,
-            PLAIN,
-            "1 refused 438 6 1.1\n",
-            1,
-        ),
-        (1_443_208_345, "WzFd", 86, PLAIN, "1 refused 438 6 1.3\n", 1),
+        (0, PAYLOAD, 84, "1 refused 438 6 1.4\n"),
+        // A dot too many, an array, and the values of `iat`: an integer within the limit, with a point,
+        // negative, a text, at the limit, past it, past 64 bits, absent, and twice.
+        (1_443_208_345, "e30.e30", 86, "1 refused 438 6 1.1\n"),
+        (1_443_208_345, "WzFd", 86, "1 refused 438 6 1.3\n"),
         (
             1_443_208_345,
             "eyJpYXQiOjE0NDMyMDgzNDV9",
             86,
-            PLAIN,
             "1 screened - - -\n",
-            0,
         ),
         (
             1_443_208_345,
             "eyJpYXQiOjE0NDMyMDgzNDUuMH0",
             86,
-            PLAIN,
             "1 refused 438 6 1.15\n",
-            1,
         ),
         (
             1_443_208_345,
             "eyJpYXQiOi0xfQ",
             86,
-            PLAIN,
             "1 refused 438 6 1.15\n",
-            1,
         ),
         (
             1_443_208_345,
             "eyJpYXQiOiIxNDQzMjA4MzQ1In0",
             86,
-            PLAIN,
             "1 refused 438 6 1.15\n",
-            1,
         ),
         (
             253_402_300_799,
             "eyJpYXQiOjI1MzQwMjMwMDc5OX0",
             86,
-            PLAIN,
             "1 screened - - -\n",
-            0,
         ),
         (
             253_402_300_799,
             "eyJpYXQiOjI1MzQwMjMwMDgwMH0",
             86,
-            PLAIN,
             "1 refused 438 6 1.15\n",
-            1,
         ),
-        (1_443_208_345, "e30", 86, PLAIN, "1 refused 438 6 1.15\n", 1),
+        (1_443_208_345, "e30", 86, "1 refused 438 6 1.15\n"),
         (
             1_443_208_345,
             "eyJpYXQiOjE0NDMyMDgzNDUsImlhdCI6bnVsbH0",
             86,
-            PLAIN,
             "1 refused 438 6 1.15\n",
-            1,
         ),
     ];
-    for (moment, payload, count, end, line, status) in rows {
-        let field = identity(alloc, payload, count, end)?;
+    for (moment, payload, count, line) in rows {
+        let field = identity(alloc, payload, count, PLAIN)?;
         let input = log(alloc, moment, field.as_str())?;
-        let done = run_on(&rt, rt.alloc(), &["verify"], input.as_bytes(), &[], &[])?;
-        assert_eq!(rt;
-            done.sink.bytes(),
-            line.as_bytes(),
-            "{moment} {payload} {count} {end}"
-        );
-        assert_eq!(rt; done.status, status, "{moment} {payload} {count} {end}");
+        assert_line(&rt, alloc, input.as_bytes(), line)?;
     }
-    let input = log(alloc, 1_443_208_345, "")?;
-    let done = run_on(&rt, rt.alloc(), &["verify"], input.as_bytes(), &[], &[])?;
-    assert_eq!(rt; done.sink.bytes(), b"1 refused 428 2 0.0\n".as_slice());
-    assert_eq!(rt; done.status, 1);
+    Ok(())
+}
+
+#[test]
+fn judges_the_identity_fields(rt: HostRuntime) -> Result<(), Fail> {
+    let alloc = rt.alloc();
+    // what stands behind the token of a good field, and the line
+    let rows: [(&str, &str); 11] = [
+        (";info=<u>\r\n", "1 screened - - -\n"),
+        (";info=<u>;ppt=shaken\r\n", "1 screened - - -\n"),
+        (
+            " ; INFO = <u> ; x ;ppt = \"shaken\"\r\n ;alg=ES256\r\n",
+            "1 screened - - -\n",
+        ),
+        (";info=<u>;ppt=\"rph\"\r\n", "1 refused 428 4 0.0\n"),
+        (";info=<u>;ppt=Shaken\r\n", "1 refused 428 4 0.0\n"),
+        (";info=<u>;alg=RS256\r\n", "1 refused 437 5 1.0\n"),
+        (";info=<u>;alg=es256\r\n", "1 refused 437 5 1.0\n"),
+        (
+            ";info=<u>\r\ny: a;info=<v>;ppt=div;alg=none\r\n",
+            "1 refused 437 5 2.0\n",
+        ),
+        (
+            ";info=<u>\r\ny: a;info=<v>;ppt=div\r\n",
+            "1 not-built - - -\n",
+        ),
+        (
+            ";info=<u>\r\nIDENTITY: a;info=<v>,\r\n",
+            "1 refused 438 3 2.10\n",
+        ),
+        (
+            ";info=<u>;ppt=rph\r\ny: ..a;info=<v>\r\n",
+            "1 not-built - - -\n",
+        ),
+    ];
+    for (end, line) in rows {
+        let field = identity(alloc, PAYLOAD, 86, end)?;
+        let input = log(alloc, 1_443_208_345, field.as_str())?;
+        assert_line(&rt, alloc, input.as_bytes(), line)?;
+    }
+    // No field, sixteen, and seventeen.
+    let field = identity(alloc, PAYLOAD, 86, PLAIN)?;
+    for (count, line) in [
+        (0u8, "1 refused 428 2 0.0\n"),
+        (16, "1 screened - - -\n"),
+        (17, "1 refused 438 3 17.0\n"),
+    ] {
+        let mut fields = String::new(alloc);
+        for _ in 0..count {
+            fields.push_str(field.as_str())?;
+        }
+        let input = log(alloc, 1_443_208_345, fields.as_str())?;
+        assert_line(&rt, alloc, input.as_bytes(), line)?;
+    }
+    Ok(())
+}
+
+#[test]
+fn judges_the_message(rt: HostRuntime) -> Result<(), Fail> {
+    let alloc = rt.alloc();
+    let rows: [(&str, &str); 5] = [
+        ("@1 5\nhello", "1 refused 400 1 0.5\n"),
+        (
+            "@1 24\nINVITE sip:a SIP/2.0\nX\n\n",
+            "1 refused 400 1 0.21\n",
+        ),
+        (
+            "@1 36\nOPTIONS sip:a SIP/2.0\nFrom: a\nt: b\n\n",
+            "1 refused 400 1 0.0\n",
+        ),
+        (
+            "@1 36\nINVITE sip:a sip/2.0\nf: a\n b\nTo: b\n\n",
+            "1 refused 428 2 0.0\n",
+        ),
+        (
+            "@1 35\nINVITE sip:a SIP/2.0\nf: a\nFrom: b\n\n",
+            "1 refused 400 1 0.26\n",
+        ),
+    ];
+    for (input, line) in rows {
+        assert_line(&rt, alloc, input.as_bytes(), line)?;
+    }
     Ok(())
 }
 
 #[test]
 fn takes_exactly_one_entry(rt: HostRuntime) -> Result<(), Fail> {
     let rows: [(&[u8], &[u8], u8); 19] = [
-        (b"@1 0\n", b"1 not-built - - -\n", 1),
-        (b"@0 3\nabc", b"1 not-built - - -\n", 1),
-        (b"@253402300799 1\n\n", b"1 not-built - - -\n", 1),
+        (b"@1 0\n", b"1 refused 400 1 0.0\n", 1),
+        (b"@0 3\nabc", b"1 refused 400 1 0.3\n", 1),
+        (b"@253402300799 1\n\n", b"1 refused 400 1 0.0\n", 1),
         (b"", b"refused input 0\n", 5),
         (b"@1 0", b"refused input 0\n", 5),
         (b"@01 0\n", b"refused input 0\n", 5),

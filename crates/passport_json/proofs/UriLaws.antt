@@ -1,0 +1,24 @@
+-- A URI is ASCII text.
+use Rattle.std.proofs.Common.{◌≡◌, ℕ, ◌<◌, ◌&&◌, true, List, [], ◌∷◌, length, nat_le, arith}
+use Rattle.std.proofs.lemmas.Bool.Decides.{nat_tests}
+use Rattle.std.proofs.lemmas.Str.{IsUtf8-from_ascii}
+use Rattle.std.proofs.lemmas.Str.Ascii.{IsAscii-nil, IsAscii-cons}
+use Rattle.std.specs.List.{list_all}
+use Rattle.std.specs.Str.{IsAscii, IsUtf8}
+use Rattle.passport_json.proofs.PlainLaws.{both}
+use Rattle.passport_json.specs.Uri.{is_uri_byte, is_uri}
+
+below_128 : (byte : ℕ) → is_uri_byte byte ≡ true → byte < 128
+below_128 byte h = grind (arith, nat_tests)
+
+bytes_ascii : (text : List ℕ) → list_all is_uri_byte text ≡ true → IsAscii text
+bytes_ascii [] h = IsAscii-nil
+bytes_ascii (byte ∷ rest) h =
+    let each = both (is_uri_byte byte) (list_all is_uri_byte rest) h in
+    IsAscii-cons byte rest (below_128 byte each.0) (bytes_ascii rest each.1)
+
+pub uri_utf8 : (text : List ℕ) → is_uri text ≡ true → IsUtf8 text
+unfolding is_uri
+uri_utf8 text h =
+    let parts = both (nat_le 1 (length text) && nat_le (length text) 2048) (list_all is_uri_byte text) h in
+    IsUtf8-from_ascii text (bytes_ascii text parts.1)

@@ -1,0 +1,41 @@
+//! The URI of a certificate.
+ghost use Rattle.std.specs.Prelude.{◌≡◌, IsTrue};
+ghost use Rattle.std.specs.List.{list_all};
+ghost use Rattle.passport_json.specs.Uri.{is_uri, is_uri_byte};
+
+use std::str;
+
+/// Whether a text can be the URI of a certificate in an Identity header field's `info` (RFC 8224, section 4): 1 to
+/// 2,048 visible ASCII bytes without `"`, `<`, `>` and backslash.
+#[tactic(auto, unfolding(crate::specs::Uri::is_uri))]
+pub fn is_uri(text: &[u8]) -> bool
+    ensures { result ≡ is_uri text.now }
+{
+    match text.len() {
+        1..=2048 => are_uri_bytes(text),
+        _ => false,
+    }
+}
+
+fn are_uri_bytes(text: &[u8]) -> bool
+    ensures { result ≡ list_all is_uri_byte text.now }
+{
+    text.iter().all(|byte| is_uri_byte(*byte))
+}
+
+fn is_uri_byte(byte: u8) -> bool
+    ensures { result ≡ is_uri_byte byte }
+{
+    33 <= byte && byte <= 126 && byte != b'"' && byte != b'<' && byte != b'>' && byte != b'\\'
+}
+
+/// A URI is ASCII, so it is text.
+pub(crate) fn uri_text(uri: &[u8]) -> &str
+    requires { IsTrue (is_uri uri.now) }
+    ensures { result.now ≡ uri.now }
+{
+    match str::from_utf8(uri) {
+        Ok(text) => text,
+        Err(_) => unreachable!(),
+    }
+}

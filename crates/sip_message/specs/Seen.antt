@@ -1,0 +1,43 @@
+-- How contracts see the values of the code.
+use Rattle.std.specs.Prelude.{◌≡◌, ℕ, List, map, Option, Some, None, Result, Ok, Err}
+use Rattle.sip_message.specs.declared.fault.FormFault.{FormFault}
+use Rattle.sip_message.specs.declared.fault.MessageFault.{MessageFault}
+use Rattle.sip_message.specs.declared.fault.MessageFault.TheVariants.{Form, Memory}
+use Rattle.sip_message.specs.declared.field.Field.{Field}
+use Rattle.sip_message.specs.declared.head.HeadFields.{HeadFields}
+use Rattle.sip_message.specs.declared.lines.Line.{Line}
+use Rattle.sip_message.specs.declared.value.Value.{Value}
+use Rattle.sip_message.specs.declared.value.Value.TheVariants.{View, Joined}
+use Rattle.sip_message.specs.Lines.{LineView}
+use Rattle.sip_message.specs.Message.{FieldView}
+use Rattle.sip_message.specs.Reading.{HeadView, PlacedField}
+
+abbrev pub line_seen : Line → LineView
+line_seen line = record { place = line.place; text = line.text.now }
+
+abbrev pub value_seen : Value → List ℕ
+value_seen (View text) = text.now
+value_seen (Joined bytes) = bytes.items
+
+abbrev pub field_seen : Field → FieldView
+field_seen field = record { name = field.name.now; value = value_seen field.value }
+
+abbrev pub placed_seen : Field → PlacedField
+placed_seen field = record { place = field.place; field = field_seen field }
+
+abbrev pub head_seen : HeadFields → HeadView
+head_seen head = record { fields = map placed_seen head.fields.items; end = head.end }
+
+-- ---- results, in which want of memory is free
+
+-- the code gives what is read, or its fault
+abbrev pub Gives : {X Y : Type 0} → (X → Y) → Result X MessageFault → Result Y FormFault → Type 0
+Gives seen (Ok x) read = read ≡ Ok (seen x)
+Gives seen (Err (Form fault)) read = read ≡ Err fault
+Gives seen (Err Memory) read = Unit {0}
+
+-- the code gives what is there, or the fault where it isn't
+abbrev pub GivesOr : {X Y : Type 0} → (X → Y) → FormFault → Result X MessageFault → Option Y → Type 0
+GivesOr seen absent (Ok x) read = read ≡ Some (seen x)
+GivesOr seen absent (Err (Form fault)) read = (read ≡ None) × (fault ≡ absent)
+GivesOr seen absent (Err Memory) read = Unit {0}

@@ -1,0 +1,92 @@
+//! A header field, and what is asked of several.
+ghost use Rattle.std.specs.Prelude.{◌≡◌, ◌<◌, [], length, map, slice_index_or};
+ghost use Rattle.std.specs.List.{filter_map};
+ghost use Rattle.std.specs.Option.{option_copied};
+ghost use Rattle.sip_message.specs.Accessors.{first, number_in, number_of, values};
+ghost use Rattle.sip_message.specs.Known.{is_named};
+ghost use Rattle.sip_message.specs.Seen.{field_seen};
+
+use crate::address::address_number;
+use crate::known::Known;
+use crate::value::Value;
+use tn_values::{Local, Number};
+
+/// A header field and the offset of its first line.
+#[derive(Debug, Drop)]
+pub(crate) struct Field<'a> {
+    pub place: u32,
+    pub name: &'a [u8],
+    pub value: Value<'a>,
+}
+
+/// The number of the first such field, None where there is none or its address has none.
+pub(crate) fn number_of(fields: &[Field<'_>], known: Known, local: &Local) -> Option<Number>
+    ensures { result ≡ number_of (is_named known) (map field_seen fields.now) local.now }
+{
+    match first_value(fields, known) {
+        Some(value) => address_number(value, local),
+        None => None,
+    }
+}
+
+// The value of the first such field.
+#[tactic(auto, using(crate::proofs::FieldSteps::values_step, crate::proofs::FieldSteps::values_end))]
+fn first_value<'b>(fields: &'b [Field<'_>], known: Known) -> Option<&'b [u8]>
+    ensures { option_copied result ≡ first (values (is_named known) (map field_seen fields.now)) }
+{
+    for field in fields {
+        if known.is_named(field.name) {
+            return Some(field.value.bytes());
+        }
+    }
+    None
+}
+
+/// The number of the first such field that gives one.
+#[tactic(auto, using(crate::proofs::FieldSteps::values_step, crate::proofs::FieldSteps::values_end))]
+pub(crate) fn first_number(fields: &[Field<'_>], known: Known, local: &Local) -> Option<Number>
+    ensures { result ≡ first (filter_map (number_in local.now) (values (is_named known) (map field_seen fields.now))) }
+{
+    for field in fields {
+        if !known.is_named(field.name) {
+            continue;
+        }
+        if let Some(number) = address_number(field.value.bytes(), local) {
+            return Some(number);
+        }
+    }
+    None
+}
+
+/// How many such fields there are.
+#[tactic(auto, using(crate::proofs::FieldSteps::values_step, crate::proofs::FieldSteps::values_end))]
+pub(crate) fn count(fields: &[Field<'_>], known: Known) -> usize
+    ensures { result ≡ length (values (is_named known) (map field_seen fields.now)) }
+{
+    let mut count = 0;
+    for field in fields {
+        if known.is_named(field.name) {
+            count += 1;
+        }
+    }
+    count
+}
+
+/// The value of the `i`-th such field, counted from 0.
+#[tactic(auto, using(crate::proofs::FieldSteps::values_step, crate::proofs::FieldSteps::values_end))]
+pub(crate) fn value_at<'b>(fields: &'b [Field<'_>], known: Known, i: usize) -> &'b [u8]
+    requires { i < length (values (is_named known) (map field_seen fields.now)) }
+    ensures { result.now ≡ slice_index_or (values (is_named known) (map field_seen fields.now)) i [] }
+{
+    let mut left = i;
+    for field in fields {
+        if !known.is_named(field.name) {
+            continue;
+        }
+        if left == 0 {
+            return field.value.bytes();
+        }
+        left -= 1;
+    }
+    unreachable!()
+}

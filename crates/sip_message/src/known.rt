@@ -1,0 +1,33 @@
+//! The header fields that have a meaning here.
+ghost use Rattle.std.specs.Prelude.{◌≡◌};
+ghost use Rattle.sip_message.specs.Known.{is_named};
+ghost use Rattle.sip_message.specs.Names.{is_either};
+
+/// A header field that has a meaning here.
+#[derive(Clone, Copy, Debug)]
+pub(crate) enum Known {
+    From,
+    To,
+    Identity,
+    Asserted,
+}
+
+impl Known {
+    /// Whether a field of this name is such a one. Names are compared without case, and some have a short form.
+    pub(crate) fn is_named(self, name: &[u8]) -> bool
+        ensures { result ≡ is_named self name.now }
+    {
+        match self {
+            Known::From => is_either(name, b"from", b"f"),
+            Known::To => is_either(name, b"to", b"t"),
+            Known::Identity => is_either(name, b"identity", b"y"),
+            Known::Asserted => name.eq_ignore_ascii_case(b"p-asserted-identity"),
+        }
+    }
+}
+
+fn is_either(name: &[u8], long: &[u8], short: &[u8]) -> bool
+    ensures { result ≡ is_either name.now long.now short.now }
+{
+    name.eq_ignore_ascii_case(long) || name.eq_ignore_ascii_case(short)
+}

@@ -1,0 +1,183 @@
+//! A message and what is asked of it.
+ghost use Rattle.std.specs.Prelude.{◌≡◌, ◌<◌, ◌≤◌, length, slice_index_or, [], Ok, Err, IfOk};
+ghost use Rattle.sip_message.specs.Answer.{IfForm, IsFault, IsMessage};
+ghost use Rattle.sip_message.specs.Form.{FormOf};
+ghost use Rattle.sip_message.specs.Head.{Head};
+ghost use Rattle.sip_message.specs.Message.{MessageView};
+ghost use Rattle.sip_message.specs.Accessors.{asserted_number, calling_number, from_number, identities, is_invite, target_number, to_number};
+ghost use Rattle.sip_message.specs.Reading.{checked, fault, read};
+ghost use Rattle.sip_message.specs.Seen.{Gives, head_seen};
+ghost use Rattle.sip_message.specs.Short.{AreShort};
+
+use crate::address::uri_number;
+use crate::fault::{FormFault, MessageFault};
+use crate::field::{Field, count, first_number, number_of, value_at};
+use crate::head::{HeadFields, read_head};
+use crate::known::Known;
+use crate::lines::Lines;
+use crate::start_line::start_line;
+use std::alloc::Global;
+use std::marker::Model;
+use tn_values::{Local, Number};
+
+const MOST_BYTES: usize = 65_535;
+
+const SIZE: u8 = 1;
+
+const START_LINE: u8 = 2;
+
+const NO_END: u8 = 4;
+
+const FROM: u8 = 5;
+
+const TO: u8 = 6;
+
+/// The head of a SIP request (RFC 3261, section 7): its method, its URI and its header fields in their order.
+///
+/// Values that stand in one line are views into the bytes that were read; those of several lines are joined. A contract
+/// sees method, URI and the list of names and values.
+#[derive(Drop)]
+pub struct Message<'a> {
+    method: &'a [u8],
+    uri: &'a [u8],
+    fields: Vec<Field<'a>>,
+}
+
+impl<'a> Model for Message<'a> {
+    ghost use Rattle.std.specs.Prelude.{map};
+    ghost use Rattle.sip_message.specs.Message.{MessageView};
+
+    ghost Value = { MessageView };
+
+    ghost use Rattle.sip_message.specs.Seen.{field_seen};
+
+    ghost view = { λ m. record { method = m.method.now; uri = m.uri.now; fields = map field_seen m.fields.items } };
+}
+
+impl<'a> Message<'a> {
+    /// Reads the head of a message of at most 65,535 bytes: its start line, its header fields with their continuations, and
+    /// the empty line; the body behind that isn't read.
+    ///
+    /// The faults are tried in this order: 1 the size, at 65,535; the first bad line, which is 2 for the start line, at 0,
+    /// or 3, at its first byte; 4 no empty line, at the length; 5 and 6 where there isn't exactly one From or To, at the
+    /// second such field or else at the empty line. `Memory` comes for want of memory alone.
+    #[tactic(auto, using(crate::proofs::AnswerLaws::answers_head, crate::proofs::AnswerLaws::answers_only, crate::proofs::AnswerLaws::answers_fault, crate::proofs::AnswerLaws::answers_only_fault, crate::proofs::AnswerLaws::answers_place, crate::proofs::ShortLaws::answers_short))]
+    pub fn read(alloc: Global, bytes: &'a [u8]) -> Result<Message<'a>, MessageFault>
+        ensures exact { Gives (λ message. message) result (read bytes.now) }
+        ensures head { IfOk result (λ message. Head bytes.now message) }
+        ensures only { (message : MessageView) → Head bytes.now message → IsMessage result message }
+        ensures fault { IfForm result (λ fault. FormOf bytes.now fault) }
+        ensures only_fault { (fault : FormFault) → FormOf bytes.now fault → IsFault result fault }
+        ensures place { IfForm result (λ fault. fault.place ≤ length bytes.now) }
+        ensures short { IfOk result (λ message. AreShort message.fields) }
+    {
+        read_message(alloc, bytes)
+    }
+
+    /// Whether the method is `INVITE`, byte for byte.
+    pub fn is_invite(&self) -> bool
+        ensures { result ≡ is_invite self.now }
+    {
+        self.method == b"INVITE".as_slice()
+    }
+
+    /// The number of From, None where its address has none.
+    pub fn from_number(&self, local: &Local) -> Option<Number>
+        ensures { result ≡ from_number self.now local.now }
+    {
+        number_of(&self.fields, Known::From, local)
+    }
+
+    /// The number of To, None where its address has none.
+    pub fn to_number(&self, local: &Local) -> Option<Number>
+        ensures { result ≡ to_number self.now local.now }
+    {
+        number_of(&self.fields, Known::To, local)
+    }
+
+    /// The number of the request URI, None where it has none.
+    pub fn target_number(&self, local: &Local) -> Option<Number>
+        ensures { result ≡ target_number self.now local.now }
+    {
+        uri_number(self.uri, local)
+    }
+
+    /// The number of the first P-Asserted-Identity field (RFC 3325, section 9.1) that gives one, None where none does.
+    pub fn asserted_number(&self, local: &Local) -> Option<Number>
+        ensures { result ≡ asserted_number self.now local.now }
+    {
+        first_number(&self.fields, Known::Asserted, local)
+    }
+
+    /// The calling number: the asserted one, or else that of From.
+    pub fn calling_number(&self, local: &Local) -> Option<Number>
+        ensures { result ≡ calling_number self.now local.now }
+    {
+        match self.asserted_number(local) {
+            Some(number) => Some(number),
+            None => self.from_number(local),
+        }
+    }
+
+    /// How many Identity fields (RFC 8224, section 4) there are.
+    pub fn identity_count(&self) -> usize
+        ensures { result ≡ length (identities self.now) }
+    {
+        count(&self.fields, Known::Identity)
+    }
+
+    /// The value of Identity field `i` in message order, counted from 0. Each call goes over the fields.
+    pub fn identity(&self, i: usize) -> &[u8]
+        requires { i < length (identities self.now) }
+        ensures { result.now ≡ slice_index_or (identities self.now) i [] }
+    {
+        value_at(&self.fields, Known::Identity, i)
+    }
+}
+
+#[tactic(auto, unfolding(crate::specs::Reading::read))]
+fn read_message<'a>(alloc: Global, bytes: &'a [u8]) -> Result<Message<'a>, MessageFault>
+    ensures { Gives (λ message. message) result (read bytes.now) }
+{
+    if bytes.len() > MOST_BYTES {
+        return fault(SIZE, MOST_BYTES as u32);
+    }
+    let size = bytes.len() as u32;
+    let mut lines = Lines::new(bytes);
+    let Some(line) = lines.next() else {
+        return fault(NO_END, size);
+    };
+    let Some((method, uri)) = start_line(line.text) else {
+        return fault(START_LINE, 0);
+    };
+    let head = read_head(alloc, size, &mut lines)?;
+    checked(method, uri, head)
+}
+
+fn fault<'a>(kind: u8, place: u32) -> Result<Message<'a>, MessageFault>
+    ensures { result ≡ Err (MessageFault.Form (fault kind place)) }
+{
+    Err(MessageFault::Form(FormFault { kind, place }))
+}
+
+// The message of these parts, where exactly one field is From and exactly one is To.
+fn checked<'a>(
+    method: &'a [u8],
+    uri: &'a [u8],
+    head: HeadFields<'a>,
+) -> Result<Message<'a>, MessageFault>
+    ensures { Gives (λ message. message) result (checked (method.now, uri.now) (Ok (head_seen head.entry))) }
+{
+    if let Some(place) = head.surplus(Known::From) {
+        return fault(FROM, place);
+    }
+    if let Some(place) = head.surplus(Known::To) {
+        return fault(TO, place);
+    }
+    let HeadFields { fields, end: _ } = head;
+    Ok(Message {
+        method,
+        uri,
+        fields,
+    })
+}
