@@ -2,6 +2,7 @@
 #![tactic(auto)]
 
 use std::alloc::Global;
+use std::io::ErrorKind;
 use std::process::ExitCode;
 use std::{env, io};
 use stir_cmd::run;
@@ -11,8 +12,12 @@ use stir_outside::{FileShelf, StdinSource, StdoutSink};
 const MEMORY: u8 = 6;
 
 fn main(rt: HostRuntime) -> ExitCode {
-    // Words that are no text are refused, as no words at all are.
-    let args = arguments(&rt).unwrap_or(Vec::new(rt.alloc()));
+    let args = match arguments(&rt) {
+        Ok(args) => args,
+        Err(error) if error.kind() == ErrorKind::OutOfMemory => return ExitCode::from(MEMORY),
+        // Words that are no text are refused, as no words at all are.
+        Err(_) => Vec::new(rt.alloc()),
+    };
     let Ok(words) = words_of(rt.alloc(), args.as_slice()) else {
         return ExitCode::from(MEMORY);
     };
