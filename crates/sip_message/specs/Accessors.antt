@@ -2,10 +2,11 @@
 use Rattle.std.specs.Prelude.{ℕ, Bool, List, [], ◌∷◌, map, filter, Option, Some, None, codes, option_and_then}
 use Rattle.std.specs.List.{filter_map}
 use Rattle.std.specs.Str.{bytes_eq}
+use Rattle.httpdate.specs.Date.{parse_secs}
 use Rattle.tn_values.specs.Local.{LocalView}
 use Rattle.sip_message.specs.Address.{address_number, or_else, uri_number}
 use Rattle.sip_message.specs.Message.{FieldView, MessageView}
-use Rattle.sip_message.specs.Names.{is_asserted, is_from, is_identity, is_to}
+use Rattle.sip_message.specs.Names.{is_asserted, is_date, is_from, is_identity, is_to}
 
 abbrev pub first : {X : Type 0} → List X → Option X
 first [] = None
@@ -47,3 +48,11 @@ asserted_number message local = first (filter_map (number_in local) (values is_a
 -- the calling number: the asserted one, or else that of From
 abbrev pub calling_number : MessageView → LocalView → Option (List ℕ)
 calling_number message local = or_else (asserted_number message local) (from_number message local)
+
+-- the time of the first field whose name passes
+abbrev pub time_of : (List ℕ → Bool) → List FieldView → Option ℕ
+time_of test fields = option_and_then parse_secs (first (values test fields))
+
+-- the time of the first Date field, in Unix seconds (RFC 3261, section 20.17; the forms of RFC 9110, section 5.6.7)
+abbrev pub date : MessageView → Option ℕ
+date message = time_of is_date message.fields

@@ -1,11 +1,12 @@
 -- Which names a known header field has.
 use Rattle.std.specs.Prelude.{ℕ, Bool, List}
-use Rattle.sip_message.specs.Names.{is_asserted, is_from, is_identity, is_to}
+use Rattle.sip_message.specs.Names.{is_asserted, is_date, is_from, is_identity, is_to}
 use Rattle.sip_message.specs.declared.known.Known.{Known}
-use Rattle.sip_message.specs.declared.known.Known.TheVariants.{From, To, Identity, Asserted}
+use Rattle.sip_message.specs.declared.known.Known.TheVariants.{From, To, Identity, Asserted, Date}
 
 abbrev pub is_named : Known → List ℕ → Bool
 is_named From name = is_from name
 is_named To name = is_to name
 is_named Identity name = is_identity name
 is_named Asserted name = is_asserted name
+is_named Date name = is_date name

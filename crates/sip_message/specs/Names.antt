@@ -16,6 +16,10 @@ is_to name = is_either name (codes "to") (codes "t")
 abbrev pub is_identity : List ℕ → Bool
 is_identity name = is_either name (codes "identity") (codes "y")
 
+-- Date, which has no short form (RFC 3261, section 20.17)
+abbrev pub is_date : List ℕ → Bool
+is_date name = str_eq_ignore_ascii_case name (codes "date")
+
 -- P-Asserted-Identity, which has no short form
 abbrev pub is_asserted : List ℕ → Bool
 is_asserted name = str_eq_ignore_ascii_case name (codes "p-asserted-identity")

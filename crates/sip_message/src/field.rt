@@ -2,13 +2,15 @@
 ghost use Rattle.std.specs.Prelude.{◌≡◌, ◌<◌, [], length, map, slice_index_or};
 ghost use Rattle.std.specs.List.{filter_map};
 ghost use Rattle.std.specs.Option.{option_copied};
-ghost use Rattle.sip_message.specs.Accessors.{first, number_in, number_of, values};
+ghost use Rattle.httpdate.specs.Date.{parse_secs};
+ghost use Rattle.sip_message.specs.Accessors.{first, number_in, number_of, time_of, values};
 ghost use Rattle.sip_message.specs.Known.{is_named};
 ghost use Rattle.sip_message.specs.Seen.{field_seen};
 
 use crate::address::address_number;
 use crate::known::Known;
 use crate::value::Value;
+use httpdate::HttpDate;
 use tn_values::{Local, Number};
 
 /// A header field and the offset of its first line.
@@ -26,6 +28,25 @@ pub(crate) fn number_of(fields: &[Field<'_>], known: Known, local: &Local) -> Op
     match first_value(fields, known) {
         Some(value) => address_number(value, local),
         None => None,
+    }
+}
+
+/// The time of the first such field, in Unix seconds, None where there is none or its value is no date.
+pub(crate) fn time_of(fields: &[Field<'_>], known: Known) -> Option<u64>
+    ensures { result ≡ time_of (is_named known) (map field_seen fields.now) }
+{
+    match first_value(fields, known) {
+        Some(value) => seconds_of(value),
+        None => None,
+    }
+}
+
+fn seconds_of(text: &[u8]) -> Option<u64>
+    ensures { result ≡ parse_secs text.now }
+{
+    match HttpDate::parse_ascii(text) {
+        Ok(date) => Some(date.unix_secs()),
+        Err(_) => None,
     }
 }
 

@@ -10,6 +10,7 @@ pub(crate) enum Known {
     To,
     Identity,
     Asserted,
+    Date,
 }
 
 impl Known {
@@ -22,6 +23,7 @@ impl Known {
             Known::To => is_either(name, b"to", b"t"),
             Known::Identity => is_either(name, b"identity", b"y"),
             Known::Asserted => name.eq_ignore_ascii_case(b"p-asserted-identity"),
+            Known::Date => name.eq_ignore_ascii_case(b"date"),
         }
     }
 }

@@ -4,14 +4,14 @@ ghost use Rattle.sip_message.specs.Answer.{IfForm, IsFault, IsMessage};
 ghost use Rattle.sip_message.specs.Form.{FormOf};
 ghost use Rattle.sip_message.specs.Head.{Head};
 ghost use Rattle.sip_message.specs.Message.{MessageView};
-ghost use Rattle.sip_message.specs.Accessors.{asserted_number, calling_number, from_number, identities, is_invite, target_number, to_number};
+ghost use Rattle.sip_message.specs.Accessors.{asserted_number, calling_number, date, from_number, identities, is_invite, target_number, to_number};
 ghost use Rattle.sip_message.specs.Reading.{checked, fault, read};
 ghost use Rattle.sip_message.specs.Seen.{Gives, head_seen};
 ghost use Rattle.sip_message.specs.Short.{AreShort};
 
 use crate::address::uri_number;
 use crate::fault::{FormFault, MessageFault};
-use crate::field::{Field, count, first_number, number_of, value_at};
+use crate::field::{Field, count, first_number, number_of, time_of, value_at};
 use crate::head::{HeadFields, read_head};
 use crate::known::Known;
 use crate::lines::Lines;
@@ -117,6 +117,14 @@ impl<'a> Message<'a> {
             Some(number) => Some(number),
             None => self.from_number(local),
         }
+    }
+
+    /// The time of the first Date field (RFC 3261, section 20.17), in Unix seconds; None where there is no such field or
+    /// its value is no date in one of the three forms of HTTP (RFC 9110, section 5.6.7).
+    pub fn date(&self) -> Option<u64>
+        ensures { result ≡ date self.now }
+    {
+        time_of(&self.fields, Known::Date)
     }
 
     /// How many Identity fields (RFC 8224, section 4) there are.

@@ -181,3 +181,27 @@ fn reads_large_heads_of_small_lines(rt: HostRuntime) -> Result<(), Fail> {
     }
     Ok(())
 }
+
+// A row is the lines beside From and To, and the time in Unix seconds, where there is one.
+#[test]
+fn reads_the_first_date(rt: HostRuntime) -> Result<(), Fail> {
+    let rows = [
+        "Date: Fri, 25 Sep 2015 19:12:25 GMT|1443208345",
+        "x: y\r\ndAtE:\tFri, 25 Sep\r\n 2015 19:12:25 GMT |1443208345",
+        "Date: Friday, 25-Sep-15 19:12:25 GMT\r\nDate: x|1443208345",
+        "Date: Fri Sep 25 19:12:25 2015|1443208345",
+        "Date: x\r\nDate: Fri, 25 Sep 2015 19:12:25 GMT|",
+        "Date: Fri, 25 Sep 2015 19:12:25|",
+        "d: Fri, 25 Sep 2015 19:12:25 GMT|",
+    ];
+    let alloc = rt.alloc();
+    for row in rows {
+        let Some((lines, seconds)) = row.split_once('|') else {
+            continue;
+        };
+        let text = format!(in alloc; "INVITE sip:a SIP/2.0\r\nf: a\r\nt: b\r\n{lines}\r\n\r\n")?;
+        let message = Message::read(alloc, text.as_bytes())?;
+        assert_eq!(rt; message.date(), seconds.parse::<u64>().ok(), "{row}");
+    }
+    Ok(())
+}

@@ -1,5 +1,5 @@
 -- What the tests of a set say: which numbers it holds.
-use Rattle.std.proofs.Common.{◌≡◌, ℕ, ◌^◌, ◌<◌, Bool, true, false, cond, ◌||◌, ◌&&◌, ◌==◌, nat_le, nat_lt, ◌⊎◌, inl, inr, List, [], ◌∷◌, length, Any, Contains, arith, refl, ◌∙◌, ap, subst}
+use Rattle.std.proofs.Common.{◌≡◌, ℕ, ◌^◌, ◌<◌, Bool, true, false, cond, ◌||◌, ◌&&◌, ◌==◌, nat_le, nat_lt, ◌⊎◌, inl, inr, List, [], ◌∷◌, length, Any, Contains, arith, refl, sym, ◌∙◌, ap, subst, Some, None}
 use Rattle.std.proofs.lemmas.Bool.Decides.{nat_tests}
 use Rattle.std.proofs.lemmas.List.Folds.{Any-from_list_any, list_any-from_Any}
 use Rattle.std.specs.Cmp.Derive.{both_true}
@@ -8,7 +8,8 @@ use Rattle.std.specs.Str.{bytes_eq}
 use Rattle.tn_values.specs.Digit.{are_digits}
 use Rattle.tn_values.specs.Span.{SpanView, SpanHolds, value_of, end_of}
 use Rattle.tn_values.specs.NumberSet.{SetView, SetHolds}
-use Rattle.tn_values.specs.Place.{place_in, covers, spans_have, set_has}
+use Rattle.tn_values.specs.Place.{place_in, place_of, covers, spans_have, set_has}
+use Rattle.tn_values.specs.declared.places.Place.{Place}
 use Rattle.tn_values.proofs.Conjunction.{both}
 use Rattle.tn_values.proofs.ValueLaws.{value_below}
 
@@ -49,6 +50,23 @@ holds_covers span number h =
     let same = h.same_length in
     let begins = h.from_start in
     grind (arith, nat_tests)
+
+-- ---- a number at its place
+
+at_place : (number : List ℕ) (place : Place) (d : Bool) → are_digits number ≡ d → cond d (Some (place_in number)) None ≡ Some place
+    → (are_digits number ≡ true) × (place_in number ≡ place)
+at_place number place true d h = (d, cc)
+at_place number place false d h = absurd cc
+
+pub covered_place : (span : SpanView) (number : List ℕ) (place : Place) → place_of number ≡ Some place → covers span place ≡ true → SpanHolds span number
+covered_place span number place h had =
+    let at = at_place number place (are_digits number) refl h in
+    covers_holds span number at.0 (ap (covers span) at.1 ∙ had)
+
+pub held_place : (span : SpanView) (number : List ℕ) (place : Place) → place_of number ≡ Some place → SpanHolds span number → covers span place ≡ true
+held_place span number place h held =
+    let at = at_place number place (are_digits number) refl h in
+    ap (covers span) (sym at.1) ∙ holds_covers span number held
 
 -- ---- the spans
 

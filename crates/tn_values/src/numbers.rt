@@ -110,7 +110,8 @@ impl Number {
 
     /// The number as text, 1 to 15 characters of `0-9 * #`.
     pub fn as_str(&self) -> &str
-        ensures { result.now ≡ self.now }
+        ensures value { result.now ≡ self.now }
+        ensures number { IsTrue (is_number self.now) }
     {
         match str::from_utf8(self.bytes()) {
             Ok(text) => text,

@@ -1,7 +1,7 @@
 //! Spans of numbers.
-ghost use Rattle.std.specs.Prelude.{◌≡◌, ◌+◌, ◌^◌, ◌<◌, ◌≤◌, length, IsTrue, Some};
+ghost use Rattle.std.specs.Prelude.{◌≡◌, ◌↔◌, ◌+◌, ◌^◌, ◌<◌, ◌≤◌, length, IsTrue, Some};
 ghost use Rattle.tn_values.specs.Digit.{are_digits};
-ghost use Rattle.tn_values.specs.Span.{span_of, value_of, end_of};
+ghost use Rattle.tn_values.specs.Span.{SpanHolds, span_of, value_of, end_of};
 
 use crate::alphabet::are_digits;
 use crate::numbers::Number;
@@ -59,6 +59,17 @@ impl Span {
         ensures again { span_of self.now.start self.now.size ≡ Some self.now }
     {
         self.size
+    }
+
+    /// Whether the number is one of the span: digits alone, as long as the first number, and no further behind it than the
+    /// size allows.
+    pub fn holds(&self, number: &Number) -> bool
+        ensures { IsTrue result ↔ SpanHolds self.now number.now }
+    {
+        match Place::of(number) {
+            Some(place) => self.covers(place),
+            None => false,
+        }
     }
 
     /// How many digits each number of the span has, 1 to 15.
