@@ -1,0 +1,263 @@
+-- What is read of header and payload is what the relation says, and nothing else.
+use Rattle.std.proofs.Common.{◌≡◌, ◌≤◌, ℕ, Bool, true, false, not, List, length, cond, nat_le, Option, Some, None, Result, Ok, Err, refl, sym, ap, ◌∙◌, subst, codes, arith, inl, inr}
+use Rattle.std.specs.Prelude.{option_and_then, IfOk}
+use Rattle.std.proofs.lemmas.Bool.Decides.{nat_tests}
+use Rattle.std.proofs.lemmas.Option.{option_and_then_some}
+use Rattle.serde_json.specs.Data.{Num, unsigned, negative, float, Data, null, boolean, number, string, array, object}
+use Rattle.serde_json.specs.Find.{as_number, as_u64, get}
+use Rattle.passport_json.specs.IssuedAt.{IsIssuedAt, issued_at, last_second, not_past}
+use Rattle.passport_claims.specs.Claims.{Claims, HasKind, IsKnown}
+use Rattle.passport_claims.specs.Kind.{attest_of, attest_text, ppt_of}
+use Rattle.passport_claims.specs.Members.{HasText, called_in, number_in, text_in}
+use Rattle.passport_claims.specs.Origid.{IsOrigid, is_origid}
+use Rattle.passport_claims.specs.Passport.{ClaimsView, IsKind, IsPassport, most_called}
+use Rattle.passport_claims.specs.Read.{checked_header, checked_kind, has_text, has_text_where, origid_of, read_claims, shaken_in, div_in}
+use Rattle.passport_claims.specs.Reading.{◌>>=◌, Gives, IsOkUnlessMemory, or_fault}
+use Rattle.passport_claims.specs.declared.fault.ClaimFault.{ClaimFault}
+use Rattle.passport_claims.specs.declared.fault.ClaimFault.TheVariants as faults
+use Rattle.passport_claims.specs.declared.kind.Attest.{Attest}
+use Rattle.passport_claims.specs.declared.kind.Kind.{Kind}
+use Rattle.passport_claims.specs.declared.kind.Kind.TheVariants as kinds
+use Rattle.passport_claims.proofs.MemberLaws.{attest_again, attest_only, called_again, called_only, found_text, number_again, number_only, text_again, text_found, where_again, where_found}
+use Rattle.passport_claims.proofs.OrigidLaws.{origid_again, origid_tells}
+
+-- ---- steps
+
+came : {A B : Type 0} (r : Result A ClaimFault) (step : A → Result B ClaimFault) (b : B) → (r >>= step) ≡ Ok b → (a : A) × ((r ≡ Ok a) × (step a ≡ Ok b))
+came (Ok a) step b h = (a, (refl, h))
+came (Err broken) step b h = absurd cc
+
+there : {A : Type 0} (broken : ClaimFault) (found : Option A) (a : A) → or_fault broken found ≡ Ok a → found ≡ Some a
+there broken None a h = absurd cc
+there broken (Some x) a h = let e : x ≡ a = cc in ap (λ y. Some y) e
+
+-- ---- the time
+
+issued_again : (payload : Data) (seconds : ℕ) → IsIssuedAt payload seconds → issued_at payload ≡ Some seconds
+issued_again payload seconds is =
+    let low : nat_le seconds last_second ≡ true = let k = is.within in grind (arith, nat_tests) in
+    rw (is.member, low) refl
+
+-- ---- the header
+
+header_again : (header : Data) (ppt : Option (List ℕ)) (info : List ℕ) → HasText (codes "typ") (codes "passport") header → HasText (codes "alg") (codes "ES256") header
+    → has_text_where (codes "ppt") ppt header ≡ true → HasText (codes "x5u") info header → checked_header header ppt info ≡ Ok info
+header_again header ppt info typ alg same_ppt x5u =
+    rw (text_again (codes "typ") (codes "passport") header typ, text_again (codes "alg") (codes "ES256") header alg, same_ppt, text_again (codes "x5u") info header x5u) refl
+
+record HasHeader (header : Data) (ppt : Option (List ℕ)) (info kept : List ℕ) : Type 0 where
+  typ : has_text (codes "typ") (codes "passport") header ≡ true
+  alg : has_text (codes "alg") (codes "ES256") header ≡ true
+  same_ppt : has_text_where (codes "ppt") ppt header ≡ true
+  x5u : has_text (codes "x5u") info header ≡ true
+  is : kept ≡ info
+
+record FourHold (a b c d : Bool) (info kept : List ℕ) : Type 0 where
+  first : a ≡ true
+  second : b ≡ true
+  third : c ≡ true
+  fourth : d ≡ true
+  is : kept ≡ info
+
+four_by : (a b c d : Bool) (info kept : List ℕ)
+    → cond (not a) (Err faults.Kind) (cond (not b) (Err faults.Alg) (cond (not c) (Err faults.Ppt) (cond (not d) (Err faults.X5u) (Ok info)))) ≡ Ok kept → FourHold a b c d info kept
+four_by true true true true info kept h = let e : info ≡ kept = cc in record { first = refl; second = refl; third = refl; fourth = refl; is = sym e }
+four_by false b c d info kept h = absurd cc
+four_by true false c d info kept h = absurd cc
+four_by true true false d info kept h = absurd cc
+four_by true true true false info kept h = absurd cc
+
+header_only : (header : Data) (ppt : Option (List ℕ)) (info kept : List ℕ) → checked_header header ppt info ≡ Ok kept → HasHeader header ppt info kept
+header_only header ppt info kept h =
+    let k = four_by (has_text (codes "typ") (codes "passport") header) (has_text (codes "alg") (codes "ES256") header) (has_text_where (codes "ppt") ppt header) (has_text (codes "x5u") info header) info kept h in
+    record { typ = k.first; alg = k.second; same_ppt = k.third; x5u = k.fourth; is = k.is }
+
+-- ---- what the type adds
+
+kind_again : (payload : Data) (kind : Kind) → HasKind payload kind → checked_kind (ppt_of kind) payload ≡ Ok kind
+kind_again payload kinds.Base h = refl
+kind_again payload (kinds.Shaken level origid) h = rw (h.0, attest_again level, h.1, origid_again origid h.2) refl
+kind_again payload (kinds.Div div) h = rw (number_again (codes "div") payload div h) refl
+
+origid_by : (t : Bool) (text origid : List ℕ) → cond t (Some text) None ≡ Some origid → (text ≡ origid) × (t ≡ true)
+origid_by true text origid h = let e : text ≡ origid = cc in (e, refl)
+origid_by false text origid h = absurd cc
+
+attest_found : (payload : Data) (level : Attest) → option_and_then attest_of (text_in (codes "attest") payload) ≡ Some level → HasText (codes "attest") (attest_text level) payload
+attest_found payload level h =
+    option_and_then_some attest_of (text_in (codes "attest") payload) level h
+    (λ text et el. subst (λ t. HasText (codes "attest") t payload) (attest_only text level el) (found_text (get (codes "attest") payload) text et))
+
+origid_found : (payload : Data) (origid : List ℕ) → option_and_then origid_of (text_in (codes "origid") payload) ≡ Some origid → HasText (codes "origid") origid payload × IsOrigid origid
+origid_found payload origid h =
+    option_and_then_some origid_of (text_in (codes "origid") payload) origid h
+    (λ text et eo. let k = origid_by (is_origid text) text origid eo in
+    (subst (λ t. HasText (codes "origid") t payload) k.0 (found_text (get (codes "origid") payload) text et), subst IsOrigid k.0 (origid_tells text k.1)))
+
+record IsOfType (payload : Data) (ppt : Option (List ℕ)) (kind : Kind) : Type 0 where
+  has : HasKind payload kind
+  type_is : ppt_of kind ≡ ppt
+
+shaken_only : (payload : Data) (kind : Kind) → shaken_in payload ≡ Ok kind → IsOfType payload (Some (codes "shaken")) kind
+shaken_only payload kind h =
+    let first = came (or_fault faults.Attest (option_and_then attest_of (text_in (codes "attest") payload))) (λ level. or_fault faults.Origid (option_and_then origid_of (text_in (codes "origid") payload)) >>= (λ origid. Ok (kinds.Shaken level origid))) kind h in
+    let second = came (or_fault faults.Origid (option_and_then origid_of (text_in (codes "origid") payload))) (λ origid. Ok (kinds.Shaken first.0 origid)) kind first.1.1 in
+    let is : kinds.Shaken first.0 second.0 ≡ kind = let e = second.1.1 in cc in
+    let level = attest_found payload first.0 (there faults.Attest (option_and_then attest_of (text_in (codes "attest") payload)) first.0 first.1.0) in
+    let origid = origid_found payload second.0 (there faults.Origid (option_and_then origid_of (text_in (codes "origid") payload)) second.0 second.1.0) in
+    let here : IsOfType payload (Some (codes "shaken")) (kinds.Shaken first.0 second.0) = record { has = (level, origid.0, origid.1); type_is = refl } in
+    subst (IsOfType payload (Some (codes "shaken"))) is here
+
+div_only : (payload : Data) (kind : Kind) → div_in payload ≡ Ok kind → IsOfType payload (Some (codes "div")) kind
+div_only payload kind h =
+    let first = came (or_fault faults.Div (number_in (codes "div") payload)) (λ div. Ok (kinds.Div div)) kind h in
+    let is : kinds.Div first.0 ≡ kind = let e = first.1.1 in cc in
+    let div = number_only (codes "div") payload first.0 (there faults.Div (number_in (codes "div") payload) first.0 first.1.0) in
+    let here : IsOfType payload (Some (codes "div")) (kinds.Div first.0) = record { has = div; type_is = refl } in
+    subst (IsOfType payload (Some (codes "div"))) is here
+
+base_only : (payload : Data) (kind : Kind) → checked_kind None payload ≡ Ok kind → IsOfType payload None kind
+base_only payload kind h =
+    let is : kinds.Base ≡ kind = cc in
+    let here : IsOfType payload None kinds.Base = record { has = tt; type_is = refl } in
+    subst (IsOfType payload None) is here
+
+kind_only : (payload : Data) (ppt : Option (List ℕ)) (kind : Kind) → IsKnown ppt → checked_kind ppt payload ≡ Ok kind → IsOfType payload ppt kind
+kind_only payload ppt kind (inl e) h = rw e (base_only payload kind (subst (λ p. checked_kind p payload ≡ Ok kind) e h))
+kind_only payload ppt kind (inr (inl e)) h = rw e (shaken_only payload kind (subst (λ p. checked_kind p payload ≡ Ok kind) e h))
+kind_only payload ppt kind (inr (inr e)) h = rw e (div_only payload kind (subst (λ p. checked_kind p payload ≡ Ok kind) e h))
+
+-- ---- all claims
+
+pub claims_again : (header payload : Data) (ppt : Option (List ℕ)) (info : List ℕ) (claims : ClaimsView) → Claims header payload ppt info claims → read_claims header payload ppt info ≡ Ok claims
+unfolding read_claims
+claims_again header payload ppt info claims c =
+    let kind : checked_kind ppt payload ≡ Ok claims.kind = subst (λ p. checked_kind p payload ≡ Ok claims.kind) c.kept_ppt (kind_again payload claims.kind c.kind) in
+    let kept : info ≡ claims.x5u = sym c.kept_x5u in
+    rw (
+      header_again header ppt info c.typ c.alg (where_again (codes "ppt") ppt header c.same_ppt) c.same_x5u,
+      issued_again payload claims.iat c.iat,
+      number_again (codes "orig") payload claims.orig c.orig,
+      called_again (most_called ppt) payload claims.dest c.dest c.some_called c.few_called,
+      kind,
+      kept,
+    ) refl
+
+-- ---- and the other way round
+
+past_by : (t : Bool) (seconds iat : ℕ) → cond t (Some seconds) None ≡ Some iat → (seconds ≡ iat) × (t ≡ true)
+past_by true seconds iat h = let e : seconds ≡ iat = cc in (e, refl)
+past_by false seconds iat h = absurd cc
+
+number_by : (value : Data) (n : Num) → as_number value ≡ Some n → value ≡ number n
+number_by null n h = absurd cc
+number_by (boolean b) n h = absurd cc
+number_by (number own) n h = let e : own ≡ n = cc in ap number e
+number_by (string s) n h = absurd cc
+number_by (array items) n h = absurd cc
+number_by (object ms) n h = absurd cc
+
+unsigned_by : (n : Num) (seconds : ℕ) → as_u64 n ≡ Some seconds → n ≡ unsigned seconds
+unsigned_by (unsigned own) seconds h = let e : own ≡ seconds = cc in ap unsigned e
+unsigned_by (negative z) seconds h = absurd cc
+unsigned_by (float x) seconds h = absurd cc
+
+issued_only : (payload : Data) (iat : ℕ) → issued_at payload ≡ Some iat → IsIssuedAt payload iat
+issued_only payload iat h =
+    option_and_then_some not_past (option_and_then as_u64 (option_and_then as_number (get (codes "iat") payload))) iat h
+    (λ seconds es el. option_and_then_some as_u64 (option_and_then as_number (get (codes "iat") payload)) seconds es
+    (λ n en eu. option_and_then_some as_number (get (codes "iat") payload) n en
+    (λ value ev ea. let k = past_by (nat_le seconds last_second) seconds iat el in
+    let low : nat_le iat last_second ≡ true = subst (λ m. nat_le m last_second ≡ true) k.0 k.1 in
+    let is : value ≡ number (unsigned iat) = number_by value n ea ∙ ap number (unsigned_by n seconds eu ∙ ap unsigned k.0) in
+    record { member = ev ∙ ap (λ x. Some x) is; within = grind (arith, nat_tests) })))
+
+claims_only : (header payload : Data) (ppt : Option (List ℕ)) (info : List ℕ) (claims : ClaimsView) → IsKnown ppt → read_claims header payload ppt info ≡ Ok claims
+    → Claims header payload ppt info claims
+unfolding read_claims
+claims_only header payload ppt info claims known h =
+    let first = came (checked_header header ppt info) _ claims h in
+    let second = came (or_fault faults.Iat (issued_at payload)) _ claims first.1.1 in
+    let third = came (or_fault faults.Orig (number_in (codes "orig") payload)) _ claims second.1.1 in
+    let fourth = came (or_fault faults.Dest (called_in (most_called ppt) payload)) _ claims third.1.1 in
+    let fifth = came (checked_kind ppt payload) _ claims fourth.1.1 in
+    let head = header_only header ppt info first.0 first.1.0 in
+    let iat = issued_only payload second.0 (there faults.Iat (issued_at payload) second.0 second.1.0) in
+    let orig = number_only (codes "orig") payload third.0 (there faults.Orig (number_in (codes "orig") payload) third.0 third.1.0) in
+    let dest = called_only (most_called ppt) payload fourth.0 (there faults.Dest (called_in (most_called ppt) payload) fourth.0 fourth.1.0) in
+    let kind = kind_only payload ppt fifth.0 known fifth.1.0 in
+    let made : ClaimsView = record { kind = fifth.0; x5u = first.0; iat = second.0; orig = third.0; dest = fourth.0 } in
+    let is : made ≡ claims = let e = fifth.1.1 in cc in
+    let here : Claims header payload ppt info made = record {
+      typ = text_found (codes "typ") (codes "passport") header head.typ;
+      alg = text_found (codes "alg") (codes "ES256") header head.alg;
+      same_ppt = where_found (codes "ppt") ppt header head.same_ppt;
+      same_x5u = text_found (codes "x5u") info header head.x5u;
+      iat = iat;
+      orig = orig;
+      dest = dest.has;
+      some_called = dest.some;
+      few_called = dest.few;
+      kind = kind.has;
+      kept_ppt = kind.type_is;
+      kept_x5u = head.is;
+    } in
+    subst (Claims header payload ppt info) is here
+
+-- ---- what a reader's result says
+
+pub claims_found : (header payload : Data) (ppt : Option (List ℕ)) (info : List ℕ) (result : Result ClaimsView ClaimFault) → IsKnown ppt
+    → Gives (λ claims. claims) result (read_claims header payload ppt info) → IfOk result (λ claims. Claims header payload ppt info claims)
+claims_found header payload ppt info (Ok claims) known gives = claims_only header payload ppt info claims known gives
+claims_found header payload ppt info (Err broken) known gives = tt
+
+refused : (read : Result ClaimsView ClaimFault) (claims : ClaimsView) (broken : ClaimFault) → read ≡ Ok claims → read ≡ Err broken → ⊥
+refused read claims broken ok err = let e : ◌≡◌ {A = Result ClaimsView ClaimFault} (Ok claims) (Err broken) = sym ok ∙ err in absurd cc
+
+only_of : (result read : Result ClaimsView ClaimFault) → Gives (λ claims. claims) result read → (claims : ClaimsView) → read ≡ Ok claims
+    → IsOkUnlessMemory result (λ found. found ≡ claims)
+only_of (Ok found) read gives claims ok =
+    let e : ◌≡◌ {A = Result ClaimsView ClaimFault} (Ok found) (Ok claims) = sym gives ∙ ok in cc
+only_of (Err faults.Kind) read gives claims ok = absurd (refused read claims faults.Kind ok gives)
+only_of (Err faults.Alg) read gives claims ok = absurd (refused read claims faults.Alg ok gives)
+only_of (Err faults.Ppt) read gives claims ok = absurd (refused read claims faults.Ppt ok gives)
+only_of (Err faults.X5u) read gives claims ok = absurd (refused read claims faults.X5u ok gives)
+only_of (Err faults.Iat) read gives claims ok = absurd (refused read claims faults.Iat ok gives)
+only_of (Err faults.Orig) read gives claims ok = absurd (refused read claims faults.Orig ok gives)
+only_of (Err faults.Dest) read gives claims ok = absurd (refused read claims faults.Dest ok gives)
+only_of (Err faults.Attest) read gives claims ok = absurd (refused read claims faults.Attest ok gives)
+only_of (Err faults.Origid) read gives claims ok = absurd (refused read claims faults.Origid ok gives)
+only_of (Err faults.Div) read gives claims ok = absurd (refused read claims faults.Div ok gives)
+only_of (Err faults.Memory) read gives claims ok = tt
+
+pub claims_only_of : (header payload : Data) (ppt : Option (List ℕ)) (info : List ℕ) (result : Result ClaimsView ClaimFault)
+    → Gives (λ claims. claims) result (read_claims header payload ppt info) → (claims : ClaimsView) → Claims header payload ppt info claims
+    → IsOkUnlessMemory result (λ found. found ≡ claims)
+claims_only_of header payload ppt info result gives claims c =
+    only_of result (read_claims header payload ppt info) gives claims (claims_again header payload ppt info claims c)
+
+pub claims_unique : (header payload : Data) (ppt : Option (List ℕ)) (info : List ℕ) (one other : ClaimsView) → Claims header payload ppt info one
+    → Claims header payload ppt info other → one ≡ other
+claims_unique header payload ppt info one other a b =
+    let e : ◌≡◌ {A = Result ClaimsView ClaimFault} (Ok one) (Ok other) = sym (claims_again header payload ppt info one a) ∙ claims_again header payload ppt info other b in
+    cc
+
+-- ---- what is read meets what each PASSporT meets
+
+kind_meets : (payload : Data) (kind : Kind) → HasKind payload kind → IsKind kind
+kind_meets payload kinds.Base h = tt
+kind_meets payload (kinds.Shaken level origid) h = h.2
+kind_meets payload (kinds.Div div) h = tt
+
+pub read_meets : (payload : Data) (ppt : Option (List ℕ)) (kind : Kind) (x5u : List ℕ) (iat : ℕ) (orig : List ℕ) (dest : List (List ℕ)) → IsKnown ppt
+    → IsIssuedAt payload iat → or_fault faults.Dest (called_in (most_called ppt) payload) ≡ Ok dest → checked_kind ppt payload ≡ Ok kind
+    → IsPassport (record { kind = kind; x5u = x5u; iat = iat; orig = orig; dest = dest })
+read_meets payload ppt kind x5u iat orig dest known issued called typed =
+    let counted = called_only (most_called ppt) payload dest (there faults.Dest (called_in (most_called ppt) payload) dest called) in
+    let of_type = kind_only payload ppt kind known typed in
+    record {
+      iat_within = issued.within;
+      some_called = counted.some;
+      few_called = subst (λ p. length dest ≤ most_called p) (sym of_type.type_is) counted.few;
+      kind_ok = kind_meets payload kind of_type.has;
+    }

@@ -1,0 +1,5 @@
+mod ClaimsLaws
+mod MemberLaws
+mod OrigidLaws
+mod PassportLaws
+mod ValueLaws

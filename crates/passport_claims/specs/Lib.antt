@@ -1,0 +1,9 @@
+pub mod Claims
+pub mod Fault
+pub mod Kind
+pub mod Made
+pub mod Members
+pub mod Origid
+pub mod Passport
+pub mod Read
+pub mod Reading

@@ -1,0 +1,19 @@
+//! The claims of a PASSporT (RFC 8225, sections 4 and 5), of three types: without a type, `shaken` (RFC 8588) and `div`
+//! (RFC 8946). They are read from the header and the payload of a token, and written as these again.
+#![tactic(auto)]
+
+mod fault;
+mod kind;
+mod members;
+mod origid;
+mod passport;
+mod rows;
+mod values;
+
+pub use fault::ClaimFault;
+pub use kind::{Attest, Kind};
+pub use passport::Passport;
+pub use std::alloc::AllocError as Memory;
+
+#[cfg(test)]
+mod tests;

@@ -1,0 +1,46 @@
+//! The identifier of a call.
+ghost use Rattle.std.specs.Prelude.{◌≡◌, is_some};
+ghost use Rattle.uuid.specs.Text.{parsed};
+ghost use Rattle.passport_claims.specs.Origid.{is_origid};
+ghost use Rattle.passport_claims.specs.Read.{origid_of};
+ghost use Rattle.passport_claims.specs.Reading.{or_fault};
+ghost use Rattle.passport_claims.specs.declared.fault.ClaimFault.{ClaimFault};
+
+use crate::fault::ClaimFault;
+use std::str;
+use uuid::Uuid;
+
+/// The identifier that a text is, a UUID (RFC 4122, section 3) in 36 characters.
+#[tactic(auto, using(crate::proofs::OrigidLaws::origid_size))]
+pub(crate) fn origid_of(text: &str) -> Result<[u8; 36], ClaimFault>
+    ensures { result ≡ or_fault ClaimFault.Origid (origid_of text.now) }
+{
+    if !is_origid(text.as_bytes()) {
+        return Err(ClaimFault::Origid);
+    }
+    match <[u8; 36]>::try_from(text.as_bytes()) {
+        Ok(origid) => Ok(origid),
+        Err(_) => Err(ClaimFault::Origid),
+    }
+}
+
+/// Whether the bytes are a text that is read as a UUID, and 36 of them.
+#[tactic(auto, using(crate::proofs::OrigidLaws::text_is, crate::proofs::OrigidLaws::text_not), unfolding(crate::specs::Origid::is_origid))]
+pub(crate) fn is_origid(text: &[u8]) -> bool
+    ensures { result ≡ is_origid text.now }
+{
+    if text.len() != 36 {
+        return false;
+    }
+    match str::from_utf8(text) {
+        Ok(text) => is_uuid(text),
+        Err(_) => false,
+    }
+}
+
+#[tactic(auto, using(crate::proofs::OrigidLaws::uuid_read))]
+fn is_uuid(text: &str) -> bool
+    ensures { result ≡ is_some (parsed text.now) }
+{
+    Uuid::try_parse(text).is_ok()
+}

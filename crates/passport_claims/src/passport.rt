@@ -1,0 +1,205 @@
+//! A PASSporT.
+ghost use Rattle.std.specs.Prelude.{◌≡◌, ◌≤◌, Some, None, IfOk, if◌then◌else◌};
+ghost use Rattle.std.specs.Option.{option_copied};
+ghost use Rattle.passport_json.specs.Uri.{is_uri};
+ghost use Rattle.passport_claims.specs.Claims.{Claims, IsKnown};
+ghost use Rattle.passport_claims.specs.Made.{is_called_count, has_origid, made};
+ghost use Rattle.passport_claims.specs.Passport.{ClaimsView, IsPassport};
+ghost use Rattle.passport_claims.specs.Read.{read_claims};
+ghost use Rattle.passport_claims.specs.Reading.{Gives, IsOkUnlessMemory};
+
+use crate::fault::ClaimFault;
+use crate::kind::Kind;
+use crate::members::{called_in, number_in};
+use crate::origid::is_origid;
+use crate::rows::{checked_header, checked_kind, most_called};
+use passport_json::{Token, is_uri};
+use std::alloc::Global;
+use std::marker::Model;
+use std::str;
+use tn_values::Number;
+
+/// The last second of the year 9999, in Unix time.
+const LAST_SECOND: u64 = 253_402_300_799;
+
+/// What a PASSporT says: its type with the claims of that type, the certificate's URI, when it was issued, the calling number
+/// and the called ones. In contracts it is the record of these five.
+#[derive(Debug, Drop)]
+pub struct Passport {
+    kind: Kind,
+    x5u: String,
+    iat: u64,
+    orig: Number,
+    dest: Vec<Number>,
+}
+
+impl Model for Passport {
+    ghost use Rattle.std.specs.Prelude.{string_bytes};
+    ghost use Rattle.passport_claims.specs.Passport.{ClaimsView, IsPassport};
+
+    ghost Value = { ClaimsView };
+
+    ghost view = { λ p. record { kind = p.kind; x5u = string_bytes p.x5u; iat = p.iat; orig = p.orig; dest = p.dest.items } };
+
+    ghost invariant = { λ p. IsPassport (record { kind = p.kind; x5u = string_bytes p.x5u; iat = p.iat; orig = p.orig; dest = p.dest.items }) };
+}
+
+impl Passport {
+    /// Reads the claims of a token (RFC 8225, sections 4 and 5), for the type and the certificate's URI that its Identity header
+    /// field has. The claims are tried in the order of [`ClaimFault`], and the first that is broken is the fault; `Attest` and
+    /// `Origid` are looked at for `shaken` alone, and `Div` for `div` alone. Members that aren't named there are passed over.
+    ///
+    /// The type is none, `shaken` or `div`.
+    #[tactic(auto, using(crate::proofs::ClaimsLaws::claims_found, crate::proofs::ClaimsLaws::claims_only_of, crate::proofs::ClaimsLaws::claims_unique))]
+    pub fn from_token(
+        alloc: Global,
+        token: &Token,
+        ppt: Option<&[u8]>,
+        info: &[u8],
+    ) -> Result<Passport, ClaimFault>
+        requires { IsKnown (option_copied ppt) }
+        ensures exact { Gives (λ passport. passport) result (read_claims token.now.header token.now.payload (option_copied ppt.entry) info.now) }
+        ensures found { IfOk result (λ passport. Claims token.now.header token.now.payload (option_copied ppt.entry) info.now passport) }
+        ensures only { (claims : ClaimsView) → Claims token.now.header token.now.payload (option_copied ppt.entry) info.now claims
+            → IsOkUnlessMemory result (λ passport. passport ≡ claims) }
+        ensures unique { (one other : ClaimsView) → Claims token.now.header token.now.payload (option_copied ppt.entry) info.now one
+            → Claims token.now.header token.now.payload (option_copied ppt.entry) info.now other → one ≡ other }
+    {
+        claims_of(alloc, token, ppt, info)
+    }
+
+    /// The PASSporT of these parts. The URI is 1 to 2,048 visible ASCII bytes without `"`, `<`, `>` and backslash; `iat` is at
+    /// most 253,402,300,799; 1 to 32 numbers are called, and exactly one for `div`; the identifier of the call is a UUID in 36
+    /// characters. What isn't so is refused as `X5u`, `Iat`, `Dest` and `Origid`, in this order.
+    #[tactic(auto, using(crate::proofs::PassportLaws::made_meets), unfolding(crate::specs::Made::made))]
+    pub fn new(
+        alloc: Global,
+        kind: Kind,
+        x5u: &[u8],
+        iat: u64,
+        orig: Number,
+        dest: &[Number],
+    ) -> Result<Passport, ClaimFault>
+        ensures { Gives (λ passport. passport) result (made kind x5u.now iat orig dest.now) }
+    {
+        let Some(uri) = uri_text(x5u) else {
+            return Err(ClaimFault::X5u);
+        };
+        if iat > LAST_SECOND {
+            return Err(ClaimFault::Iat);
+        }
+        if !is_called_count(&kind, dest.len()) {
+            return Err(ClaimFault::Dest);
+        }
+        if !has_origid(&kind) {
+            return Err(ClaimFault::Origid);
+        }
+        Ok(Passport {
+            kind,
+            x5u: String::from_str(alloc, uri)?,
+            iat,
+            orig,
+            dest: Vec::from_slice(alloc, dest)?,
+        })
+    }
+
+    /// The type with the claims of that type.
+    pub fn kind(&self) -> Kind
+        ensures { result ≡ self.now.kind }
+    {
+        self.kind
+    }
+
+    /// The URI of the certificate (RFC 8225, section 4.3).
+    pub fn x5u(&self) -> &[u8]
+        ensures { result.now ≡ self.now.x5u }
+    {
+        self.x5u.as_bytes()
+    }
+
+    pub(crate) fn uri(&self) -> &str
+        ensures { result.now ≡ self.now.x5u }
+    {
+        &self.x5u
+    }
+
+    /// When it was issued, in Unix seconds, at most 253,402,300,799 (RFC 8225, section 5.1.1).
+    pub fn iat(&self) -> u64
+        ensures value { result ≡ self.now.iat }
+        ensures within { result ≤ 253402300799 }
+    {
+        self.iat
+    }
+
+    /// The calling number (RFC 8225, section 5.2.1).
+    pub fn orig(&self) -> Number
+        ensures { result ≡ self.now.orig }
+    {
+        self.orig
+    }
+
+    /// The called numbers, 1 to 32, and exactly one for `div` (RFC 8225, section 5.2.1).
+    pub fn dest(&self) -> &[Number]
+        ensures value { result.now ≡ self.now.dest }
+        ensures meets { IsPassport self.now }
+    {
+        &self.dest
+    }
+}
+
+#[tactic(auto, using(crate::proofs::ClaimsLaws::read_meets), unfolding(crate::specs::Read::read_claims))]
+fn claims_of(
+    alloc: Global,
+    token: &Token,
+    ppt: Option<&[u8]>,
+    info: &[u8],
+) -> Result<Passport, ClaimFault>
+    requires { IsKnown (option_copied ppt) }
+    ensures { Gives (λ passport. passport) result (read_claims token.now.header token.now.payload (option_copied ppt.entry) info.now) }
+{
+    let x5u = checked_header(token.header(), ppt, info)?;
+    let Some(iat) = token.issued_at() else {
+        return Err(ClaimFault::Iat);
+    };
+    let Some(orig) = number_in(token.payload(), "orig") else {
+        return Err(ClaimFault::Orig);
+    };
+    let dest = called_in(alloc, token.payload(), most_called(ppt))?;
+    let kind = checked_kind(token.payload(), ppt)?;
+    Ok(Passport {
+        kind,
+        x5u: String::from_str(alloc, x5u)?,
+        iat,
+        orig,
+        dest,
+    })
+}
+
+// The URI as text, where it is one: it is ASCII.
+#[tactic(auto, using(passport_json::proofs::UriLaws::uri_utf8))]
+fn uri_text(uri: &[u8]) -> Option<&str>
+    ensures { option_copied result ≡ (if is_uri uri.now then Some uri.now else None) }
+{
+    if !is_uri(uri) {
+        return None;
+    }
+    match str::from_utf8(uri) {
+        Ok(text) => Some(text),
+        Err(_) => None,
+    }
+}
+
+fn is_called_count(kind: &Kind, count: usize) -> bool
+    ensures { result ≡ is_called_count kind.now count }
+{
+    1 <= count && count <= most_called(kind.ppt().map(str::as_bytes))
+}
+
+fn has_origid(kind: &Kind) -> bool
+    ensures { result ≡ has_origid kind.now }
+{
+    match kind {
+        Kind::Shaken { origid, .. } => is_origid(origid),
+        Kind::Base | Kind::Div { .. } => true,
+    }
+}
