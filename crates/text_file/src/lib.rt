@@ -1,0 +1,11 @@
+//! The form that this program's text files share: lines with their numbers, and words on a line.
+#![tactic(auto)]
+
+mod lines;
+mod words;
+
+pub use lines::{Line, Lines};
+pub use words::{Words, words_of};
+
+#[cfg(test)]
+mod tests;

@@ -1,0 +1,48 @@
+//! The words of a line.
+ghost use Rattle.std.specs.Prelude.{◌≡◌};
+ghost use Rattle.std.specs.Option.{option_map};
+ghost use Rattle.text_file.specs.LineWords.{line_words, none_empty, word_list};
+
+use stir_base::cut;
+
+/// The words of a line that has two to four of them.
+#[derive(Clone, Copy, Debug)]
+pub enum Words<'a> {
+    Two(&'a [u8], &'a [u8]),
+    Three(&'a [u8], &'a [u8], &'a [u8]),
+    Four(&'a [u8], &'a [u8], &'a [u8], &'a [u8]),
+}
+
+/// The words of a line, parted by exactly one space each.
+///
+/// None where there are fewer than two words or more than four, or where a word is empty, as at the ends of the line or
+/// between two spaces in a row.
+#[tactic(auto, using(crate::proofs::WordLaws::one_part, crate::proofs::WordLaws::two_parts, crate::proofs::WordLaws::three_parts, crate::proofs::WordLaws::four_parts, crate::proofs::WordLaws::more_parts))]
+pub fn words_of(line: &[u8]) -> Option<Words<'_>>
+    ensures { option_map word_list result ≡ line_words line.now }
+{
+    let Some((first, others)) = cut(line, b' ') else {
+        return None;
+    };
+    let Some((second, more)) = cut(others, b' ') else {
+        return with_none_empty(Words::Two(first, others));
+    };
+    let Some((third, last)) = cut(more, b' ') else {
+        return with_none_empty(Words::Three(first, second, more));
+    };
+    match cut(last, b' ') {
+        Some(_) => None,
+        None => with_none_empty(Words::Four(first, second, third, last)),
+    }
+}
+
+fn with_none_empty(words: Words<'_>) -> Option<Words<'_>>
+    ensures { option_map word_list result ≡ none_empty (word_list words.entry) }
+{
+    let some_empty = match words {
+        Words::Two(a, b) => a.is_empty() || b.is_empty(),
+        Words::Three(a, b, c) => a.is_empty() || b.is_empty() || c.is_empty(),
+        Words::Four(a, b, c, d) => a.is_empty() || b.is_empty() || c.is_empty() || d.is_empty(),
+    };
+    if some_empty { None } else { Some(words) }
+}

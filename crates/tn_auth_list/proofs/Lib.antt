@@ -1,0 +1,15 @@
+pub mod CodeFacts
+pub mod CountLaws
+pub mod GrantLaws
+pub mod GroupLaws
+pub mod HeldLaws
+pub mod TableLaws
+pub mod PartLaws
+pub mod EntriesLaws
+pub mod IntegerLaws
+pub mod ReadLaws
+pub mod EntryLaws
+pub mod EntryTexts
+pub mod ListLaws
+pub mod WriteLaws
+pub mod RefusedLaws

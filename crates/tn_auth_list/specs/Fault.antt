@@ -1,0 +1,50 @@
+-- The faults of an authority list, by kind and place: this project's own rule. A place counts from the list's first byte.
+use Rattle.std.specs.Prelude.{◌≡◌, ◌≤◌, ℕ, Result, Ok, Err, ⊤}
+use Rattle.tn_auth_list.specs.declared.faults.Fault.{Fault}
+use Rattle.tn_auth_list.specs.declared.faults.ListFault.{ListFault}
+use Rattle.tn_auth_list.specs.declared.faults.ListFault.TheVariants.{At, Memory}
+
+-- an element at this place can't be read or has another tag, or bytes that stand here are left over
+abbrev pub der_at : ℕ → Fault
+der_at place = record { kind = 1; place = place }
+
+-- the list has no entry
+abbrev pub no_entry : Fault
+no_entry = record { kind = 2; place = 0 }
+
+-- the IA5String at this place is no code
+abbrev pub no_code_at : ℕ → Fault
+no_code_at place = record { kind = 3; place = place }
+
+-- the IA5String at this place is no number, or no start of a range
+abbrev pub no_number_at : ℕ → Fault
+no_number_at place = record { kind = 4; place = place }
+
+-- the INTEGER at this place is no count of a range
+abbrev pub no_count_at : ℕ → Fault
+no_count_at place = record { kind = 5; place = place }
+
+-- an entry past the last that a list may have begins at this place
+abbrev pub past_limit_at : ℕ → Fault
+past_limit_at place = record { kind = 6; place = place }
+
+-- one step after another, up to the first fault
+infixl 10 ◌>>=◌
+abbrev pub ◌>>=◌ : {A B : Type 0} → Result A Fault → (A → Result B Fault) → Result B Fault
+Ok x >>= f = f x
+Err fault >>= f = Err fault
+
+-- the result, as it is seen, is what was read, or its fault; want of memory is free
+abbrev pub GivesSeen : {A B : Type 0} → (A → B) → Result A ListFault → Result B Fault → Type 0
+GivesSeen seen (Ok x) read = read ≡ Ok (seen x)
+GivesSeen seen (Err (At kind place)) read = read ≡ Err (record { kind = kind; place = place })
+GivesSeen seen (Err Memory) read = ⊤
+
+abbrev pub Gives : {A : Type 0} → Result A ListFault → Result A Fault → Type 0
+Gives result read = GivesSeen (λ x. x) result read
+
+-- a fault stands no further behind than this
+abbrev pub IsPlaceBelow : {A : Type 0} → ℕ → Result A ListFault → Type 0
+IsPlaceBelow end (Ok x) = ⊤
+IsPlaceBelow end (Err (At kind place)) = place ≤ end
+IsPlaceBelow end (Err Memory) = ⊤

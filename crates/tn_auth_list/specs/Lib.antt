@@ -1,0 +1,12 @@
+pub mod Code
+pub mod CodeTable
+pub mod CodeGroups
+pub mod GroupView
+pub mod Grant
+pub mod TableReading
+pub mod Fault
+pub mod Entry
+pub mod ListText
+pub mod Read
+pub mod Refused
+pub mod Views

@@ -1,0 +1,29 @@
+//! The `TNAuthList` of a certificate: which telephone numbers its holder may speak for (RFC 8226 section 9).
+//!
+//! A [`Code`] is a service provider code, an [`Entry`] a code, a range of numbers or a number, and an [`AuthList`] 1 to
+//! 1,000 entries, which are read from DER and written to it. A [`CodeTable`] says which numbers a code stands for.
+#![tactic(auto)]
+
+mod codes;
+mod entries;
+mod faults;
+mod lists;
+mod parts;
+mod reading;
+mod table;
+mod table_groups;
+mod table_rows;
+#[cfg(test)]
+mod table_tests;
+mod tags;
+#[cfg(test)]
+mod tests;
+mod writing;
+
+pub use codes::Code;
+pub use entries::Entry;
+pub use faults::ListFault;
+pub use lists::AuthList;
+pub use table::{CodeTable, Grant, TableFault};
+/// Memory ran out.
+pub use std::alloc::AllocError as Memory;

@@ -1,0 +1,210 @@
+//! From the bytes of a list to its entries.
+ghost use Rattle.std.specs.Prelude.{◌≡◌, ◌+◌, ◌-◌, ◌<◌, ◌≤◌, ◌^◌, length, ◌⊎◌, IfOk, IfErr};
+ghost use Rattle.tn_auth_list.specs.Fault.{GivesSeen, IsPlaceBelow};
+ghost use Rattle.tn_auth_list.specs.Read.{code_in, single_in, start_of, counted, span_in, range_in, entry_in, entry_at, entries_at, content_entries, read_list, element_at, whole};
+ghost use Rattle.tn_auth_list.specs.Views.{part_of, item_of, entry_view, list_view, end_of, content_end};
+ghost use Rattle.tn_values.specs.Digit.{are_digits};
+ghost use Rattle.der_reader.specs.Integer.{unsigned_of};
+
+use crate::codes::Code;
+use crate::entries::{Entry, MOST};
+use crate::faults::{Fault, ListFault};
+use crate::parts::{Item, Part};
+use crate::tags;
+use der_reader::Der;
+use std::alloc::Global;
+use tn_values::{Number, Span};
+
+/// An entry and what stands behind it in the list.
+#[derive(Clone, Copy)]
+pub(crate) struct Found<'a> {
+    pub(crate) entry: Entry,
+    pub(crate) behind: Part<'a>,
+}
+
+/// The entries of the list that the bytes are.
+#[tactic(auto, unfolding(crate::specs::Read::read_list))]
+pub(crate) fn read_list(alloc: Global, bytes: &[u8]) -> Result<Vec<Entry>, ListFault>
+    ensures exact { GivesSeen (λ entries. entries.items) result (read_list bytes.now) }
+    ensures place { IsPlaceBelow (length bytes.now) result }
+{
+    let (list, rest) = list_element(bytes)?;
+    let entries = content_entries(alloc, &list_content(&list))?;
+    if rest.is_empty() {
+        Ok(entries)
+    } else {
+        Err(Fault::der(list.whole.len() as u32).into())
+    }
+}
+
+/// The list's SEQUENCE and the bytes behind it.
+#[tactic(auto, unfolding(crate::specs::Read::element_at, crate::specs::Read::item_at), using(crate::proofs::PartLaws::element_small))]
+fn list_element(bytes: &[u8]) -> Result<(Der<'_>, &[u8]), Fault>
+    ensures exact { list_view result ≡ element_at 0x30 (whole bytes.now) }
+    ensures small { IfOk result (λ r. length r.0.whole.now < 2 ^ 17) }
+    ensures sizes { IfOk result (λ r. length r.0.content.now ≤ length r.0.whole.now) }
+    ensures within { IfOk result (λ r. length r.0.whole.now ≤ length bytes.now) }
+    ensures place { IfErr result (λ fault. fault.place ≤ length bytes.now) }
+{
+    let (der, rest) = match Der::next(bytes) {
+        Ok(found) => found,
+        Err(fault) => return Err(Fault::der(fault.place)),
+    };
+    if der.tag == tags::SEQUENCE {
+        Ok((der, rest))
+    } else {
+        Err(Fault::der(0))
+    }
+}
+
+/// The content of the list's SEQUENCE.
+fn list_content<'a>(list: &Der<'a>) -> Part<'a>
+    requires small { length list.now.whole.now < 2 ^ 17 }
+    requires sizes { length list.now.content.now ≤ length list.now.whole.now }
+    ensures left { result.left.now ≡ list.now.content.now }
+    ensures place { result.place ≡ 0 + (length list.now.whole.now - length list.now.content.now) }
+{
+    Part {
+        left: list.content,
+        place: (list.whole.len() - list.content.len()) as u32,
+    }
+}
+
+/// The entries of the list's SEQUENCE, of which there is one at least.
+#[tactic(auto, unfolding(crate::specs::Read::content_entries))]
+fn content_entries(alloc: Global, content: &Part) -> Result<Vec<Entry>, ListFault>
+    ensures exact { GivesSeen (λ entries. entries.items) result (content_entries (part_of content.now)) }
+    ensures place { IsPlaceBelow (end_of content.now) result }
+{
+    if content.left.is_empty() {
+        return Err(Fault::empty().into());
+    }
+    entries_at(alloc, content)
+}
+
+/// The entries up to the end of the part, at most 1,000.
+#[tactic(auto, using(crate::proofs::EntriesLaws::all_found, crate::proofs::EntriesLaws::one_too_many, crate::proofs::EntriesLaws::entry_refused, crate::proofs::EntriesLaws::entry_found))]
+fn entries_at(alloc: Global, part: &Part) -> Result<Vec<Entry>, ListFault>
+    ensures exact { GivesSeen (λ entries. entries.items) result (entries_at 1000 (part_of part.now)) }
+    ensures place { IsPlaceBelow (end_of part.now) result }
+{
+    let mut entries = Vec::new(alloc);
+    let mut rest = *part;
+    while !rest.left.is_empty() {
+        if entries.len() == MOST {
+            return Err(Fault::limit(rest.place).into());
+        }
+        let found = match entry_at(&rest) {
+            Ok(found) => found,
+            Err(fault) => return Err(fault.into()),
+        };
+        entries.push(found.entry)?;
+        rest = found.behind;
+    }
+    Ok(entries)
+}
+
+/// The entry that the part begins with.
+#[tactic(auto, unfolding(crate::specs::Read::entry_at))]
+fn entry_at<'a>(part: &Part<'a>) -> Result<Found<'a>, Fault>
+    ensures exact { entry_view result ≡ entry_at (part_of part.now) }
+    ensures behind { IfOk result (λ found. end_of found.behind ≡ end_of part.now) }
+    ensures place { IfErr result (λ fault. fault.place ≤ end_of part.now) }
+{
+    let item = part.item()?;
+    let entry = entry_in(&item)?;
+    Ok(Found {
+        entry,
+        behind: item.behind,
+    })
+}
+
+#[tactic(auto, unfolding(crate::specs::Read::entry_in))]
+fn entry_in(item: &Item) -> Result<Entry, Fault>
+    ensures exact { result ≡ entry_in (item_of item.now) }
+    ensures place { IfErr result (λ fault. (fault.place ≤ item.now.place) ⊎ (fault.place ≤ content_end item.now)) }
+{
+    match item.der.tag {
+        tags::CODE => code_in(&item.content()),
+        tags::RANGE => range_in(&item.content()),
+        tags::SINGLE => single_in(&item.content()),
+        _ => Err(Fault::der(item.place)),
+    }
+}
+
+#[tactic(auto, unfolding(crate::specs::Read::code_in))]
+fn code_in(part: &Part) -> Result<Entry, Fault>
+    ensures exact { result ≡ code_in (part_of part.now) }
+    ensures place { IfErr result (λ fault. fault.place ≤ end_of part.now) }
+{
+    let string = part.element(tags::IA5_STRING)?;
+    let Some(code) = Code::new(string.der.content) else {
+        return Err(Fault::code(string.place));
+    };
+    string.behind.end(Entry::Code(code))
+}
+
+#[tactic(auto, unfolding(crate::specs::Read::single_in))]
+fn single_in(part: &Part) -> Result<Entry, Fault>
+    ensures exact { result ≡ single_in (part_of part.now) }
+    ensures place { IfErr result (λ fault. fault.place ≤ end_of part.now) }
+{
+    let string = part.element(tags::IA5_STRING)?;
+    let Some(number) = Number::exact(string.der.content) else {
+        return Err(Fault::number(string.place));
+    };
+    string.behind.end(Entry::Single(number))
+}
+
+#[tactic(auto, unfolding(crate::specs::Read::range_in))]
+fn range_in(part: &Part) -> Result<Entry, Fault>
+    ensures exact { result ≡ range_in (part_of part.now) }
+    ensures place { IfErr result (λ fault. fault.place ≤ end_of part.now) }
+{
+    let sequence = part.element(tags::SEQUENCE)?;
+    let span = span_in(&sequence.content())?;
+    sequence.behind.end(Entry::Range(span))
+}
+
+#[tactic(auto, unfolding(crate::specs::Read::span_in))]
+fn span_in(part: &Part) -> Result<Span, Fault>
+    ensures exact { result ≡ span_in (part_of part.now) }
+    ensures place { IfErr result (λ fault. fault.place ≤ end_of part.now) }
+{
+    let string = part.element(tags::IA5_STRING)?;
+    let Some(start) = start_of(string.der.content) else {
+        return Err(Fault::number(string.place));
+    };
+    let integer = string.behind.element(tags::INTEGER)?;
+    let Some(span) = counted(start, &integer.der) else {
+        return Err(Fault::count(integer.place));
+    };
+    integer.behind.end(span)
+}
+
+/// The number of digits alone that a range begins with.
+fn start_of(text: &[u8]) -> Option<Number>
+    ensures { result ≡ start_of text.now }
+{
+    if are_digits(text) {
+        Number::exact(text)
+    } else {
+        None
+    }
+}
+
+fn are_digits(text: &[u8]) -> bool
+    ensures { result ≡ are_digits text.now }
+{
+    text.iter().all(|byte| byte.is_ascii_digit())
+}
+
+/// The range from `start` on, by the INTEGER of its count.
+fn counted(start: Number, integer: &Der) -> Option<Span>
+    ensures { result ≡ counted start (unsigned_of integer.now.tag integer.now.content.now) }
+{
+    match integer.unsigned() {
+        Ok(count) if count >= 2 => Span::new(start, count),
+        _ => None,
+    }
+}

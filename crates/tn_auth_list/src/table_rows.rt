@@ -1,0 +1,82 @@
+//! The lines of the code table.
+ghost use Rattle.std.specs.Prelude.{◌≡◌};
+ghost use Rattle.tn_auth_list.specs.CodeTable.{given_of, is_all, range_of, row_of, with_code};
+
+use crate::codes::Code;
+use stir_base::read_number;
+use text_file::{Words, words_of};
+use tn_values::{Number, Span};
+
+/// What a line of the table gives its code.
+#[derive(Clone, Copy, Debug)]
+pub(crate) enum Gives {
+    All,
+    Range(Span),
+    Single(Number),
+}
+
+/// A line of the table.
+#[derive(Clone, Copy, Debug)]
+pub(crate) struct Row {
+    pub(crate) code: Code,
+    pub(crate) gives: Gives,
+}
+
+impl Gives {
+    pub(crate) fn is_all(&self) -> bool
+        ensures { result ≡ is_all self.now }
+    {
+        matches!(self, Gives::All)
+    }
+}
+
+/// What a line says: `CODE *`, `CODE NUMBER` or `CODE START COUNT`. None where it is none of these.
+#[tactic(auto, unfolding(crate::specs::CodeTable::row_of))]
+pub(crate) fn row_of(line: &[u8]) -> Option<Row>
+    ensures { result ≡ row_of line.now }
+{
+    match words_of(line) {
+        Some(Words::Two(code, given)) => with_code(code, given_of(given)),
+        Some(Words::Three(code, start, count)) => with_code(code, range_of(start, count)),
+        _ => None,
+    }
+}
+
+fn with_code(code: &[u8], gives: Option<Gives>) -> Option<Row>
+    ensures { result ≡ with_code code.now gives }
+{
+    match (Code::new(code), gives) {
+        (Some(code), Some(gives)) => Some(Row { code, gives }),
+        _ => None,
+    }
+}
+
+fn given_of(word: &[u8]) -> Option<Gives>
+    ensures { result ≡ given_of word.now }
+{
+    if word == b"*".as_slice() {
+        return Some(Gives::All);
+    }
+    match Number::exact(word) {
+        Some(number) => Some(Gives::Single(number)),
+        None => None,
+    }
+}
+
+fn range_of(start: &[u8], count: &[u8]) -> Option<Gives>
+    ensures { result ≡ range_of start.now count.now }
+{
+    let Some(start) = Number::exact(start) else {
+        return None;
+    };
+    let Some(size) = read_number(count, u64::MAX) else {
+        return None;
+    };
+    if size < 2 {
+        return None;
+    }
+    match Span::new(start, size) {
+        Some(span) => Some(Gives::Range(span)),
+        None => None,
+    }
+}
