@@ -1,0 +1,15 @@
+pub mod Fault
+pub mod Span
+pub mod Within
+pub mod Text
+pub mod Signed
+pub mod Signature
+pub mod Name
+pub mod Extension
+pub mod Known
+pub mod Extensions
+pub mod View
+pub mod Read
+pub mod Parts
+pub mod Extended
+pub mod Cert

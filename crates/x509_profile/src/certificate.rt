@@ -1,0 +1,221 @@
+//! A certificate of the profile.
+
+ghost use Rattle.std.specs.Prelude.{◌≡◌, length, IfOk, Ok};
+ghost use Rattle.std.specs.Option.{option_copied, option_map};
+ghost use Rattle.x509_profile.specs.Fault.{Gives, IsPlacedUpTo};
+ghost use Rattle.x509_profile.specs.Cert.{Cert};
+ghost use Rattle.x509_profile.specs.Read.{read_certificate};
+ghost use Rattle.x509_profile.specs.View.{CertView};
+
+use crate::extensions::Extensions;
+use crate::fault::CertFault;
+use crate::fields::Fields;
+use crate::signed::Signed;
+use sha2::{Digest, Sha256};
+use std::alloc::Global;
+use std::marker::Model;
+use tn_auth_list::AuthList;
+
+/// A certificate of the profile: X.509 version 3, an ECDSA key on P-256 and a signature by ECDSA with
+/// SHA-256 (RFC 5280, RFC 5480, RFC 5758), at most 8,192 bytes.
+///
+/// A contract sees the values of its accessors.
+#[derive(Drop)]
+pub struct Certificate {
+    bytes: Vec<u8>,
+    signed: Signed,
+    extensions: Extensions,
+    key: [u8; 65],
+    digest: [u8; 32],
+    signature: [u8; 64],
+}
+
+impl Model for Certificate {
+    ghost use Rattle.std.specs.Prelude.{◌≡◌, Ok};
+    ghost use Rattle.x509_profile.specs.Span.{IsInside};
+    ghost use Rattle.x509_profile.specs.Known.{AreInside};
+    ghost use Rattle.x509_profile.specs.Read.{read_certificate};
+    ghost use Rattle.x509_profile.specs.View.{CertView, view_at};
+
+    ghost Value = { CertView };
+
+    ghost view = { λ c. view_at c.bytes.items c.signed c.extensions c.key c.digest c.signature };
+
+    ghost invariant = { λ c. IsInside c.signed.issuer c.bytes.items × IsInside c.signed.subject c.bytes.items
+        × AreInside c.extensions.known c.bytes.items
+        × (read_certificate c.bytes.items ≡ Ok (view_at c.bytes.items c.signed c.extensions c.key c.digest c.signature)) };
+}
+
+impl Certificate {
+    /// The certificate that the bytes are.
+    ///
+    /// Its parts are read in byte order, and the first that is broken is the answer, with the offset of
+    /// its first byte; `DER` has the place of the fault where an element can't be read. Of an extension
+    /// it is the offset of the extension, and `LIST` stands at its OCTET STRING. More than 8,192 bytes
+    /// are `DER` at 8,192.
+    pub fn read(alloc: Global, bytes: &[u8]) -> Result<Certificate, CertFault>
+        // The values, or the first fault.
+        ensures exact { Gives (λ certificate. certificate) result (read_certificate bytes.now) }
+
+        // An answer is the certificate that the bytes are, and the one that they are is the answer.
+        ensures found { IfOk result (Cert bytes.now) }
+        ensures only { (c : CertView) → Cert bytes.now c → Gives (λ certificate. certificate) result (Ok c) }
+
+        // The bytes are one certificate at most.
+        ensures unique { (a b : CertView) → Cert bytes.now a → Cert bytes.now b → a ≡ b }
+
+        ensures place { IsPlacedUpTo (length bytes.now) result }
+    {
+        Certificate::from_fields(alloc, bytes)
+    }
+
+    /// The certificate by its fields.
+    #[tactic(auto, unfolding(crate::specs::Read::read_certificate))]
+    fn from_fields(alloc: Global, bytes: &[u8]) -> Result<Certificate, CertFault>
+        ensures exact { Gives (λ certificate. certificate) result (read_certificate bytes.now) }
+        ensures place { IsPlacedUpTo (length bytes.now) result }
+    {
+        let fields = Fields::read(alloc, bytes)?;
+        let key = point(fields.signed.key.of(bytes));
+        let digest = Sha256::digest(fields.part.of(bytes));
+        let signature = fields.signature;
+        let bytes = bytes.to_vec(alloc)?;
+        Ok(Certificate {
+            bytes,
+            signed: fields.signed,
+            extensions: fields.extensions,
+            key,
+            digest,
+            signature,
+        })
+    }
+
+    /// All bytes of the certificate.
+    ///
+    /// Each certificate is the one that is read from its bytes.
+    pub fn whole(&self) -> &[u8]
+        ensures value { result.now ≡ self.now.whole }
+        ensures again { read_certificate self.now.whole ≡ Ok self.now }
+    {
+        &self.bytes
+    }
+
+    /// The subject's name: its whole element, a SEQUENCE (RFC 5280 section 4.1.2.6). Names are one
+    /// where they are so byte for byte, which is this project's own rule.
+    pub fn subject(&self) -> &[u8]
+        ensures { result.now ≡ self.now.subject }
+    {
+        self.signed.subject.of(&self.bytes)
+    }
+
+    /// The issuer's name: its whole element, a SEQUENCE (RFC 5280 section 4.1.2.4).
+    pub fn issuer(&self) -> &[u8]
+        ensures { result.now ≡ self.now.issuer }
+    {
+        self.signed.issuer.of(&self.bytes)
+    }
+
+    /// The first second at which the certificate is valid, in Unix time (RFC 5280 section 4.1.2.5).
+    pub fn not_before(&self) -> i64
+        ensures { result ≡ self.now.not_before }
+    {
+        self.signed.validity.not_before
+    }
+
+    /// The last second at which the certificate is valid, in Unix time.
+    pub fn not_after(&self) -> i64
+        ensures { result ≡ self.now.not_after }
+    {
+        self.signed.validity.not_after
+    }
+
+    /// The point of the key: the byte 04, and 32 bytes each of x and y (RFC 5480 section 2.2).
+    pub fn key(&self) -> &[u8; 65]
+        ensures { result.now ≡ self.now.key }
+    {
+        &self.key
+    }
+
+    /// The SHA-256 of the signed part, which is what the signature signs (RFC 5280 section 4.1.1.3).
+    pub fn digest(&self) -> &[u8; 32]
+        ensures { result.now ≡ self.now.digest }
+    {
+        &self.digest
+    }
+
+    /// The numbers r and s of the signature, 32 bytes each, the highest byte first.
+    pub fn signature(&self) -> &[u8; 64]
+        ensures { result.now ≡ self.now.signature }
+    {
+        &self.signature
+    }
+
+    /// Whether the key may sign certificates (RFC 5280 section 4.2.1.9).
+    pub fn is_ca(&self) -> bool
+        ensures { result ≡ self.now.is_ca }
+    {
+        match self.extensions.known.basic {
+            Some(basic) => basic.is_ca,
+            None => false,
+        }
+    }
+
+    /// How many certificates may stand between this one and the leaf, where that is limited.
+    pub fn path_length(&self) -> Option<u64>
+        ensures { result ≡ self.now.path_length }
+    {
+        match self.extensions.known.basic {
+            Some(basic) => basic.path_length,
+            None => None,
+        }
+    }
+
+    /// What the key may be used for, where that is said: bit 0 is digitalSignature and bit 5 keyCertSign
+    /// (RFC 5280 section 4.2.1.3).
+    pub fn usage(&self) -> Option<u16>
+        ensures { result ≡ self.now.usage }
+    {
+        self.extensions.known.usage
+    }
+
+    /// The identifier of the key (RFC 5280 section 4.2.1.2).
+    pub fn subject_key(&self) -> Option<&[u8]>
+        ensures { option_copied result ≡ self.now.subject_key }
+    {
+        match self.extensions.known.subject_key {
+            Some(key) => Some(key.of(&self.bytes)),
+            None => None,
+        }
+    }
+
+    /// The identifier of the issuer's key (RFC 5280 section 4.2.1.1).
+    pub fn authority_key(&self) -> Option<&[u8]>
+        ensures { option_copied result ≡ self.now.authority_key }
+    {
+        let Some(authority) = self.extensions.known.authority else {
+            return None;
+        };
+        match authority.key {
+            Some(key) => Some(key.of(&self.bytes)),
+            None => None,
+        }
+    }
+
+    /// The telephone numbers that the holder may speak for (RFC 8226 section 9). A certificate without a
+    /// list has no limit of its own.
+    pub fn list(&self) -> Option<&AuthList>
+        ensures { option_copied result ≡ self.now.list }
+    {
+        self.extensions.list.as_ref()
+    }
+}
+
+/// The bytes of a point.
+fn point(bytes: &[u8]) -> [u8; 65]
+    requires { length bytes.now ≡ 65 }
+    ensures { result ≡ bytes.now }
+{
+    let mut point = [0; 65];
+    point.copy_from_slice(bytes);
+    point
+}

@@ -1,0 +1,26 @@
+//! Certificates of the profile that signs PASSporTs: X.509 version 3 with ECDSA keys on P-256 and
+//! SHA-256 (RFC 5280, RFC 5480, RFC 5758), and with telephone number authorization lists (RFC 8226).
+#![tactic(auto)]
+
+mod certificate;
+mod contents;
+mod extension;
+mod extensions;
+mod fault;
+mod fields;
+mod known;
+mod name;
+mod part;
+#[cfg(test)]
+mod samples;
+mod signature;
+mod signed;
+mod span;
+mod tags;
+#[cfg(test)]
+mod tests;
+mod validity;
+mod within;
+
+pub use certificate::Certificate;
+pub use fault::CertFault;
