@@ -1,1 +1,4 @@
+pub mod AnswerLaws
+pub mod HeldLaws
+pub mod KeyNames
 pub mod Transfers

@@ -2,7 +2,7 @@ ghost use Rattle.std.specs.Prelude.{◌≡◌, ℕ, ◌<◌, ◌≤◌, List, Op
 ghost use Rattle.std.specs.Io.KnownBytes.{ReadConsumes};
 ghost use Rattle.stir_base.specs.Count.{HasCause};
 
-/// The one fault of a source and of a sink.
+/// The one fault of a source, a sink and a provider.
 #[derive(Clone, Copy, Debug, PartialEq, Eq)]
 pub struct Failed;
 

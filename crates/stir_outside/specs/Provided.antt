@@ -1,0 +1,22 @@
+-- What a provider over an answers file is seen as.
+use Rattle.std.specs.Prelude.{◌≡◌, ℕ, ◌≤◌, List, Result, is_err, if◌then◌else◌}
+use Rattle.stir_base.specs.Count.{HasCause, one_more}
+use Rattle.stir_outside.specs.Held.{Held}
+use Rattle.stir_outside.specs.Memory.{is_failing}
+
+-- what it answers, the calls that are to fail, and the counts of calls and of faults
+pub record ProviderState : Type 0 where
+  pub held : Held
+  pub failing : List ℕ
+  pub asks : ℕ
+  pub faults : ℕ
+
+-- a call was counted, and failed where it is listed
+pub record Asked {T E : Type 0} (before now : ProviderState) (result : Result T E) : Type 0 where
+  pub held : now.held ≡ before.held
+  pub failing : now.failing ≡ before.failing
+  pub asks : now.asks ≡ one_more before.asks
+  pub asks_stay : before.asks ≤ now.asks
+  pub cause : HasCause before.faults now.faults result
+  pub fails : is_err result ≡ is_failing before.asks before.failing
+  pub faults : now.faults ≡ (if is_err result then one_more before.faults else before.faults)

@@ -1,0 +1,8 @@
+//! Signatures that were confirmed and made beforehand, as an answers file has them, and a provider over them.
+
+pub mod held;
+pub mod key_name;
+pub mod provider;
+pub mod rows;
+#[cfg(test)]
+mod tests;

@@ -1,0 +1,155 @@
+//! What an answers file says, kept for one look-up a question.
+ghost use Rattle.std.specs.Prelude.{◌≡◌, ◌-◌, ◌^◌, ◌<◌, ◌↔◌, ℕ, List, Ok, Err, IfOk, IfErr, length};
+ghost use Rattle.stir_outside.specs.AnswersText.{AnswersText, FirstBad, answer_rows};
+ghost use Rattle.stir_outside.specs.declared.answers.rows.Row.{Row};
+
+use crate::answers::key_name::KeyName;
+use crate::answers::provider::AnswerProvider;
+use crate::answers::rows::{Order, Row, Triple, row_of};
+use std::alloc::{AllocError, Global};
+use std::collections::{HashMap, HashSet};
+use std::marker::Model;
+use text_file::Lines;
+
+/// Why a text is no answers file.
+#[derive(Clone, Copy, Debug, PartialEq, Eq)]
+pub enum AnswerFault {
+    /// The first bad line: it says nothing, or it signs what a line before it signs. Lines count from 1, those that are
+    /// passed over too.
+    Line { line: u32 },
+    /// Memory ran out.
+    Memory,
+}
+
+impl From<AllocError> for AnswerFault {
+    ghost use Rattle.std.specs.Prelude.{◌≡◌};
+    ghost use Rattle.stir_outside.specs.declared.answers.held.AnswerFault.TheVariants.{Memory};
+
+    ghost from_gives = { λ _ e. e ≡ Memory };
+
+    fn from(_: AllocError) -> AnswerFault {
+        AnswerFault::Memory
+    }
+}
+
+/// What an answers file says: signatures that are good, and signatures that were made.
+///
+/// A contract sees the triples and the signatures that are held, in no order that it names.
+#[derive(Drop)]
+pub struct Answers {
+    alloc: Global,
+    triples: HashSet<Triple>,
+    signatures: HashMap<Order, [u8; 64]>,
+}
+
+impl Model for Answers {
+    ghost use Rattle.stir_outside.specs.Held.{Held};
+
+    ghost Value = { Held };
+
+    ghost view = { λ a. record { triples = a.triples.keys; signatures = a.signatures.entries } };
+}
+
+impl Answers {
+    ghost use Rattle.stir_outside.specs.Held.{Adds, AddsLine, AnswersOf, FaultOf, HoldsRows, held_says, held_signs};
+    ghost use Rattle.std.specs.Prelude.{[]};
+
+    /// Reads an answers file.
+    ///
+    /// Its lines are `confirm KEY DIGEST SIGNATURE` and `sign NAME DIGEST SIGNATURE` (this project's own rule). Of two
+    /// `sign` lines with the same name and digest the second is bad; a `confirm` line may stand twice.
+    pub fn read(alloc: Global, text: &[u8]) -> Result<Answers, AnswerFault>
+        requires { length text.now < 2 ^ 32 - 1 }
+        ensures answers { IfOk result (AnswersOf text.now) }
+        ensures fault { IfErr result (FaultOf text.now) }
+        // What an answers file is, and which line is the first bad one.
+        ensures rows { (rows : List Row) → (answer_rows text.now ≡ Ok rows) ↔ AnswersText text.now rows }
+        ensures first_bad { (number : ℕ) → (answer_rows text.now ≡ Err number) ↔ FirstBad text.now number }
+    {
+        Answers::read_lines(alloc, text)
+    }
+
+    #[tactic(auto, using(crate::proofs::HeldLaws::one_more, crate::proofs::HeldLaws::bad_line, crate::proofs::HeldLaws::none_read, crate::proofs::HeldLaws::all_read))]
+    fn read_lines(alloc: Global, text: &[u8]) -> Result<Answers, AnswerFault>
+        requires { length text.now < 2 ^ 32 - 1 }
+        ensures answers { IfOk result (AnswersOf text.now) }
+        ensures fault { IfErr result (FaultOf text.now) }
+    {
+        let mut answers = Answers::none(alloc);
+        let mut lines = Lines::new(text);
+        while let Some(line) = lines.next() {
+            if !answers.add_line(line.text)? {
+                return Err(AnswerFault::Line { line: line.number });
+            }
+        }
+        Ok(answers)
+    }
+
+    fn none(alloc: Global) -> Answers
+        ensures { HoldsRows [] result }
+    {
+        Answers {
+            alloc,
+            triples: HashSet::new(alloc),
+            signatures: HashMap::new(alloc),
+        }
+    }
+
+    /// Adds what a line says; false where the line is bad.
+    fn add_line(&mut self, line: &[u8]) -> Result<bool, AllocError>
+        ensures { IfOk result (AddsLine self.old self.new line.now) }
+    {
+        match row_of(line) {
+            Some(row) => self.add(row),
+            None => Ok(false),
+        }
+    }
+
+    /// Adds a row; false where it signs what is signed already.
+    fn add(&mut self, row: Row) -> Result<bool, AllocError>
+        ensures { IfOk result (Adds self.old self.new row) }
+    {
+        match row {
+            Row::Confirm(triple) => {
+                self.triples.insert(triple)?;
+                Ok(true)
+            }
+            Row::Sign(order, signature) => {
+                let before = self.signatures.insert(order, signature)?;
+                Ok(before.is_none())
+            }
+        }
+    }
+
+    pub(crate) fn says(&self, key: &[u8; 65], digest: &[u8; 32], signature: &[u8; 64]) -> bool
+        ensures { result ≡ held_says self.now key.now digest.now signature.now }
+    {
+        let triple = Triple {
+            key: *key,
+            digest: *digest,
+            signature: *signature,
+        };
+        self.triples.contains(&triple)
+    }
+
+    pub(crate) fn signs(&self, name: &[u8], digest: &[u8; 32]) -> Option<[u8; 64]>
+        ensures { result ≡ held_signs self.now name.now digest.now }
+    {
+        let Some(name) = KeyName::new(name) else {
+            return None;
+        };
+        let order = Order {
+            name,
+            digest: *digest,
+        };
+        self.signatures.get(&order).copied()
+    }
+
+    /// A provider that gives these answers, whose listed calls fail, counted from 1 over both kinds of calls.
+    pub fn provider(&self, failing: &[u64]) -> Result<AnswerProvider<'_>, AllocError>
+        ensures { IfOk result (λ provider. provider ≡ record { held = self.now; failing = failing.now; asks = 0; faults = 0 }) }
+    {
+        let failing = Vec::from_slice(self.alloc, failing)?;
+        Ok(AnswerProvider::new(self, failing))
+    }
+}

@@ -1,0 +1,116 @@
+//! The lines of an answers file.
+ghost use Rattle.std.specs.Prelude.{◌≡◌};
+ghost use Rattle.stir_outside.specs.AnswersText.{bytes_of, confirm_of, key_of, of_kind, row_of, sign_of};
+
+use crate::answers::key_name::KeyName;
+use text_file::{Words, words_of};
+
+/// A signature over a digest, good under a key.
+#[derive(Clone, Copy, PartialEq, Eq, Hash)]
+pub(crate) struct Triple {
+    pub(crate) key: [u8; 65],
+    pub(crate) digest: [u8; 32],
+    pub(crate) signature: [u8; 64],
+}
+
+/// What is to be signed: a digest, by the key of this name.
+#[derive(Clone, Copy, PartialEq, Eq, Hash)]
+pub(crate) struct Order {
+    pub(crate) name: KeyName,
+    pub(crate) digest: [u8; 32],
+}
+
+/// A line of an answers file.
+#[derive(Clone, Copy)]
+pub(crate) enum Row {
+    /// The signature is good.
+    Confirm(Triple),
+    /// The order gives this signature.
+    Sign(Order, [u8; 64]),
+}
+
+/// What a line says: `confirm KEY DIGEST SIGNATURE` or `sign NAME DIGEST SIGNATURE`. None where it is neither.
+#[tactic(auto, unfolding(crate::specs::AnswersText::row_of))]
+pub(crate) fn row_of(line: &[u8]) -> Option<Row>
+    ensures { result ≡ row_of line.now }
+{
+    match words_of(line) {
+        Some(Words::Four(kind, subject, digest, signature)) => of_kind(
+            kind, subject, digest, signature,
+        ),
+        _ => None,
+    }
+}
+
+fn of_kind(kind: &[u8], subject: &[u8], digest: &[u8], signature: &[u8]) -> Option<Row>
+    ensures { result ≡ of_kind kind.now subject.now digest.now signature.now }
+{
+    if kind == b"confirm".as_slice() {
+        return confirm_of(subject, digest, signature);
+    }
+    if kind == b"sign".as_slice() {
+        return sign_of(subject, digest, signature);
+    }
+    None
+}
+
+fn confirm_of(key: &[u8], digest: &[u8], signature: &[u8]) -> Option<Row>
+    ensures { result ≡ confirm_of key.now digest.now signature.now }
+{
+    let Some(key) = key_of(key) else {
+        return None;
+    };
+    let Some(digest) = bytes_of::<32>(digest) else {
+        return None;
+    };
+    let Some(signature) = bytes_of::<64>(signature) else {
+        return None;
+    };
+    Some(Row::Confirm(Triple {
+        key,
+        digest,
+        signature,
+    }))
+}
+
+fn sign_of(name: &[u8], digest: &[u8], signature: &[u8]) -> Option<Row>
+    ensures { result ≡ sign_of name.now digest.now signature.now }
+{
+    let Some(name) = KeyName::new(name) else {
+        return None;
+    };
+    let Some(digest) = bytes_of::<32>(digest) else {
+        return None;
+    };
+    let Some(signature) = bytes_of::<64>(signature) else {
+        return None;
+    };
+    Some(Row::Sign(Order { name, digest }, signature))
+}
+
+/// The first byte of a point in its uncompressed form (SEC 1, section 2.3.3).
+const UNCOMPRESSED: u8 = 4;
+
+fn key_of(word: &[u8]) -> Option<[u8; 65]>
+    ensures { result ≡ key_of word.now }
+{
+    let Some(key) = bytes_of::<65>(word) else {
+        return None;
+    };
+    if key[0] == UNCOMPRESSED {
+        Some(key)
+    } else {
+        None
+    }
+}
+
+/// The bytes that a word of 2 N hex digits writes.
+fn bytes_of<const N: usize>(word: &[u8]) -> Option<[u8; N]>
+    ensures { result ≡ bytes_of N word.now }
+{
+    let mut bytes = [0; N];
+    match hex::decode_to_slice(word, &mut bytes) {
+        Ok(()) => Some(bytes),
+        Err(_) => None,
+    }
+}
