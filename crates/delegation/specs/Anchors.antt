@@ -1,0 +1,68 @@
+-- Trust anchors, as a file of certificates one after another (RFC 5280 section 6.1.1 (d)).
+use Rattle.std.specs.Prelude.{◌≡◌, ℕ, zero, suc, ◌-◌, ◌==◌, ◌≤◌, List, [], ◌∷◌, ◌++◌, length, true, Result, Ok, Err, ⊤, if◌then◌else◌}
+use Rattle.der_reader.specs.declared.fault.DerFault.{DerFault}
+use Rattle.der_reader.specs.Elem.{Element}
+use Rattle.der_reader.specs.Next.{next_at}
+use Rattle.x509_profile.specs.View.{CertView}
+use Rattle.x509_profile.specs.Cert.{Cert}
+use Rattle.x509_profile.specs.Read.{read_certificate}
+use Rattle.delegation.specs.declared.fault.AnchorFault.{AnchorFault}
+use Rattle.delegation.specs.declared.fault.AnchorFault.TheVariants.{At, Memory}
+use Rattle.delegation.specs.Usage.{may_certify}
+
+-- the bytes are certificates of the profile one after another, each of which may certify others
+abbrev pub AreAnchors : List CertView → List ℕ → Type 0
+AreAnchors [] bytes = bytes ≡ []
+AreAnchors (c ∷ cs) bytes =
+    (rest : List ℕ) × (bytes ≡ c.whole ++ rest) × Cert c.whole c × (may_certify c ≡ true) × AreAnchors cs rest
+
+-- the bytes are these trust anchors, at most 256
+pub record AnchorText (bytes : List ℕ) (anchors : List CertView) : Type 0 where
+  pub most : length anchors ≤ 256
+  pub each : AreAnchors anchors bytes
+
+-- ---- what reading them gives: the anchors, or the offset of the first that is none
+
+-- the next step of a reading, at what was read before it
+infixl 10 ◌>>=◌
+abbrev pub ◌>>=◌ : {A B : Type 0} → Result A ℕ → (A → Result B ℕ) → Result B ℕ
+Ok x >>= f = f x
+Err place >>= f = Err place
+
+-- a certificate that may certify others, and what stands behind it
+abbrev pub as_anchor : {E : Type 0} → ℕ → List ℕ → Result CertView E → Result (CertView × List ℕ) ℕ
+as_anchor place behind (Ok c) = if may_certify c then Ok (c, behind) else Err place
+as_anchor place behind (Err fault) = Err place
+
+-- the element that is such a certificate
+abbrev pub anchor_of : ℕ → Result (Element × List ℕ) DerFault → Result (CertView × List ℕ) ℕ
+anchor_of place (Ok next) = as_anchor place next.1 (read_certificate next.0.whole)
+anchor_of place (Err fault) = Err place
+
+-- the anchor with which the bytes at this place begin, and the bytes behind it
+unfoldable pub anchor_at : ℕ → List ℕ → Result (CertView × List ℕ) ℕ
+anchor_at place bytes = anchor_of place (next_at bytes)
+
+-- the anchors that the rest of all bytes is, where they are at most so many
+unfoldable pub anchors_at : List ℕ → ℕ → List ℕ → Result (List CertView) ℕ
+anchors_at all zero rest = if length rest == 0 then Ok [] else Err (length all - length rest)
+anchors_at all (suc room) rest =
+    if length rest == 0 then Ok []
+    else (anchor_at (length all - length rest) rest
+    >>= λ next. anchors_at all room next.1 >>= λ more. Ok (next.0 ∷ more))
+
+-- the anchors that the bytes are, at most 256
+abbrev pub anchors_in : List ℕ → Result (List CertView) ℕ
+anchors_in bytes = anchors_at bytes 256 bytes
+
+-- The code gives what is read, or its place; want of memory is free.
+abbrev pub Gives : {X Y : Type 0} → (X → Y) → Result X AnchorFault → Result Y ℕ → Type 0
+Gives seen (Ok x) read = read ≡ Ok (seen x)
+Gives seen (Err (At place)) read = read ≡ Err place
+Gives seen (Err Memory) read = ⊤
+
+-- a fault's place is no further than this
+abbrev pub IsPlacedUpTo : {X : Type 0} → ℕ → Result X AnchorFault → Type 0
+IsPlacedUpTo end (Ok x) = ⊤
+IsPlacedUpTo end (Err (At place)) = place ≤ end
+IsPlacedUpTo end (Err Memory) = ⊤

@@ -1,0 +1,6 @@
+pub mod Coverage
+pub mod Gathered
+pub mod Usage
+pub mod Anchors
+pub mod Path
+pub mod Seen
