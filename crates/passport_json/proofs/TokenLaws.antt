@@ -64,15 +64,6 @@ only_of (Err SignatureLength) given gives token ok = absurd (refused given token
 only_of (Err Compact) given gives token ok = absurd (refused given token Compact ok gives)
 only_of (Err Memory) given gives token ok = tt
 
-pub token_unique : (text : List ℕ) (one other : TokenView) → FullText text one → FullText text other → one ≡ other
-token_unique text one other a b =
-    let e : ◌≡◌ {A = Result TokenView TokenFault} (Ok one) (Ok other) = sym (token_again text one a) ∙ token_again text other b in
-    cc
-
-pub token_only : (text : List ℕ) (result : Result TokenView TokenFault) → Gives (λ token. token) result (read_full text)
-    → (token : TokenView) → FullText text token → IsOkUnlessMemory result (λ read. read ≡ token)
-token_only text result gives token t = only_of result (read_full text) gives token (token_again text token t)
-
 no_bytes : (bytes : List ℕ) → [] ≡ encode_of url_safe_no_pad bytes → bytes ≡ []
 unfolding encode_symbols
 no_bytes [] e = refl

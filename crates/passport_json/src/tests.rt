@@ -1,4 +1,4 @@
-use crate::{Token, TokenFault};
+use crate::{Token, TokenFault, View, is_uri};
 use serde_json::Value;
 use std::alloc::{AllocError, Global};
 use std::process::Abort;
@@ -20,8 +20,15 @@ fn with_letters(alloc: Global, front: &[u8], letters: usize) -> Result<Vec<u8>, 
 }
 
 fn read(rt: &impl Abort, alloc: Global, text: &[u8]) -> Result<Token, TokenFault> {
-    assert!(rt; !text.starts_with(b".."));
-    Token::read_full(alloc, text)
+    let view = View {
+        iat: None,
+        orig: None,
+        dest: None,
+        info: b"u",
+        ppt: None,
+    };
+    assert!(rt; is_uri(view.info));
+    Token::read(alloc, text, &view)
 }
 
 #[test]

@@ -60,7 +60,7 @@ impl Token {
     /// The checks are made in this order, and the first that is broken is the fault: `Parts`, `Base64` of part 1, 2
     /// and 3, `SignatureLength`; then `Compact` in the compact form, and `Json` of part 1 and 2 in the full form.
     /// `Memory` may come for any text. The view's `info` is a URI ([`is_uri`](crate::is_uri) tells).
-    #[tactic(auto, using(crate::proofs::CompactLaws::only_dots, crate::proofs::CompactLaws::only_else, crate::proofs::CompactLaws::read_unique), unfolding(crate::specs::Token::read_token))]
+    #[tactic(auto, unfolding(crate::specs::Token::read_token))]
     pub fn read(alloc: Global, text: &[u8], view: &View<'_>) -> Result<Token, TokenFault>
         requires { IsTrue (is_uri view.now.info.now) }
         ensures exact { Gives (λ token. token) result (read_token (call_of view.now) text.now) }
@@ -73,25 +73,8 @@ impl Token {
         if text.starts_with(b"..") {
             checked_compact(alloc, text, view)
         } else {
-            Token::read_full(alloc, text)
+            read_full(alloc, text)
         }
-    }
-
-    /// Reads a token in its full form: three texts with a dot between each two, all in base64url, of which the
-    /// first two are JSON objects and the third is 64 bytes. The checks are made in this order, and the first
-    /// that is broken is the fault: `Parts`, `Base64` of part 1, 2 and 3, `SignatureLength`, `Json` of part 1
-    /// and 2. `Memory` may come for any text. The text may not begin with two dots, which is another form
-    /// (RFC 8225, section 7).
-    pub fn read_full(alloc: Global, text: &[u8]) -> Result<Token, TokenFault>
-        requires { starts_with nat_eq text.now (codes "..") ≡ false }
-        ensures exact { Gives (λ token. token) result (read_full text.now) }
-        ensures found { IfOk result (λ token. FullText text.now token) }
-        ensures only { (token : TokenView) → FullText text.now token
-            → IsOkUnlessMemory result (λ read. read ≡ token) }
-        ensures unique { (one other : TokenView) → FullText text.now one → FullText text.now other
-            → one ≡ other }
-    {
-        checked_token(alloc, text)
     }
 
     /// The header, a JSON object (RFC 8225, section 4).
@@ -142,9 +125,10 @@ impl Token {
     }
 }
 
-// The checks in their order, each part decoded once.
+// A text in the full form: three texts with a dot between each two, all in base64url, of which the first two are JSON
+// objects and the third is 64 bytes. Each part is decoded once.
 #[tactic(auto, unfolding(crate::specs::Token::read_full))]
-fn checked_token(alloc: Global, text: &[u8]) -> Result<Token, TokenFault>
+fn read_full(alloc: Global, text: &[u8]) -> Result<Token, TokenFault>
     ensures exact { Gives (λ token. token) result (read_full text.now) }
     ensures found { IfOk result (λ token. FullText text.now token) }
 {

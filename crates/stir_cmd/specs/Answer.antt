@@ -1,14 +1,17 @@
--- What the program answers to an input, as a line and a status.
-use Rattle.std.specs.Prelude.{ℕ, List, ◌++◌, codes, Option, Some, None, Result, Ok, Err, if◌then◌else◌}
+-- What the program answers to an input, as a text and a status.
+use Rattle.std.specs.Prelude.{ℕ, List, ◌++◌, length, nat_lt, codes, Option, Some, None, Result, Ok, Err, if◌then◌else◌}
 use Rattle.std.specs.Fmt.{decimal}
 use Rattle.sip_message.specs.Reading.{read}
+use Rattle.x509_profile.specs.View.{CertView}
 use Rattle.stir_outside.specs.declared.transfer.ReadFault.{ReadFault}
 use Rattle.stir_outside.specs.declared.transfer.ReadFault.TheVariants.{Source, Memory as ReadMemory}
 use Rattle.stir_cmd.specs.Entry.{Entry, entry}
 use Rattle.stir_cmd.specs.Call.{Call, fields_of}
+use Rattle.stir_cmd.specs.Chain.{certificates_in}
 use Rattle.stir_cmd.specs.Rules.{code, first, form_rules, is_not_built, token_rules}
-use Rattle.stir_cmd.specs.declared.answer.Answer.{Answer}
-use Rattle.stir_cmd.specs.declared.answer.Answer.TheVariants.{Judged, NotOneEntry}
+use Rattle.stir_cmd.specs.Show.{show}
+use Rattle.stir_cmd.specs.declared.command.Command.{Command}
+use Rattle.stir_cmd.specs.declared.command.Command.TheVariants.{Verify, Show}
 use Rattle.stir_cmd.specs.declared.program.Fault.{Fault}
 use Rattle.stir_cmd.specs.declared.program.Fault.TheVariants.{Words, Read, Memory}
 use Rattle.stir_cmd.specs.declared.verdict.Outcome.{Outcome}
@@ -30,14 +33,6 @@ call_of entered = record { moment = entered.moment; message = read entered.messa
 abbrev pub judged : Entry → Outcome
 judged entered = outcome_of (call_of entered)
 
-abbrev pub answer_of : Option Entry → Answer
-answer_of None = NotOneEntry
-answer_of (Some call) = Judged (judged call)
-
--- the answer to an input, which is to be one entry
-abbrev pub answer : List ℕ → Answer
-answer bytes = answer_of (entry bytes)
-
 abbrev pub outcome_line : Outcome → List ℕ
 outcome_line Screened = codes "1 screened - - -\n"
 outcome_line (Refused refusal) =
@@ -45,18 +40,47 @@ outcome_line (Refused refusal) =
     ++ (decimal refusal.place.field ++ (codes "." ++ (decimal refusal.place.part ++ codes "\n")))))))
 outcome_line NotBuilt = codes "1 not-built - - -\n"
 
-abbrev pub answer_line : Answer → List ℕ
-answer_line (Judged outcome) = outcome_line outcome
-answer_line NotOneEntry = codes "refused input 0\n"
-
 abbrev pub outcome_status : Outcome → ℕ
 outcome_status Screened = 0
 outcome_status (Refused refusal) = 1
 outcome_status NotBuilt = 1
 
-abbrev pub answer_status : Answer → ℕ
-answer_status (Judged outcome) = outcome_status outcome
-answer_status NotOneEntry = 5
+-- what is said of an input: the text that is written and the status
+pub record Reply : Type 0 where
+  pub text : List ℕ
+  pub status : ℕ
+
+-- the input is outside its grammar, from this offset on
+abbrev pub refused_input : ℕ → Reply
+refused_input place = record { text = codes "refused input " ++ (decimal place ++ codes "\n"); status = 5 }
+
+abbrev pub judged_reply : Option Entry → Reply
+judged_reply None = refused_input 0
+judged_reply (Some call) = record { text = outcome_line (judged call); status = outcome_status (judged call) }
+
+-- the answer of `verify` to an input, which is to be one entry
+abbrev pub verified : List ℕ → Reply
+verified bytes = judged_reply (entry bytes)
+
+-- the most bytes of a chain of certificates
+abbrev pub most_chain : ℕ
+most_chain = 49152
+
+abbrev pub long_input : Reply
+long_input = record { text = codes "long input\n"; status = 5 }
+
+abbrev pub shown_reply : Result (List CertView) ℕ → Reply
+shown_reply (Ok certificates) = record { text = show certificates; status = 0 }
+shown_reply (Err place) = refused_input place
+
+-- the answer of `show` to an input, which is to be a chain of certificates
+abbrev pub shown : List ℕ → Reply
+shown bytes = if nat_lt most_chain (length bytes) then long_input else shown_reply (certificates_in bytes)
+
+-- the answer of a command to an input
+abbrev pub answer : Command → List ℕ → Reply
+answer Verify bytes = verified bytes
+answer Show bytes = shown bytes
 
 abbrev pub fault_line : Fault → List ℕ
 fault_line Words = codes "words refused\n"
@@ -73,11 +97,11 @@ abbrev pub fault_of_read : ReadFault → Fault
 fault_of_read Source = Read
 fault_of_read ReadMemory = Memory
 
--- the line and the status of what a run came to
-abbrev pub line_of : Result Answer Fault → List ℕ
-line_of (Ok reply) = answer_line reply
-line_of (Err fault) = fault_line fault
+-- the text and the status of what a run came to
+abbrev pub text_of : Result Reply Fault → List ℕ
+text_of (Ok reply) = reply.text
+text_of (Err fault) = fault_line fault
 
-abbrev pub status_of : Result Answer Fault → ℕ
-status_of (Ok reply) = answer_status reply
+abbrev pub status_of : Result Reply Fault → ℕ
+status_of (Ok reply) = reply.status
 status_of (Err fault) = fault_status fault

@@ -1,24 +1,17 @@
 -- Why a run ended as it did. Want of memory alone is free.
-use Rattle.std.specs.Prelude.{◌≡◌, ℕ, ◌≤◌, Bool, true, false, ◌⊎◌, List, [], ◌∷◌, length, codes, Option, Some, None, Result, Ok, Err, IfSome}
+use Rattle.std.specs.Prelude.{◌≡◌, ⊤, ℕ, ◌≤◌, ◌<◌, ◌⊎◌, List, length, Option, Some, None, Result, Ok, Err, IfSome}
 use Rattle.std.specs.Io.KnownBytes.{Appends, Consumes}
-use Rattle.std.specs.Str.{bytes_eq}
 use Rattle.stir_base.specs.Count.{Rose}
 use Rattle.stir_base.specs.Told.{AppendsFront}
-use Rattle.stir_cmd.specs.Answer.{answer, answer_status, line_of, status_of}
+use Rattle.x509_profile.specs.View.{CertView}
+use Rattle.stir_cmd.specs.Answer.{Reply, answer, status_of, text_of}
+use Rattle.stir_cmd.specs.Chain.{Chain}
 use Rattle.stir_cmd.specs.Entry.{entry}
-use Rattle.stir_cmd.specs.declared.answer.Answer.{Answer}
+use Rattle.stir_cmd.specs.Show.{show}
+use Rattle.stir_cmd.specs.declared.command.Command.{Command}
+use Rattle.stir_cmd.specs.declared.command.Command.TheVariants.{Verify, Show}
 use Rattle.stir_cmd.specs.declared.program.Fault.{Fault}
 use Rattle.stir_cmd.specs.declared.program.Fault.TheVariants.{Words, Read, Memory}
-
--- the words are exactly `verify`
-abbrev pub is_verify : List (List ℕ) → Bool
-is_verify [] = false
-is_verify (word ∷ []) = bytes_eq word (codes "verify")
-is_verify (word ∷ second ∷ others) = false
-
--- the bytes of one entry and one more: what is read before it is known that the input is one entry
-abbrev pub most_input : ℕ
-most_input = 131094
 
 -- at most so many bytes were taken
 pub record TakesAtMost (limit : ℕ) (left left_now : Option (List ℕ)) : Type 0 where
@@ -27,16 +20,20 @@ pub record TakesAtMost (limit : ℕ) (left left_now : Option (List ℕ)) : Type 
   pub limited : length taken ≤ limit
 
 -- the answer to what the source had left, where it tells that, and else to some bytes
-abbrev pub IsAnswerTo : Option (List ℕ) → Answer → Type 0
-IsAnswerTo None reply = (bytes : List ℕ) × (reply ≡ answer bytes)
-IsAnswerTo (Some bytes) reply = reply ≡ answer bytes
+abbrev pub IsAnswerTo : Command → Option (List ℕ) → Reply → Type 0
+IsAnswerTo command None reply = (bytes : List ℕ) × (reply ≡ answer command bytes)
+IsAnswerTo command (Some bytes) reply = reply ≡ answer command bytes
 
 -- the cause of what a run came to: the words, the source and the source's count of faults
-abbrev pub HasReason : Bool → Option (List ℕ) → ℕ → ℕ → Result Answer Fault → Type 0
-HasReason verify left faults faults_now (Ok reply) = (verify ≡ true) × IsAnswerTo left reply
-HasReason verify left faults faults_now (Err Words) = verify ≡ false
-HasReason verify left faults faults_now (Err Read) = (verify ≡ true) × Rose faults faults_now
-HasReason verify left faults faults_now (Err Memory) = verify ≡ true
+abbrev pub HasReason : Option Command → Option (List ℕ) → ℕ → ℕ → Result Reply Fault → Type 0
+HasReason (Some command) left faults faults_now (Ok reply) = IsAnswerTo command left reply
+HasReason (Some command) left faults faults_now (Err Words) = ⊥
+HasReason (Some command) left faults faults_now (Err Read) = Rose faults faults_now
+HasReason (Some command) left faults faults_now (Err Memory) = ⊤
+HasReason None left faults faults_now (Ok reply) = ⊥
+HasReason None left faults faults_now (Err Words) = ⊤
+HasReason None left faults faults_now (Err Read) = ⊥
+HasReason None left faults faults_now (Err Memory) = ⊥
 
 -- the line was written and its status answered; or the sink failed, a front of the line was written, and 4 was answered
 abbrev pub EndsAs : Option (List ℕ) → Option (List ℕ) → ℕ → ℕ → ℕ → List ℕ → ℕ → Type 0
@@ -45,16 +42,44 @@ EndsAs written written_now faults faults_now result line status =
     ⊎ ((result ≡ 4) × Rose faults faults_now × AppendsFront written written_now line)
 
 -- what a run came to, why, and how it ended
-pub record Ran (verify : Bool) (left : Option (List ℕ)) (source source_now : ℕ) (written written_now : Option (List ℕ)) (sink sink_now result : ℕ) : Type 0 where
-  pub outcome : Result Answer Fault
-  pub reason : HasReason verify left source source_now outcome
-  pub ends : EndsAs written written_now sink sink_now result (line_of outcome) (status_of outcome)
+pub record Ran (command : Option Command) (left : Option (List ℕ)) (source source_now : ℕ) (written written_now : Option (List ℕ)) (sink sink_now result : ℕ) : Type 0 where
+  pub outcome : Result Reply Fault
+  pub reason : HasReason command left source source_now outcome
+  pub ends : EndsAs written written_now sink sink_now result (text_of outcome) (status_of outcome)
+
+-- the bytes are outside what the command takes
+abbrev pub IsRefused : Option Command → List ℕ → Type 0
+IsRefused (Some Verify) bytes = entry bytes ≡ None
+IsRefused (Some Show) bytes = (49152 < length bytes) ⊎ ((certificates : List CertView) → Chain bytes certificates → ⊥)
+IsRefused None bytes = ⊥
+
+-- the bytes are within what the command takes, and it ends so with them
+abbrev pub IsAnswered : Option Command → List ℕ → ℕ → Type 0
+IsAnswered (Some command) bytes result = result ≡ (answer command bytes).status
+IsAnswered None bytes result = ⊥
 
 -- each status with its cause
-pub record HasCauses (verify : Bool) (left : Option (List ℕ)) (source source_now sink sink_now result : ℕ) : Type 0 where
-  pub words : result ≡ 2 → verify ≡ false
+pub record HasCauses (command : Option Command) (left : Option (List ℕ)) (source source_now sink sink_now result : ℕ) : Type 0 where
+  pub words : result ≡ 2 → command ≡ None
   pub source_failed : result ≡ 3 → Rose source source_now
   pub sink_failed : result ≡ 4 → Rose sink sink_now
-  pub input_refused : result ≡ 5 → IfSome left (λ bytes. entry bytes ≡ None)
-  pub answered : result ≤ 1 → IfSome left (λ bytes. result ≡ answer_status (answer bytes))
+  pub input_refused : result ≡ 5 → IfSome left (IsRefused command)
+  pub answered : result ≤ 1 → IfSome left (λ bytes. IsAnswered command bytes result)
+  pub judged : result ≡ 1 → command ≡ Some Verify
   pub known : result ≤ 6
+
+-- The bytes are all that the source had left, where it tells that, and a chain of certificates within its limit,
+-- of which the text is what `show` writes.
+pub record Shows (left : Option (List ℕ)) (text : List ℕ) : Type 0 where
+  pub bytes : List ℕ
+  pub certificates : List CertView
+  pub all : IfSome left (λ known. known ≡ bytes)
+  pub size : length bytes ≤ 49152
+  pub chain : Chain bytes certificates
+  pub lines : text ≡ show certificates
+
+-- what was written is the lines of a chain of certificates that the source had left
+pub record WroteShow (left written written_now : Option (List ℕ)) : Type 0 where
+  pub text : List ℕ
+  pub shows : Shows left text
+  pub appended : Appends written written_now text

@@ -4,8 +4,8 @@ use Rattle.std.specs.Prelude.{ℕ, suc, nat_lt, List, [], ◌∷◌, ◌++◌, O
 use Rattle.identity_header.specs.Parts.{Parts}
 use Rattle.identity_header.specs.Read.{read}
 use Rattle.identity_header.specs.declared.field.FieldFault.{FieldFault}
-use Rattle.stir_cmd.specs.Call.{IdentityField, judged_fields, originating}
-use Rattle.stir_cmd.specs.Rules.{foreign_alg, is_not_built, most_fields, no_originating, place, stale, unread}
+use Rattle.stir_cmd.specs.Call.{Facts, IdentityField, judged_fields, originating}
+use Rattle.stir_cmd.specs.Rules.{foreign_alg, foreign_orig, is_not_built, most_fields, no_originating, place, stale, unread}
 use Rattle.stir_cmd.specs.declared.verdict.Outcome.{Outcome}
 use Rattle.stir_cmd.specs.declared.verdict.Outcome.TheVariants.{Screened, Refused, NotBuilt}
 use Rattle.stir_cmd.specs.declared.verdict.Place.{Place}
@@ -33,11 +33,12 @@ refused_at number None other = other
 refused_at number (Some where_broken) other = Refused (record { rule = number; place = where_broken })
 
 -- what comes of the originating field
-abbrev pub token_outcome : ℕ → Option IdentityField → Outcome
-token_outcome moment field = refused_at 6 (unread field) (refused_at 9 (stale moment field) Screened)
+abbrev pub token_outcome : ℕ → Facts → Option IdentityField → Outcome
+token_outcome moment facts field =
+    refused_at 6 (unread facts field) (refused_at 7 (foreign_orig facts field) (refused_at 9 (stale moment facts field) Screened))
 
 -- what comes of a call with these fields
-abbrev pub fields_outcome : ℕ → List IdentityField → Outcome
-fields_outcome moment fields =
+abbrev pub fields_outcome : ℕ → Facts → List IdentityField → Outcome
+fields_outcome moment facts fields =
     refused_at 4 (no_originating (originating fields)) (refused_at 5 (foreign_alg (judged_fields fields))
-    (if is_not_built fields then NotBuilt else token_outcome moment (originating fields)))
+    (if is_not_built fields then NotBuilt else token_outcome moment facts (originating fields)))

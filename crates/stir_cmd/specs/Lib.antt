@@ -1,7 +1,10 @@
 pub mod Answer
 pub mod Call
 pub mod Causes
+pub mod Chain
+pub mod Command
 pub mod Entry
 pub mod Fields
 pub mod Rules
 pub mod Seen
+pub mod Show

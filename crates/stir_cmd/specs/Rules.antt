@@ -2,19 +2,14 @@
 -- hold; where it isn't stated it is taken to hold.
 use Rattle.std.specs.Prelude.{◌≡◌, ℕ, suc, ◌==◌, nat_lt, nat_eq, Bool, true, false, not, ◌||◌, ⊤, List, [], ◌∷◌, ◌++◌, Option, Some, None, Result, Ok, Err, codes, unwrap_or, if◌then◌else◌}
 use Rattle.std.specs.Int.{abs_diff}
-use Rattle.std.specs.List.{starts_with}
 use Rattle.identity_header.specs.Parts.{Parts}
 use Rattle.identity_header.specs.Read.{read}
 use Rattle.identity_header.specs.declared.field.FieldFault.{FieldFault}
-use Rattle.passport_json.specs.Fault.{fault_number}
-use Rattle.passport_json.specs.IssuedAt.{issued_at}
-use Rattle.passport_json.specs.Token.{read_full}
-use Rattle.passport_json.specs.View.{TokenView}
-use Rattle.passport_json.specs.declared.fault.TokenFault.{TokenFault}
+use Rattle.passport_claims.specs.Passport.{ClaimsView}
 use Rattle.sip_message.specs.Accessors.{is_invite}
 use Rattle.sip_message.specs.Message.{MessageView}
 use Rattle.sip_message.specs.declared.fault.FormFault.{FormFault}
-use Rattle.stir_cmd.specs.Call.{Call, IdentityField, fields_of, is_absent, is_text, judged_fields, links, originating, values_of}
+use Rattle.stir_cmd.specs.Call.{Call, Facts, IdentityField, facts_in, fields_of, is_absent, is_text, judged_fields, links, originating, passport, values_of}
 use Rattle.stir_cmd.specs.declared.verdict.Place.{Place}
 use Rattle.stir_cmd.specs.declared.verdict.Refusal.{Refusal}
 
@@ -76,23 +71,25 @@ abbrev pub foreign_alg : List IdentityField → Option Place
 foreign_alg [] = None
 foreign_alg (field ∷ others) = if is_es256 field.parts.alg then foreign_alg others else Some (place field.number 0)
 
--- ---- rule 6, a PASSporT that can't be read (RFC 8224, section 6.2; RFC 8225, sections 3 to 5)
+-- ---- rule 6, a PASSporT that can't be read (RFC 8224, section 6.2; RFC 8225, sections 3 to 5 and 7)
 
--- claims are numbered from 11 on; the fifth of them is `iat`
-abbrev pub iat_part : ℕ
-iat_part = 15
+abbrev pub unread_at : ℕ → Result ClaimsView ℕ → Option Place
+unread_at number (Err part) = Some (place number part)
+unread_at number (Ok claims) = None
 
-abbrev pub no_time : ℕ → Option ℕ → Option Place
-no_time number None = Some (place number iat_part)
-no_time number (Some seconds) = None
+abbrev pub unread : Facts → Option IdentityField → Option Place
+unread facts None = None
+unread facts (Some field) = unread_at field.number (passport facts field.parts)
 
-abbrev pub unread_token : ℕ → Result TokenView TokenFault → Option Place
-unread_token number (Err fault) = Some (place number (unwrap_or (fault_number fault) 0))
-unread_token number (Ok token) = no_time number (issued_at token.payload)
+-- ---- rule 7, a PASSporT for another calling number (RFC 8224, section 6.2; ATIS-1000074, section 5.3.1)
 
-abbrev pub unread : Option IdentityField → Option Place
-unread None = None
-unread (Some field) = unread_token field.number (read_full field.parts.token)
+abbrev pub foreign_by : Option (List ℕ) → ℕ → Result ClaimsView ℕ → Option Place
+foreign_by calling number (Err part) = None
+foreign_by calling number (Ok claims) = if is_text claims.orig calling then None else Some (place number 0)
+
+abbrev pub foreign_orig : Facts → Option IdentityField → Option Place
+foreign_orig facts None = None
+foreign_orig facts (Some field) = foreign_by facts.calling field.number (passport facts field.parts)
 
 -- ---- rule 9, freshness (RFC 8224, section 6.2; the window is this project's own)
 
@@ -100,17 +97,13 @@ unread (Some field) = unread_token field.number (read_full field.parts.token)
 abbrev pub window : ℕ
 window = 60
 
-abbrev pub time_of : Result TokenView TokenFault → Option ℕ
-time_of (Err fault) = None
-time_of (Ok token) = issued_at token.payload
+abbrev pub stale_by : ℕ → ℕ → Result ClaimsView ℕ → Option Place
+stale_by moment number (Err part) = None
+stale_by moment number (Ok claims) = if nat_lt window (abs_diff moment claims.iat) then Some (place number 0) else None
 
-abbrev pub stale_by : ℕ → ℕ → Option ℕ → Option Place
-stale_by moment number None = None
-stale_by moment number (Some seconds) = if nat_lt window (abs_diff moment seconds) then Some (place number 0) else None
-
-abbrev pub stale : ℕ → Option IdentityField → Option Place
-stale moment None = None
-stale moment (Some field) = stale_by moment field.number (time_of (read_full field.parts.token))
+abbrev pub stale : ℕ → Facts → Option IdentityField → Option Place
+stale moment facts None = None
+stale moment facts (Some field) = stale_by moment field.number (passport facts field.parts)
 
 -- ---- the lists of rules
 
@@ -127,8 +120,9 @@ form_rules =
 -- the rules on what the originating PASSporT says
 abbrev pub token_rules : List Rule
 token_rules =
-    record { number = 6; broken = λ call. unread (originating (fields_of call)) }
-    ∷ record { number = 9; broken = λ call. stale call.moment (originating (fields_of call)) }
+    record { number = 6; broken = λ call. unread (facts_in call.message) (originating (fields_of call)) }
+    ∷ record { number = 7; broken = λ call. foreign_orig (facts_in call.message) (originating (fields_of call)) }
+    ∷ record { number = 9; broken = λ call. stale call.moment (facts_in call.message) (originating (fields_of call)) }
     ∷ []
 
 -- the refusal by this rule, or else by a later one
@@ -163,14 +157,10 @@ code rule = if rule == 1 then 400 else if rule == 2 || rule == 4 then 428 else i
 
 -- ---- what isn't judged yet
 
-abbrev pub is_compact : Option IdentityField → Bool
-is_compact None = false
-is_compact (Some field) = starts_with nat_eq field.parts.token (codes "..")
-
 abbrev pub is_empty : List IdentityField → Bool
 is_empty [] = true
 is_empty (field ∷ others) = false
 
--- the originating PASSporT is in its compact form, or the call was diverted
+-- the call was diverted
 abbrev pub is_not_built : List IdentityField → Bool
-is_not_built fields = is_compact (originating fields) || not (is_empty (links fields))
+is_not_built fields = not (is_empty (links fields))

@@ -1,65 +1,77 @@
-ghost use Rattle.std.specs.Prelude.{◌≡◌, ℕ, IfOk, string_bytes};
-ghost use Rattle.stir_cmd.specs.Answer.{answer, answer_line, answer_status, outcome_line};
+ghost use Rattle.std.specs.Prelude.{◌≡◌, IfOk, Some, string_bytes};
+ghost use Rattle.stir_cmd.specs.Answer.{answer, long_input, refused_input};
+ghost use Rattle.stir_cmd.specs.Causes.{Shows};
+ghost use Rattle.stir_cmd.specs.declared.command.Command.TheVariants.{Show};
 
-use crate::entry::read_entry;
-use crate::judge::{code, judge};
-use crate::verdict::Outcome;
+use crate::command::Command;
+use crate::show::shown;
+use crate::verify::verified;
 use std::alloc::{AllocError, Global};
+use std::marker::Model;
 
-/// The answer to an input.
-#[derive(Clone, Copy, Debug, PartialEq, Eq)]
-pub enum Answer {
-    /// It is one entry of a call log, and this is said of its call.
-    Judged(Outcome),
-    /// It isn't exactly one entry.
-    NotOneEntry,
+/// The status where the input is outside its grammar.
+const INPUT_REFUSED: u8 = 5;
+
+/// The answer to an input: the text that is written, whole lines with their LF, and the status with which
+/// the program ends.
+#[derive(Drop)]
+pub(crate) struct Answer {
+    text: String,
+    status: u8,
 }
 
-// The answer to an input, which is to be one entry.
-pub(crate) fn answer_to(alloc: Global, input: &[u8]) -> Result<Answer, AllocError>
-    ensures { IfOk result (λ reply. reply ≡ answer input.now) }
-{
-    match read_entry(input) {
-        Some(call) => Ok(Answer::Judged(judge(alloc, &call)?)),
-        None => Ok(Answer::NotOneEntry),
-    }
+impl Model for Answer {
+    ghost use Rattle.std.specs.Prelude.{string_bytes};
+    ghost use Rattle.stir_cmd.specs.Answer.{Reply};
+
+    ghost Value = { Reply };
+
+    ghost view = { λ a. record { text = string_bytes a.text; status = a.status } };
 }
 
 impl Answer {
-    // The line that says the answer, with its LF.
-    pub(crate) fn line(&self, alloc: Global) -> Result<String, AllocError>
-        ensures { IfOk result (λ line. string_bytes line ≡ answer_line self.now) }
+    pub(crate) fn new(text: String, status: u8) -> Answer
+        ensures { result ≡ record { text = string_bytes text; status = status } }
     {
-        match self {
-            Answer::Judged(outcome) => outcome_line(alloc, outcome),
-            Answer::NotOneEntry => String::from_str(alloc, "refused input 0\n"),
-        }
+        Answer { text, status }
     }
 
-    // The status that says the answer.
-    pub(crate) fn status(&self) -> u8
-        ensures { result ≡ answer_status self.now }
+    // The answer to an input that is outside its grammar from this offset on.
+    pub(crate) fn refused_input(alloc: Global, place: usize) -> Result<Answer, AllocError>
+        ensures { IfOk result (λ reply. reply ≡ refused_input place) }
     {
-        match self {
-            Answer::Judged(Outcome::Screened) => 0,
-            Answer::Judged(_) => 1,
-            Answer::NotOneEntry => 5,
-        }
+        let text = format!(in alloc; "refused input {place}\n")?;
+        Ok(Answer::new(text, INPUT_REFUSED))
+    }
+
+    // The answer to an input that is too long.
+    pub(crate) fn long_input(alloc: Global) -> Result<Answer, AllocError>
+        ensures { IfOk result (λ reply. reply ≡ long_input) }
+    {
+        let text = String::from_str(alloc, "long input\n")?;
+        Ok(Answer::new(text, INPUT_REFUSED))
+    }
+
+    pub(crate) fn text(&self) -> &str
+        ensures { result.now ≡ self.now.text }
+    {
+        self.text.as_str()
+    }
+
+    pub(crate) fn status(&self) -> u8
+        ensures { result ≡ self.now.status }
+    {
+        self.status
     }
 }
 
-fn outcome_line(alloc: Global, outcome: &Outcome) -> Result<String, AllocError>
-    ensures { IfOk result (λ line. string_bytes line ≡ outcome_line outcome.now) }
+// The answer of a command to an input.
+pub(crate) fn answer_to(alloc: Global, command: Command, input: &[u8]) -> Result<Answer, AllocError>
+    ensures exact { IfOk result (λ reply. reply ≡ answer command input.now) }
+    ensures shows { IfOk result (λ reply. command ≡ Show → reply.status ≡ 0 → Shows (Some input.now) reply.text) }
 {
-    match outcome {
-        Outcome::Screened => String::from_str(alloc, "1 screened - - -\n"),
-        Outcome::Refused(refusal) => {
-            let code = code(refusal.rule);
-            let rule = refusal.rule;
-            let field = refusal.place.field;
-            let part = refusal.place.part;
-            format!(in alloc; "1 refused {code} {rule} {field}.{part}\n")
-        }
-        Outcome::NotBuilt => String::from_str(alloc, "1 not-built - - -\n"),
+    match command {
+        Command::Verify => verified(alloc, input),
+        Command::Show => shown(alloc, input),
     }
 }

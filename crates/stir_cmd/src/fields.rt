@@ -1,6 +1,7 @@
-ghost use Rattle.std.specs.Prelude.{◌≡◌, ◌≤◌, ℕ, [], List, map, find, filter, not, length, codes};
+ghost use Rattle.std.specs.Prelude.{◌≡◌, ◌≤◌, ℕ, true, [], List, map, find, filter, not, length, codes, IfSome};
 ghost use Rattle.std.specs.Option.{option_copied, option_map};
 ghost use Rattle.identity_header.specs.Read.{read};
+ghost use Rattle.passport_claims.specs.Claims.{IsKnown};
 ghost use Rattle.sip_message.specs.Accessors.{identities};
 ghost use Rattle.sip_message.specs.Short.{AreShort};
 ghost use Rattle.stir_cmd.specs.Call.{has_ppt, is_text, lacks_ppt, links, originating};
@@ -79,8 +80,10 @@ fn read_field(value: &[u8], number: u32) -> Result<NumberedField<'_>, Place>
 }
 
 // The field of the PASSporT that the originating side signed.
+#[tactic(auto, using(crate::proofs::TokenLaws::known_with, crate::proofs::TokenLaws::known_without))]
 pub(crate) fn originating<'f, 'a>(fields: &'f [NumberedField<'a>]) -> Option<&'f NumberedField<'a>>
-    ensures { option_map (λ field. field_seen field.now) result ≡ originating (map field_seen fields.now) }
+    ensures field { option_map (λ field. field_seen field.now) result ≡ originating (map field_seen fields.now) }
+    ensures known { IfSome result (λ field. IsKnown field.now.parts.ppt) }
 {
     match first_with(fields, b"shaken") {
         Some(field) => Some(field),
@@ -89,7 +92,8 @@ pub(crate) fn originating<'f, 'a>(fields: &'f [NumberedField<'a>]) -> Option<&'f
 }
 
 fn first_with<'f, 'a>(fields: &'f [NumberedField<'a>], ppt: &[u8]) -> Option<&'f NumberedField<'a>>
-    ensures { option_map (λ field. field_seen field.now) result ≡ find (has_ppt ppt.now) (map field_seen fields.now) }
+    ensures field { option_map (λ field. field_seen field.now) result ≡ find (has_ppt ppt.now) (map field_seen fields.now) }
+    ensures with { IfSome result (λ field. has_ppt ppt.now (field_seen field.now) ≡ true) }
 {
     for field in fields {
         if has_ppt(field, ppt) {
@@ -100,7 +104,8 @@ fn first_with<'f, 'a>(fields: &'f [NumberedField<'a>], ppt: &[u8]) -> Option<&'f
 }
 
 fn first_without<'f, 'a>(fields: &'f [NumberedField<'a>]) -> Option<&'f NumberedField<'a>>
-    ensures { option_map (λ field. field_seen field.now) result ≡ find lacks_ppt (map field_seen fields.now) }
+    ensures field { option_map (λ field. field_seen field.now) result ≡ find lacks_ppt (map field_seen fields.now) }
+    ensures without { IfSome result (λ field. lacks_ppt (field_seen field.now) ≡ true) }
 {
     for field in fields {
         if field.parts.ppt().is_none() {

@@ -1,7 +1,8 @@
-ghost use Rattle.std.specs.Prelude.{◌≡◌, ℕ, Ok, Some, false, IfOk, map, codes, nat_eq};
-ghost use Rattle.std.specs.List.{starts_with};
+ghost use Rattle.std.specs.Prelude.{◌≡◌, Ok, Some, IfOk, map};
+ghost use Rattle.passport_claims.specs.Claims.{IsKnown};
 ghost use Rattle.sip_message.specs.Short.{AreShort};
 ghost use Rattle.stir_cmd.specs.Answer.{judged, outcome_of};
+ghost use Rattle.stir_cmd.specs.Call.{facts_of};
 ghost use Rattle.stir_cmd.specs.Fields.{fields_outcome, token_outcome};
 ghost use Rattle.stir_cmd.specs.Rules.{code};
 ghost use Rattle.stir_cmd.specs.Seen.{entry_of, field_seen};
@@ -11,16 +12,13 @@ use crate::entry::LogEntry;
 use crate::fields::{
     FieldsFault, NumberedField, foreign_link, has_link, is_es256, originating, read_fields,
 };
+use crate::token::{PassportFault, is_calling, read_passport};
 use crate::verdict::{Outcome, Place, Refusal};
-use passport_json::Token;
 use sip_message::{Message, MessageFault};
 use std::alloc::{AllocError, Global};
 
 /// How many seconds the moment of a call and the `iat` of its PASSporT may differ.
 const WINDOW: u64 = 60;
-
-/// The number of the claim `iat` among the faults of a PASSporT.
-const IAT: u32 = 15;
 
 // What is said of one call: the rules are tried in their order, on its bytes, its message, its Identity
 // fields and its originating PASSporT.
@@ -48,7 +46,7 @@ fn judge_message(alloc: Global, message: &Message<'_>, moment: u64) -> Result<Ou
         return Ok(refused(2, 0, 0));
     }
     match read_fields(alloc, message) {
-        Ok(fields) => judge_fields(alloc, fields.as_slice(), moment),
+        Ok(fields) => judge_fields(alloc, message, fields.as_slice(), moment),
         Err(fault) => match fault {
             FieldsFault::Bad(place) => Ok(Outcome::Refused(Refusal { rule: 3, place })),
             FieldsFault::Memory => Err(AllocError),
@@ -59,10 +57,11 @@ fn judge_message(alloc: Global, message: &Message<'_>, moment: u64) -> Result<Ou
 // Rules 4 and 5 on the Identity fields, and what comes of the originating one.
 fn judge_fields(
     alloc: Global,
+    message: &Message<'_>,
     fields: &[NumberedField<'_>],
     moment: u64,
 ) -> Result<Outcome, AllocError>
-    ensures { IfOk result (λ outcome. outcome ≡ fields_outcome moment (map field_seen fields.now)) }
+    ensures { IfOk result (λ outcome. outcome ≡ fields_outcome moment (facts_of message.now) (map field_seen fields.now)) }
 {
     let Some(origin) = originating(fields) else {
         return Ok(refused(4, 0, 0));
@@ -73,28 +72,33 @@ fn judge_fields(
     if let Some(place) = foreign_link(fields) {
         return Ok(Outcome::Refused(Refusal { rule: 5, place }));
     }
-    if has_link(fields) || origin.parts.token().starts_with(b"..") {
+    if has_link(fields) {
         return Ok(Outcome::NotBuilt);
     }
-    judge_token(alloc, origin, moment)
+    judge_token(alloc, message, origin, moment)
 }
 
-// Rules 6 and 9 on the originating PASSporT, in its full form.
-fn judge_token(alloc: Global, field: &NumberedField<'_>, moment: u64) -> Result<Outcome, AllocError>
-    requires { starts_with nat_eq field.now.parts.token (codes "..") ≡ false }
-    ensures { IfOk result (λ outcome. outcome ≡ token_outcome moment (Some (field_seen field.now))) }
+// Rules 6, 7 and 9 on the originating PASSporT.
+fn judge_token(
+    alloc: Global,
+    message: &Message<'_>,
+    field: &NumberedField<'_>,
+    moment: u64,
+) -> Result<Outcome, AllocError>
+    requires { IsKnown field.now.parts.ppt }
+    ensures { IfOk result (λ outcome. outcome ≡ token_outcome moment (facts_of message.now) (Some (field_seen field.now))) }
 {
-    let token = match Token::read_full(alloc, field.parts.token()) {
-        Ok(token) => token,
-        Err(fault) => match fault.number() {
-            Some(number) => return Ok(refused(6, field.number, u32::from(number))),
-            None => return Err(AllocError),
+    let passport = match read_passport(alloc, message, &field.parts) {
+        Ok(passport) => passport,
+        Err(fault) => match fault {
+            PassportFault::Broken(part) => return Ok(refused(6, field.number, part)),
+            PassportFault::Memory => return Err(AllocError),
         },
     };
-    let Some(issued) = token.issued_at() else {
-        return Ok(refused(6, field.number, IAT));
-    };
-    if moment.abs_diff(issued) > WINDOW {
+    if !is_calling(message, &passport) {
+        return Ok(refused(7, field.number, 0));
+    }
+    if moment.abs_diff(passport.iat()) > WINDOW {
         return Ok(refused(9, field.number, 0));
     }
     Ok(Outcome::Screened)

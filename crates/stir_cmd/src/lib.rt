@@ -2,11 +2,16 @@
 #![tactic(auto)]
 
 mod answer;
+mod chain;
+mod command;
 mod entry;
 mod fields;
 mod judge;
 mod program;
+mod show;
+mod token;
 mod verdict;
+mod verify;
 
 pub use program::run;
 

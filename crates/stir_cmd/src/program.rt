@@ -1,12 +1,13 @@
-ghost use Rattle.std.specs.Prelude.{◌≡◌, ℕ, ◌≤◌, List, map, Result, ◌⊎◌, true, false, IfOk, OnOk, Ok, Err};
-ghost use Rattle.std.specs.Bool.{OnFalse};
+ghost use Rattle.std.specs.Prelude.{◌≡◌, ◌≤◌, map, IfOk, Some, None};
 ghost use Rattle.std.specs.Io.KnownBytes.{IsAtEnd};
-ghost use Rattle.stir_base.specs.Count.{Rose};
-ghost use Rattle.stir_cmd.specs.Answer.{answer_line, answer_status, fault_line, fault_status, line_of, status_of};
+ghost use Rattle.stir_cmd.specs.Answer.{fault_line, fault_status};
+ghost use Rattle.stir_cmd.specs.Causes.{EndsAs, HasCauses, HasReason, Ran, Shows, TakesAtMost, WroteShow};
+ghost use Rattle.stir_cmd.specs.Command.{command_of, most_input, most_taken};
 ghost use Rattle.stir_cmd.specs.Rules.{GivesLeast, form_rules, token_rules};
-ghost use Rattle.stir_cmd.specs.Causes.{EndsAs, HasCauses, HasReason, Ran, TakesAtMost, is_verify};
+ghost use Rattle.stir_cmd.specs.declared.command.Command.TheVariants.{Show};
 
 use crate::answer::{Answer, answer_to};
+use crate::command::Command;
 use std::alloc::{AllocError, Global};
 use std::thread::Threads;
 use stir_outside::{ReadFault, Shelf, Sink, Source, read_up_to, write_whole};
@@ -48,17 +49,16 @@ impl From<ReadFault> for Fault {
 /// The status where the sink failed.
 const SINK_FAILED: u8 = 4;
 
-/// The bytes of one entry and one more.
-const MOST_INPUT: usize = 131_094;
-
-#[tactic(auto, using(crate::proofs::RuleLaws::gives_least))]
-/// The program: takes the words after its name, reads the input, writes one line and gives the status with
+/// The program: takes the words after its name, reads the input, writes the answer and gives the status with
 /// which the program ends.
 ///
-/// The words are exactly `verify`, and the input is exactly one entry of a call log. At most 131,094 bytes
-/// of it are read. The status is 0 where the call is screened, 1 where it is refused or not built, 2 where
-/// the words are refused and nothing is read, 3 where the source failed, 4 where the sink failed and a front
-/// of the line was written, 5 where the input isn't one entry, and 6 for want of memory.
+/// The words are exactly `verify` or exactly `show`. The input of `verify` is exactly one entry of a call log,
+/// of which at most 131,094 bytes are read; that of `show` is at most six certificates one after another, at
+/// most 49,152 bytes, of which at most 49,153 are read. The status is 0 where the call is screened or the
+/// certificates are shown, 1 where the call is refused or not built, 2 where the words are refused and nothing
+/// is read, 3 where the source failed, 4 where the sink failed and a front of the text was written, 5 where the
+/// input is too long or isn't of its form, and 6 for want of memory.
+#[tactic(auto, using(crate::proofs::RuleLaws::gives_least))]
 pub fn run<R: Threads + Sync, S: Shelf, I: Source, O: Sink>(
     rt: &R,
     alloc: Global,
@@ -67,60 +67,70 @@ pub fn run<R: Threads + Sync, S: Shelf, I: Source, O: Sink>(
     input: &mut I,
     sink: &mut O,
 ) -> u8
-    ensures outcome { Ran (is_verify (map (λ word. word.now) words.now)) (I.left input.old) (I.faults input.old) (I.faults input.new)
+    ensures outcome { Ran (command_of (map (λ word. word.now) words.now)) (I.left input.old) (I.faults input.old) (I.faults input.new)
         (O.written sink.old) (O.written sink.new) (O.faults sink.old) (O.faults sink.new) result }
-    ensures causes { HasCauses (is_verify (map (λ word. word.now) words.now)) (I.left input.old) (I.faults input.old) (I.faults input.new)
+    ensures causes { HasCauses (command_of (map (λ word. word.now) words.now)) (I.left input.old) (I.faults input.old) (I.faults input.new)
         (O.faults sink.old) (O.faults sink.new) result }
     ensures ended { result ≤ 1 → IsAtEnd (I.left input.new) }
-    ensures limited { TakesAtMost 131094 (I.left input.old) (I.left input.new) }
-    ensures unread { OnFalse (is_verify (map (λ word. word.now) words.now)) (input.new ≡ input.old) }
+    ensures limited { TakesAtMost (most_taken (command_of (map (λ word. word.now) words.now))) (I.left input.old) (I.left input.new) }
+    ensures unread { (command_of (map (λ word. word.now) words.now) ≡ None) → input.new ≡ input.old }
     ensures no_file { shelf.new ≡ shelf.old }
+
+    // Where `show` ends with 0, the input is a chain of certificates, and their lines were written.
+    ensures shown { (command_of (map (λ word. word.now) words.now) ≡ Some Show) → result ≡ 0
+        → WroteShow (I.left input.old) (O.written sink.old) (O.written sink.new) }
 
     // The rule that a refusal names is the first that the call breaks: those before it hold.
     ensures first_form { GivesLeast form_rules }
     ensures first_token { GivesLeast token_rules }
 {
+    carry_out(alloc, words, input, sink)
+}
+
+// Reads the input and writes the answer to it, or why there is none.
+#[tactic(auto, using(crate::proofs::RunLaws::wrote_show, crate::proofs::RunLaws::ended_run, crate::proofs::RunLaws::fault_ends))]
+fn carry_out<I: Source, O: Sink>(alloc: Global, words: &[&str], input: &mut I, sink: &mut O) -> u8
+    ensures outcome { Ran (command_of (map (λ word. word.now) words.now)) (I.left input.old) (I.faults input.old) (I.faults input.new)
+        (O.written sink.old) (O.written sink.new) (O.faults sink.old) (O.faults sink.new) result }
+    ensures ended { result ≤ 1 → IsAtEnd (I.left input.new) }
+    ensures limited { TakesAtMost (most_taken (command_of (map (λ word. word.now) words.now))) (I.left input.old) (I.left input.new) }
+    ensures unread { (command_of (map (λ word. word.now) words.now) ≡ None) → input.new ≡ input.old }
+    ensures shown { (command_of (map (λ word. word.now) words.now) ≡ Some Show) → result ≡ 0
+        → WroteShow (I.left input.old) (O.written sink.old) (O.written sink.new) }
+{
     match reply_to(alloc, words, input) {
-        Ok(answer) => report(alloc, sink, &answer),
+        Ok(answer) => finish(sink, answer.text(), answer.status()),
         Err(fault) => finish(sink, fault.line(), fault.status()),
     }
 }
 
 // What the program comes to: the answer to the input, or why there is none.
-#[tactic(auto, using(crate::proofs::Reply::answer_to_all, crate::proofs::Reply::ended_below, crate::proofs::Reply::takes_at_most, crate::proofs::Reply::takes_nothing))]
 fn reply_to<I: Source>(alloc: Global, words: &[&str], input: &mut I) -> Result<Answer, Fault>
-    ensures reason { HasReason (is_verify (map (λ word. word.now) words.now)) (I.left input.old) (I.faults input.old) (I.faults input.new) result }
-    ensures ended { IfOk result (λ answer. answer_status answer ≤ 1 → IsAtEnd (I.left input.new)) }
-    ensures limited { TakesAtMost 131094 (I.left input.old) (I.left input.new) }
-    ensures unread { OnFalse (is_verify (map (λ word. word.now) words.now)) (input.new ≡ input.old) }
+    ensures reason { HasReason (command_of (map (λ word. word.now) words.now)) (I.left input.old) (I.faults input.old) (I.faults input.new) result }
+    ensures ended { IfOk result (λ answer. answer.status ≤ 1 → IsAtEnd (I.left input.new)) }
+    ensures limited { TakesAtMost (most_taken (command_of (map (λ word. word.now) words.now))) (I.left input.old) (I.left input.new) }
+    ensures unread { (command_of (map (λ word. word.now) words.now) ≡ None) → input.new ≡ input.old }
+    ensures shows { IfOk result (λ answer. (command_of (map (λ word. word.now) words.now) ≡ Some Show) → answer.status ≡ 0
+        → Shows (I.left input.old) answer.text) }
 {
-    if !is_verify(words) {
-        return Err(Fault::Words);
+    match Command::of(words) {
+        Some(command) => answer_input(alloc, command, input),
+        None => Err(Fault::Words),
     }
+}
+
+// The answer of a command to the input.
+#[tactic(auto, using(crate::proofs::Reply::answer_to_all, crate::proofs::Reply::ended_below, crate::proofs::Reply::takes_at_most, crate::proofs::Reply::takes_nothing))]
+fn answer_input<I: Source>(alloc: Global, command: Command, input: &mut I) -> Result<Answer, Fault>
+    ensures reason { HasReason (Some command) (I.left input.old) (I.faults input.old) (I.faults input.new) result }
+    ensures ended { IfOk result (λ answer. answer.status ≤ 1 → IsAtEnd (I.left input.new)) }
+    ensures limited { TakesAtMost (most_input command) (I.left input.old) (I.left input.new) }
+    ensures shows { IfOk result (λ answer. command ≡ Show → answer.status ≡ 0 → Shows (I.left input.old) answer.text) }
+{
     let mut bytes = Vec::new(alloc);
-    read_up_to(input, &mut bytes, MOST_INPUT)?;
-    let answer = answer_to(alloc, bytes.as_slice())?;
+    read_up_to(input, &mut bytes, command.most_input())?;
+    let answer = answer_to(alloc, command, bytes.as_slice())?;
     Ok(answer)
-}
-
-fn is_verify(words: &[&str]) -> bool
-    ensures { result ≡ is_verify (map (λ word. word.now) words.now) }
-{
-    match words {
-        [word] => *word == "verify",
-        _ => false,
-    }
-}
-
-// Writes the answer's line, or that memory ran out for it.
-fn report<O: Sink>(alloc: Global, sink: &mut O, answer: &Answer) -> u8
-    ensures { (outcome : Result Answer Fault) × ((outcome ≡ Ok answer.now) ⊎ (outcome ≡ Err Fault.Memory))
-        × EndsAs (O.written sink.old) (O.written sink.new) (O.faults sink.old) (O.faults sink.new) result (line_of outcome) (status_of outcome) }
-{
-    match answer.line(alloc) {
-        Ok(line) => finish(sink, line.as_str(), answer.status()),
-        Err(_) => finish(sink, Fault::Memory.line(), Fault::Memory.status()),
-    }
 }
 
 // Writes the line and gives its status, or that of a sink that failed.

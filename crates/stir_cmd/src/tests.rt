@@ -1,2 +1,3 @@
 mod outside;
 mod rows;
+mod show;

@@ -63,7 +63,7 @@ pub fn run_on<R: Threads + Sync>(
     let source = SourceMem::new(bytes.to_vec(alloc)?, reads.to_vec(alloc)?);
     let mut input = Drip { source };
     let mut room = SinkMem::new(alloc, writes.to_vec(alloc)?);
-    room.reserve(64)?;
+    room.reserve(4_096)?;
     let mut sink = Trickle { sink: room };
     let status = run(rt, alloc, words, &mut shelf, &mut input, &mut sink);
     let Drip { source } = input;
@@ -81,12 +81,13 @@ const ITS_LINE: &[u8] = b"1 refused 400 1 0.0\n";
 
 #[test]
 fn refuses_other_words_and_reads_nothing(rt: HostRuntime) -> Result<(), Fail> {
-    let rows: [&[&str]; 6] = [
+    let rows: [&[&str]; 7] = [
         &[],
         &[""],
         &["Verify"],
         &["verify", "verify"],
         &["verify", "--window=60"],
+        &["show", "--help"],
         &["--help"],
     ];
     for words in rows {

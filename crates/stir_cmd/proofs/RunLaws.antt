@@ -1,0 +1,168 @@
+-- Why a run ended as it did, from what it came to.
+use Rattle.std.proofs.Common.{◌≡◌, ℕ, ◌<◌, ◌≤◌, ◌⊎◌, inl, inr, Bool, true, false, nat_lt, List, length, Option, Some, None, Result, Ok, Err, IfOk, IfSome, refl, sym, ◌∙◌, ap, subst, arith}
+use Rattle.std.specs.Io.KnownBytes.{Appends, IsAtEnd}
+use Rattle.std.proofs.lemmas.Bool.Decides.{nat_tests}
+use Rattle.stir_base.specs.Count.{Rose}
+use Rattle.x509_profile.specs.View.{CertView}
+use Rattle.stir_cmd.specs.Answer.{Reply, answer, fault_line, fault_status, judged, judged_reply, outcome_status, shown, shown_reply, status_of, text_of}
+use Rattle.stir_cmd.specs.Causes.{EndsAs, HasCauses, HasReason, IsAnswered, IsAnswerTo, IsRefused, Ran, Shows, WroteShow}
+use Rattle.stir_cmd.specs.Chain.{Chain, certificates_in}
+use Rattle.stir_cmd.specs.Entry.{Entry, entry}
+use Rattle.stir_cmd.specs.declared.command.Command.{Command}
+use Rattle.stir_cmd.specs.declared.command.Command.TheVariants.{Verify, Show}
+use Rattle.stir_cmd.specs.declared.program.Fault.{Fault}
+use Rattle.stir_cmd.specs.declared.program.Fault.TheVariants.{Words, Read, Memory}
+use Rattle.stir_cmd.specs.declared.verdict.Outcome.{Outcome}
+use Rattle.stir_cmd.specs.declared.verdict.Outcome.TheVariants.{Screened, Refused, NotBuilt}
+use Rattle.stir_cmd.proofs.ChainLaws.{chain_again}
+use Rattle.stir_cmd.proofs.Reply.{shown_short}
+
+-- ---- the statuses of an answer
+
+record Statuses (command : Command) (bytes : List ℕ) (status : ℕ) : Type 0 where
+  pub each : (status ≤ 1) ⊎ (status ≡ 5)
+  pub judged : status ≡ 1 → command ≡ Verify
+  pub refused : status ≡ 5 → IsRefused (Some command) bytes
+
+of_outcome : (bytes : List ℕ) (outcome : Outcome) → Statuses Verify bytes (outcome_status outcome)
+of_outcome bytes Screened = record { each = inl (omega arith); judged = λ h. refl; refused = λ h. absurd (omega (arith, h)) }
+of_outcome bytes (Refused refusal) = record { each = inl (omega arith); judged = λ h. refl; refused = λ h. absurd (omega (arith, h)) }
+of_outcome bytes NotBuilt = record { each = inl (omega arith); judged = λ h. refl; refused = λ h. absurd (omega (arith, h)) }
+
+of_entry : (bytes : List ℕ) (k : Option Entry) → entry bytes ≡ k → Statuses Verify bytes (judged_reply k).status
+of_entry bytes None e = record { each = inr refl; judged = λ h. refl; refused = λ h. e }
+of_entry bytes (Some call) e = of_outcome bytes (judged call)
+
+no_chain : (bytes : List ℕ) (place : ℕ) → certificates_in bytes ≡ Err place → (certificates : List CertView) → Chain bytes certificates → ⊥
+no_chain bytes place e certificates chain = let k : Ok certificates ≡ Err place = sym (chain_again bytes certificates chain) ∙ e in absurd cc
+
+of_chain : (bytes : List ℕ) (k : Result (List CertView) ℕ) → certificates_in bytes ≡ k → Statuses Show bytes (shown_reply k).status
+of_chain bytes (Ok certificates) e = record { each = inl (omega arith); judged = λ h. absurd (omega (arith, h)); refused = λ h. absurd (omega (arith, h)) }
+of_chain bytes (Err place) e = record { each = inr refl; judged = λ h. absurd (omega (arith, h)); refused = λ h. inr (no_chain bytes place e) }
+
+of_length : (bytes : List ℕ) (t : Bool) → nat_lt 49152 (length bytes) ≡ t → Statuses Show bytes (shown bytes).status
+of_length bytes true e = rw e (record { each = inr refl; judged = λ h. absurd (omega (arith, h)); refused = λ h. inl (grind (arith, nat_tests)) })
+of_length bytes false e = rw e (of_chain bytes (certificates_in bytes) refl)
+
+statuses : (command : Command) (bytes : List ℕ) → Statuses command bytes (answer command bytes).status
+statuses Verify bytes = of_entry bytes (entry bytes) refl
+statuses Show bytes = of_length bytes (nat_lt 49152 (length bytes)) refl
+
+-- ---- the causes
+
+low : (status : ℕ) → (status ≤ 1) ⊎ (status ≡ 5) → status ≤ 5
+low status (inl h) = omega (arith, h)
+low status (inr h) = omega (arith, h)
+
+one_of : (status other : ℕ) → (status ≤ 1) ⊎ (status ≡ 5) → status ≡ other → 2 ≤ other → other ≤ 4 → ⊥
+one_of status other (inl h) e a b = omega (arith, h, e, a, b)
+one_of status other (inr h) e a b = omega (arith, h, e, a, b)
+
+answered_by : (command : Command) (left : Option (List ℕ)) (bytes : List ℕ) (source source_now sink sink_now result : ℕ) → Statuses command bytes result
+    → IfSome left (λ known. Statuses command known result × IsAnswered (Some command) known result) → HasCauses (Some command) left source source_now sink sink_now result
+answered_by command None bytes source source_now sink sink_now result s told = record {
+  words = λ h. absurd (one_of result 2 s.each h (omega arith) (omega arith));
+  source_failed = λ h. absurd (one_of result 3 s.each h (omega arith) (omega arith));
+  sink_failed = λ h. absurd (one_of result 4 s.each h (omega arith) (omega arith));
+  input_refused = λ h. tt;
+  answered = λ h. tt;
+  judged = λ h. ap (λ x. Some x) (s.judged h);
+  known = omega (arith, low result s.each);
+}
+answered_by command (Some known) bytes source source_now sink sink_now result s told = record {
+  words = λ h. absurd (one_of result 2 s.each h (omega arith) (omega arith));
+  source_failed = λ h. absurd (one_of result 3 s.each h (omega arith) (omega arith));
+  sink_failed = λ h. absurd (one_of result 4 s.each h (omega arith) (omega arith));
+  input_refused = λ h. told.0.refused h;
+  answered = λ h. told.1;
+  judged = λ h. ap (λ x. Some x) (s.judged h);
+  known = omega (arith, low result s.each);
+}
+
+replied : (command : Command) (left : Option (List ℕ)) (reply : Reply) (source source_now sink sink_now result : ℕ) → IsAnswerTo command left reply → result ≡ reply.status
+    → HasCauses (Some command) left source source_now sink sink_now result
+replied command None reply source source_now sink sink_now result reason e =
+    let status : result ≡ (answer command reason.0).status = e ∙ ap (λ (x : Reply). x.status) reason.1 in
+    answered_by command None reason.0 source source_now sink sink_now result (subst (Statuses command reason.0) (sym status) (statuses command reason.0)) tt
+replied command (Some known) reply source source_now sink sink_now result reason e =
+    let status : result ≡ (answer command known).status = e ∙ ap (λ (x : Reply). x.status) reason in
+    let s = subst (Statuses command known) (sym status) (statuses command known) in
+    answered_by command (Some known) known source source_now sink sink_now result s (s, status)
+
+-- a run that ended with the status of a fault
+faulted : (command : Option Command) (left : Option (List ℕ)) (source source_now sink sink_now result : ℕ) → (result ≡ 2 → command ≡ None) → (result ≡ 3 → Rose source source_now)
+    → (result ≡ 4 → Rose sink sink_now) → 2 ≤ result → (result ≡ 5 → ⊥) → result ≤ 6 → HasCauses command left source source_now sink sink_now result
+faulted command left source source_now sink sink_now result words read write some input most = record {
+  words = words;
+  source_failed = read;
+  sink_failed = write;
+  input_refused = λ h. absurd (input h);
+  answered = λ h. absurd (omega (arith, some, h));
+  judged = λ h. absurd (omega (arith, some, h));
+  known = most;
+}
+
+written_out : (command : Option Command) (left : Option (List ℕ)) (source source_now sink sink_now result : ℕ) (outcome : Result Reply Fault) → HasReason command left source source_now outcome
+    → result ≡ status_of outcome → HasCauses command left source source_now sink sink_now result
+written_out (Some command) left source source_now sink sink_now result (Ok reply) reason e = replied command left reply source source_now sink sink_now result reason e
+written_out (Some command) left source source_now sink sink_now result (Err Words) reason e = absurd reason
+written_out (Some command) left source source_now sink sink_now result (Err Read) reason e =
+    faulted (Some command) left source source_now sink sink_now result (λ h. absurd (omega (arith, e, h))) (λ h. reason) (λ h. absurd (omega (arith, e, h))) (omega (arith, e)) (λ h. omega (arith, e, h)) (omega (arith, e))
+written_out (Some command) left source source_now sink sink_now result (Err Memory) reason e =
+    faulted (Some command) left source source_now sink sink_now result (λ h. absurd (omega (arith, e, h))) (λ h. absurd (omega (arith, e, h))) (λ h. absurd (omega (arith, e, h))) (omega (arith, e)) (λ h. omega (arith, e, h)) (omega (arith, e))
+written_out None left source source_now sink sink_now result (Ok reply) reason e = absurd reason
+written_out None left source source_now sink sink_now result (Err Words) reason e =
+    faulted None left source source_now sink sink_now result (λ h. refl) (λ h. absurd (omega (arith, e, h))) (λ h. absurd (omega (arith, e, h))) (omega (arith, e)) (λ h. omega (arith, e, h)) (omega (arith, e))
+written_out None left source source_now sink sink_now result (Err Read) reason e = absurd reason
+written_out None left source source_now sink sink_now result (Err Memory) reason e = absurd reason
+
+ended_by : (command : Option Command) (left written written_now : Option (List ℕ)) (source source_now sink sink_now result : ℕ) (outcome : Result Reply Fault)
+    → HasReason command left source source_now outcome → EndsAs written written_now sink sink_now result (text_of outcome) (status_of outcome)
+    → HasCauses command left source source_now sink sink_now result
+ended_by command left written written_now source source_now sink sink_now result outcome reason (inl ends) = written_out command left source source_now sink sink_now result outcome reason ends.0
+ended_by command left written written_now source source_now sink sink_now result outcome reason (inr ends) =
+    let e : result ≡ 4 = ends.0 in
+    faulted command left source source_now sink sink_now result (λ h. absurd (omega (arith, e, h))) (λ h. absurd (omega (arith, e, h))) (λ h. ends.1) (omega (arith, e)) (λ h. omega (arith, e, h)) (omega (arith, e))
+
+-- each status has its cause
+pub causes : (command : Option Command) (left written written_now : Option (List ℕ)) (source source_now sink sink_now result : ℕ)
+    → Ran command left source source_now written written_now sink sink_now result → HasCauses command left source source_now sink sink_now result
+causes command left written written_now source source_now sink sink_now result ran = ended_by command left written written_now source source_now sink sink_now result ran.outcome ran.reason ran.ends
+
+-- ---- what was written
+
+-- where the result is below 2, the text was written and the result is its status
+written_by : (written written_now : Option (List ℕ)) (sink sink_now result : ℕ) (text : List ℕ) (status : ℕ) → EndsAs written written_now sink sink_now result text status → result ≤ 1
+    → (result ≡ status) × Appends written written_now text
+written_by written written_now sink sink_now result text status (inl ends) low = ends
+written_by written written_now sink sink_now result text status (inr ends) low = absurd (omega (arith, ends.0, low))
+
+pub ended_run : (written written_now left_now : Option (List ℕ)) (sink sink_now result : ℕ) (text : List ℕ) (status : ℕ) → EndsAs written written_now sink sink_now result text status
+    → (status ≤ 1 → IsAtEnd left_now) → result ≤ 1 → IsAtEnd left_now
+ended_run written written_now left_now sink sink_now result text status ends ended low =
+    let k = written_by written written_now sink sink_now result text status ends low in ended (omega (arith, k.0, low))
+
+pub wrote_show : (command : Option Command) (left written written_now : Option (List ℕ)) (sink sink_now result : ℕ) (text : List ℕ) (status : ℕ)
+    → EndsAs written written_now sink sink_now result text status → (command ≡ Some Show → status ≡ 0 → Shows left text) → command ≡ Some Show → result ≡ 0 → WroteShow left written written_now
+wrote_show command left written written_now sink sink_now result text status ends shows is zero_result =
+    let k = written_by written written_now sink sink_now result text status ends (omega (arith, zero_result)) in
+    record { text = text; shows = shows is (omega (arith, k.0, zero_result)); appended = k.1 }
+
+-- the status of a fault is none of an answer
+fault_high : (fault : Fault) → 2 ≤ fault_status fault
+fault_high Words = omega arith
+fault_high Read = omega arith
+fault_high Memory = omega arith
+
+pub fault_ends : (written written_now : Option (List ℕ)) (sink sink_now result : ℕ) (text : List ℕ) (fault : Fault) → EndsAs written written_now sink sink_now result text (fault_status fault) → result ≤ 1 → ⊥
+fault_ends written written_now sink sink_now result text fault ends low =
+    let k = written_by written written_now sink sink_now result text (fault_status fault) ends low in omega (arith, k.0, low, fault_high fault)
+
+named_is : (named : Option Command) (command other : Command) → named ≡ Some command → named ≡ Some other → command ≡ other
+named_is named command other a b = let k : Some command ≡ Some other = sym a ∙ b in cc
+
+-- what is said of a command is said of the words that are its name
+pub shows_named : (named : Option Command) (command : Command) (left : Option (List ℕ)) (r : Result Reply Fault) → named ≡ Some command
+    → IfOk r (λ reply. command ≡ Show → reply.status ≡ 0 → Shows left reply.text) → IfOk r (λ reply. named ≡ Some Show → reply.status ≡ 0 → Shows left reply.text)
+shows_named named command left (Ok reply) e shows = λ is zero_status. shows (named_is named command Show e is) zero_status
+shows_named named command left (Err fault) e shows = tt
