@@ -4,6 +4,7 @@ ghost use Rattle.std.specs.Prelude.{◌≡◌, ◌+◌, ◌<◌, ◌≤◌, List
 ghost use Rattle.std.specs.List.{slice_get};
 ghost use Rattle.x509_profile.specs.View.{CertView};
 ghost use Rattle.delegation.specs.Anchors.{AnchorText, Gives, IsPlacedUpTo, anchor_at, anchors_in};
+ghost use Rattle.delegation.specs.Path.{is_listed};
 
 use crate::fault::AnchorFault;
 use crate::usage::may_certify;
@@ -74,6 +75,15 @@ impl Anchors {
         ensures most { result ≤ 256 }
     {
         self.certificates.len() as u16
+    }
+
+    /// Whether the certificate is itself an anchor: one of them, byte for byte.
+    pub fn contains(&self, certificate: &Certificate) -> bool
+        ensures { result ≡ is_listed certificate.now self.now }
+    {
+        self.certificates
+            .iter()
+            .any(|anchor| anchor.whole() == certificate.whole())
     }
 
     /// The anchors in the order of the file.

@@ -3,7 +3,7 @@
 ghost use Rattle.std.specs.Prelude.{◌≡◌, ◌+◌, ◌<◌, ◌≤◌, ℕ, Option, length, IfOk, IfErr, Some, None};
 ghost use Rattle.std.specs.Result.{IsOkAnd};
 ghost use Rattle.std.specs.Option.{option_copied};
-ghost use Rattle.delegation.specs.Path.{Path, agree, find_anchor, first_from, fits, is_listed, is_long_enough, last_of, link_at, shape_of};
+ghost use Rattle.delegation.specs.Path.{Path, agree, find_anchor, first_from, fits, is_long_enough, last_of, link_at, shape_of};
 ghost use Rattle.delegation.specs.Seen.{shape_view, last_view, link_view};
 
 use crate::anchors::Anchors;
@@ -111,22 +111,13 @@ fn find_anchor(count: u8, last: &Certificate, anchors: &Anchors) -> Result<Optio
     ensures exact { result ≡ find_anchor count last.now anchors.now }
     ensures place { IfErr result (λ fault. fault.place ≡ count) }
 {
-    if is_listed(last, anchors.certificates()) {
+    if anchors.contains(last) {
         return Ok(None);
     }
     match first_fitting(count, last, anchors.certificates()) {
         Some(i) => Ok(Some(i)),
         None => Err(PathFault::new(PathFault::NO_ANCHOR, count)),
     }
-}
-
-/// Whether a certificate is one of the anchors, byte for byte.
-fn is_listed(certificate: &Certificate, anchors: &[Certificate]) -> bool
-    ensures { result ≡ is_listed certificate.now anchors.now }
-{
-    anchors
-        .iter()
-        .any(|anchor| anchor.whole() == certificate.whole())
 }
 
 /// The number of the first anchor that fits.

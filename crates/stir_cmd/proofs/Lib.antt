@@ -1,5 +1,3 @@
-pub mod ChainLaws
-pub mod ChainSteps
 pub mod EntryLaws
 pub mod FieldSteps
 pub mod OutcomeLaws

@@ -6,7 +6,7 @@ use Rattle.std.proofs.lemmas.Bool.Decides.{nat_tests}
 use Rattle.stir_base.specs.Told.{Takes}
 use Rattle.stir_cmd.specs.Answer.{Reply, answer, judged_reply, long_input, shown, shown_reply}
 use Rattle.stir_cmd.specs.Causes.{IsAnswerTo, Shows, TakesAtMost}
-use Rattle.stir_cmd.specs.Chain.{certificates_in}
+use Rattle.x509_profile.specs.Chain.{certificates_in}
 use Rattle.stir_cmd.specs.Command.{most_input}
 use Rattle.stir_cmd.specs.Entry.{Entry, entry}
 use Rattle.stir_cmd.specs.declared.command.Command.{Command}

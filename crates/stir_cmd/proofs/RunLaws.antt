@@ -6,7 +6,7 @@ use Rattle.stir_base.specs.Count.{Rose}
 use Rattle.x509_profile.specs.View.{CertView}
 use Rattle.stir_cmd.specs.Answer.{Reply, answer, fault_line, fault_status, judged, judged_reply, outcome_status, shown, shown_reply, status_of, text_of}
 use Rattle.stir_cmd.specs.Causes.{EndsAs, HasCauses, HasReason, IsAnswered, IsAnswerTo, IsRefused, Ran, Shows, WroteShow}
-use Rattle.stir_cmd.specs.Chain.{Chain, certificates_in}
+use Rattle.x509_profile.specs.Chain.{Chain, RefusedCertificate, certificates_in}
 use Rattle.stir_cmd.specs.Entry.{Entry, entry}
 use Rattle.stir_cmd.specs.declared.command.Command.{Command}
 use Rattle.stir_cmd.specs.declared.command.Command.TheVariants.{Verify, Show}
@@ -14,7 +14,7 @@ use Rattle.stir_cmd.specs.declared.program.Fault.{Fault}
 use Rattle.stir_cmd.specs.declared.program.Fault.TheVariants.{Words, Read, Memory}
 use Rattle.stir_cmd.specs.declared.verdict.Outcome.{Outcome}
 use Rattle.stir_cmd.specs.declared.verdict.Outcome.TheVariants.{Screened, Refused, NotBuilt}
-use Rattle.stir_cmd.proofs.ChainLaws.{chain_again}
+use Rattle.x509_profile.proofs.ChainLaws.{chain_again}
 use Rattle.stir_cmd.proofs.Reply.{shown_short}
 
 -- ---- the statuses of an answer
@@ -33,12 +33,12 @@ of_entry : (bytes : List ℕ) (k : Option Entry) → entry bytes ≡ k → Statu
 of_entry bytes None e = record { each = inr refl; judged = λ h. refl; refused = λ h. e }
 of_entry bytes (Some call) e = of_outcome bytes (judged call)
 
-no_chain : (bytes : List ℕ) (place : ℕ) → certificates_in bytes ≡ Err place → (certificates : List CertView) → Chain bytes certificates → ⊥
-no_chain bytes place e certificates chain = let k : Ok certificates ≡ Err place = sym (chain_again bytes certificates chain) ∙ e in absurd cc
+no_chain : (bytes : List ℕ) (refused : RefusedCertificate) → certificates_in bytes ≡ Err refused → (certificates : List CertView) → Chain bytes certificates → ⊥
+no_chain bytes refused e certificates chain = let k : Ok certificates ≡ Err refused = sym (chain_again bytes certificates chain) ∙ e in absurd cc
 
-of_chain : (bytes : List ℕ) (k : Result (List CertView) ℕ) → certificates_in bytes ≡ k → Statuses Show bytes (shown_reply k).status
+of_chain : (bytes : List ℕ) (k : Result (List CertView) RefusedCertificate) → certificates_in bytes ≡ k → Statuses Show bytes (shown_reply k).status
 of_chain bytes (Ok certificates) e = record { each = inl (omega arith); judged = λ h. absurd (omega (arith, h)); refused = λ h. absurd (omega (arith, h)) }
-of_chain bytes (Err place) e = record { each = inr refl; judged = λ h. absurd (omega (arith, h)); refused = λ h. inr (no_chain bytes place e) }
+of_chain bytes (Err refused) e = record { each = inr refl; judged = λ h. absurd (omega (arith, h)); refused = λ h. inr (no_chain bytes refused e) }
 
 of_length : (bytes : List ℕ) (t : Bool) → nat_lt 49152 (length bytes) ≡ t → Statuses Show bytes (shown bytes).status
 of_length bytes true e = rw e (record { each = inr refl; judged = λ h. absurd (omega (arith, h)); refused = λ h. inl (grind (arith, nat_tests)) })

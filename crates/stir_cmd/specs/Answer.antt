@@ -7,7 +7,7 @@ use Rattle.stir_outside.specs.declared.transfer.ReadFault.{ReadFault}
 use Rattle.stir_outside.specs.declared.transfer.ReadFault.TheVariants.{Source, Memory as ReadMemory}
 use Rattle.stir_cmd.specs.Entry.{Entry, entry}
 use Rattle.stir_cmd.specs.Call.{Call, fields_of}
-use Rattle.stir_cmd.specs.Chain.{certificates_in}
+use Rattle.x509_profile.specs.Chain.{RefusedCertificate, certificates_in}
 use Rattle.stir_cmd.specs.Rules.{code, first, form_rules, is_not_built, token_rules}
 use Rattle.stir_cmd.specs.Show.{show}
 use Rattle.stir_cmd.specs.declared.command.Command.{Command}
@@ -69,9 +69,9 @@ most_chain = 49152
 abbrev pub long_input : Reply
 long_input = record { text = codes "long input\n"; status = 5 }
 
-abbrev pub shown_reply : Result (List CertView) ℕ → Reply
+abbrev pub shown_reply : Result (List CertView) RefusedCertificate → Reply
 shown_reply (Ok certificates) = record { text = show certificates; status = 0 }
-shown_reply (Err place) = refused_input place
+shown_reply (Err found) = refused_input found.place
 
 -- the answer of `show` to an input, which is to be a chain of certificates
 abbrev pub shown : List ℕ → Reply

@@ -5,7 +5,7 @@ use Rattle.stir_base.specs.Count.{Rose}
 use Rattle.stir_base.specs.Told.{AppendsFront}
 use Rattle.x509_profile.specs.View.{CertView}
 use Rattle.stir_cmd.specs.Answer.{Reply, answer, status_of, text_of}
-use Rattle.stir_cmd.specs.Chain.{Chain}
+use Rattle.x509_profile.specs.Chain.{Chain}
 use Rattle.stir_cmd.specs.Entry.{entry}
 use Rattle.stir_cmd.specs.Show.{show}
 use Rattle.stir_cmd.specs.declared.command.Command.{Command}

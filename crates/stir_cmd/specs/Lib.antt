@@ -1,7 +1,6 @@
 pub mod Answer
 pub mod Call
 pub mod Causes
-pub mod Chain
 pub mod Command
 pub mod Entry
 pub mod Fields

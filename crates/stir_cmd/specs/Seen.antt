@@ -1,10 +1,5 @@
 -- The code's views, as the definitions speak of them.
 use Rattle.std.specs.Prelude.{◌≡◌, ℕ, List, Option, Some, None, Result, Ok, Err, ⊤}
-use Rattle.std.specs.Borrow.{Bor}
-use Rattle.x509_profile.specs.View.{CertView}
-use Rattle.stir_cmd.specs.Chain.{EndsAt}
-use Rattle.stir_cmd.specs.declared.chain.ChainFault.{ChainFault}
-use Rattle.stir_cmd.specs.declared.chain.ChainFault.TheVariants.{At, Memory as NoChainMemory}
 use Rattle.stir_cmd.specs.Call.{IdentityField}
 use Rattle.stir_cmd.specs.Entry.{Entry}
 use Rattle.stir_cmd.specs.declared.entry.LogEntry.{LogEntry}
@@ -37,20 +32,3 @@ abbrev pub GivesPassport : Result ClaimsView PassportFault → Result ClaimsView
 GivesPassport (Ok claims) read = read ≡ Ok claims
 GivesPassport (Err (Broken part)) read = read ≡ Err part
 GivesPassport (Err NoMemory) read = ⊤
-
--- a certificate and what is behind it
-abbrev pub front_seen : Option (CertView × Bor (List ℕ)) → Option (CertView × List ℕ)
-front_seen (Some found) = Some (found.0, found.1.now)
-front_seen None = None
-
--- the certificates, or the place of the first that is refused; want of memory is free
-abbrev pub GivesChain : {X : Type 0} → (X → List CertView) → Result X ChainFault → Result (List CertView) ℕ → Type 0
-GivesChain seen (Ok certificates) read = read ≡ Ok (seen certificates)
-GivesChain seen (Err (At place)) read = read ≡ Err place
-GivesChain seen (Err NoChainMemory) read = ⊤
-
--- the place that is refused is where the whole certificates end
-abbrev pub EndsWhereRefused : {X : Type 0} → List ℕ → Result X ChainFault → Type 0
-EndsWhereRefused bytes (Ok certificates) = ⊤
-EndsWhereRefused bytes (Err (At place)) = EndsAt bytes place
-EndsWhereRefused bytes (Err NoChainMemory) = ⊤

@@ -2,7 +2,6 @@
 #![tactic(auto)]
 
 mod answer;
-mod chain;
 mod command;
 mod entry;
 mod fields;

@@ -5,10 +5,9 @@ ghost use Rattle.stir_cmd.specs.Causes.{Shows};
 ghost use Rattle.stir_cmd.specs.Show.{authority_lines, certificate_lines, entry_line, key_lines, number_or_none, show, usage_or_none, validity_lines, yes_or_no};
 
 use crate::answer::Answer;
-use crate::chain::{ChainFault, read_chain};
 use std::alloc::{AllocError, Global};
 use tn_auth_list::Entry;
-use x509_profile::Certificate;
+use x509_profile::{Certificate, ChainFault, read_chain};
 
 /// The most bytes of a chain.
 const MOST_CHAIN: usize = 49_152;
@@ -23,7 +22,7 @@ pub(crate) fn shown(alloc: Global, input: &[u8]) -> Result<Answer, AllocError>
     }
     match read_chain(alloc, input) {
         Ok(certificates) => Ok(Answer::new(show(alloc, certificates.as_slice())?, 0)),
-        Err(ChainFault::At(place)) => Answer::refused_input(alloc, place),
+        Err(ChainFault::At { place, .. }) => Answer::refused_input(alloc, place),
         Err(ChainFault::Memory) => Err(AllocError),
     }
 }

@@ -10,3 +10,5 @@ pub mod Adding
 pub mod ExtensionTexts
 pub mod WalkTexts
 pub mod CertLaws
+pub mod ChainLaws
+pub mod ChainSteps

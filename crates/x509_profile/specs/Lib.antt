@@ -13,3 +13,5 @@ pub mod Read
 pub mod Parts
 pub mod Extended
 pub mod Cert
+pub mod Chain
+pub mod ChainSeen

@@ -3,6 +3,7 @@
 #![tactic(auto)]
 
 mod certificate;
+mod chain;
 mod contents;
 mod extension;
 mod extensions;
@@ -23,4 +24,5 @@ mod validity;
 mod within;
 
 pub use certificate::Certificate;
+pub use chain::{ChainFault, read_chain};
 pub use fault::CertFault;

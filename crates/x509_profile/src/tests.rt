@@ -2,7 +2,7 @@
 //! Python's `hashlib`.
 
 use super::samples::{AUTHORITY, LEAF, MADE};
-use super::{CertFault, Certificate};
+use super::{CertFault, Certificate, ChainFault, read_chain};
 use der_reader::put;
 use std::alloc::{AllocError, Global};
 use std::process::Abort;
@@ -256,5 +256,43 @@ fn a_fault_says_what_and_where(rt: HostRuntime) -> Result<(), Fail> {
     };
     let text = format!(in rt.alloc(); "{fault}")?;
     assert_eq!(rt; text.as_str(), "the version isn't 3, at byte 6");
+    Ok(())
+}
+
+// What reading a chain comes to: how many certificates, or the number and the place of the one that is refused.
+fn chain_of(alloc: Global, bytes: &[u8]) -> Result<usize, (u8, usize)> {
+    match read_chain(alloc, bytes) {
+        Ok(certificates) => Ok(certificates.len()),
+        Err(ChainFault::At { number, place }) => Err((number, place)),
+        Err(ChainFault::Memory) => Err((0, 0)),
+    }
+}
+
+#[test]
+fn a_chain_is_certificates_one_after_another(rt: HostRuntime) -> Result<(), Fail> {
+    let alloc = rt.alloc();
+    assert!(rt; chain_of(alloc, &[]) == Ok(0));
+    let mut chain = LEAF.to_vec(alloc)?;
+    chain.extend_from_slice(&AUTHORITY)?;
+    assert!(rt; chain_of(alloc, &chain) == Ok(2));
+    chain.pop();
+    assert!(rt; chain_of(alloc, &chain) == Err((2, 228)));
+    assert!(rt; chain_of(alloc, &chain[..227]) == Err((1, 0)));
+    let mut many = Vec::new(alloc);
+    for _ in 0..6 {
+        many.extend_from_slice(&LEAF)?;
+    }
+    assert!(rt; chain_of(alloc, &many) == Ok(6));
+    many.extend_from_slice(&LEAF)?;
+    assert!(rt; chain_of(alloc, &many) == Err((7, 1_368)));
+    let fault = ChainFault::At {
+        number: 2,
+        place: 228,
+    };
+    let text = format!(in alloc; "{fault}")?;
+    assert_eq!(rt;
+        text.as_str(),
+        "certificate 2, at byte 228, is none of the chain"
+    );
     Ok(())
 }

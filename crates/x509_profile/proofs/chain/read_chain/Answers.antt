@@ -1,7 +1,7 @@
 -- The public clauses are laws of `certificates_in`.
 use Rattle.std.proofs.Common.{arith}
-use Rattle.stir_cmd.proofs.ChainLaws.{answer_ends, answer_found, answer_only, one_chain}
-use Rattle.stir_cmd.proofs.chain.read_chain.Goals as goal
+use Rattle.x509_profile.proofs.ChainLaws.{answer_ends, answer_found, answer_only, one_chain}
+use Rattle.x509_profile.proofs.chain.read_chain.Goals as goal
 
 pub returns-clause-found : goal.returns-clause-found
 returns-clause-found c = answer_found (λ certificates. certificates.items) c.args.bytes.now c.certificates_of.result (λ i. omega (arith, c.type_inv.bytes i)) c.certificates_of.ensures

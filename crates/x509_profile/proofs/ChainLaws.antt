@@ -1,5 +1,5 @@
 -- Certificates one after another are read as they are, and reading ends at the first that is refused.
-use Rattle.std.proofs.Common.{◌≡◌, ℕ, zero, suc, ◌+◌, ◌<◌, ◌≤◌, List, [], ◌∷◌, ◌++◌, length, Option, Some, None, Result, Ok, Err, IfOk, refl, sym, ◌∙◌, ap, subst, arith, ◌⊎◌, inl, inr, append_assoc, length-append}
+use Rattle.std.proofs.Common.{◌≡◌, ℕ, zero, suc, ◌+◌, ◌-◌, ◌<◌, ◌≤◌, List, [], ◌∷◌, ◌++◌, length, Option, Some, None, Result, Ok, Err, IfOk, refl, sym, ◌∙◌, ap, subst, arith, ◌⊎◌, inl, inr, append_assoc, length-append}
 use Rattle.der_reader.specs.Elem.{AllBytes, BeginsWith, Element}
 use Rattle.der_reader.specs.Next.{next_at}
 use Rattle.der_reader.specs.declared.fault.DerFault.{DerFault}
@@ -8,10 +8,10 @@ use Rattle.x509_profile.specs.Cert.{Cert}
 use Rattle.x509_profile.specs.Read.{read_certificate}
 use Rattle.x509_profile.specs.View.{CertView}
 use Rattle.x509_profile.proofs.CertLaws.{cert_again, cert_found}
-use Rattle.stir_cmd.specs.Seen.{EndsWhereRefused, GivesChain}
-use Rattle.stir_cmd.specs.declared.chain.ChainFault.{ChainFault}
-use Rattle.stir_cmd.specs.declared.chain.ChainFault.TheVariants.{At, Memory as NoMemory}
-use Rattle.stir_cmd.specs.Chain.{AreCerts, Chain, EndsAt, HasNoFront, behind, behind_front, certificates_in, certificates_up_to, front, joined, read_element, read_or_none, with_rest}
+use Rattle.x509_profile.specs.ChainSeen.{EndsWhereRefused, GivesChain}
+use Rattle.x509_profile.specs.declared.chain.ChainFault.{ChainFault}
+use Rattle.x509_profile.specs.declared.chain.ChainFault.TheVariants.{At, Memory}
+use Rattle.x509_profile.specs.Chain.{AreCerts, BeginsWithCerts, Chain, EndsAt, HasNoFront, RefusedCertificate, Whole, behind, behind_front, certificates_in, certificates_up_to, front, joined, read_element, read_or_none, refused_at, with_rest}
 
 -- ---- one certificate
 
@@ -83,33 +83,35 @@ pub record ChainUpTo (room : ℕ) (bytes : List ℕ) (certificates : List CertVi
   pub each : AreCerts certificates
   pub most : length certificates ≤ room
 
-pub record EndsWithin (room : ℕ) (bytes : List ℕ) (place : ℕ) : Type 0 where
+pub record EndsWithin (room : ℕ) (bytes : List ℕ) (refused : RefusedCertificate) : Type 0 where
   pub before : List CertView
   pub behind : List ℕ
   pub split : bytes ≡ joined before ++ behind
   pub each : AreCerts before
-  pub place_is : place ≡ length (joined before)
+  pub number_is : refused.number ≡ suc (length before)
+  pub place_is : refused.place ≡ length (joined before)
   pub some : 1 ≤ length behind
   pub bad : (length before ≡ room) ⊎ HasNoFront behind
   pub most : length before ≤ room
 
 -- what reading gives is so
-abbrev IsRight : ℕ → List ℕ → Result (List CertView) ℕ → Type 0
+abbrev IsRight : ℕ → List ℕ → Result (List CertView) RefusedCertificate → Type 0
 IsRight room bytes (Ok certificates) = ChainUpTo room bytes certificates
-IsRight room bytes (Err place) = EndsWithin room bytes place
+IsRight room bytes (Err refused) = EndsWithin room bytes refused
 
-right_behind : (room : ℕ) (bytes : List ℕ) (certificate : CertView) (rest : List ℕ) (k : Result (List CertView) ℕ) → Fronts bytes certificate rest → IsRight room rest k
+right_behind : (room : ℕ) (bytes : List ℕ) (certificate : CertView) (rest : List ℕ) (k : Result (List CertView) RefusedCertificate) → Fronts bytes certificate rest → IsRight room rest k
     → IsRight (suc room) bytes (behind certificate k)
 right_behind room bytes certificate rest (Ok others) f right = record {
   text = f.split ∙ ap (λ (x : List ℕ). certificate.whole ++ x) right.text;
   each = (f.cert, right.each);
   most = omega (arith, right.most);
 }
-right_behind room bytes certificate rest (Err place) f right = record {
+right_behind room bytes certificate rest (Err refused) f right = record {
   before = certificate ∷ right.before;
   behind = right.behind;
   split = f.split ∙ ap (λ (x : List ℕ). certificate.whole ++ x) right.split ∙ sym (append_assoc certificate.whole (joined right.before) right.behind);
   each = (f.cert, right.each);
+  number_is = ap suc right.number_is;
   place_is = ap (λ (x : ℕ). length certificate.whole + x) right.place_is ∙ sym (length-append certificate.whole (joined right.before));
   some = right.some;
   bad = bad_behind room (length right.before) right.behind right.bad;
@@ -127,6 +129,7 @@ right_front room bytes None typed some e others = record {
   behind = bytes;
   split = refl;
   each = tt;
+  number_is = refl;
   place_is = refl;
   some = some;
   bad = inr (front_none bytes e);
@@ -139,7 +142,7 @@ right_front room bytes (Some found) typed some e others =
 is_right : (room : ℕ) (bytes : List ℕ) → AllBytes bytes → IsRight room bytes (certificates_up_to room bytes)
 is_right zero [] typed = record { text = refl; each = tt; most = omega arith }
 is_right (suc room) [] typed = record { text = refl; each = tt; most = omega arith }
-is_right zero (byte ∷ rest) typed = record { before = []; behind = byte ∷ rest; split = refl; each = tt; place_is = refl; some = omega arith; bad = inl refl; most = omega arith }
+is_right zero (byte ∷ rest) typed = record { before = []; behind = byte ∷ rest; split = refl; each = tt; number_is = refl; place_is = refl; some = omega arith; bad = inl refl; most = omega arith }
 is_right (suc room) (byte ∷ rest) typed = right_front room (byte ∷ rest) (front (byte ∷ rest)) typed (omega arith) refl (is_right room)
 
 -- reading a text that begins with a certificate
@@ -161,32 +164,65 @@ pub chain_again : (bytes : List ℕ) (certificates : List CertView) → Chain by
 unfolding certificates_in
 chain_again bytes certificates chain = ap (certificates_up_to 6) chain.text ∙ again 6 certificates chain.each chain.most
 
-found_by : (bytes : List ℕ) (k : Result (List CertView) ℕ) (certificates : List CertView) → IsRight 6 bytes k → k ≡ Ok certificates → Chain bytes certificates
+found_by : (bytes : List ℕ) (k : Result (List CertView) RefusedCertificate) (certificates : List CertView) → IsRight 6 bytes k → k ≡ Ok certificates → Chain bytes certificates
 found_by bytes (Ok read) certificates right e = let same : read ≡ certificates = cc in subst (Chain bytes) same (record { text = right.text; each = right.each; most = right.most })
-found_by bytes (Err place) certificates right e = absurd cc
+found_by bytes (Err refused) certificates right e = absurd cc
 
 pub chain_found : (bytes : List ℕ) (certificates : List CertView) → AllBytes bytes → certificates_in bytes ≡ Ok certificates → Chain bytes certificates
 unfolding certificates_in
 chain_found bytes certificates typed h = found_by bytes (certificates_up_to 6 bytes) certificates (is_right 6 bytes typed) h
 
-ends_by : (bytes : List ℕ) (k : Result (List CertView) ℕ) (place : ℕ) → IsRight 6 bytes k → k ≡ Err place → EndsAt bytes place
-ends_by bytes (Ok read) place right e = absurd cc
-ends_by bytes (Err found) place right e =
-    let same : found ≡ place = cc in
+ends_by : (bytes : List ℕ) (k : Result (List CertView) RefusedCertificate) (refused : RefusedCertificate) → IsRight 6 bytes k → k ≡ Err refused → EndsAt bytes refused
+ends_by bytes (Ok read) refused right e = absurd cc
+ends_by bytes (Err found) refused right e =
+    let same : found ≡ refused = cc in
     subst (EndsAt bytes) same (record {
       before = right.before;
       behind = right.behind;
       split = right.split;
       each = right.each;
+      number_is = right.number_is;
       place_is = right.place_is;
       some = right.some;
       bad = right.bad;
       most = right.most;
     })
 
-pub chain_ends : (bytes : List ℕ) (place : ℕ) → AllBytes bytes → certificates_in bytes ≡ Err place → EndsAt bytes place
+pub chain_ends : (bytes : List ℕ) (refused : RefusedCertificate) → AllBytes bytes → certificates_in bytes ≡ Err refused → EndsAt bytes refused
 unfolding certificates_in
-chain_ends bytes place typed h = ends_by bytes (certificates_up_to 6 bytes) place (is_right 6 bytes typed) h
+chain_ends bytes refused typed h = ends_by bytes (certificates_up_to 6 bytes) refused (is_right 6 bytes typed) h
+
+-- ---- the greatest number of certificates
+
+-- no more certificates stand at the front than those before a place at which none stands, or six
+no_more : (before others : List CertView) (left behind : List ℕ) → AreCerts before → AreCerts others → joined before ++ left ≡ joined others ++ behind → HasNoFront left
+    → length others ≤ length before
+no_more before [] left behind b o e none = omega arith
+no_more [] (c ∷ others) left behind b o e none = absurd (none c (joined others ++ behind) o.0 (e ∙ append_assoc c.whole (joined others) behind))
+no_more (b ∷ before) (c ∷ others) left behind (bc, bs) (oc, os) e none =
+    let bytes : List ℕ = joined (b ∷ before) ++ left in
+    let one : front bytes ≡ Some (b, joined before ++ left) = front_again bytes b (joined before ++ left) bc (append_assoc b.whole (joined before) left) in
+    let two : front bytes ≡ Some (c, joined others ++ behind) = front_again bytes c (joined others ++ behind) oc (e ∙ append_assoc c.whole (joined others) behind) in
+    let there : CertView × List ℕ = (b, joined before ++ left) in
+    let wanted : CertView × List ℕ = (c, joined others ++ behind) in
+    let same : there ≡ wanted = same_inside there wanted (sym one ∙ two) in
+    let fewer = no_more before others left behind bs os (ap (λ (x : CertView × List ℕ). x.1) same) none in
+    omega (arith, fewer)
+
+whole_by : (bytes : List ℕ) (before others : List CertView) (left : List ℕ) → bytes ≡ joined before ++ left → AreCerts before → (length before ≡ 6) ⊎ HasNoFront left
+    → BeginsWithCerts bytes others → length others ≤ length before
+whole_by bytes before others left split each (inl six) begins = omega (arith, six, begins.most)
+whole_by bytes before others left split each (inr none) begins = no_more before others left begins.behind each begins.each (sym split ∙ begins.split) none
+
+pub ends_whole : (bytes : List ℕ) (refused : RefusedCertificate) → EndsAt bytes refused → Whole bytes (refused.number - 1)
+ends_whole bytes refused e =
+    let counted : refused.number - 1 ≡ length e.before = omega (arith, e.number_is) in
+    record {
+      before = e.before;
+      begins = record { behind = e.behind; split = e.split; each = e.each; most = e.most };
+      counted = counted;
+      greatest = λ others begins. let fewer = whole_by bytes e.before others e.behind e.split e.each e.bad begins in omega (arith, fewer, counted);
+    }
 
 pub one_chain : (bytes : List ℕ) (a b : List CertView) → Chain bytes a → Chain bytes b → a ≡ b
 one_chain bytes a b x y = let k : Ok a ≡ Ok b = sym (chain_again bytes a x) ∙ chain_again bytes b y in cc
@@ -200,10 +236,12 @@ answer_found seen bytes (Err fault) typed e = tt
 pub answer_only : {X : Type 0} (seen : X → List CertView) (bytes : List ℕ) (r : Result X ChainFault) (chain : List CertView) → GivesChain seen r (certificates_in bytes) → Chain bytes chain
     → GivesChain seen r (Ok chain)
 answer_only seen bytes (Ok x) chain e c = sym (chain_again bytes chain c) ∙ e
-answer_only seen bytes (Err (At place)) chain e c = sym (chain_again bytes chain c) ∙ e
-answer_only seen bytes (Err NoMemory) chain e c = tt
+answer_only seen bytes (Err (At number place)) chain e c = sym (chain_again bytes chain c) ∙ e
+answer_only seen bytes (Err Memory) chain e c = tt
 
 pub answer_ends : {X : Type 0} (seen : X → List CertView) (bytes : List ℕ) (r : Result X ChainFault) → AllBytes bytes → GivesChain seen r (certificates_in bytes) → EndsWhereRefused bytes r
 answer_ends seen bytes (Ok x) typed e = tt
-answer_ends seen bytes (Err (At place)) typed e = chain_ends bytes place typed e
-answer_ends seen bytes (Err NoMemory) typed e = tt
+answer_ends seen bytes (Err (At number place)) typed e =
+    let ends = chain_ends bytes (refused_at number place) typed e in
+    (ends, ends_whole bytes (refused_at number place) ends, omega (arith, ends.number_is, ends.most))
+answer_ends seen bytes (Err Memory) typed e = tt

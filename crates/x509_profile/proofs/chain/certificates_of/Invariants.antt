@@ -1,7 +1,7 @@
 -- What is left behind the certificates so far gives what all bytes give.
 use Rattle.std.proofs.Common.{length}
-use Rattle.stir_cmd.proofs.ChainSteps.{Left}
-use Rattle.stir_cmd.proofs.chain.certificates_of.Given as goal
+use Rattle.x509_profile.proofs.ChainSteps.{Left}
+use Rattle.x509_profile.proofs.chain.certificates_of.Given as goal
 
 abbrev pub invariant-certificates : goal.invariant-certificates
 invariant-certificates l = Left l.bytes l.rest l.certificates.items
