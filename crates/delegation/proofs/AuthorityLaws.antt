@@ -36,7 +36,7 @@ named [] code h = absurd h
 named (entry ∷ entries) code (inl same) = or_first (is_code code entry) (names_code entries code) (is_the_code entry code same)
 named (entry ∷ entries) code (inr more) = or_second (is_code code entry) (names_code entries code) (named entries code more)
 
-codes_had : (parent child : List Entry) → has_codes_of parent child ≡ true → (code : List ℕ) → NamesCode child code → NamesCode parent code
+pub codes_had : (parent child : List Entry) → has_codes_of parent child ≡ true → (code : List ℕ) → NamesCode child code → NamesCode parent code
 codes_had parent [] h code p = absurd p
 codes_had parent (entry ∷ child) h code (inl same) =
     let each = both (has_code_of parent entry) (has_codes_of parent child) h in

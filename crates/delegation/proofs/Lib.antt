@@ -6,3 +6,4 @@ pub mod WalkLaws
 pub mod ReadLaws
 pub mod AnchorLaws
 pub mod PathLaws
+pub mod DecidedLaws

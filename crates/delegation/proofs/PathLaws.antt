@@ -169,7 +169,7 @@ anchor_again n last anchors (Some i) (t, c, there, fit, before) =
 
 -- ---- the whole path
 
-path_found : (chain anchors : List CertView) (a : Option ℕ) → shape_of chain anchors ≡ Ok a → Path chain anchors a
+pub path_found : (chain anchors : List CertView) (a : Option ℕ) → shape_of chain anchors ≡ Ok a → Path chain anchors a
 unfolding shape_of
 path_found [] anchors a e = cc
 path_found (leaf ∷ above) anchors a e = of (may_sign leaf) refl e
@@ -193,7 +193,7 @@ path_found (leaf ∷ above) anchors a e = of (may_sign leaf) refl e
         }
     of false t e = cc
 
-path_again : (chain anchors : List CertView) (a : Option ℕ) → Path chain anchors a → shape_of chain anchors ≡ Ok a
+pub path_again : (chain anchors : List CertView) (a : Option ℕ) → Path chain anchors a → shape_of chain anchors ≡ Ok a
 unfolding shape_of
 path_again [] anchors a p = let e = p.is_leaf in cc
 path_again (leaf ∷ above) anchors a p =

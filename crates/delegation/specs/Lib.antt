@@ -4,3 +4,4 @@ pub mod Usage
 pub mod Anchors
 pub mod Path
 pub mod Seen
+pub mod Decided

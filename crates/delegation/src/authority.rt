@@ -5,6 +5,7 @@ ghost use Rattle.tn_values.specs.Number.{is_number};
 ghost use Rattle.tn_auth_list.specs.declared.entries.Entry.{Entry};
 ghost use Rattle.tn_auth_list.specs.Grant.{grant_view};
 ghost use Rattle.delegation.specs.Coverage.{CoveredBy, ListWithin, Within, entries_of};
+ghost use Rattle.delegation.specs.Decided.{is_within};
 ghost use Rattle.delegation.specs.Gathered.{has_code_of, has_codes_of, is_all, is_code, names_code, stands_for_all};
 
 use crate::Memory;
@@ -32,7 +33,12 @@ pub fn within(
     parent: &Authority<'_>,
     table: &CodeTable,
 ) -> Result<bool, Memory>
+    ensures exact { IfOk result (λ answer. answer ≡ is_within (entries_of child.now) (entries_of parent.now) table.now) }
     ensures within { IfOk result (λ answer. IsTrue answer ↔ Within (entries_of child.now) (entries_of parent.now) table.now) }
+
+    // The test that gives the answer decides lying within.
+    ensures decides { IsTrue (is_within (entries_of child.now) (entries_of parent.now) table.now)
+        ↔ Within (entries_of child.now) (entries_of parent.now) table.now }
 
     // Laws of lying within: each authority lies within itself, and one that lies within what lies within a third lies
     // within this.

@@ -7,3 +7,4 @@ pub mod ValueLaws
 pub mod SetLaws
 pub mod WalkLaws
 pub mod WithinLaws
+pub mod EveryLaws

@@ -5,3 +5,4 @@ pub mod Canon
 pub mod Span
 pub mod NumberSet
 pub mod Place
+pub mod Every

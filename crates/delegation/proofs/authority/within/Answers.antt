@@ -4,6 +4,7 @@ use Rattle.std.specs.Prelude.{IfOk, IsTrue}
 use Rattle.tn_auth_list.specs.declared.entries.Entry.{Entry}
 use Rattle.delegation.specs.Coverage.{Within, entries_of}
 use Rattle.delegation.proofs.AuthorityLaws.{chained, itself, kept}
+use Rattle.delegation.proofs.DecidedLaws.{decides, same_answer}
 use Rattle.delegation.proofs.authority.within.Goals as goal
 
 pub returns-in_default-All-clause-itself : goal.returns-in_default-All-clause-itself
@@ -17,6 +18,13 @@ returns-in-List-List-clause-within c =
     let P : Option (List Entry) → Type 0 = λ child. IfOk c.list_within.result (λ answer. IsTrue answer ↔ Within child (Some c.entries-in-List-List.result.now) c.args.table.now) in
     let Q : Option (List Entry) → Type 0 = λ parent. IfOk c.list_within.result (λ answer. IsTrue answer ↔ Within (entries_of c.args.child.now) parent c.args.table.now) in
     subst Q parent_is (subst P child_is c.list_within.ensures)
+
+pub returns-in-List-List-clause-exact : goal.returns-in-List-List-clause-exact
+returns-in-List-List-clause-exact c =
+    same_answer c.list_within.result (entries_of c.args.child.now) (entries_of c.args.parent.now) c.args.table.now (returns-in-List-List-clause-within c)
+
+pub returns-in-List-List-clause-decides : goal.returns-in-List-List-clause-decides
+returns-in-List-List-clause-decides c = decides (entries_of c.args.child.now) (entries_of c.args.parent.now) c.args.table.now
 
 pub returns-in-List-List-clause-itself : goal.returns-in-List-List-clause-itself
 returns-in-List-List-clause-itself c = itself (entries_of c.args.child.now) c.args.table.now
