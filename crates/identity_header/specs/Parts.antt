@@ -2,6 +2,7 @@
 -- project's own limits.
 use Rattle.std.specs.Prelude.{ℕ, Bool, not, ◌||◌, ◌&&◌, ◌==◌, nat_le, List, Option, IfSome}
 use Rattle.text_grammar.specs.Bytes.{is_letter, is_digit}
+pub use Rattle.text_grammar.specs.Bytes.{is_uri_byte}
 use Rattle.text_grammar.specs.Grammar.{Any, Run}
 
 -- the signed token, the uri of the certificates, and the values of the parameters alg and ppt
@@ -17,10 +18,6 @@ parts token info alg ppt = record { token = token; info = info; alg = alg; ppt =
 -- letters, digits, - _ .
 abbrev pub is_digest_byte : ℕ → Bool
 is_digest_byte b = is_letter b || is_digit b || b == 45 || b == 95 || b == 46
-
--- visible ASCII without " < > and backslash
-abbrev pub is_uri_byte : ℕ → Bool
-is_uri_byte b = nat_le 33 b && nat_le b 126 && not (b == 34 || b == 60 || b == 62 || b == 92)
 
 -- visible ASCII without ; , " < > and backslash
 abbrev pub is_bare_byte : ℕ → Bool

@@ -5,6 +5,8 @@ ghost use Rattle.text_grammar.specs.Grammar.{Any, Run};
 ghost use Rattle.identity_header.specs.Parts as parts;
 ghost use Rattle.identity_header.specs.Spelling as spelling;
 
+use text_grammar::is_uri_byte;
+
 /// The most bytes of a token.
 pub(crate) const DIGEST_MOST: usize = 8192;
 
@@ -16,13 +18,6 @@ pub(crate) fn is_digest_byte(byte: u8) -> bool
     ensures { result ≡ parts.is_digest_byte byte }
 {
     byte.is_ascii_alphanumeric() || matches!(byte, b'-' | b'_' | b'.')
-}
-
-// A byte of the uri: visible ASCII without `"`, `<`, `>` and backslash.
-pub(crate) fn is_uri_byte(byte: u8) -> bool
-    ensures { result ≡ parts.is_uri_byte byte }
-{
-    byte.is_ascii_graphic() && !matches!(byte, b'"' | b'<' | b'>' | b'\\')
 }
 
 // A byte of a value that stands without quotes.

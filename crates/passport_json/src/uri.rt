@@ -4,6 +4,7 @@ ghost use Rattle.std.specs.List.{list_all};
 ghost use Rattle.passport_json.specs.Uri.{is_uri, is_uri_byte};
 
 use std::str;
+use text_grammar::is_uri_byte;
 
 /// Whether a text can be the URI of a certificate in an Identity header field's `info` (RFC 8224, section 4): 1 to
 /// 2,048 visible ASCII bytes without `"`, `<`, `>` and backslash.
@@ -21,12 +22,6 @@ fn are_uri_bytes(text: &[u8]) -> bool
     ensures { result ≡ list_all is_uri_byte text.now }
 {
     text.iter().all(|byte| is_uri_byte(*byte))
-}
-
-fn is_uri_byte(byte: u8) -> bool
-    ensures { result ≡ is_uri_byte byte }
-{
-    33 <= byte && byte <= 126 && byte != b'"' && byte != b'<' && byte != b'>' && byte != b'\\'
 }
 
 /// A URI is ASCII, so it is text.

@@ -1,5 +1,5 @@
 -- Classes of bytes that several text formats share.
-use Rattle.std.specs.Prelude.{ℕ, Bool, ◌||◌, ◌&&◌, ◌==◌, nat_le, List, map}
+use Rattle.std.specs.Prelude.{ℕ, Bool, not, ◌||◌, ◌&&◌, ◌==◌, nat_le, List, map}
 use Rattle.std.specs.Char.{to_ascii_lowercase}
 use Rattle.std.specs.Str.{bytes_eq}
 
@@ -12,6 +12,14 @@ is_letter b = (nat_le 65 b && nat_le b 90) || (nat_le 97 b && nat_le b 122)
 
 abbrev pub is_digit : ℕ → Bool
 is_digit b = nat_le 48 b && nat_le b 57
+
+-- visible ASCII
+abbrev pub is_visible : ℕ → Bool
+is_visible b = nat_le 33 b && nat_le b 126
+
+-- visible ASCII without `"`, `<`, `>` and backslash
+abbrev pub is_uri_byte : ℕ → Bool
+is_uri_byte b = is_visible b && not (b == 34 || b == 60 || b == 62 || b == 92)
 
 -- the byte with a letter A to Z as a to z
 abbrev pub lower : ℕ → ℕ

@@ -28,6 +28,20 @@ pub fn is_name_byte(byte: u8) -> bool
     byte.is_ascii_alphanumeric() || b"-.!%*_+'~`".contains(&byte)
 }
 
+/// Whether a byte is visible ASCII, 0x21 to 0x7E.
+pub fn is_visible(byte: u8) -> bool
+    ensures { result ≡ bytes.is_visible byte }
+{
+    byte.is_ascii_graphic()
+}
+
+/// Whether a byte may stand in a uri: visible ASCII without `"`, `<`, `>` and backslash.
+pub fn is_uri_byte(byte: u8) -> bool
+    ensures { result ≡ bytes.is_uri_byte byte }
+{
+    is_visible(byte) && !matches!(byte, b'"' | b'<' | b'>' | b'\\')
+}
+
 /// The byte, with a letter A to Z as a to z.
 pub fn lower(byte: u8) -> u8
     ensures { result ≡ bytes.lower byte }
