@@ -4,7 +4,7 @@
 mod lines;
 mod words;
 
-pub use lines::{Line, Lines};
+pub use lines::{Line, Lines, line_count};
 pub use words::{Words, words_of};
 
 #[cfg(test)]

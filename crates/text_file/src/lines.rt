@@ -81,6 +81,19 @@ fn first_line(text: &[u8]) -> Option<(&[u8], &[u8])>
     }
 }
 
+/// How many lines the text has, those that are passed over too.
+pub fn line_count(text: &[u8]) -> usize
+    ensures { result ≡ length (file_lines text.now) }
+{
+    let mut left = text;
+    let mut count = 0;
+    while let Some((_, rest)) = first_line(left) {
+        left = rest;
+        count += 1;
+    }
+    count
+}
+
 fn without_return(line: &[u8]) -> &[u8]
     ensures { result.now ≡ strip_carriage_return line.now }
 {

@@ -1,4 +1,4 @@
-use crate::{Lines, Words, words_of};
+use crate::{Lines, Words, line_count, words_of};
 
 // The lines of a text, each as its number and what it says, in order.
 #[test]
@@ -20,6 +20,21 @@ fn passes_over_comments_and_counts_every_line(rt: HostRuntime) {
     assert!(rt; lines.next().is_none());
     assert!(rt; Lines::new(b"").next().is_none());
     assert!(rt; Lines::new(b"\n;\n").next().is_none());
+}
+
+#[test]
+fn counts_every_line(rt: HostRuntime) {
+    let rows: [(&[u8], usize); 6] = [
+        (b"", 0),
+        (b"\n", 1),
+        (b"a", 1),
+        (b"a\n", 1),
+        (b"a\r\n\n; no\r\nb", 4),
+        (b"a\r\n\n; no\r\nb\n\n", 5),
+    ];
+    for (text, wanted) in rows {
+        assert_eq!(rt; line_count(text), wanted, "{text:?}");
+    }
 }
 
 fn word_at(line: &[u8], place: usize) -> Option<&[u8]> {
