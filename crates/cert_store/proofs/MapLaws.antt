@@ -1,0 +1,126 @@
+-- A text is read as a chain map's rows exactly where its lines say these rows, none lists what one before it lists, and they are not
+-- too many.
+use Rattle.std.proofs.Common.{◌≡◌, ℕ, ◌<◌, ◌≤◌, ◌⊎◌, inl, inr, Bool, true, false, nat_le, cond, List, [], ◌∷◌, ◌++◌, length, map, Option, Some, None, option_and_then, Result, Ok, Err, ◌↔◌, refl, sym, ap, ◌∙◌, subst, append_assoc, append-nil, arith}
+use Rattle.std.proofs.lemmas.Bool.Decides.{nat_tests}
+use Rattle.text_file.specs.FileLines.{file_lines}
+use Rattle.text_file.specs.Reading.{go_on, read_lines}
+use Rattle.text_file.proofs.ReadingLaws.{refuses_found, refuses_again}
+use Rattle.cert_store.specs.ChainMap.{Row, row_of, is_repeated, add_row, first_lines, first_rows, within_limit, map_rows, ListsOnce, MapText, FirstBad}
+
+-- ---- the rows
+
+abbrev said : List (ℕ × List ℕ) → List (Option Row)
+said lines = map (λ line. row_of line.1) lines
+
+-- the lines say the rows behind the first ones
+record Says (lines : List (ℕ × List ℕ)) (before rows : List Row) : Type 0 where
+  new : List Row
+  all : rows ≡ before ++ new
+  say : said lines ≡ map Some new
+  once : ListsOnce before new
+
+abbrev taken : List Row → Bool → Row → Option (List Row)
+taken before t row = cond t None (Some (before ++ row ∷ []))
+
+said_more : (line : ℕ × List ℕ) (lines : List (ℕ × List ℕ)) (before rows : List Row) (row : Row) → row_of line.1 ≡ Some row → is_repeated before row ≡ false
+    → Says lines (before ++ row ∷ []) rows → Says (line ∷ lines) before rows
+said_more line lines before rows row e fresh s = record {
+  new = row ∷ s.new;
+  all = s.all ∙ append_assoc before (row ∷ []) s.new;
+  say = ap (λ (o : Option Row). o ∷ said lines) e ∙ ap (λ (os : List (Option Row)). Some row ∷ os) s.say;
+  once = (fresh, s.once);
+}
+
+found_by : (line : ℕ × List ℕ) (lines : List (ℕ × List ℕ)) (before rows : List Row) (k : Option Row) → row_of line.1 ≡ k
+    → ((t : Bool) (row : Row) → k ≡ Some row → is_repeated before row ≡ t → go_on (taken before t row) line.0 (λ next. read_lines add_row lines next) ≡ Ok rows → Says (line ∷ lines) before rows)
+    → go_on (option_and_then (λ row. taken before (is_repeated before row) row) k) line.0 (λ next. read_lines add_row lines next) ≡ Ok rows → Says (line ∷ lines) before rows
+found_by line lines before rows None e below h = absurd cc
+found_by line lines before rows (Some row) e below h = below (is_repeated before row) row refl refl h
+
+found_row : (line : ℕ × List ℕ) (lines : List (ℕ × List ℕ)) (before rows : List Row) → ((row : Row) → read_lines add_row lines (before ++ row ∷ []) ≡ Ok rows → Says lines (before ++ row ∷ []) rows)
+    → (t : Bool) (row : Row) → row_of line.1 ≡ Some row → is_repeated before row ≡ t
+    → go_on (taken before t row) line.0 (λ next. read_lines add_row lines next) ≡ Ok rows → Says (line ∷ lines) before rows
+found_row line lines before rows below false row e fresh h = said_more line lines before rows row e fresh (below row h)
+found_row line lines before rows below true row e fresh h = absurd cc
+
+rows_found : (lines : List (ℕ × List ℕ)) (before rows : List Row) → read_lines add_row lines before ≡ Ok rows → Says lines before rows
+rows_found [] before rows h = let same : before ≡ rows = cc in record { new = []; all = sym same ∙ sym (append-nil before); say = refl; once = tt }
+rows_found (line ∷ lines) before rows h =
+    found_by line lines before rows (row_of line.1) refl (found_row line lines before rows (λ row k. rows_found lines (before ++ row ∷ []) rows k)) h
+
+rows_again : (lines : List (ℕ × List ℕ)) (before new : List Row) → said lines ≡ map Some new → ListsOnce before new → read_lines add_row lines before ≡ Ok (before ++ new)
+rows_again [] before [] h once = ap (λ (rs : List Row). Ok rs) (sym (append-nil before))
+rows_again [] before (row ∷ new) h once = absurd cc
+rows_again (line ∷ lines) before [] h once = absurd cc
+rows_again (line ∷ lines) before (row ∷ new) h once =
+    let here : row_of line.1 ≡ Some row = cc in
+    let more : said lines ≡ map Some new = cc in
+    ap (λ (k : Option Row). go_on (option_and_then (λ r. taken before (is_repeated before r) r) k) line.0 (λ next. read_lines add_row lines next)) here
+    ∙ ap (λ t. go_on (taken before t row) line.0 (λ next. read_lines add_row lines next)) once.0
+    ∙ rows_again lines (before ++ row ∷ []) new more once.1
+    ∙ ap (λ (rs : List Row). Ok rs) (append_assoc before (row ∷ []) new)
+
+-- ---- the limit
+
+-- so many lines, where there may be at most so many
+abbrev limited : ℕ → ℕ → ℕ → Result (List Row) ℕ → Result (List Row) ℕ
+limited count most over (Ok rows) = cond (nat_le count most) (Ok rows) (Err over)
+limited count most over (Err number) = Err number
+
+few_by : (t : Bool) (over : ℕ) (own rows : List Row) → cond t (Ok own) (Err over) ≡ Ok rows → (t ≡ true) × (own ≡ rows)
+few_by true over own rows h = (refl, cc)
+few_by false over own rows h = absurd cc
+
+few : (count most over : ℕ) (read : Result (List Row) ℕ) (rows : List Row) → limited count most over read ≡ Ok rows → (read ≡ Ok rows) × (count ≤ most)
+few count most over (Ok own) rows h =
+    let k = few_by (nat_le count most) over own rows h in
+    let within = k.0 in
+    (ap (λ (rs : List Row). Ok rs) k.1, grind (arith, nat_tests))
+few count most over (Err number) rows h = absurd cc
+
+few_again : (count most over : ℕ) (rows : List Row) → count ≤ most → limited count most over (Ok rows) ≡ Ok rows
+few_again count most over rows h = let within : nat_le count most ≡ true = grind (arith, nat_tests) in rw within refl
+
+-- a line among the first is bad, or there are too many
+abbrev Bad : ℕ → ℕ → ℕ → Result (List Row) ℕ → ℕ → Type 0
+Bad count most over read number = (read ≡ Err number) ⊎ ((number ≡ over) × ((rows : List Row) × (read ≡ Ok rows)) × (most < count))
+
+bad_by : (t : Bool) (count most over number : ℕ) (own : List Row) → nat_le count most ≡ t → cond t (Ok own) (Err over) ≡ Err number → Bad count most over (Ok own) number
+bad_by true count most over number own e h = absurd cc
+bad_by false count most over number own e h = let same : over ≡ number = cc in inr (sym same, (own, refl), grind (arith, nat_tests))
+
+bad : (count most over number : ℕ) (read : Result (List Row) ℕ) → limited count most over read ≡ Err number → Bad count most over read number
+bad count most over number (Ok own) h = bad_by (nat_le count most) count most over number own refl h
+bad count most over number (Err own) h = inl h
+
+too_many : (count most over number : ℕ) (read : Result (List Row) ℕ) (rows : List Row) → number ≡ over → read ≡ Ok rows → most < count → limited count most over read ≡ Err number
+too_many count most over number read rows e r h =
+    let past : nat_le count most ≡ false = grind (arith, nat_tests) in
+    ap (limited count most over) r ∙ ap (λ t. cond t (Ok rows) (Err over)) past ∙ ap (λ n. Err n) (sym e)
+
+-- ---- the whole map
+
+pub map_is : (text : List ℕ) (rows : List Row) → (map_rows text ≡ Ok rows) ↔ MapText text rows
+unfolding map_rows
+map_is text rows = (
+  λ h.
+      let k = few (length (file_lines text)) 50000 50001 (first_rows text) rows h in
+      let s = rows_found (first_lines text) [] rows k.0 in
+      record { lines = s.say ∙ ap (map Some) (sym s.all); once = let P : List Row → Type 0 = λ rs. ListsOnce [] rs in subst P (sym s.all) s.once; count = k.1 },
+  λ t. ap (within_limit text) (rows_again (first_lines text) [] rows t.lines t.once) ∙ few_again (length (file_lines text)) 50000 50001 rows t.count,
+)
+
+bad_is : (text : List ℕ) (number : ℕ) → Bad (length (file_lines text)) 50000 50001 (first_rows text) number → FirstBad text number
+bad_is text number (inl h) = inl (refuses_found add_row (first_lines text) [] number h)
+bad_is text number (inr h) = inr (h.0, record { rows = h.1.0; read = h.1.1; more = h.2 })
+
+bad_again : (text : List ℕ) (number : ℕ) → FirstBad text number → within_limit text (first_rows text) ≡ Err number
+bad_again text number (inl r) = ap (within_limit text) (refuses_again add_row (first_lines text) [] number r)
+bad_again text number (inr h) = too_many (length (file_lines text)) 50000 50001 number (first_rows text) h.1.rows h.0 h.1.read h.1.more
+
+pub first_bad_is : (text : List ℕ) (number : ℕ) → (map_rows text ≡ Err number) ↔ FirstBad text number
+unfolding map_rows
+first_bad_is text number = (
+  λ h. bad_is text number (bad (length (file_lines text)) 50000 50001 number (first_rows text) h),
+  λ r. bad_again text number r,
+)

@@ -1,0 +1,4 @@
+pub mod ChainMap
+pub mod Files
+pub mod MapEntry
+pub mod MapReading

@@ -1,0 +1,43 @@
+-- How far a chain map was read.
+use Rattle.std.specs.Prelude.{◌≡◌, ℕ, Bool, true, false, List, [], ◌∷◌, ◌++◌, Some, None, Ok, Err}
+use Rattle.std.specs.Bool.{MatchBool}
+use Rattle.text_file.specs.Reading.{read_lines}
+use Rattle.cert_store.specs.ChainMap.{Row, add_row, file_in, first_rows, is_repeated, listed, up_to_limit}
+use Rattle.cert_store.specs.Files.{Files}
+use Rattle.cert_store.specs.declared.map.MapFault.{MapFault}
+use Rattle.cert_store.specs.declared.map.MapFault.TheVariants.{Line, Memory}
+
+-- each x5u has the file that the rows read so far say
+pub record HoldsRows (rows : List Row) (held : Files) : Type 0 where
+  pub files : (x5u : List ℕ) → listed held x5u ≡ file_in rows x5u
+
+-- a row was added, or its x5u is listed already
+abbrev pub Adds : Files → Files → Row → Bool → Type 0
+Adds old new row added = (rows : List Row) → HoldsRows rows old → MatchBool added ((is_repeated rows row ≡ false) × HoldsRows (rows ++ row ∷ []) new) (is_repeated rows row ≡ true)
+
+-- the row of a line more
+pub record HoldsMore (rows : List Row) (line : List ℕ) (held : Files) : Type 0 where
+  pub more : List Row
+  pub added : add_row rows line ≡ Some more
+  pub holds : HoldsRows more held
+
+-- a line was added, or it is bad
+abbrev pub AddsLine : Files → Files → List ℕ → Bool → Type 0
+AddsLine old new line added = (rows : List Row) → HoldsRows rows old → MatchBool added (HoldsMore rows line new) (add_row rows line ≡ None)
+
+-- the rows read so far are held, and the lines that are left lead on from them to what the first lines of the text give
+pub record Reached (text : List ℕ) (lines : List (ℕ × List ℕ)) (held : Files) : Type 0 where
+  pub rows : List Row
+  pub holds : HoldsRows rows held
+  pub reads : read_lines add_row (up_to_limit lines) rows ≡ first_rows text
+
+-- the first lines of the text are read, and their rows are held
+pub record FirstRead (text : List ℕ) (held : Files) : Type 0 where
+  pub rows : List Row
+  pub read : first_rows text ≡ Ok rows
+  pub holds : HoldsRows rows held
+
+-- the fault names the first bad one of the first lines
+abbrev pub FirstFault : List ℕ → MapFault → Type 0
+FirstFault text (Line number) = first_rows text ≡ Err number
+FirstFault text Memory = Unit {0}
