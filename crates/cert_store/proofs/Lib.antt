@@ -1,3 +1,9 @@
 pub mod FileNames
 pub mod HeldLaws
 pub mod MapLaws
+pub mod PathFacts
+pub mod RuleSteps
+pub mod JudgedLaws
+pub mod WalkLaws
+pub mod WordLaws
+pub mod JudgedWords

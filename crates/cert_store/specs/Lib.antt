@@ -2,3 +2,8 @@ pub mod ChainMap
 pub mod Files
 pub mod MapEntry
 pub mod MapReading
+pub mod Links
+pub mod Rules
+pub mod Asking
+pub mod Judged
+pub mod Words

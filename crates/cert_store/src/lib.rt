@@ -1,12 +1,23 @@
 //! Certificate chains by x5u, the header parameter that says where the certificates of a signed token are (RFC 7515
-//! section 4.1.5): the chain map, and chains that are judged once.
+//! section 4.1.5): which file has the chain of an x5u, and what the rules on a chain say of it.
 //!
-//! A [`ChainMap`] says which file has the certificates of which x5u.
+//! A [`ChainMap`] says which file has the certificates of which x5u. [`judge_chain`] judges the bytes of such a file once: all
+//! that depends on the bytes, the trust anchors, the code table and the signature provider alone. What depends on the moment of
+//! a call is asked of its answer, by [`Judged::out_of_date`].
 #![tactic(auto)]
 
+mod authority;
+mod judge;
+mod judged;
 mod map;
 mod map_rows;
 #[cfg(test)]
 mod map_tests;
+mod path;
+mod signatures;
 
+pub use judge::judge_chain;
+pub use judged::{Asked, Judged};
 pub use map::{ChainMap, MapFault};
+/// Memory ran out.
+pub use std::alloc::AllocError as Memory;

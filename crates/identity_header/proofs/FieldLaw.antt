@@ -8,7 +8,8 @@ use Rattle.text_grammar.specs.Reading.{Read, ◌>>=◌, byte_at, word_at, skip, 
 use Rattle.text_grammar.proofs.Laws.{Law, law_reads, law_same, place_of_stops, one_value}
 use Rattle.text_grammar.proofs.Pieces.{law_mark, law_word}
 use Rattle.text_grammar.proofs.Runs.{law_blanks, law_run}
-use Rattle.identity_header.specs.Parts.{Parts, is_digest_byte, is_uri_byte}
+use Rattle.text_grammar.specs.Bytes.{is_uri_byte}
+use Rattle.identity_header.specs.Parts.{Parts, is_digest_byte}
 use Rattle.identity_header.specs.FieldText.{Params, InfoText, FieldText, FieldPlace}
 use Rattle.identity_header.specs.Reading.{params_up_to, params_at, head_at, field_at}
 use Rattle.identity_header.proofs.Heads.{byte_head, blanks_head, no_blank, not_of}

@@ -5,7 +5,8 @@ use Rattle.std.specs.List.{list_all}
 use Rattle.std.proofs.lemmas.Bool.{cases_Bool, and_parts, and_from, leb-true, agree_below_at}
 use Rattle.text_grammar.specs.Bytes.{is_word}
 use Rattle.text_grammar.specs.Grammar.{◌▹◌, Any, Run}
-use Rattle.identity_header.specs.Parts.{Parts, InRows, is_digest_byte, is_uri_byte, is_bare_byte, is_quoted_byte}
+use Rattle.text_grammar.specs.Bytes.{is_uri_byte}
+use Rattle.identity_header.specs.Parts.{Parts, InRows, is_digest_byte, is_bare_byte, is_quoted_byte}
 use Rattle.identity_header.specs.FieldText.{Param, ValueText, Valued, IsName, ParamsText, values_of, at_most_one, FieldText}
 
 -- A bare byte may stand between quotes.

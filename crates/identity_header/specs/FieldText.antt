@@ -8,7 +8,8 @@ use Rattle.std.specs.Prelude.{◌≡◌, ℕ, ◌⊎◌, List, [], ◌∷◌, �
 use Rattle.text_grammar.specs.Bytes.{is_name_byte, is_word}
 use Rattle.text_grammar.specs.Grammar.{Taking, ◌▹◌, Byte, Word, Blanks, Any, Many, Run}
 use Rattle.text_grammar.specs.Place.{IsPlace}
-use Rattle.identity_header.specs.Parts.{Parts, is_digest_byte, is_uri_byte, is_bare_byte, is_quoted_byte}
+use Rattle.text_grammar.specs.Bytes.{is_uri_byte}
+use Rattle.identity_header.specs.Parts.{Parts, is_digest_byte, is_bare_byte, is_quoted_byte}
 
 -- a parameter: its name as it stands, and its value where it has one
 pub record Param : Type 0 where

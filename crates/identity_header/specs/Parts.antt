@@ -1,8 +1,7 @@
 -- The four parts of an Identity value (RFC 8224, section 4.1), and the bytes and the length of each, which are this
 -- project's own limits.
 use Rattle.std.specs.Prelude.{ℕ, Bool, not, ◌||◌, ◌&&◌, ◌==◌, nat_le, List, Option, IfSome}
-use Rattle.text_grammar.specs.Bytes.{is_letter, is_digit}
-pub use Rattle.text_grammar.specs.Bytes.{is_uri_byte}
+use Rattle.text_grammar.specs.Bytes.{is_letter, is_digit, is_uri_byte}
 use Rattle.text_grammar.specs.Grammar.{Any, Run}
 
 -- the signed token, the uri of the certificates, and the values of the parameters alg and ppt

@@ -3,7 +3,8 @@ use Rattle.std.specs.Prelude.{ℕ, zero, suc, List, [], ◌∷◌, length, take,
 use Rattle.std.specs.List.{prefix_len}
 use Rattle.text_grammar.specs.Bytes.{is_blank, is_name_byte, is_word}
 use Rattle.text_grammar.specs.Reading.{Read, ◌>>=◌, byte_at, word_at, skip, many_at, run_at}
-use Rattle.identity_header.specs.Parts.{Parts, is_digest_byte, is_uri_byte, is_bare_byte, is_quoted_byte}
+use Rattle.text_grammar.specs.Bytes.{is_uri_byte}
+use Rattle.identity_header.specs.Parts.{Parts, is_digest_byte, is_bare_byte, is_quoted_byte}
 
 -- behind an opening quote: what stands before the closing one
 unfoldable pub quoted_at : List ℕ → Read (List ℕ × List ℕ)

@@ -3,6 +3,7 @@ ghost use Rattle.std.specs.List.{prefix_len, list_all};
 ghost use Rattle.std.specs.Option.{option_copied};
 ghost use Rattle.text_grammar.specs.Grammar.{Any, Run};
 ghost use Rattle.identity_header.specs.Parts as parts;
+ghost use Rattle.text_grammar.specs.Bytes as bytes;
 ghost use Rattle.identity_header.specs.Spelling as spelling;
 
 use text_grammar::is_uri_byte;
@@ -41,7 +42,7 @@ fn all_digest(text: &[u8]) -> bool
 }
 
 fn all_uri(text: &[u8]) -> bool
-    ensures { result ≡ list_all parts.is_uri_byte text.now }
+    ensures { result ≡ list_all bytes.is_uri_byte text.now }
 {
     text.iter().all(|byte| is_uri_byte(*byte))
 }
@@ -70,7 +71,7 @@ pub(crate) fn is_digest(text: &[u8]) -> bool
 
 /// Whether a text is a uri: 1 to 2048 uri bytes.
 pub(crate) fn is_uri(text: &[u8]) -> bool
-    ensures { IsTrue result ↔ Run parts.is_uri_byte 2048 text.now }
+    ensures { IsTrue result ↔ Run bytes.is_uri_byte 2048 text.now }
 {
     match text.len() {
         1..=URI_MOST => all_uri(text),
@@ -110,7 +111,7 @@ pub(crate) fn digest_len(text: &[u8]) -> usize
 
 // How many uri bytes a text begins with.
 pub(crate) fn uri_len(text: &[u8]) -> usize
-    ensures count { result ≡ prefix_len parts.is_uri_byte text.now }
+    ensures count { result ≡ prefix_len bytes.is_uri_byte text.now }
     ensures within { result ≤ length text.now }
 {
     for (place, byte) in text.iter().enumerate() {

@@ -1,7 +1,8 @@
 ghost use Rattle.std.specs.Prelude.{◌≡◌, ◌↔◌, ◌<◌, length, IfOk, IfErr, IsSome, IfSome, OnOk, ◌++◌};
 ghost use Rattle.std.specs.Option.{option_copied};
 ghost use Rattle.text_grammar.specs.Grammar.{Any, Run};
-ghost use Rattle.identity_header.specs.Parts.{Parts, InRows, parts, is_digest_byte, is_uri_byte, is_quoted_byte};
+ghost use Rattle.identity_header.specs.Parts.{Parts, InRows, parts, is_digest_byte, is_quoted_byte};
+ghost use Rattle.text_grammar.specs.Bytes.{is_uri_byte};
 ghost use Rattle.identity_header.specs.FieldText.{FieldText, FieldPlace};
 ghost use Rattle.identity_header.specs.Spelling.{spelling, param_text};
 

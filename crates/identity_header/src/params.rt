@@ -27,7 +27,7 @@ fn digest_at(text: &[u8]) -> Result<(&[u8], &[u8]), Stop<'_>>
 
 // The uri, and what stands behind it.
 fn uri_at(text: &[u8]) -> Result<(&[u8], &[u8]), Stop<'_>>
-    ensures { Gives split_view result (run_at parts.is_uri_byte 2048 text.now) }
+    ensures { Gives split_view result (run_at bytes.is_uri_byte 2048 text.now) }
 {
     some_at(uri_len(front(text, URI_MOST)), text)
 }

@@ -6,7 +6,8 @@ use Rattle.std.proofs.lemmas.Str.Ascii.{IsAscii-nil, IsAscii-cons}
 use Rattle.std.specs.List.{list_all}
 use Rattle.std.specs.Str.{IsAscii, IsUtf8}
 use Rattle.passport_json.proofs.PlainLaws.{both}
-use Rattle.passport_json.specs.Uri.{is_uri_byte, is_uri}
+use Rattle.text_grammar.specs.Bytes.{is_uri_byte}
+use Rattle.passport_json.specs.Uri.{is_uri}
 
 below_128 : (byte : ℕ) → is_uri_byte byte ≡ true → byte < 128
 below_128 byte h = grind (arith, nat_tests)

@@ -1,7 +1,8 @@
 //! The URI of a certificate.
 ghost use Rattle.std.specs.Prelude.{◌≡◌, IsTrue};
 ghost use Rattle.std.specs.List.{list_all};
-ghost use Rattle.passport_json.specs.Uri.{is_uri, is_uri_byte};
+ghost use Rattle.passport_json.specs.Uri.{is_uri};
+ghost use Rattle.text_grammar.specs.Bytes.{is_uri_byte};
 
 use std::str;
 use text_grammar::is_uri_byte;

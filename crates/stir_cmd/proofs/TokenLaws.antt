@@ -3,30 +3,20 @@ use Rattle.std.proofs.Common.{◌≡◌, ◌≤◌, ℕ, Bool, true, false, ◌&
 use Rattle.std.specs.List.{list_all}
 use Rattle.std.proofs.lemmas.Bool.Decides.{nat_tests}
 use Rattle.std.proofs.lemmas.Slice.Eq.{bytes_eq-Decides}
+use Rattle.text_grammar.specs.Bytes.{is_uri_byte}
 use Rattle.text_grammar.specs.Grammar.{Run}
-use Rattle.identity_header.specs.Parts.{is_uri_byte as is_info_byte}
 use Rattle.passport_claims.specs.Claims.{IsKnown}
-use Rattle.passport_json.proofs.PlainLaws.{both}
-use Rattle.passport_json.specs.Uri.{is_uri, is_uri_byte}
+use Rattle.passport_json.specs.Uri.{is_uri}
 use Rattle.stir_cmd.specs.Call.{IdentityField, has_ppt, is_absent, is_text, lacks_ppt}
 
 -- ---- the URI
 
-byte_of : (byte : ℕ) → is_info_byte byte ≡ true → is_uri_byte byte ≡ true
-byte_of byte h = grind (arith, nat_tests)
-
-bytes_of : (text : List ℕ) → list_all is_info_byte text ≡ true → list_all is_uri_byte text ≡ true
-bytes_of [] h = refl
-bytes_of (byte ∷ rest) h =
-    let k = both (is_info_byte byte) (list_all is_info_byte rest) h in
-    rw (byte_of byte k.0, bytes_of rest k.1) refl
-
-pub uri_of_field : (text : List ℕ) → Run is_info_byte 2048 text → is_uri text ≡ true
+pub uri_of_field : (text : List ℕ) → Run is_uri_byte 2048 text → is_uri text ≡ true
 unfolding is_uri
 uri_of_field text run =
     let some : nat_le 1 (length text) ≡ true = let k = run.some in grind (arith, nat_tests) in
     let few : nat_le (length text) 2048 ≡ true = let k = run.within in grind (arith, nat_tests) in
-    rw (some, few, bytes_of text run.each) refl
+    let each : list_all is_uri_byte text ≡ true = run.each in rw (some, few, each) refl
 
 -- ---- the type
 

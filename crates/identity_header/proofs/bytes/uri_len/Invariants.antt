@@ -1,7 +1,7 @@
 -- The bytes before the place pass, and what is left is counted from there.
 use Rattle.std.proofs.Common.{◌≡◌, ◌+◌, drop}
 use Rattle.std.specs.List.{prefix_len}
-use Rattle.identity_header.specs.Parts.{is_uri_byte}
+use Rattle.text_grammar.specs.Bytes.{is_uri_byte}
 use Rattle.identity_header.proofs.bytes.uri_len.Given as goal
 
 abbrev pub invariant-loop-place : goal.invariant-loop-place

@@ -1,0 +1,199 @@
+-- What is known of a judged chain, in the rules' own words.
+use Rattle.std.proofs.Common.{◌≡◌, ◌↔◌, ℕ, zero, suc, ◌+◌, ◌-◌, ◌<◌, ◌≤◌, List, [], ◌∷◌, length, inl, inr, Option, Some, None, Result, Ok, Err, IfOk, refl, sym, ◌∙◌, ap, subst, arith}
+use Rattle.std.specs.List.{slice_get}
+use Rattle.std.proofs.lemmas.Option.{slice_get_cases}
+use Rattle.der_reader.specs.Elem.{AllBytes}
+use Rattle.x509_profile.specs.View.{CertView}
+use Rattle.x509_profile.specs.Chain.{Chain, RefusedCertificate, certificates_in}
+use Rattle.x509_profile.proofs.ChainLaws.{chain_again, chain_ends, chain_found, ends_whole}
+use Rattle.delegation.specs.declared.fault.PathFault.{PathFault}
+use Rattle.delegation.specs.Coverage.{Table}
+use Rattle.delegation.specs.Path.{IsAnchor, Path, anchor_of, shape_of}
+use Rattle.delegation.proofs.PathLaws.{path_again, path_found}
+use Rattle.cert_store.specs.declared.judged.Asked.{Asked}
+use Rattle.cert_store.specs.declared.judged.Asked.TheVariants.{NotAsked, Yes, No, Failed}
+use Rattle.cert_store.specs.Asking.{SoFar, asked_by}
+use Rattle.cert_store.specs.Judged.{IsJudged, JudgedView, asked_where, judged_of, out_of_date}
+use Rattle.cert_store.specs.Links.{chain_in, links_from, links_of, links_up_to, path_of, path_up_to, read_or_nothing}
+use Rattle.cert_store.specs.Rules.{Says, fault_place, first_out, first_unauthorized, first_unsigned, periods_from, place_in, refused_number, rule_11, rule_12, rule_14, rule_15}
+use Rattle.cert_store.specs.Words.{AuthorityIs, DatesAre, IsAuthorized, IsFirstBroken, IsSigned, IsValid, PathIs, PathOf, ProfileIs, ProfileOf, SignaturesAre, SignedAs, UnaskedIs}
+use Rattle.cert_store.proofs.PathFacts.{some_certificate}
+use Rattle.cert_store.proofs.WordLaws.{authority_worded, dates_worded, signatures_worded}
+
+-- ---- the fields
+
+-- each field but the answer of the provider is what the rules say
+record Fields (anchors : List CertView) (table : Table) (says : Says) (bytes : List ℕ) (judged : JudgedView) : Type 0 where
+  profile : judged.profile ≡ rule_11 bytes
+  shape : judged.shape ≡ rule_12 anchors bytes
+  authority : judged.authority ≡ rule_14 anchors table bytes
+  certificates : judged.certificates ≡ chain_in bytes
+  dates : (moment : ℕ) → out_of_date judged moment ≡ first_out moment (periods_from anchors 1 (path_of anchors (chain_in bytes)))
+  asked : SoFar (asked_where (rule_11 bytes) (rule_12 anchors bytes) (rule_14 anchors table bytes) (rule_15 anchors says bytes)) judged.asked
+
+fields_of : (anchors : List CertView) (table : Table) (says : Says) (bytes : List ℕ) (faults faults_now : ℕ) (judged : JudgedView)
+    → IsJudged (judged_of anchors table says bytes) faults faults_now judged → Fields anchors table says bytes judged
+unfolding judged_of
+fields_of anchors table says bytes faults faults_now judged j = record {
+  profile = ap (λ (x : JudgedView). x.profile) j.same;
+  shape = ap (λ (x : JudgedView). x.shape) j.same;
+  authority = ap (λ (x : JudgedView). x.authority) j.same;
+  certificates = ap (λ (x : JudgedView). x.certificates) j.same;
+  dates = λ moment. ap (λ (x : JudgedView). out_of_date x moment) j.same;
+  asked = j.so_far;
+}
+
+-- ---- rule 11
+
+profile_by : (bytes : List ℕ) (read : Result (List CertView) RefusedCertificate) → AllBytes bytes → certificates_in bytes ≡ read
+    → ProfileOf bytes (read_or_nothing read) (refused_number read)
+profile_by bytes (Ok chain) typed e = chain_found bytes chain typed e
+profile_by bytes (Err refused) typed e =
+    let ends = chain_ends bytes refused typed e in
+    (omega (arith, ends.number_is), ends_whole bytes refused ends, λ any chain. let k : Ok any ≡ Err refused = sym (chain_again bytes any chain) ∙ e in absurd (cc), refl)
+
+pub profile_is : (anchors : List CertView) (table : Table) (says : Says) (bytes : List ℕ) (faults faults_now : ℕ) (judged : JudgedView) → AllBytes bytes
+    → IsJudged (judged_of anchors table says bytes) faults faults_now judged → ProfileIs bytes judged
+profile_is anchors table says bytes faults faults_now judged typed j =
+    let f = fields_of anchors table says bytes faults faults_now judged j in
+    let P : Option ℕ → Type 0 = λ place. ProfileOf bytes judged.certificates place in
+    let Q : List CertView → Type 0 = λ chain. ProfileOf bytes chain (rule_11 bytes) in
+    subst P (sym f.profile) (subst Q (sym f.certificates) (profile_by bytes (certificates_in bytes) typed refl))
+
+-- ---- rule 12
+
+path_in : (chain anchors : List CertView) (shape : Result (Option ℕ) PathFault) → shape_of chain anchors ≡ shape → PathOf chain anchors (fault_place shape)
+path_in chain anchors (Ok anchor) e = (anchor, path_found chain anchors anchor e)
+path_in chain anchors (Err fault) e = λ anchor path. let k : Err fault ≡ Ok anchor = sym e ∙ path_again chain anchors anchor path in absurd (cc)
+
+path_by : (anchors : List CertView) (read : Result (List CertView) RefusedCertificate) → refused_number read ≡ None → PathOf (read_or_nothing read) anchors (place_in anchors read)
+path_by anchors (Ok chain) e = path_in chain anchors (shape_of chain anchors) refl
+path_by anchors (Err refused) e = absurd (cc)
+
+pub path_is : (anchors : List CertView) (table : Table) (says : Says) (bytes : List ℕ) (faults faults_now : ℕ) (judged : JudgedView)
+    → IsJudged (judged_of anchors table says bytes) faults faults_now judged → PathIs anchors judged
+path_is anchors table says bytes faults faults_now judged j none =
+    let f = fields_of anchors table says bytes faults faults_now judged j in
+    let P : Option ℕ → Type 0 = λ place. PathOf judged.certificates anchors place in
+    let Q : List CertView → Type 0 = λ chain. PathOf chain anchors (rule_12 anchors bytes) in
+    subst P (sym f.shape) (subst Q (sym f.certificates) (path_by anchors (certificates_in bytes) (sym f.profile ∙ none)))
+
+-- ---- of a path
+
+-- above a path stands a certificate
+record Top (chain anchors : List CertView) (anchor : Option ℕ) : Type 0 where
+  top : CertView
+  is : anchor_of chain anchors anchor ≡ Some top
+
+top_by : (chain anchors : List CertView) (n : ℕ) (last : CertView) (anchor : Option ℕ) → 0 < length chain → IsAnchor n last anchors anchor → Top chain anchors anchor
+top_by chain anchors n last None some a =
+    elim (slice_get_cases chain (length chain - 1)).1 [
+      | inl (c, within, is, at) ↦ record { top = c; is = is }
+      | inr (past, none) ↦ absurd (omega (arith, some, past))
+    ]
+top_by chain anchors n last (Some number) some (listed, found, is, fits, first) = record { top = found; is = is }
+
+top_of : (chain anchors : List CertView) (anchor : Option ℕ) → Path chain anchors anchor → Top chain anchors anchor
+top_of chain anchors anchor p = top_by chain anchors _ p.last anchor (some_certificate chain anchors anchor p) p.anchored
+
+links_are : (chain anchors : List CertView) (anchor : Option ℕ) (t : Top chain anchors anchor) → Path chain anchors anchor → links_of anchors chain ≡ links_from 1 chain t.top
+links_are chain anchors anchor t p = rw (path_again chain anchors anchor p, t.is) refl
+
+pub dates_are : (anchors : List CertView) (table : Table) (says : Says) (bytes : List ℕ) (faults faults_now : ℕ) (judged : JudgedView)
+    → IsJudged (judged_of anchors table says bytes) faults faults_now judged → DatesAre anchors judged
+dates_are anchors table says bytes faults faults_now judged j anchor moment path =
+    let f = fields_of anchors table says bytes faults faults_now judged j in
+    let p : Path (chain_in bytes) anchors anchor = subst (λ (chain : List CertView). Path chain anchors anchor) f.certificates path in
+    let P : Option ℕ → Type 0 = IsFirstBroken (IsValid anchors moment judged.certificates) (length judged.certificates) in
+    let Q : List CertView → Type 0 = λ chain. IsFirstBroken (IsValid anchors moment chain) (length chain) (first_out moment (periods_from anchors 1 (path_of anchors (chain_in bytes)))) in
+    let R : List CertView → Type 0 = λ dated. IsFirstBroken (IsValid anchors moment (chain_in bytes)) (length (chain_in bytes)) (first_out moment (periods_from anchors 1 dated)) in
+    let all : path_of anchors (chain_in bytes) ≡ chain_in bytes = ap (path_up_to (chain_in bytes)) (path_again (chain_in bytes) anchors anchor p) in
+    subst P (sym (f.dates moment)) (subst Q (sym f.certificates) (subst R (sym all) (dates_worded anchors moment (chain_in bytes))))
+
+pub authority_is : (anchors : List CertView) (table : Table) (says : Says) (bytes : List ℕ) (faults faults_now : ℕ) (judged : JudgedView)
+    → IsJudged (judged_of anchors table says bytes) faults faults_now judged → AuthorityIs anchors table judged
+authority_is anchors table says bytes faults faults_now judged j anchor path =
+    let f = fields_of anchors table says bytes faults faults_now judged j in
+    let p : Path (chain_in bytes) anchors anchor = subst (λ (chain : List CertView). Path chain anchors anchor) f.certificates path in
+    let t = top_of (chain_in bytes) anchors anchor p in
+    let P : Option ℕ → Type 0 = IsFirstBroken (IsAuthorized table anchors anchor judged.certificates) (length judged.certificates) in
+    let Q : List CertView → Type 0 = λ chain. IsFirstBroken (IsAuthorized table anchors anchor chain) (length chain) (rule_14 anchors table bytes) in
+    let found : rule_14 anchors table bytes ≡ first_unauthorized table (links_from 1 (chain_in bytes) t.top) = ap (first_unauthorized table) (links_are (chain_in bytes) anchors anchor t p) in
+    let R : Option ℕ → Type 0 = IsFirstBroken (IsAuthorized table anchors anchor (chain_in bytes)) (length (chain_in bytes)) in
+    subst P (sym f.authority) (subst Q (sym f.certificates) (subst R (sym found) (authority_worded anchors table (chain_in bytes) anchor t.top t.is)))
+
+-- ---- rule 15
+
+signed_as : (Holds : ℕ → Type 0) (count : ℕ) (first : Option ℕ) (asked : Asked) → SoFar (asked_by first) asked → IsFirstBroken Holds count first → SignedAs Holds count asked
+signed_as Holds count None NotAsked s w = absurd (cc)
+signed_as Holds count (Some part) NotAsked s w = absurd (cc)
+signed_as Holds count None Yes s w = w
+signed_as Holds count (Some part) Yes s w = absurd (cc)
+signed_as Holds count None (No part) s w = absurd (cc)
+signed_as Holds count (Some first) (No part) s w = let same : first ≡ part = cc in let P : ℕ → Type 0 = λ n. IsFirstBroken Holds count (Some n) in subst P same w
+signed_as Holds count None (Failed part) s w = λ number some less most. w number some most
+signed_as Holds count (Some first) (Failed part) s w = λ number some less most. w.3 number some (omega (arith, less, s))
+
+pub signatures_are : (anchors : List CertView) (table : Table) (says : Says) (bytes : List ℕ) (faults faults_now : ℕ) (judged : JudgedView)
+    → IsJudged (judged_of anchors table says bytes) faults faults_now judged → SignaturesAre anchors says judged
+signatures_are anchors table says bytes faults faults_now judged j anchor path none =
+    let f = fields_of anchors table says bytes faults faults_now judged j in
+    let p : Path (chain_in bytes) anchors anchor = subst (λ (chain : List CertView). Path chain anchors anchor) f.certificates path in
+    let t = top_of (chain_in bytes) anchors anchor p in
+    let Q : List CertView → Type 0 = λ chain. SignedAs (IsSigned says anchors anchor chain) (length chain) judged.asked in
+    let links : rule_15 anchors says bytes ≡ first_unsigned says anchors (links_from 1 (chain_in bytes) t.top) = ap (first_unsigned says anchors) (links_are (chain_in bytes) anchors anchor t p) in
+    let profile : rule_11 bytes ≡ None = profile_of_path anchors bytes anchor (certificates_in bytes) p in
+    let shape : rule_12 anchors bytes ≡ None = shape_of_path anchors anchor (certificates_in bytes) p in
+    let authority : rule_14 anchors table bytes ≡ None = sym f.authority ∙ none in
+    let asked : SoFar (asked_by (first_unsigned says anchors (links_from 1 (chain_in bytes) t.top))) judged.asked = asked_here _ _ _ _ _ judged.asked profile shape authority links f.asked in
+    subst Q (sym f.certificates) (signed_as (IsSigned says anchors anchor (chain_in bytes)) (length (chain_in bytes)) _ judged.asked asked (signatures_worded says anchors (chain_in bytes) anchor t.top t.is))
+  where
+    profile_of_path : (anchors : List CertView) (bytes : List ℕ) (anchor : Option ℕ) (read : Result (List CertView) RefusedCertificate) → Path (read_or_nothing read) anchors anchor → refused_number read ≡ None
+    profile_of_path anchors bytes anchor (Ok chain) p = refl
+    profile_of_path anchors bytes anchor (Err refused) p = let some = some_certificate [] anchors anchor p in absurd (omega (arith, some))
+
+    shape_of_path : (anchors : List CertView) (anchor : Option ℕ) (read : Result (List CertView) RefusedCertificate) → Path (read_or_nothing read) anchors anchor → place_in anchors read ≡ None
+    shape_of_path anchors anchor (Ok chain) p = ap fault_place (path_again chain anchors anchor p)
+    shape_of_path anchors anchor (Err refused) p = refl
+
+    asked_here : (profile shape authority unsigned first : Option ℕ) (asked : Asked) → profile ≡ None → shape ≡ None → authority ≡ None → unsigned ≡ first
+        → SoFar (asked_where profile shape authority unsigned) asked → SoFar (asked_by first) asked
+    asked_here profile shape authority unsigned first asked a b c d s =
+        let same : asked_where profile shape authority unsigned ≡ asked_by first = rw (a, b, c, d) refl in subst (λ truth. SoFar truth asked) same s
+
+-- ---- whether signatures were asked for
+
+truth_asked : (unsigned : Option ℕ) (asked : Asked) → SoFar (asked_by unsigned) asked → asked ≡ NotAsked → ⊥
+truth_asked None NotAsked s e = absurd (cc)
+truth_asked (Some part) NotAsked s e = absurd (cc)
+truth_asked unsigned Yes s e = absurd (cc)
+truth_asked unsigned (No part) s e = absurd (cc)
+truth_asked unsigned (Failed part) s e = absurd (cc)
+
+is_unasked : (asked : Asked) → SoFar NotAsked asked → asked ≡ NotAsked
+is_unasked NotAsked s = refl
+is_unasked Yes s = absurd (cc)
+is_unasked (No part) s = absurd (cc)
+is_unasked (Failed part) s = absurd s
+
+unasked_by : (profile shape authority unsigned : Option ℕ) (asked : Asked) → SoFar (asked_where profile shape authority unsigned) asked
+    → (asked ≡ NotAsked) ↔ ((profile ≡ None) × (shape ≡ None) × (authority ≡ None) → ⊥)
+unasked_by None None None unsigned asked s = (λ e. absurd (truth_asked unsigned asked s e), λ h. absurd (h (refl, refl, refl)))
+unasked_by None None (Some part) unsigned asked s = (λ e all. let k = all.2 in absurd (cc), λ h. is_unasked asked s)
+unasked_by None (Some part) authority unsigned asked s = (λ e all. let k = all.1 in absurd (cc), λ h. is_unasked asked s)
+unasked_by (Some part) shape authority unsigned asked s = (λ e all. let k = all.0 in absurd (cc), λ h. is_unasked asked s)
+
+pub unasked_is : (anchors : List CertView) (table : Table) (says : Says) (bytes : List ℕ) (faults faults_now : ℕ) (judged : JudgedView)
+    → IsJudged (judged_of anchors table says bytes) faults faults_now judged → UnaskedIs judged
+unasked_is anchors table says bytes faults faults_now judged j =
+    let f = fields_of anchors table says bytes faults faults_now judged j in
+    let k = unasked_by (rule_11 bytes) (rule_12 anchors bytes) (rule_14 anchors table bytes) (rule_15 anchors says bytes) judged.asked f.asked in (
+      λ e all. k.0 e (sym f.profile ∙ all.0, sym f.shape ∙ all.1, sym f.authority ∙ all.2),
+      λ h. k.1 (λ all. h (f.profile ∙ all.0, f.shape ∙ all.1, f.authority ∙ all.2)),
+    )
+
+-- ---- of an answer
+
+pub ok_so : {X E : Type 0} (r : Result X E) (P Q : X → Type 0) → ((x : X) → P x → Q x) → IfOk r P → IfOk r Q
+ok_so (Ok x) P Q f p = f x p
+ok_so (Err e) P Q f p = tt
