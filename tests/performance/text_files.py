@@ -2,7 +2,7 @@
 """Counts what reading large text files takes: instructions, by valgrind, and memory.
 
 For each kind of file a small program over the crate that reads it is built beside copies of the crates below it, in a folder
-of its own, and reads files of 50,000 to 200,000 lines. Doubling the lines must not take more than 2.5 times the instructions.
+of its own, and reads files of up to as many lines as the program takes. Doubling the lines must not take more than 2.5 times the instructions.
 
     tests/performance/text_files.py
 
@@ -18,7 +18,6 @@ import tempfile
 from pathlib import Path
 
 TOP = Path(__file__).resolve().parents[2]
-LINES = [50_000, 100_000, 200_000]
 MOST = 2.5
 CODES = 20_000
 
@@ -52,10 +51,19 @@ def answers(lines):
     return "".join(f"confirm 04{line:0128x} {line * 7919:064x} {line * 104729:0128x}\n" for line in range(lines))
 
 
-# the kind of file, its reader, the crate of that and those below it, and what makes such a file
+def chain_map(lines):
+    """A chain map that lists each x5u once."""
+    return "".join(f"https://cert.example.org/{line * 7919:012}.cer {line}.der\n" for line in range(lines))
+
+
+TABLE = ["tn_auth_list", "stir_base", "text_file", "tn_values", "der_reader"]
+CHAINS = ["cert_store", "text_grammar", "stir_outside", "delegation", "x509_profile"] + TABLE
+
+# the kind of file, its reader, the crate of that and those below it, what makes such a file, and of how many lines
 SUBJECTS = [
-    ("code table", "CodeTable", ["tn_auth_list", "stir_base", "text_file", "tn_values", "der_reader"], code_table),
-    ("answers file", "Answers", ["stir_outside", "stir_base", "text_file"], answers),
+    ("code table", "CodeTable", TABLE, code_table, [50_000, 100_000, 200_000]),
+    ("answers file", "Answers", ["stir_outside", "stir_base", "text_file"], answers, [50_000, 100_000, 200_000]),
+    ("chain map", "ChainMap", CHAINS, chain_map, [12_500, 25_000, 50_000]),
 ]
 
 
@@ -102,12 +110,12 @@ def memory(program, folder):
     return usage.ru_maxrss * 1024
 
 
-def measure(kind, reader, crates, make):
+def measure(kind, reader, crates, make, sizes):
     with tempfile.TemporaryDirectory() as name:
         folder = Path(name)
         program = build(folder, reader, crates)
         counts = []
-        for lines in LINES:
+        for lines in sizes:
             text = make(lines)
             (folder / "lines").write_text(text)
             counts.append(instructions(program, folder))

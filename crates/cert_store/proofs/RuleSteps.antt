@@ -1,11 +1,13 @@
 -- One certificate more that lies within its issuer, and what a question that failed leaves open.
-use Rattle.std.proofs.Common.{◌≡◌, ℕ, suc, ◌+◌, ◌<◌, ◌≤◌, Bool, true, false, cond, List, [], ◌∷◌, length, drop, get_or, drop-cons, ◌∙◌, Option, Some, None, IfSome, refl, sym, ap, subst, arith}
+use Rattle.std.proofs.Common.{◌≡◌, ℕ, suc, ◌+◌, ◌-◌, ◌<◌, ◌≤◌, Bool, true, false, cond, List, [], ◌∷◌, length, drop, get_or, drop-cons, ◌∙◌, Option, Some, None, IfSome, refl, sym, ap, subst, arith}
+use Rattle.std.specs.List.{slice_get}
+use Rattle.std.proofs.lemmas.Option.{slice_get_read}
 use Rattle.x509_profile.specs.View.{CertView}
 use Rattle.delegation.specs.Coverage.{Table}
 use Rattle.delegation.specs.Decided.{is_within}
 use Rattle.delegation.specs.Path.{is_listed}
 use Rattle.cert_store.specs.declared.judged.Asked.TheVariants.{Failed}
-use Rattle.cert_store.specs.Asking.{Answers, IsOpen, SoFar, asked_by}
+use Rattle.cert_store.specs.Asking.{Answers, IsOpen, IsQuestion, asked_by}
 use Rattle.cert_store.specs.Links.{first_or, link, links_from}
 use Rattle.cert_store.specs.Rules.{Says, first_outside, first_unsigned, is_signed}
 
@@ -53,3 +55,13 @@ left_open says anchors chain top index left =
     let from = number_from says anchors (index + 1) (drop index chain) top in
     let P : Option ℕ → Type 0 = λ o. IsOpen (index + 1) (asked_by o) in
     subst P left (open_at (index + 1) _ from)
+
+-- the certificate at an index was asked for
+pub was_asked : (anchors chain : List CertView) (c : CertView) (index : ℕ) (listed : Bool) → index < length chain → c ≡ get_or chain index c
+    → listed ≡ is_listed c anchors → listed ≡ false → IsQuestion anchors chain (index + 1)
+was_asked anchors chain c index listed inside is tells free = record {
+  certificate = c;
+  some = omega arith;
+  stands = let same : index + 1 - 1 ≡ index = omega arith in ap (slice_get chain) same ∙ slice_get_read chain (length chain) index c refl inside is;
+  free = sym tells ∙ free;
+}

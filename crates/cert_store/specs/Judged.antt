@@ -7,7 +7,7 @@ use Rattle.delegation.specs.Path.{anchor_of, shape_of}
 use Rattle.cert_store.specs.declared.judged.Asked.{Asked}
 use Rattle.cert_store.specs.declared.judged.Asked.TheVariants.{NotAsked}
 use Rattle.cert_store.specs.declared.judged.Period.{Period}
-use Rattle.cert_store.specs.Asking.{FailedWithCause, SoFar, asked_by}
+use Rattle.cert_store.specs.Asking.{FailedAt, FailedWithCause, SoFar, asked_by}
 use Rattle.cert_store.specs.Links.{Link, chain_in, links_below, path_of}
 use Rattle.cert_store.specs.Rules.{Says, first_out, first_unauthorized, first_unsigned, periods_from, rule_11, rule_12, rule_14, rule_15}
 
@@ -79,6 +79,10 @@ pub record IsJudged (truth : JudgedView) (faults faults_now : ℕ) (judged : Jud
   pub same : judged ≡ record truth { asked = judged.asked }
   pub so_far : SoFar truth.asked judged.asked
   pub cause : FailedWithCause faults faults_now judged.asked
+
+-- a question that failed is one of a certificate that isn't an anchor
+abbrev pub FailedIs : List CertView → JudgedView → Type 0
+FailedIs anchors judged = FailedAt anchors judged.certificates judged.asked
 
 -- no more questions were asked than there are certificates, and none where rule 11, 12 or 14 is broken or memory was wanting
 abbrev pub Asks : {E : Type 0} → ℕ → ℕ → Result JudgedView E → Type 0

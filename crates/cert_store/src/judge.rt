@@ -1,7 +1,7 @@
 //! A chain judged by the rules on it.
 ghost use Rattle.std.specs.Prelude.{◌≡◌, ◌+◌, ◌≤◌, ℕ, Option, None, length, vec_len, IfOk};
 ghost use Rattle.delegation.specs.Path.{Path, anchor_of};
-ghost use Rattle.cert_store.specs.Judged.{Asks, HasCount, IsJudged, judged_chain, judged_of, judged_path, outside_profile, without_path};
+ghost use Rattle.cert_store.specs.Judged.{Asks, FailedIs, HasCount, IsJudged, judged_chain, judged_of, judged_path, outside_profile, without_path};
 ghost use Rattle.cert_store.specs.Links.{links_below};
 ghost use Rattle.cert_store.specs.Words.{AuthorityIs, DatesAre, PathIs, ProfileIs, SignaturesAre, UnaskedIs};
 
@@ -41,6 +41,7 @@ pub fn judge_chain<P: Provider>(
 
     // Where signatures were asked for, how often, and what that changed of the provider.
     ensures unasked { IfOk result UnaskedIs }
+    ensures question { IfOk result (FailedIs anchors.now) }
     ensures asks { Asks (P.asks provider.old) (P.asks provider.new) result }
     ensures faults { HasCount (P.faults provider.old) (P.faults provider.new) result }
     ensures same_says { P.says provider.new ≡ P.says provider.old }
@@ -57,6 +58,7 @@ fn judge_bytes<P: Provider>(
     provider: &mut P,
 ) -> Result<Judged, Memory>
     ensures exact { IfOk result (IsJudged (judged_of anchors.now table.now (P.says provider.old) bytes.now) (P.faults provider.old) (P.faults provider.new)) }
+    ensures question { IfOk result (FailedIs anchors.now) }
     ensures asks { Asks (P.asks provider.old) (P.asks provider.new) result }
     ensures faults { HasCount (P.faults provider.old) (P.faults provider.new) result }
     ensures same_says { P.says provider.new ≡ P.says provider.old }
@@ -79,6 +81,7 @@ fn judge_certificates<P: Provider>(
 ) -> Result<Judged, Memory>
     requires { vec_len certificates ≤ 6 }
     ensures exact { IfOk result (IsJudged (judged_chain anchors.now table.now (P.says provider.old) certificates.items) (P.faults provider.old) (P.faults provider.new)) }
+    ensures question { IfOk result (FailedIs anchors.now) }
     ensures asks { Asks (P.asks provider.old) (P.asks provider.new) result }
     ensures faults { HasCount (P.faults provider.old) (P.faults provider.new) result }
     ensures same_says { P.says provider.new ≡ P.says provider.old }
@@ -103,6 +106,7 @@ fn judge_path<P: Provider>(
     requires path { Path certificates.items anchors.now anchor }
     ensures exact { IfOk result (IsJudged (judged_path anchors.now table.now (P.says provider.old) certificates.items
         (links_below certificates.items (anchor_of certificates.items anchors.now anchor))) (P.faults provider.old) (P.faults provider.new)) }
+    ensures question { IfOk result (FailedIs anchors.now) }
     ensures asks { Asks (P.asks provider.old) (P.asks provider.new) result }
     ensures faults { HasCount (P.faults provider.old) (P.faults provider.new) result }
     ensures same_says { P.says provider.new ≡ P.says provider.old }
