@@ -1,7 +1,7 @@
 -- What the rules say of bytes is what they say of the certificates that are read from them.
-use Rattle.std.proofs.Common.{◌≡◌, ℕ, List, [], Option, Some, None, Result, Ok, Err, IfOk, refl, sym, ◌∙◌, subst, arith}
+use Rattle.std.proofs.Common.{◌≡◌, ℕ, List, Option, None, Result, Ok, Err, refl, sym, subst, arith}
 use Rattle.x509_profile.specs.View.{CertView}
-use Rattle.x509_profile.specs.Chain.{RefusedCertificate, certificates_in, refused_at}
+use Rattle.x509_profile.specs.Chain.{RefusedCertificate, certificates_in}
 use Rattle.delegation.specs.declared.fault.PathFault.{PathFault}
 use Rattle.delegation.specs.Coverage.{Table}
 use Rattle.delegation.specs.Path.{shape_of}

@@ -1,10 +1,9 @@
 -- What is known of a judged chain, in the rules' own words.
-use Rattle.std.proofs.Common.{◌≡◌, ◌↔◌, ℕ, zero, suc, ◌+◌, ◌-◌, ◌<◌, ◌≤◌, List, [], ◌∷◌, length, inl, inr, Option, Some, None, Result, Ok, Err, IfOk, refl, sym, ◌∙◌, ap, subst, arith}
-use Rattle.std.specs.List.{slice_get}
+use Rattle.std.proofs.Common.{◌≡◌, ◌↔◌, ℕ, ◌-◌, ◌<◌, List, [], length, inl, inr, Option, Some, None, Result, Ok, Err, IfOk, refl, sym, ◌∙◌, ap, subst, arith}
 use Rattle.std.proofs.lemmas.Option.{slice_get_cases}
 use Rattle.der_reader.specs.Elem.{AllBytes}
 use Rattle.x509_profile.specs.View.{CertView}
-use Rattle.x509_profile.specs.Chain.{Chain, RefusedCertificate, certificates_in}
+use Rattle.x509_profile.specs.Chain.{RefusedCertificate, certificates_in}
 use Rattle.x509_profile.proofs.ChainLaws.{chain_again, chain_ends, chain_found, ends_whole}
 use Rattle.delegation.specs.declared.fault.PathFault.{PathFault}
 use Rattle.delegation.specs.Coverage.{Table}
@@ -14,7 +13,7 @@ use Rattle.cert_store.specs.declared.judged.Asked.{Asked}
 use Rattle.cert_store.specs.declared.judged.Asked.TheVariants.{NotAsked, Yes, No, Failed}
 use Rattle.cert_store.specs.Asking.{SoFar, asked_by}
 use Rattle.cert_store.specs.Judged.{IsJudged, JudgedView, asked_where, judged_of, out_of_date}
-use Rattle.cert_store.specs.Links.{chain_in, links_from, links_of, links_up_to, path_of, path_up_to, read_or_nothing}
+use Rattle.cert_store.specs.Links.{chain_in, links_from, links_of, path_of, path_up_to, read_or_nothing}
 use Rattle.cert_store.specs.Rules.{Says, fault_place, first_out, first_unauthorized, first_unsigned, periods_from, place_in, refused_number, rule_11, rule_12, rule_14, rule_15}
 use Rattle.cert_store.specs.Words.{AuthorityIs, DatesAre, IsAuthorized, IsFirstBroken, IsSigned, IsValid, PathIs, PathOf, ProfileIs, ProfileOf, SignaturesAre, SignedAs, UnaskedIs}
 use Rattle.cert_store.proofs.PathFacts.{some_certificate}

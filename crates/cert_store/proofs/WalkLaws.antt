@@ -1,9 +1,9 @@
 -- Rules that go from certificate to certificate: where they end, and what holds of those that they pass.
-use Rattle.std.proofs.Common.{◌≡◌, ℕ, zero, suc, ◌+◌, ◌-◌, ◌<◌, ◌≤◌, Bool, true, false, cond, List, [], ◌∷◌, length, drop, inl, inr, Option, Some, None, refl, sym, ◌∙◌, ap, subst, arith}
+use Rattle.std.proofs.Common.{◌≡◌, ℕ, zero, suc, ◌+◌, ◌-◌, ◌<◌, ◌≤◌, Bool, true, false, cond, List, [], ◌∷◌, length, drop, inl, inr, Option, Some, None, refl, sym, ◌∙◌, subst, arith}
 use Rattle.std.specs.List.{slice_get}
 use Rattle.std.proofs.lemmas.Option.{slice_get_within, slice_get_cases}
 use Rattle.x509_profile.specs.View.{CertView}
-use Rattle.cert_store.specs.Words.{IsFirstBroken, IsNumbered}
+use Rattle.cert_store.specs.Words.{IsFirstBroken}
 
 -- a test of a certificate and of those above it
 abbrev pub Test : Type 0

@@ -1,18 +1,18 @@
 -- The rules say in their own words what their tests find.
-use Rattle.std.proofs.Common.{◌≡◌, ◌↔◌, ℕ, zero, suc, ◌+◌, ◌-◌, ◌<◌, ◌≤◌, ◌&&◌, nat_lt, Bool, true, false, cond, List, [], ◌∷◌, length, drop, inl, inr, Option, Some, None, is_some, IsSome, ℤ, pos, ◌≤ℤ◌, refl, sym, ◌∙◌, ap, subst, arith}
+use Rattle.std.proofs.Common.{◌≡◌, ℕ, zero, suc, ◌-◌, ◌≤◌, ◌&&◌, nat_lt, Bool, true, false, cond, List, [], ◌∷◌, length, drop, inl, inr, Option, Some, is_some, IsSome, ℤ, pos, ◌≤ℤ◌, refl, sym, ◌∙◌, ap, subst, arith}
 use Rattle.std.specs.Prelude.{int_le}
 use Rattle.std.specs.List.{slice_get}
 use Rattle.std.proofs.lemmas.Bool.Decides.{nat_tests}
 use Rattle.std.proofs.lemmas.Int.{ints}
-use Rattle.std.proofs.lemmas.Option.{slice_get_within, slice_get_past, slice_get_cases}
+use Rattle.std.proofs.lemmas.Option.{slice_get_cases}
 use Rattle.x509_profile.specs.View.{CertView}
 use Rattle.delegation.specs.Coverage.{Table, Within}
 use Rattle.delegation.specs.Decided.{is_within}
 use Rattle.delegation.specs.Path.{anchor_of, is_listed, issuer_of}
 use Rattle.delegation.proofs.DecidedLaws.{decides}
 use Rattle.cert_store.specs.declared.judged.Period.{Period}
-use Rattle.cert_store.specs.Links.{first_or, link, links_from}
-use Rattle.cert_store.specs.Rules.{Says, first_out, first_outside, first_unauthorized, first_unsigned, is_in_date, is_signed, lies_within, period_of, periods_from}
+use Rattle.cert_store.specs.Links.{first_or, links_from}
+use Rattle.cert_store.specs.Rules.{Says, first_out, first_outside, first_unauthorized, first_unsigned, period_of, periods_from}
 use Rattle.cert_store.specs.Words.{IsAuthorized, IsFirstBroken, IsNumbered, IsSigned, IsValid}
 use Rattle.cert_store.proofs.WalkLaws.{Means, Test, walk, worded}
 

@@ -18,8 +18,8 @@ use Rattle.tn_auth_list.specs.declared.table_groups.Held.{Held}
 use Rattle.tn_auth_list.specs.declared.table_groups.Held.TheVariants.{All, These}
 use Rattle.tn_auth_list.specs.declared.entries.Entry.{Entry}
 use Rattle.tn_auth_list.specs.declared.entries.Entry.TheVariants.{Code, Range, Single}
-use Rattle.delegation.specs.Coverage.{Table, In, Owns, Covers, NamesCode, ListWithin, Within}
-use Rattle.delegation.specs.Gathered.{is_code, has_code_of, has_codes_of, no_numbers}
+use Rattle.delegation.specs.Coverage.{Table, In, Owns, Covers, ListWithin, Within}
+use Rattle.delegation.specs.Gathered.{has_codes_of, no_numbers}
 use Rattle.delegation.specs.Decided.{is_owned, is_granted, is_in, owns_number, covers_number, keeps_number, is_list_within, is_within}
 use Rattle.delegation.proofs.Lists.{both, bytes_same, same_bytes, either_true, or_first, or_second}
 use Rattle.delegation.proofs.SetLaws.{owns_added}

@@ -1,10 +1,10 @@
 -- One certificate more of a chain is read.
-use Rattle.std.proofs.Common.{◌≡◌, ℕ, zero, suc, ◌+◌, ◌-◌, ◌<◌, ◌≤◌, ◌==◌, Bool, true, false, List, [], ◌∷◌, ◌++◌, length, Option, Some, None, Result, Ok, Err, refl, sym, ◌∙◌, ap, subst, arith, append_assoc, append-nil, length-append}
+use Rattle.std.proofs.Common.{◌≡◌, ℕ, zero, suc, ◌+◌, ◌-◌, ◌<◌, ◌≤◌, ◌==◌, true, false, List, [], ◌∷◌, ◌++◌, length, Some, None, Result, Ok, Err, refl, sym, ◌∙◌, ap, arith, append_assoc, append-nil, length-append}
 use Rattle.std.proofs.lemmas.Bool.Decides.{nat_tests}
 use Rattle.der_reader.specs.Elem.{AllBytes}
 use Rattle.x509_profile.specs.View.{CertView}
 use Rattle.x509_profile.specs.Chain.{RefusedCertificate, behind, behind_front, certificates_in, certificates_up_to, front, refused_at}
-use Rattle.x509_profile.proofs.ChainLaws.{Fronts, front_found, some_bytes}
+use Rattle.x509_profile.proofs.ChainLaws.{Fronts, front_found}
 
 -- what is read behind these certificates, at this place
 abbrev pub after : List CertView → ℕ → Result (List CertView) RefusedCertificate → Result (List CertView) RefusedCertificate

@@ -1,8 +1,8 @@
 -- What is said of bytes is what is said of what is read from them.
-use Rattle.std.proofs.Common.{◌≡◌, ℕ, List, Option, Ok, Err, IfOk, sym, subst}
+use Rattle.std.proofs.Common.{◌≡◌, Ok, IfOk, sym, subst}
 use Rattle.x509_profile.specs.Chain.{certificates_in, refused_at}
 use Rattle.cert_store.specs.Judged.{IsJudged, JudgedView}
-use Rattle.cert_store.proofs.JudgedLaws.{of_chain, of_refused, refused_judged}
+use Rattle.cert_store.proofs.JudgedLaws.{of_chain, refused_judged}
 use Rattle.cert_store.proofs.judge.judge_bytes.Goals as goal
 
 pub returns-in-Ok-clause-exact : goal.returns-in-Ok-clause-exact

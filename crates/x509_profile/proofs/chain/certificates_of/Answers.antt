@@ -1,6 +1,5 @@
 -- One certificate more is read, and less is left.
 use Rattle.std.proofs.Common.{rules, ◌≡◌, Some, sym, subst, ◌++◌, ◌∷◌, []}
-use Rattle.x509_profile.specs.View.{CertView}
 use Rattle.x509_profile.specs.Chain.{front}
 use Rattle.x509_profile.proofs.ChainSteps.{Left, left_more, left_shorter}
 use Rattle.x509_profile.proofs.chain.certificates_of.Goals as goal
