@@ -1,10 +1,10 @@
 -- Why a run ended as it did, from what it came to.
-use Rattle.std.proofs.Common.{◌≡◌, ℕ, ◌<◌, ◌≤◌, ◌⊎◌, inl, inr, Bool, true, false, nat_lt, List, length, Option, Some, None, Result, Ok, Err, IfOk, IfSome, refl, sym, ◌∙◌, ap, subst, arith}
+use Rattle.std.proofs.Common.{◌≡◌, ℕ, ◌≤◌, ◌⊎◌, inl, inr, Bool, true, false, nat_lt, List, length, Option, Some, None, Result, Ok, Err, IfOk, IfSome, refl, sym, ◌∙◌, ap, subst, arith}
 use Rattle.std.specs.Io.KnownBytes.{Appends, IsAtEnd}
 use Rattle.std.proofs.lemmas.Bool.Decides.{nat_tests}
 use Rattle.stir_base.specs.Count.{Rose}
 use Rattle.x509_profile.specs.View.{CertView}
-use Rattle.stir_cmd.specs.Answer.{Reply, answer, fault_line, fault_status, judged, judged_reply, outcome_status, shown, shown_reply, status_of, text_of}
+use Rattle.stir_cmd.specs.Answer.{Reply, answer, fault_status, judged, judged_reply, outcome_status, shown, shown_reply, status_of, text_of}
 use Rattle.stir_cmd.specs.Causes.{EndsAs, HasCauses, HasReason, IsAnswered, IsAnswerTo, IsRefused, Ran, Shows, WroteShow}
 use Rattle.x509_profile.specs.Chain.{Chain, RefusedCertificate, certificates_in}
 use Rattle.stir_cmd.specs.Entry.{Entry, entry}
@@ -15,7 +15,6 @@ use Rattle.stir_cmd.specs.declared.program.Fault.TheVariants.{Words, Read, Memor
 use Rattle.stir_cmd.specs.declared.verdict.Outcome.{Outcome}
 use Rattle.stir_cmd.specs.declared.verdict.Outcome.TheVariants.{Screened, Refused, NotBuilt}
 use Rattle.x509_profile.proofs.ChainLaws.{chain_again}
-use Rattle.stir_cmd.proofs.Reply.{shown_short}
 
 -- ---- the statuses of an answer
 

@@ -1,5 +1,5 @@
 -- What is known of a field whose PASSporT is read: its URI is one, and its type is one that is read.
-use Rattle.std.proofs.Common.{◌≡◌, ◌≤◌, ℕ, Bool, true, false, ◌&&◌, ◌||◌, not, nat_le, nat_eq, ◌==◌, List, [], ◌∷◌, length, Option, Some, None, refl, sym, ap, codes, arith, inl, inr}
+use Rattle.std.proofs.Common.{◌≡◌, ℕ, true, nat_le, List, length, Option, Some, None, refl, ap, codes, arith, inl, inr}
 use Rattle.std.specs.List.{list_all}
 use Rattle.std.proofs.lemmas.Bool.Decides.{nat_tests}
 use Rattle.std.proofs.lemmas.Slice.Eq.{bytes_eq-Decides}

@@ -1,6 +1,6 @@
 -- The rules by which a call is judged, and the first that it breaks. A rule is stated of a call only where all rules before it
 -- hold; where it isn't stated it is taken to hold.
-use Rattle.std.specs.Prelude.{◌≡◌, ℕ, suc, ◌==◌, nat_lt, nat_eq, Bool, true, false, not, ◌||◌, ⊤, List, [], ◌∷◌, ◌++◌, Option, Some, None, Result, Ok, Err, codes, unwrap_or, if◌then◌else◌}
+use Rattle.std.specs.Prelude.{◌≡◌, ℕ, suc, ◌==◌, nat_lt, Bool, true, false, not, ◌||◌, ⊤, List, [], ◌∷◌, ◌++◌, Option, Some, None, Result, Ok, Err, codes, if◌then◌else◌}
 use Rattle.std.specs.Int.{abs_diff}
 use Rattle.identity_header.specs.Parts.{Parts}
 use Rattle.identity_header.specs.Read.{read}

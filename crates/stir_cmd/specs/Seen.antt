@@ -1,5 +1,5 @@
 -- The code's views, as the definitions speak of them.
-use Rattle.std.specs.Prelude.{◌≡◌, ℕ, List, Option, Some, None, Result, Ok, Err, ⊤}
+use Rattle.std.specs.Prelude.{◌≡◌, ℕ, List, Result, Ok, Err, ⊤}
 use Rattle.stir_cmd.specs.Call.{IdentityField}
 use Rattle.stir_cmd.specs.Entry.{Entry}
 use Rattle.stir_cmd.specs.declared.entry.LogEntry.{LogEntry}

@@ -1,5 +1,5 @@
 -- A bad field refuses the call by rule 3, and fields that are all good are judged.
-use Rattle.std.proofs.Common.{◌≡◌, rules, sym, ◌∙◌, ap, map, IfOk, Ok, subst}
+use Rattle.std.proofs.Common.{◌≡◌, rules, sym, ◌∙◌, ap, map, IfOk, subst}
 use Rattle.stir_cmd.specs.Call.{facts_of}
 use Rattle.stir_cmd.specs.Fields.{fields_outcome}
 use Rattle.stir_cmd.specs.Seen.{field_seen}
