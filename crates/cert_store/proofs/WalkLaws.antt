@@ -18,7 +18,7 @@ walk passes number (c ∷ above) = cond (passes c above) (walk passes (suc numbe
 abbrev Passes : Test → List CertView → ℕ → Type 0
 Passes passes chain i = (c : CertView) → slice_get chain i ≡ Some c → passes c (drop (suc i) chain) ≡ true
 
-inside : {X : Type 0} (x y : X) → Some x ≡ Some y → x ≡ y
+pub inside : {X : Type 0} (x y : X) → Some x ≡ Some y → x ≡ y
 inside x y e = cc
 
 -- what a walk ends with is right

@@ -21,7 +21,8 @@ use x509_profile::{Certificate, ChainFault, read_chain};
 /// Rule 11: they are at most six certificates of the profile. Rule 12: they are a path up to an anchor (RFC 5280 section 6.1).
 /// Rule 14: the leaf has an authority list, and the authority of each lies within its issuer's (RFC 9060). Where these hold, the
 /// provider is asked for the signatures, from the leaf's on up to the first that it doesn't confirm, save those of certificates
-/// that are themselves anchors, byte for byte (rule 15). Rule 13, on dates, is asked of the answer.
+/// that are themselves anchors, byte for byte (rule 15). Rule 13, on dates, is asked of the answer. `Memory` comes where there is
+/// none for the certificates or for comparing their authorities, and then no signature was asked for.
 pub fn judge_chain<P: Provider>(
     alloc: Global,
     bytes: &[u8],
@@ -50,6 +51,7 @@ pub fn judge_chain<P: Provider>(
     judge_bytes(alloc, bytes, anchors, table, provider)
 }
 
+/// The same, by the certificates that are read from the bytes.
 fn judge_bytes<P: Provider>(
     alloc: Global,
     bytes: &[u8],
