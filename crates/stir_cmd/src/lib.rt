@@ -13,6 +13,3 @@ mod verdict;
 mod verify;
 
 pub use program::run;
-
-#[cfg(test)]
-mod tests;

@@ -1,79 +1,7 @@
-//! What the outside does: cut reads and writes, failing calls, refused words.
+//! What a run comes to where words are refused, a read or a write fails, or the input is too long: how much was taken of the source.
 
-use crate::run;
-use std::alloc::{AllocError, Global};
+use crate::devices::run_on;
 use std::test::Fail;
-use std::thread::Threads;
-use stir_outside::{Failed, ShelfMem, Sink, SinkMem, Source, SourceMem};
-
-// A source that gives one byte a read.
-#[derive(Drop)]
-pub struct Drip {
-    pub source: SourceMem,
-}
-
-impl Source for Drip {
-    ghost use Rattle.std.specs.Prelude.{Some};
-
-    ghost left = { λ s. Some s.source.left };
-
-    ghost faults = { λ s. s.source.faults };
-
-    fn read(&mut self, buf: &mut [u8]) -> Result<usize, Failed> {
-        self.source.read(&mut buf[..1])
-    }
-}
-
-// A sink that takes one byte a write.
-#[derive(Drop)]
-pub struct Trickle {
-    pub sink: SinkMem,
-}
-
-impl Sink for Trickle {
-    ghost use Rattle.std.specs.Prelude.{Some};
-
-    ghost written = { λ s. Some s.sink.written };
-
-    ghost faults = { λ s. s.sink.faults };
-
-    fn write(&mut self, bytes: &[u8]) -> Result<usize, Failed> {
-        self.sink.write(&bytes[..1])
-    }
-}
-
-// What one run made of its source and its sink.
-#[derive(Drop)]
-pub struct Done {
-    pub status: u8,
-    pub source: SourceMem,
-    pub sink: SinkMem,
-}
-
-// Runs the program on these bytes, a byte a call, where the listed reads and writes fail.
-pub fn run_on<R: Threads + Sync>(
-    rt: &R,
-    alloc: Global,
-    words: &[&str],
-    bytes: &[u8],
-    reads: &[u64],
-    writes: &[u64],
-) -> Result<Done, AllocError> {
-    let mut shelf = ShelfMem::new(Vec::new(alloc), Vec::new(alloc));
-    let source = SourceMem::new(bytes.to_vec(alloc)?, reads.to_vec(alloc)?);
-    let mut input = Drip { source };
-    let mut room = SinkMem::new(alloc, writes.to_vec(alloc)?);
-    room.reserve(4_096)?;
-    let mut sink = Trickle { sink: room };
-    let status = run(rt, alloc, words, &mut shelf, &mut input, &mut sink);
-    let Drip { source } = input;
-    let Trickle { sink } = sink;
-    Ok(Done {
-        status,
-        source,
-        sink,
-    })
-}
 
 const EMPTY_MESSAGE: &[u8] = b"@1 0\n";
 
@@ -156,5 +84,22 @@ fn takes_at_most_one_byte_more_than_an_entry(rt: HostRuntime) -> Result<(), Fail
     assert_eq!(rt; done.status, 5);
     assert_eq!(rt; done.sink.bytes(), b"refused input 0\n".as_slice());
     assert_eq!(rt; done.source.bytes(), b"z".as_slice());
+    Ok(())
+}
+
+#[test]
+fn takes_at_most_one_byte_more_than_a_chain(rt: HostRuntime) -> Result<(), Fail> {
+    let mut input = Vec::new(rt.alloc());
+    for _ in 0..49_152u32 {
+        input.push(0)?;
+    }
+    let done = run_on(&rt, rt.alloc(), &["show"], input.as_slice(), &[], &[])?;
+    assert_eq!(rt; done.status, 5);
+    assert_eq!(rt; done.sink.bytes(), b"refused input 0\n".as_slice());
+    input.extend_from_slice(&[0, 1])?;
+    let done = run_on(&rt, rt.alloc(), &["show"], input.as_slice(), &[], &[])?;
+    assert_eq!(rt; done.status, 5);
+    assert_eq!(rt; done.sink.bytes(), b"long input\n".as_slice());
+    assert_eq!(rt; done.source.bytes(), [1].as_slice());
     Ok(())
 }

@@ -1,3 +1,0 @@
-mod outside;
-mod rows;
-mod show;

@@ -1,0 +1,16 @@
+//! Tests of what neither the table of vectors nor the cases of the built program can show: memory forms that fail on command, the
+//! adapters over real files and streams, and files of as many lines as the program takes. No code of the product stands here.
+#![tactic(auto)]
+
+#[cfg(test)]
+mod adapters;
+#[cfg(test)]
+mod answers;
+#[cfg(test)]
+mod devices;
+#[cfg(test)]
+mod large;
+#[cfg(test)]
+mod runs;
+#[cfg(test)]
+mod transfers;
