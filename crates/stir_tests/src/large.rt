@@ -28,12 +28,17 @@ fn bad_line_of_table(alloc: Global, text: &str) -> u32 {
     }
 }
 
+// The chain map that the text is.
+fn map_of(alloc: Global, text: &str) -> Result<ChainMap, MapFault> {
+    if text.len() >= 4_000_000_000 {
+        return Err(MapFault::Memory);
+    }
+    ChainMap::read(alloc, text.as_bytes())
+}
+
 // The first bad line of a chain map, or 0 where it is one.
 fn bad_line_of_map(alloc: Global, text: &str) -> u32 {
-    if text.len() >= 4_000_000_000 {
-        return u32::MAX;
-    }
-    match ChainMap::read(alloc, text.as_bytes()) {
+    match map_of(alloc, text) {
         Ok(_) => 0,
         Err(MapFault::Line { line }) => line,
         Err(MapFault::Memory) => u32::MAX,
@@ -66,7 +71,7 @@ const MAP_LINES: u32 = 50_000;
 fn a_chain_map_has_fifty_thousand_lines(rt: HostRuntime) -> Result<(), Fail> {
     let alloc = rt.alloc();
     let mut text = lines(alloc, MAP_LINES, "u", " f")?;
-    let map = ChainMap::read(alloc, text.as_bytes())
+    let map = map_of(alloc, text.as_str())
         .ok()
         .expect(&rt, "a chain map");
     for number in 0..MAP_LINES {

@@ -1,0 +1,5 @@
+pub mod Users
+pub mod LegalLaws
+pub mod TurnLaws
+pub mod Joining
+pub mod LogLaws

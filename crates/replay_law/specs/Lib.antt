@@ -1,0 +1,6 @@
+pub mod Row
+pub mod Held
+pub mod Round
+pub mod Log
+pub mod Turn
+pub mod Law
