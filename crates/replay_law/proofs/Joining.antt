@@ -4,7 +4,7 @@ use Rattle.replay_law.specs.Held.{purged}
 use Rattle.replay_law.specs.Round.{Rounds}
 use Rattle.replay_law.specs.Turn.{Turn}
 use Rattle.replay_law.specs.Law.{MoreRounds, OneRoundMore, PurgedAlone, OneTurnMore}
-use Rattle.replay_law.proofs.TurnLaws.{same_is_one, no_calls}
+use Rattle.replay_law.proofs.TurnLaws.{same_is_one, settled_alone}
 
 pub more_rounds : MoreRounds
 more_rounds past middle next [] more runs behind = subst (λ h. Rounds h more next) (sym (same_is_one past middle runs)) behind
@@ -18,4 +18,4 @@ one_turn_more held middle next [] row same turn = (next, subst (λ h. Turn h row
 one_turn_more held middle next (r ∷ rows) row (left, first, turns) turn = (left, first, one_turn_more left middle next rows row turns turn)
 
 pub purged_alone : PurgedAlone
-purged_alone past next moment same = no_calls (purged moment past) next same
+purged_alone past next moment same = settled_alone (purged moment past) next same

@@ -178,8 +178,8 @@ module _ (held middle next : Held) (row : Row) (rows : List Row) (turn : Turn he
 
 -- ---- all calls
 
-pub no_calls : (held next : Held) → Same held next → Settled held [] next
-no_calls held next same = record {
+pub settled_alone : (held next : Held) → Same held next → Settled held [] next
+settled_alone held next same = record {
   refused = λ place row stands. absurd (none-some row stands);
   replays = λ place row kept stands. absurd (none-some row stands);
   winners = λ place row stands. absurd (none-some row stands);
@@ -189,7 +189,7 @@ no_calls held next same = record {
 }
 
 pub one_by_one : OneByOne
-one_by_one held next [] same = (no_calls held next same, λ place other winner row stands. absurd (none-some winner stands))
+one_by_one held next [] same = (settled_alone held next same, λ place other winner row stands. absurd (none-some winner stands))
 one_by_one held next (row ∷ rows) (middle, turn, more) =
     let (s, first) = one_by_one middle next rows more in
     (by_passes held middle next row rows turn s row.passes refl, first_here held middle next row rows turn s first)

@@ -3,7 +3,7 @@ use Rattle.std.specs.Prelude.{◌≡◌, ℕ, ◌<◌, ◌≤◌, true, List, []
 use Rattle.std.specs.List.{slice_get}
 use Rattle.replay_law.specs.Row.{replay, Row, Uses}
 use Rattle.replay_law.specs.Held.{Held, nothing, Same, purged}
-use Rattle.replay_law.specs.Round.{Round, handed_on, Settled, RoundSettled, Rounds}
+use Rattle.replay_law.specs.Round.{Round, purge_at, Settled, RoundSettled, Rounds}
 use Rattle.replay_law.specs.Log.{StandsIn, IsBefore, NamesOne, RowsLegal}
 use Rattle.replay_law.specs.Turn.{Turn, Turns, FirstWins, EachFirstWins, FirstOfLogWins}
 
@@ -53,13 +53,13 @@ abbrev pub OneRoundMore : Type 0
 OneRoundMore = (past middle next : Held) (rounds : List Round) (round : Round) → Rounds past rounds middle → RoundSettled middle round next
     → Rounds past (rounds ++ round ∷ []) next
 
--- the rounds of one run behind those of another
+-- more rounds behind those that are settled, as those of a later run
 abbrev pub MoreRounds : Type 0
 MoreRounds = (past middle next : Held) (rounds more : List Round) → Rounds past rounds middle → Rounds middle more next → Rounds past (rounds ++ more) next
 
 -- a past that is only purged is that of a round without calls
 abbrev pub PurgedAlone : Type 0
-PurgedAlone = (past next : Held) (moment : ℕ) → Same (purged moment past) next → RoundSettled past (handed_on moment) next
+PurgedAlone = (past next : Held) (moment : ℕ) → Same (purged moment past) next → RoundSettled past (purge_at moment) next
 
 -- one turn more
 abbrev pub OneTurnMore : Type 0

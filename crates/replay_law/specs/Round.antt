@@ -43,9 +43,10 @@ first_moment (row ∷ rows) = row.moment
 abbrev pub round_of : List Row → Round
 round_of rows = record { moment = first_moment rows; rows = rows }
 
--- a round without calls, which only purges: so one run hands its past on to the next
-abbrev pub handed_on : ℕ → Round
-handed_on moment = record { moment = moment; rows = [] }
+-- a round without calls, which only purges: so where memory was wanting for its calls, and where one run hands its past on
+-- to the next
+abbrev pub purge_at : ℕ → Round
+purge_at moment = record { moment = moment; rows = [] }
 
 -- the round is settled over a past, which is purged first
 abbrev pub RoundSettled : Held → Round → Held → Type 0

@@ -6,7 +6,7 @@ use Rattle.replay_law.specs.Held.{Kept, Held, Same, kept_of}
 use Rattle.replay_law.specs.Round.{Round}
 use Rattle.replay_law.specs.Log.{StandsIn, IsBefore}
 
--- the call is kept for its ticket, and for every other ticket what was
+-- the call is kept for its ticket, and what was kept for every other ticket stays
 pub record Adds (held : Held) (row : Row) (next : Held) : Type 0 where
   pub gained : next row.ticket ≡ Some (kept_of row)
   pub rest : (ticket : List ℕ) → ticket ≢ row.ticket → held ticket ≡ next ticket
@@ -30,6 +30,7 @@ abbrev pub FirstWins : List Row → Type 0
 FirstWins rows = (place other : ℕ) (winner row : Row) → Stands rows place winner → winner.answer ≡ valid
     → Stands rows other row → Uses winner.ticket row → place ≤ other
 
+-- it is so in each round
 abbrev pub EachFirstWins : List Round → Type 0
 EachFirstWins rounds = (place : ℕ) (round : Round) → slice_get rounds place ≡ Some round → FirstWins round.rows
 

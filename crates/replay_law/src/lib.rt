@@ -38,12 +38,13 @@ pub fn one_turn_more()
     ensures { OneTurnMore }
 {}
 
-/// The rounds of one run behind those of another that handed its past on.
+/// More rounds behind those that are settled, as those of a later run that was handed the past.
 pub fn more_rounds()
     ensures { MoreRounds }
 {}
 
-/// A past that is only purged, as before it is handed on, is that of a round without calls.
+/// A past that is only purged is that of a round without calls: where memory was wanting for a round, and where a run
+/// hands its past on.
 pub fn purged_alone()
     ensures { PurgedAlone }
 {}
