@@ -71,9 +71,7 @@ const MAP_LINES: u32 = 50_000;
 fn a_chain_map_has_fifty_thousand_lines(rt: HostRuntime) -> Result<(), Fail> {
     let alloc = rt.alloc();
     let mut text = lines(alloc, MAP_LINES, "u", " f")?;
-    let map = map_of(alloc, text.as_str())
-        .ok()
-        .expect(&rt, "a chain map");
+    let map = map_of(alloc, text.as_str()).ok().expect(&rt, "a chain map");
     for number in 0..MAP_LINES {
         let x5u = format!(in alloc; "u{number}")?;
         assert!(rt; map.file(x5u.as_bytes()) == Some("f"), "{number}");
