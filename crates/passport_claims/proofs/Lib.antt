@@ -1,5 +1,8 @@
 mod ClaimsLaws
+pub mod FirstLaws
 mod MemberLaws
 mod OrigidLaws
 mod PassportLaws
 mod ValueLaws
+pub mod WayLaws
+pub mod TurnLaws

@@ -1,8 +1,13 @@
 pub mod Claims
 pub mod Fault
 pub mod Kind
+pub mod Links
 pub mod Made
 pub mod Members
+pub mod Order
+pub mod OrderFault
+pub mod OrderReading
+pub mod OrderSeen
 pub mod Origid
 pub mod Passport
 pub mod Read

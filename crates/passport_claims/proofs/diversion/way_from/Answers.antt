@@ -1,0 +1,11 @@
+-- The last of the way is a link.
+use Rattle.std.proofs.Common.{◌≡◌, length, rules, sym, subst}
+use Rattle.passport_claims.specs.Links.{IsOneOf}
+use Rattle.passport_claims.specs.OrderReading.{behind}
+use Rattle.passport_claims.proofs.WayLaws.{last_within}
+use Rattle.passport_claims.proofs.diversion.way_from.Goals as goal
+
+pub dest-requires : goal.dest-requires
+dest-requires c =
+    let links = c.args.links.now in
+    subst (IsOneOf (length links)) (sym (c.last-last.ensures c.args.start (behind links c.args.start) c.walk-order.ensures.turn)) (last_within links c.args.start c.requires.within)

@@ -1,0 +1,162 @@
+//! The order in which a diverted call went (RFC 8946, section 4.2).
+ghost use Rattle.std.specs.Prelude.{◌≡◌, ℕ, ◌+◌, ◌-◌, ◌<◌, ◌≤◌, All, List, ◌∷◌, IfOk, length, drop, replicate};
+ghost use Rattle.passport_claims.specs.Links.{IsLink, IsOneOf, dest_at, div_at};
+ghost use Rattle.passport_claims.specs.Order.{is_among, last_of};
+ghost use Rattle.passport_claims.specs.OrderReading.{behind, calls, calls_one_of, first_from, is_left, is_one_of, order_of, start_of, undiverted, way_from};
+ghost use Rattle.passport_claims.specs.OrderSeen.{IsFilled, order_seen, turn_of};
+
+use crate::links::{dest, div, link_from, repeated, start_behind};
+use crate::order::{ChainFault, MOST_LINKS, Order};
+use crate::passport::Passport;
+use tn_values::Number;
+
+/// The order in which a diverted call went, or the first fault that shows that there is none.
+#[tactic(auto, unfolding(crate::specs::OrderReading::order_of))]
+pub fn chain(
+    origin: &Passport,
+    links: &[Passport],
+    called: Option<Number>,
+) -> Result<Order, ChainFault>
+    requires { All IsLink links.now }
+    ensures exact { order_seen result ≡ order_of origin.now links.now called }
+    ensures filled { IfOk result IsFilled }
+{
+    if links.len() > MOST_LINKS {
+        return Err(ChainFault::new(ChainFault::MANY, 9));
+    }
+    if let Some(link) = repeated(links) {
+        return Err(ChainFault::new(ChainFault::REPEAT, link));
+    }
+    if links.is_empty() {
+        return undiverted(origin, called);
+    }
+    let start = start_of(origin, links)?;
+    way_from(links, called, start)
+}
+
+/// The order of no links, where the called number is one that the originating PASSporT calls.
+#[tactic(auto, unfolding(crate::specs::OrderReading::undiverted))]
+fn undiverted(origin: &Passport, called: Option<Number>) -> Result<Order, ChainFault>
+    ensures exact { order_seen result ≡ undiverted origin.now.dest called }
+    ensures filled { IfOk result IsFilled }
+{
+    let Some(number) = called else {
+        return Err(ChainFault::new(ChainFault::CALLED, 0));
+    };
+    if !origin.dest().contains(&number) {
+        return Err(ChainFault::new(ChainFault::CALLED, 0));
+    }
+    Ok(Order {
+        length: 0,
+        turn: [0; MOST_LINKS],
+    })
+}
+
+/// The one link with which the order may start, where the originating PASSporT calls its div.
+#[tactic(auto, unfolding(crate::specs::OrderReading::start_of))]
+fn start_of(origin: &Passport, links: &[Passport]) -> Result<u8, ChainFault>
+    requires links { All IsLink links.now }
+    requires few { length links.now ≤ 8 }
+    ensures exact { result ≡ start_of origin.now.dest links.now }
+    ensures within { IfOk result (IsOneOf (length links.now)) }
+{
+    let Some(start) = start_behind(links, 0) else {
+        return Err(ChainFault::new(ChainFault::START, 1));
+    };
+    if let Some(second) = start_behind(links, start) {
+        return Err(ChainFault::new(ChainFault::START, second));
+    }
+    if !origin.dest().contains(&div(links, start)) {
+        return Err(ChainFault::new(ChainFault::START, start));
+    }
+    Ok(start)
+}
+
+/// The way from the start, where it leaves no link and the last dest is called.
+#[tactic(auto, unfolding(crate::specs::OrderReading::way_from))]
+fn way_from(links: &[Passport], called: Option<Number>, start: u8) -> Result<Order, ChainFault>
+    requires links { All IsLink links.now }
+    requires few { length links.now ≤ 8 }
+    requires within { IsOneOf (length links.now) start }
+    ensures exact { order_seen result ≡ way_from links.now called start }
+    ensures filled { IfOk result IsFilled }
+{
+    let order = walk(links, start);
+    if let Some(link) = left(&order, links.len() as u8) {
+        return Err(ChainFault::new(ChainFault::CUT, link));
+    }
+    let last = last(&order);
+    if !is_called(called, dest(links, last)) {
+        return Err(ChainFault::new(ChainFault::CALLED, last));
+    }
+    Ok(order)
+}
+
+/// The links by which the call went on from the start, each next one with the dest of the one before it as div.
+fn walk(links: &[Passport], start: u8) -> Order
+    requires links { All IsLink links.now }
+    requires few { length links.now ≤ 8 }
+    requires within { IsOneOf (length links.now) start }
+    ensures turn { turn_of result ≡ start ∷ behind links.now start }
+    ensures filled { IsFilled result }
+{
+    let mut turn = [0; MOST_LINKS];
+    turn[0] = start;
+    let mut number = dest(links, start);
+    for place in 1..links.len() {
+        let Some(next) = link_from(links, number) else {
+            return Order {
+                length: place as u8,
+                turn,
+            };
+        };
+        turn[place] = next;
+        number = dest(links, next);
+    }
+    Order {
+        length: links.len() as u8,
+        turn,
+    }
+}
+
+/// The first of so many links that isn't in the order.
+#[tactic(auto, using(crate::proofs::FirstLaws::first_here, crate::proofs::FirstLaws::first_passed, crate::proofs::FirstLaws::first_done, crate::proofs::FirstLaws::is_left_is))]
+fn left(order: &Order, count: u8) -> Option<u8>
+    requires filled { IsFilled order.now }
+    requires few { count ≤ 8 }
+    ensures { result ≡ first_from (is_left (turn_of order.now)) 1 count }
+{
+    for link in 1..count + 1 {
+        if !has(order, link) {
+            return Some(link);
+        }
+    }
+    None
+}
+
+/// The last link of an order that has some.
+fn last(order: &Order) -> u8
+    requires filled { IsFilled order.now }
+    requires some { 1 ≤ order.now.length }
+    ensures { (first : ℕ) (later : List ℕ) → turn_of order.now ≡ first ∷ later → result ≡ last_of first later }
+{
+    order.turn[usize::from(order.length) - 1]
+}
+
+/// Whether the called number is this one.
+fn is_called(called: Option<Number>, number: Number) -> bool
+    ensures { result ≡ calls called number }
+{
+    match called {
+        Some(called) => called == number,
+        None => false,
+    }
+}
+
+/// Whether a link is in the order.
+fn has(order: &Order, link: u8) -> bool
+    requires { order.now.length ≤ 8 }
+    ensures { result ≡ is_among link (turn_of order.now) }
+{
+    order.turn[..usize::from(order.length)].contains(&link)
+}
