@@ -1,5 +1,5 @@
 -- The first number that passes a test: the steps of a loop that looks for it, what is known of what was found, and what is found.
-use Rattle.std.proofs.Common.{◌≡◌, ◌≢◌, ℕ, zero, suc, ◌+◌, ◌-◌, ◌<◌, ◌≤◌, Bool, true, false, not, cond, ◌⊎◌, inl, inr, List, Option, Some, None, refl, sym, ap, ◌∙◌, subst, arith, add-one}
+use Rattle.std.proofs.Common.{◌≡◌, ℕ, zero, suc, ◌+◌, ◌-◌, ◌<◌, ◌≤◌, Bool, true, false, not, cond, inl, inr, List, Option, Some, None, refl, sym, ap, ◌∙◌, subst, arith}
 use Rattle.std.specs.Bool.{Decides}
 use Rattle.std.specs.Str.{bytes_eq}
 use Rattle.std.proofs.lemmas.Bool.{both_ways, cases_Bool, cases_lt, cases_order}
@@ -68,10 +68,10 @@ found_here test number room found t same = record {
 
 passed_one : (test : ℕ → Bool) (number : ℕ) → test number ≡ false → (other : ℕ) → number ≤ other → (suc number ≤ other → test other ≡ false) → test other ≡ false
 passed_one test number t other l rest = elim (cases_order number other) [
-    | inl same ↦ subst (λ n. test n ≡ false) same t
-    | inr (inl less) ↦ rest (omega (arith, less))
-    | inr (inr more) ↦ absurd (omega (arith, l, more))
-  ]
+  | inl same ↦ subst (λ n. test n ≡ false) same t
+  | inr (inl less) ↦ rest (omega (arith, less))
+  | inr (inr more) ↦ absurd (omega (arith, l, more))
+]
 
 found_later : (test : ℕ → Bool) (number room found : ℕ) → test number ≡ false → Found test (suc number) room found → Found test number (suc room) found
 found_later test number room found t f = record {
@@ -150,7 +150,7 @@ not_so false h = refl
 pub means_none : (Holds : ℕ → Type 0) (test : ℕ → Bool) (count : ℕ) → Says Holds test count → OfNone Holds count → first_from test 1 count ≡ None
 means_none Holds test count s none =
     first_isnt test 1 count (λ link l k. let is : IsOneOf count link = record { low = l; high = omega (arith, k) } in
-        not_so (test link) (λ t. none link is ((s.tells link is).0 t)))
+    not_so (test link) (λ t. none link is ((s.tells link is).0 t)))
 
 -- a test that only one link passes finds it
 pub only_one : (test : ℕ → Bool) (count link : ℕ) → IsOneOf count link → test link ≡ true → ((other : ℕ) → IsOneOf count other → test other ≡ true → other ≡ link)

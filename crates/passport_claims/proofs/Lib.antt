@@ -6,3 +6,7 @@ mod PassportLaws
 mod ValueLaws
 pub mod WayLaws
 pub mod TurnLaws
+pub mod LinkLaws
+pub mod OrderLaws
+pub mod StartLaws
+pub mod OrderFaultLaws

@@ -1,13 +1,11 @@
 -- The way from the start, step by step: what is found behind it, and how it lies in an order.
-use Rattle.std.proofs.Common.{◌⊎◌, inl, inr, ◌≡◌, ℕ, zero, suc, ◌+◌, ◌-◌, ◌<◌, ◌≤◌, List, [], ◌∷◌, ◌++◌, length, take, drop, replicate, get_or, slice_set, Option, Some, None, refl, sym, ap, ◌∙◌, subst, arith, append_assoc, Bool, true, false, cond, Result, Ok, Err}
+use Rattle.std.proofs.Common.{◌⊎◌, inl, inr, ◌≡◌, ℕ, zero, suc, ◌+◌, ◌-◌, ◌<◌, ◌≤◌, List, [], ◌∷◌, ◌++◌, length, take, drop, replicate, slice_set, Option, Some, None, refl, sym, ap, ◌∙◌, arith, append_assoc, Bool, cond, Ok, Err}
 use Rattle.std.specs.Option.{option_map_or}
-use Rattle.std.proofs.lemmas.List.{append-nil, drop-set-lt, drop-drop, drop-replicate, take_more_set, length-set}
+use Rattle.std.proofs.lemmas.List.{append-nil, drop-set-lt, drop-drop, drop-replicate, take_more_set}
 use Rattle.passport_claims.specs.Passport.{ClaimsView}
 use Rattle.passport_claims.specs.Links.{AreWithin, IsOneOf, dest_at, div_at}
 use Rattle.passport_claims.specs.Order.{Follow, last_of}
 use Rattle.passport_claims.specs.OrderReading.{behind, fault_at, first_from, is_one_of, leads_from, may_start, start_of, walk}
-use Rattle.passport_claims.specs.OrderSeen.{turn_of}
-use Rattle.passport_claims.specs.declared.order.ChainFault.{ChainFault}
 use Rattle.passport_claims.proofs.FirstLaws.{first_some, leads_from_is, same_bytes}
 use Rattle.passport_claims.proofs.TurnLaws.{last_among, within_among}
 
@@ -36,7 +34,7 @@ pub placed : (links : List ClaimsView) (turn all : List ℕ) (place next : ℕ) 
 placed links turn all place next number h t e is =
     let room : length links - place ≡ suc (length links - (place + 1)) = omega arith in
     let on : walk links (length links - place) number ≡ next ∷ walk links (length links - (place + 1)) (dest_at links next) =
-        ap (λ r. walk links r number) room ∙ walk_on links (length links - (place + 1)) number next e in
+    ap (λ r. walk links r number) room ∙ walk_on links (length links - (place + 1)) number next e in
     ap (λ xs. xs ++ walk links (length links - (place + 1)) (dest_at links next)) (take_more_set turn place next t)
     ∙ append_assoc (take place turn) (next ∷ []) (walk links (length links - (place + 1)) (dest_at links next))
     ∙ ap (λ xs. take place turn ++ xs) (sym on) ∙ is

@@ -1,23 +1,58 @@
 //! The order in which a diverted call went (RFC 8946, section 4.2).
-ghost use Rattle.std.specs.Prelude.{◌≡◌, ℕ, ◌+◌, ◌-◌, ◌<◌, ◌≤◌, All, List, ◌∷◌, IfOk, length, drop, replicate};
-ghost use Rattle.passport_claims.specs.Links.{IsLink, IsOneOf, dest_at, div_at};
-ghost use Rattle.passport_claims.specs.Order.{is_among, last_of};
-ghost use Rattle.passport_claims.specs.OrderReading.{behind, calls, calls_one_of, first_from, is_left, is_one_of, order_of, start_of, undiverted, way_from};
-ghost use Rattle.passport_claims.specs.OrderSeen.{IsFilled, order_seen, turn_of};
+ghost use Rattle.std.specs.Prelude.{◌≡◌, ℕ, ◌≤◌, All, List, ◌∷◌, IfErr, IfOk, length};
+ghost use Rattle.std.specs.Result.{IsOkAnd};
+ghost use Rattle.passport_claims.specs.Links.{IsLink, IsOneOf};
+ghost use Rattle.passport_claims.specs.Order.{IsOrder, is_among, last_of};
+ghost use Rattle.passport_claims.specs.OrderFault.{IsFault};
+ghost use Rattle.passport_claims.specs.OrderReading.{behind, calls, first_from, is_left, order_of, start_of, undiverted, way_from};
+ghost use Rattle.passport_claims.specs.OrderSeen.{IsFilled, IsTurn, order_seen, turn_of};
 
 use crate::links::{dest, div, link_from, repeated, start_behind};
 use crate::order::{ChainFault, MOST_LINKS, Order};
 use crate::passport::Passport;
 use tn_values::Number;
 
-/// The order in which a diverted call went, or the first fault that shows that there is none.
-#[tactic(auto, unfolding(crate::specs::OrderReading::order_of))]
+/// The order in which a diverted call went (RFC 8946, section 4.2), from its originating PASSporT and its links, the PASSporTs of type
+/// `div` in the order of the message, to the number that is called now.
+///
+/// Each link is there once. The div of the first is a number that the originating PASSporT calls, the div of each later one is the dest
+/// of the one before it, and the dest of the last is the called number. These numbers are distinct, and there are at most 8 links.
+/// Without links the originating PASSporT calls that number. There is one such order at most; where there is none, the fault is the
+/// first of those of [`ChainFault`].
+#[tactic(auto, using(crate::proofs::OrderFaultLaws::order_found, crate::proofs::OrderFaultLaws::order_only, crate::proofs::OrderFaultLaws::fault_found, crate::proofs::OrderFaultLaws::turn_found, crate::proofs::OrderLaws::order_unique))]
 pub fn chain(
     origin: &Passport,
     links: &[Passport],
     called: Option<Number>,
 ) -> Result<Order, ChainFault>
-    requires { All IsLink links.now }
+    requires links { All IsLink links.now }
+
+    // The order, or the first fault.
+    ensures exact { order_seen result ≡ order_of origin.now links.now called }
+
+    // An answer is an order, each order is the answer, and there is one at most.
+    ensures found { IfOk result (λ order. IsOrder origin.now links.now called (turn_of order)) }
+    ensures only { (turn : List ℕ) → IsOrder origin.now links.now called turn → IsOkAnd result (λ order. turn_of order ≡ turn) }
+    ensures unique { (one other : List ℕ) → IsOrder origin.now links.now called one → IsOrder origin.now links.now called other → one ≡ other }
+
+    // It has as many entries as there are links, each the number of one.
+    ensures turn { IfOk result (λ order. IsTurn (length links.now) order) }
+
+    // A refusal is the first fault, shown by the first link that shows it.
+    ensures refused { IfErr result (λ fault. IsFault origin.now links.now called fault) }
+    ensures link { IfErr result (λ fault. fault.link ≤ length links.now) }
+{
+    chain_exactly(origin, links, called)
+}
+
+/// The order, or the first fault.
+#[tactic(auto, unfolding(crate::specs::OrderReading::order_of))]
+fn chain_exactly(
+    origin: &Passport,
+    links: &[Passport],
+    called: Option<Number>,
+) -> Result<Order, ChainFault>
+    requires links { All IsLink links.now }
     ensures exact { order_seen result ≡ order_of origin.now links.now called }
     ensures filled { IfOk result IsFilled }
 {

@@ -1,7 +1,7 @@
 -- The one start, where its div is called and where it isn't.
 use Rattle.std.proofs.Common.{◌≡◌, ◌+◌, ◌-◌, length, Some, None, Err, true, false, arith, rules, sym, ◌∙◌, ap}
 use Rattle.passport_claims.specs.Links.{div_at}
-use Rattle.passport_claims.specs.OrderReading.{first_from, is_one_of, may_start, start_of}
+use Rattle.passport_claims.specs.OrderReading.{first_from, is_one_of, may_start}
 use Rattle.passport_claims.proofs.WayLaws.{starts}
 use Rattle.passport_claims.proofs.diversion.start_of.Goals as goal
 

@@ -1,6 +1,6 @@
 -- Each step places one link more, and the end leaves none to place.
-use Rattle.std.proofs.Common.{◌≡◌, ◌<◌, ◌≤◌, ◌+◌, ◌-◌, ◌++◌, length, take, slice_set, Some, None, arith, rules, sym, ◌∙◌, ap}
-use Rattle.passport_claims.specs.OrderReading.{behind, first_from, leads_from, walk}
+use Rattle.std.proofs.Common.{◌≡◌, ◌<◌, ◌≤◌, ◌+◌, ◌-◌, ◌++◌, length, take, slice_set, Some, arith, rules, sym, ◌∙◌, ap}
+use Rattle.passport_claims.specs.OrderReading.{first_from, leads_from, walk}
 use Rattle.passport_claims.proofs.WayLaws.{placed, emptied, way_ends, way_full}
 use Rattle.passport_claims.proofs.diversion.walk.Goals as goal
 

@@ -1,5 +1,5 @@
 -- The last of the way is a link.
-use Rattle.std.proofs.Common.{◌≡◌, length, rules, sym, subst}
+use Rattle.std.proofs.Common.{length, sym, subst}
 use Rattle.passport_claims.specs.Links.{IsOneOf}
 use Rattle.passport_claims.specs.OrderReading.{behind}
 use Rattle.passport_claims.proofs.WayLaws.{last_within}

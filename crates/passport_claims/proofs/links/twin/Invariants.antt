@@ -1,5 +1,5 @@
 -- What is left gives what all gives.
-use Rattle.std.proofs.Common.{◌≡◌, ◌+◌, ◌-◌, length}
+use Rattle.std.proofs.Common.{◌≡◌, ◌-◌}
 use Rattle.passport_claims.specs.OrderReading.{first_from, is_twin}
 use Rattle.passport_claims.proofs.links.twin.Given as goal
 

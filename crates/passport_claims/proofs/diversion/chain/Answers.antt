@@ -1,0 +1,6 @@
+-- The link that shows a fault is one of them.
+use Rattle.passport_claims.proofs.OrderFaultLaws.{link_found}
+use Rattle.passport_claims.proofs.diversion.chain.Goals as goal
+
+pub returns-clause-link : goal.returns-clause-link
+returns-clause-link c = link_found c.args.origin.now c.args.links.now c.args.called c.chain_exactly.result c.chain_exactly.ensures.exact
