@@ -143,7 +143,7 @@ first_means Holds test count link s e =
           (f.before other o.low (omega (arith, o.high, f.low))) h;
     }
 
-not_so : (t : Bool) → (t ≡ true → ⊥) → t ≡ false
+pub not_so : (t : Bool) → (t ≡ true → ⊥) → t ≡ false
 not_so true h = absurd (h refl)
 not_so false h = refl
 
@@ -151,6 +151,17 @@ pub means_none : (Holds : ℕ → Type 0) (test : ℕ → Bool) (count : ℕ) �
 means_none Holds test count s none =
     first_isnt test 1 count (λ link l k. let is : IsOneOf count link = record { low = l; high = omega (arith, k) } in
     not_so (test link) (λ t. none link is ((s.tells link is).0 t)))
+
+pub means_first : (Holds : ℕ → Type 0) (test : ℕ → Bool) (count link : ℕ) → Says Holds test count → IsFirst Holds count link → first_from test 1 count ≡ Some link
+means_first Holds test count link s f =
+    let most = f.is.high in
+    first_is test 1 count link (record {
+      low = f.is.low;
+      high = omega (arith, most);
+      here = (s.tells link f.is).1 f.holds;
+      before = λ other l k. not_so (test other) (λ t.
+          f.before other (record { low = l; high = omega (arith, k) }) ((s.tells other (record { low = l; high = omega (arith, k, most) })).0 t));
+    })
 
 -- a test that only one link passes finds it
 pub only_one : (test : ℕ → Bool) (count link : ℕ) → IsOneOf count link → test link ≡ true → ((other : ℕ) → IsOneOf count other → test other ≡ true → other ≡ link)

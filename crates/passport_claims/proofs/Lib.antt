@@ -10,3 +10,4 @@ pub mod LinkLaws
 pub mod OrderLaws
 pub mod StartLaws
 pub mod OrderFaultLaws
+pub mod OrderFaultAgain

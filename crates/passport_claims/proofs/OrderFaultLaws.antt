@@ -16,7 +16,7 @@ use Rattle.passport_claims.proofs.FirstLaws.{Says, equal_bytes, first_means, fir
 use Rattle.passport_claims.proofs.LinkLaws.{Distinct, called_means, calls_means, distinct, repeats_says}
 use Rattle.passport_claims.proofs.OrderLaws.{is_order, next_follows, order_again, way_once}
 use Rattle.passport_claims.proofs.StartLaws.{StartIs, start_is}
-use Rattle.passport_claims.proofs.TurnLaws.{Next, among_cases, among_first, among_later, has_each, next_first, next_of, next_there, none_behind_last, within_among}
+use Rattle.passport_claims.proofs.TurnLaws.{Next, among_cases, among_first, among_later, has_each, next_first, next_of, next_second, next_there, none_behind_last, within_among}
 use Rattle.passport_claims.proofs.WayLaws.{behind_ends, behind_follow, behind_within, last_within}
 
 -- ---- what is reached from the start
@@ -38,10 +38,10 @@ on_way links start steps first (second ∷ later) link here within follow e = el
 ]
 
 -- a way from the start, as it is found
-record Walked (links : List ClaimsView) (start : ℕ) : Type 0 where
-  apart : Distinct links
-  within : AreWithin (length links) (start ∷ behind links start)
-  once : NoneTwice (start ∷ behind links start)
+pub record Walked (links : List ClaimsView) (start : ℕ) : Type 0 where
+  pub apart : Distinct links
+  pub within : AreWithin (length links) (start ∷ behind links start)
+  pub once : NoneTwice (start ∷ behind links start)
 
 -- what goes on from the way is on it
 goes_on : (links : List ClaimsView) (start one link : ℕ) → Walked links start → IsOneOf (length links) link → is_among one (start ∷ behind links start) ≡ true
@@ -50,7 +50,7 @@ goes_on links start one link w is e goes =
     let way = behind links start in
     elim (next_there start way one e) [
       | inr (other, next) ↦
-          let on : is_among other way ≡ true = next_second links start way one other next in
+          let on : is_among other way ≡ true = next_second start way one other next in
           let same : other ≡ link = w.apart.divs other link (within_among (length links) (start ∷ way) other w.within (among_later other start way on)) is
           (next_follows links start way one other (behind_follow links start) next ∙ sym goes) in
           subst (λ l. is_among l (start ∷ way) ≡ true) same (among_later other start way on)
@@ -68,19 +68,14 @@ goes_on links start one link w is e goes =
             ∙ equal_bytes (div_at links link) (dest_at links (last_of start way)) (goes ∙ ap (dest_at links) last)))
       ]
     ]
-  where
-    next_second : (links : List ClaimsView) (first : ℕ) (later : List ℕ) (one other : ℕ) → Next first later one other → is_among other later ≡ true
-    next_second links first [] one other next = absurd next
-    next_second links first (second ∷ later) one other (inl (a, b)) = among_first other second later (sym b)
-    next_second links first (second ∷ later) one other (inr next) = among_later other second later (next_second links second later one other next)
 
 -- what is reached is on the way
-reached_on : (links : List ClaimsView) (start steps link : ℕ) → Walked links start → IsOneOf (length links) link → ReachedIn links start steps link
+pub reached_on : (links : List ClaimsView) (start steps link : ℕ) → Walked links start → IsOneOf (length links) link → ReachedIn links start steps link
     → is_among link (start ∷ behind links start) ≡ true
 reached_on links start zero link w is r = among_first link start (behind links start) (sym r)
 reached_on links start (suc steps) link w is r = goes_on links start r.0 link w is (reached_on links start steps r.0 w r.1 r.2) r.3
 
-left_says : (links : List ClaimsView) (start : ℕ) → Walked links start → Says (IsLeft links start) (is_left (start ∷ behind links start)) (length links)
+pub left_says : (links : List ClaimsView) (start : ℕ) → Walked links start → Says (IsLeft links start) (is_left (start ∷ behind links start)) (length links)
 unfolding Reached
 left_says links start w =
     let turn = start ∷ behind links start in
@@ -104,12 +99,12 @@ AnswerIs origin links called (Ok turn) = IsOrder origin links called turn
 AnswerIs origin links called (Err fault) = IsFault origin links called fault
 
 -- what is known where a start was found
-record Started (origin : ClaimsView) (links : List ClaimsView) (start : ℕ) : Type 0 where
-  few : length links ≤ 8
-  apart : OfNone (Repeats links) (length links)
-  starts : IsStart origin.dest links start
+pub record Started (origin : ClaimsView) (links : List ClaimsView) (start : ℕ) : Type 0 where
+  pub few : length links ≤ 8
+  pub apart : OfNone (Repeats links) (length links)
+  pub starts : IsStart origin.dest links start
 
-is_walked : (origin : ClaimsView) (links : List ClaimsView) (start : ℕ) → Started origin links start → Walked links start
+pub is_walked : (origin : ClaimsView) (links : List ClaimsView) (start : ℕ) → Started origin links start → Walked links start
 is_walked origin links start s =
     let d = distinct links s.apart in
     let within : AreWithin (length links) (start ∷ behind links start) = (s.starts.is.is, behind_within links start) in

@@ -182,7 +182,7 @@ walked links first (second ∷ later) d within follow =
     d.divs other second is within.0 (same_bytes (div_at links other) (dest_at links first) (sym (leads_from_is links (dest_at links first) other) ∙ t) ∙ sym follow.0)) in
     walk_on links (length later) (dest_at links first) second found ∙ ap (λ xs. second ∷ xs) (walked links second later d within.1 follow.1)
 
-each_found : (turn : List ℕ) (count : ℕ) → ((link : ℕ) → IsOneOf count link → is_among link turn ≡ true) → first_from (is_left turn) 1 count ≡ None
+pub each_found : (turn : List ℕ) (count : ℕ) → ((link : ℕ) → IsOneOf count link → is_among link turn ≡ true) → first_from (is_left turn) 1 count ≡ None
 each_found turn count each = first_isnt (is_left turn) 1 count (λ link l k. is_left_is turn link ∙ ap not (each link (record { low = l; high = omega (arith, k) })))
 
 way_again : (dests : List (List ℕ)) (links : List ClaimsView) (called : Option (List ℕ)) (first : ℕ) (later : List ℕ) → Ordered links first later

@@ -129,6 +129,11 @@ next_first first [] one other next = absurd next
 next_first first (second ∷ later) one other (inl (e, f)) = among_first one first (second ∷ later) (sym e)
 next_first first (second ∷ later) one other (inr next) = among_later one first (second ∷ later) (next_first second later one other next)
 
+pub next_second : (first : ℕ) (later : List ℕ) (one other : ℕ) → Next first later one other → is_among other later ≡ true
+next_second first [] one other next = absurd next
+next_second first (second ∷ later) one other (inl (a, b)) = among_first other second later (sym b)
+next_second first (second ∷ later) one other (inr next) = among_later other second later (next_second second later one other next)
+
 pub next_of : (first : ℕ) (later : List ℕ) (other : ℕ) → is_among other later ≡ true → (one : ℕ) × Next first later one other
 next_of first [] other e = absurd cc
 next_of first (second ∷ later) other e = elim (among_cases other second later e) [

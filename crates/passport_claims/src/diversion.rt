@@ -1,5 +1,5 @@
 //! The order in which a diverted call went (RFC 8946, section 4.2).
-ghost use Rattle.std.specs.Prelude.{◌≡◌, ℕ, ◌≤◌, All, List, ◌∷◌, IfErr, IfOk, length};
+ghost use Rattle.std.specs.Prelude.{◌≡◌, ℕ, ◌≤◌, All, List, ◌∷◌, IfErr, IfOk, Err, length};
 ghost use Rattle.std.specs.Result.{IsOkAnd};
 ghost use Rattle.passport_claims.specs.Links.{IsLink, IsOneOf};
 ghost use Rattle.passport_claims.specs.Order.{IsOrder, is_among, last_of};
@@ -38,8 +38,9 @@ pub fn chain(
     // It has as many entries as there are links, each the number of one.
     ensures turn { IfOk result (λ order. IsTurn (length links.now) order) }
 
-    // A refusal is the first fault, shown by the first link that shows it.
+    // A refusal is the first fault, shown by the link that shows it, and each such fault is the answer.
     ensures refused { IfErr result (λ fault. IsFault origin.now links.now called fault) }
+    ensures fault { (fault : ChainFault) → IsFault origin.now links.now called fault → result ≡ Err fault }
     ensures link { IfErr result (λ fault. fault.link ≤ length links.now) }
 {
     chain_exactly(origin, links, called)
