@@ -1,0 +1,20 @@
+-- The past: which call passed on which ticket, and until when its PASSporT is fresh (this project's own rule, after RFC 8224,
+-- section 12.1: a receiver keeps what it saw for as long as it is fresh).
+use Rattle.std.specs.Prelude.{ℕ, nat_lt, List, Option, Some, None, if◌then◌else◌}
+use Rattle.std.specs.Map.{lookup}
+use Rattle.std.specs.Str.{bytes_eq}
+use Rattle.replay_desk.specs.declared.kept.Kept.{Kept}
+
+-- the tickets with their calls, in no order that a contract names, and how many can be added without memory
+pub record PastView : Type 0 where
+  pub entries : List (List ℕ × Kept)
+  pub spare : ℕ
+
+-- the call that passed on a ticket
+abbrev pub found : PastView → List ℕ → Option Kept
+found past ticket = lookup (bytes_eq ticket) past.entries
+
+-- what a purge leaves of a ticket's call: nothing exactly where its last second is below the moment
+abbrev pub unless_below : ℕ → Option Kept → Option Kept
+unless_below moment None = None
+unless_below moment (Some kept) = if nat_lt kept.last moment then None else Some kept

@@ -1,0 +1,90 @@
+//! The calls that passed, by ticket.
+ghost use Rattle.std.specs.Prelude.{◌≡◌, ◌≢◌, ◌≤◌, ◌<◌, ◌+◌, ℕ, List, Some, None, OnOk, OnErr};
+ghost use Rattle.replay_desk.specs.Past.{found, unless_below};
+
+use crate::kept::Kept;
+use std::alloc::{AllocError, Global};
+use std::collections::HashMap;
+use std::marker::Model;
+
+/// Which call passed on which ticket, the SHA-256 of a PASSporT's signing input, and until when.
+///
+/// A contract sees a finite map, and `spare`: how many tickets can be added without memory.
+#[derive(Drop)]
+pub struct Past {
+    calls: HashMap<[u8; 32], Kept>,
+    // how many tickets can be added; the map may have room for more
+    spare: usize,
+}
+
+impl Model for Past {
+    ghost use Rattle.std.specs.Prelude.{◌≤◌};
+    ghost use Rattle.std.specs.HashMap as hash;
+    ghost use Rattle.replay_desk.specs.Past.{PastView};
+
+    ghost Value = { PastView };
+
+    ghost view = { λ past. record { entries = past.calls.entries; spare = past.spare } };
+
+    ghost invariant = { λ past. past.spare ≤ hash.spare past.calls };
+}
+
+impl Past {
+    /// A past without calls. It takes no memory.
+    pub fn new(alloc: Global) -> Past
+        ensures { (ticket : List ℕ) → found result ticket ≡ None }
+    {
+        Past {
+            calls: HashMap::new(alloc),
+            spare: 0,
+        }
+    }
+
+    /// How many tickets can be added before the next `reserve`.
+    pub fn spare(&self) -> usize
+        ensures { result ≡ self.now.spare }
+    {
+        self.spare
+    }
+
+    /// Makes room for so many tickets more. The only error is want of memory, and changes nothing.
+    pub fn reserve(&mut self, count: usize) -> Result<(), AllocError>
+        ensures same { (ticket : List ℕ) → found self.new ticket ≡ found self.old ticket }
+        ensures room { OnOk result (count ≤ self.new.spare) }
+        ensures kept { self.old.spare ≤ self.new.spare }
+        ensures refused { OnErr result (self.new ≡ self.old) }
+    {
+        self.calls.reserve(count)?;
+        self.spare = self.spare.max(count);
+        Ok(())
+    }
+
+    /// Keeps a call that passed on a ticket that isn't held. It takes no memory.
+    pub fn add(&mut self, ticket: [u8; 32], kept: Kept)
+        requires room { 1 ≤ self.old.spare }
+        requires free { found self.old ticket ≡ None }
+        ensures added { found self.new ticket ≡ Some kept }
+        ensures others { (other : List ℕ) → other ≢ ticket → found self.new other ≡ found self.old other }
+        ensures spare { self.old.spare ≤ self.new.spare + 1 }
+    {
+        let added = self.calls.insert(ticket, kept);
+        drop(added);
+        self.spare -= 1;
+    }
+
+    /// The call that passed on the ticket; None exactly where the ticket isn't held.
+    pub fn find(&self, ticket: &[u8; 32]) -> Option<Kept>
+        ensures { result ≡ found self.now ticket.now }
+    {
+        self.calls.get(ticket).copied()
+    }
+
+    /// Drops exactly the calls whose PASSporT is fresh no longer: those whose last second is below the moment, a Unix time. It
+    /// takes no memory.
+    pub fn purge(&mut self, moment: u64)
+        ensures calls { (ticket : List ℕ) → found self.new ticket ≡ unless_below moment (found self.old ticket) }
+        ensures spare { self.old.spare ≤ self.new.spare }
+    {
+        self.calls.retain(|_, kept| kept.last >= moment);
+    }
+}
