@@ -48,6 +48,9 @@ pub record Claimed (class call : ℕ) (before after : Holder) (answer : Claim) :
   pub won : found ≡ 0 → (answer ≡ Won) × (after ≡ gained class call before)
   -- else lost, to the call whose number plus 1 it is
   pub lost : 0 < found → (answer ≡ Lost (found - 1)) × (after ≡ lost_to class (found - 1) before)
+  -- in both cases the seat stays one of its desk, with its share
+  pub desk : after.desk ≡ before.desk
+  pub share : after.share ≡ before.share
 
 -- what holds of each seat at every moment
 abbrev pub Settled : Holder → Type 0
