@@ -88,6 +88,7 @@ impl Desk {
         self.table
             .shared
             .join_seat::<Together>(&mut seat.token, token);
+        // the look tells the seat that its losses name wins of its own once it has the whole share
         self.table.shared.load::<Look>(&mut seat.token, 0);
     }
 
@@ -99,10 +100,9 @@ impl Desk {
         requires call { call < 4294967295 }
         ensures { Claimed class call seat.old seat.new result }
     {
-        let found = self
-            .table
-            .shared
-            .compare_exchange::<ClaimStep>(&mut seat.token, class as usize, 0, u64::from(call) + 1);
+        let mine = u64::from(call) + 1;
+        let words = &self.table.shared;
+        let found = words.compare_exchange::<ClaimStep>(&mut seat.token, class as usize, 0, mine);
         if found == 0 {
             return Claim::Won;
         }
