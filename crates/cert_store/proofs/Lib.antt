@@ -3,6 +3,7 @@ pub mod HeldLaws
 pub mod MapLaws
 pub mod PathFacts
 pub mod RuleSteps
+pub mod AskSteps
 pub mod JudgedLaws
 pub mod WalkLaws
 pub mod WordLaws

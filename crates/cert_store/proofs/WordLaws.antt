@@ -101,7 +101,7 @@ issuer_is : (chain anchors : List CertView) (anchor : Option ℕ) (top : CertVie
     → issuer_of chain anchors anchor (suc i) ≡ Some (first_or (drop (suc i) chain) top)
 issuer_is chain anchors anchor top i e = issuer_by chain anchors anchor top i (nat_lt (suc i) (length chain)) refl e
 
-the_issuer : (chain anchors : List CertView) (anchor : Option ℕ) (top issuer : CertView) (i : ℕ) → anchor_of chain anchors anchor ≡ Some top
+pub the_issuer : (chain anchors : List CertView) (anchor : Option ℕ) (top issuer : CertView) (i : ℕ) → anchor_of chain anchors anchor ≡ Some top
     → issuer_of chain anchors anchor (suc i) ≡ Some issuer → first_or (drop (suc i) chain) top ≡ issuer
 the_issuer chain anchors anchor top issuer i e k = inside _ issuer (sym (issuer_is chain anchors anchor top i e) ∙ k)
 

@@ -1,13 +1,25 @@
--- What a provider's answers for a chain's signatures come to, as far as it answers.
-use Rattle.std.specs.Prelude.{◌≡◌, ⊤, ℕ, ◌-◌, ◌≤◌, false, List, Option, Some, None}
+-- What a provider's answers for a chain's signatures come to, as far as it answers, and what was asked of it.
+use Rattle.std.specs.Prelude.{◌≡◌, ◌≢◌, ⊤, ℕ, suc, ◌+◌, ◌-◌, ◌≤◌, List, [], ◌∷◌, take, count_by, is_some, Option, Some, None, if◌then◌else◌}
 use Rattle.std.specs.List.{slice_get}
-use Rattle.stir_base.specs.Count.{Rose}
+use Rattle.stir_base.specs.Count.{Rose, last_count}
 use Rattle.x509_profile.specs.View.{CertView}
-use Rattle.delegation.specs.Path.{is_listed}
 use Rattle.cert_store.specs.declared.judged.Asked.{Asked}
 use Rattle.cert_store.specs.declared.judged.Asked.TheVariants.{NotAsked, Yes, No, Failed}
-use Rattle.cert_store.specs.Links.{Link}
-use Rattle.cert_store.specs.Rules.{Says, first_unsigned}
+use Rattle.cert_store.specs.Rules.{Says}
+
+-- the keys under which the signatures of certificates are asked for, in their order; none for one that isn't asked for
+abbrev pub Keys : Type 0
+Keys = List (Option (List ℕ))
+
+-- ---- what is answered
+
+-- the number of the first certificate whose signature isn't good under its key, where the first of all has this number
+abbrev pub first_refused : Says → ℕ → List CertView → Keys → Option ℕ
+first_refused says number [] keys = None
+first_refused says number (c ∷ above) [] = None
+first_refused says number (c ∷ above) (None ∷ keys) = first_refused says (suc number) above keys
+first_refused says number (c ∷ above) (Some key ∷ keys) =
+    if says key c.digest c.signature then first_refused says (suc number) above keys else Some number
 
 -- the answer where no question fails, by the first certificate whose signature isn't good
 abbrev pub asked_by : Option ℕ → Asked
@@ -28,22 +40,36 @@ SoFar truth Yes = truth ≡ Yes
 SoFar truth (No part) = truth ≡ No part
 SoFar truth (Failed part) = IsOpen part truth
 
--- the certificate of this number, counted from 1, is one of the chain, and no anchor: its signature was asked for
-pub record IsQuestion (anchors chain : List CertView) (part : ℕ) : Type 0 where
-  pub certificate : CertView
+abbrev pub Answers : Says → List CertView → Keys → Asked → Type 0
+Answers says chain keys asked = SoFar (asked_by (first_refused says 1 chain keys)) asked
+
+-- ---- what is asked
+
+-- the signature of the certificate of this number, counted from 1, is asked for: there is a key for it
+pub record IsQuestion (keys : Keys) (part : ℕ) : Type 0 where
+  pub key : List ℕ
   pub some : 1 ≤ part
-  pub stands : slice_get chain (part - 1) ≡ Some certificate
-  pub free : is_listed certificate anchors ≡ false
+  pub stands : slice_get keys (part - 1) ≡ Some (Some key)
 
 -- what failed is a question
-abbrev pub FailedAt : List CertView → List CertView → Asked → Type 0
-FailedAt anchors chain NotAsked = ⊤
-FailedAt anchors chain Yes = ⊤
-FailedAt anchors chain (No part) = ⊤
-FailedAt anchors chain (Failed part) = IsQuestion anchors chain part
+abbrev pub FailedAt : Keys → Asked → Type 0
+FailedAt keys NotAsked = ⊤
+FailedAt keys Yes = ⊤
+FailedAt keys (No part) = ⊤
+FailedAt keys (Failed part) = IsQuestion keys part
 
-abbrev pub Answers : Says → List CertView → List Link → Asked → Type 0
-Answers says anchors links asked = SoFar (asked_by (first_unsigned says anchors links)) asked
+-- how many questions there are up to the certificate at which asking stopped
+abbrev pub questions : Keys → Asked → ℕ
+questions keys NotAsked = 0
+questions keys Yes = count_by is_some keys
+questions keys (No part) = count_by is_some (take part keys)
+questions keys (Failed part) = count_by is_some (take part keys)
+
+-- a count rose by exactly so many, or stands at its last value
+pub record RoseBy (times before now : ℕ) : Type 0 where
+  pub never_falls : before ≤ now
+  pub most : now ≤ before + times
+  pub exact : now ≢ last_count → now ≡ before + times
 
 -- a question failed only where the provider's count of faults rose
 abbrev pub FailedWithCause : ℕ → ℕ → Asked → Type 0

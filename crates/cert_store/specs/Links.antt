@@ -1,5 +1,5 @@
 -- The certificates of a path, each with its number and its issuer (RFC 5280 section 6.1).
-use Rattle.std.specs.Prelude.{ℕ, suc, List, [], ◌∷◌, Option, Some, None, Result, Ok, Err}
+use Rattle.std.specs.Prelude.{ℕ, suc, nat_le, List, [], ◌∷◌, length, Option, Some, None, Result, Ok, Err, if◌then◌else◌}
 use Rattle.x509_profile.specs.View.{CertView}
 use Rattle.x509_profile.specs.Chain.{RefusedCertificate, certificates_in}
 use Rattle.delegation.specs.declared.fault.PathFault.{PathFault}
@@ -26,14 +26,24 @@ links_from number (c ∷ above) top = link number c (first_or above top) ∷ lin
 
 -- ---- of a chain's bytes
 
+-- the certificates, or the number of the one that is refused
+abbrev pub by_number : Result (List CertView) RefusedCertificate → Result (List CertView) ℕ
+by_number (Ok chain) = Ok chain
+by_number (Err refused) = Err refused.number
+
+-- A chain file has at most 49,152 bytes, which is six certificates of 8,192 (this project's own rule): the certificates that the bytes
+-- are, or 0 where there are more bytes, else the number of the first certificate that is refused or is a seventh one.
+unfoldable pub read_file : List ℕ → Result (List CertView) ℕ
+read_file bytes = if nat_le (length bytes) 49152 then by_number (certificates_in bytes) else Err 0
+
 -- what is read, and nothing where a certificate is refused
-abbrev pub read_or_nothing : Result (List CertView) RefusedCertificate → List CertView
+abbrev pub read_or_nothing : Result (List CertView) ℕ → List CertView
 read_or_nothing (Ok chain) = chain
-read_or_nothing (Err refused) = []
+read_or_nothing (Err place) = []
 
 -- the certificates that the bytes are, and none where they aren't a chain
 abbrev pub chain_in : List ℕ → List CertView
-chain_in bytes = read_or_nothing (certificates_in bytes)
+chain_in bytes = read_or_nothing (read_file bytes)
 
 abbrev pub path_up_to : List CertView → Result (Option ℕ) PathFault → List CertView
 path_up_to chain (Ok anchor) = chain

@@ -2,22 +2,21 @@
 -- the rules before it leave: of bytes that aren't a chain, or of a chain that is no path, the later ones say nothing.
 use Rattle.std.specs.Prelude.{ℕ, suc, pos, int_le, ◌&&◌, Bool, List, [], ◌∷◌, is_some, Option, Some, None, Result, Ok, Err, if◌then◌else◌}
 use Rattle.x509_profile.specs.View.{CertView}
-use Rattle.x509_profile.specs.Chain.{RefusedCertificate, certificates_in}
 use Rattle.delegation.specs.declared.fault.PathFault.{PathFault}
 use Rattle.delegation.specs.Coverage.{Table}
 use Rattle.delegation.specs.Decided.{is_within}
 use Rattle.delegation.specs.Path.{is_listed, shape_of}
 use Rattle.cert_store.specs.declared.judged.Period.{Period}
-use Rattle.cert_store.specs.Links.{Link, chain_in, links_of, path_of}
+use Rattle.cert_store.specs.Links.{Link, chain_in, links_of, path_of, read_file}
 
--- ---- rule 11: the bytes are at most six certificates of the profile
+-- ---- rule 11: the bytes are at most 49,152, and at most six certificates of the profile
 
-abbrev pub refused_number : Result (List CertView) RefusedCertificate → Option ℕ
-refused_number (Ok chain) = None
-refused_number (Err refused) = Some refused.number
+abbrev pub refused_place : Result (List CertView) ℕ → Option ℕ
+refused_place (Ok chain) = None
+refused_place (Err place) = Some place
 
 abbrev pub rule_11 : List ℕ → Option ℕ
-rule_11 bytes = refused_number (certificates_in bytes)
+rule_11 bytes = refused_place (read_file bytes)
 
 -- ---- rule 12: they are a path up to a trust anchor (RFC 5280 section 6.1)
 
@@ -25,12 +24,12 @@ abbrev pub fault_place : Result (Option ℕ) PathFault → Option ℕ
 fault_place (Ok anchor) = None
 fault_place (Err fault) = Some fault.place
 
-abbrev pub place_in : List CertView → Result (List CertView) RefusedCertificate → Option ℕ
+abbrev pub place_in : List CertView → Result (List CertView) ℕ → Option ℕ
 place_in anchors (Ok chain) = fault_place (shape_of chain anchors)
-place_in anchors (Err refused) = None
+place_in anchors (Err place) = None
 
 abbrev pub rule_12 : List CertView → List ℕ → Option ℕ
-rule_12 anchors bytes = place_in anchors (certificates_in bytes)
+rule_12 anchors bytes = place_in anchors (read_file bytes)
 
 -- ---- rule 13: each that isn't itself an anchor is valid at the moment (RFC 5280 section 6.1.3 (a)(2))
 
@@ -89,3 +88,12 @@ first_unsigned says anchors (link ∷ links) =
 
 abbrev pub rule_15 : List CertView → Says → List ℕ → Option ℕ
 rule_15 anchors says bytes = first_unsigned says anchors (links_of anchors (chain_in bytes))
+
+-- the key under which the signature of a certificate is asked for, that of its issuer; none where it is itself an anchor
+abbrev pub key_under : List CertView → CertView → CertView → Option (List ℕ)
+key_under anchors certificate issuer = if is_listed certificate anchors then None else Some issuer.key
+
+-- the same of each certificate of a path
+abbrev pub keys_of : List CertView → List Link → List (Option (List ℕ))
+keys_of anchors [] = []
+keys_of anchors (link ∷ links) = key_under anchors link.certificate link.issuer ∷ keys_of anchors links

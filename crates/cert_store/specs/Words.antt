@@ -1,5 +1,5 @@
 -- The rules on one chain in their own words: what holds of each certificate, and which is the first of which it doesn't.
-use Rattle.std.specs.Prelude.{◌≡◌, ◌↔◌, ℕ, pos, ◌≤ℤ◌, ◌-◌, ◌<◌, ◌≤◌, true, false, List, [], length, Option, Some, None, IsSome}
+use Rattle.std.specs.Prelude.{◌≡◌, ◌↔◌, ℕ, pos, ◌≤ℤ◌, ◌-◌, ◌<◌, ◌≤◌, ◌⊎◌, true, false, List, [], length, Option, Some, None, IsSome}
 use Rattle.std.specs.List.{slice_get}
 use Rattle.x509_profile.specs.View.{CertView}
 use Rattle.x509_profile.specs.Chain.{Chain, Whole}
@@ -8,7 +8,7 @@ use Rattle.delegation.specs.Path.{Path, is_listed, issuer_of}
 use Rattle.cert_store.specs.declared.judged.Asked.{Asked}
 use Rattle.cert_store.specs.declared.judged.Asked.TheVariants.{NotAsked, Yes, No, Failed}
 use Rattle.cert_store.specs.Judged.{JudgedView, out_of_date}
-use Rattle.cert_store.specs.Rules.{Says}
+use Rattle.cert_store.specs.Rules.{Says, key_under}
 
 -- it holds of each of so many certificates, counted from 1; or this is the first of which it doesn't
 abbrev pub IsFirstBroken : (ℕ → Type 0) → ℕ → Option ℕ → Type 0
@@ -22,11 +22,14 @@ IsNumbered chain number c = slice_get chain (number - 1) ≡ Some c
 
 -- ---- rule 11
 
--- the bytes are a chain of these certificates; or the certificate of this number is the first that is none of the profile, or the
--- seventh, and they are no chain
+-- there are more bytes than 49,152; or the certificate of this number is the first that is none of the profile, or the seventh
+abbrev pub IsBrokenAt : List ℕ → ℕ → Type 0
+IsBrokenAt bytes place = ((49152 < length bytes) × (place ≡ 0)) ⊎ ((length bytes ≤ 49152) × (1 ≤ place) × Whole bytes (place - 1))
+
+-- the bytes are a chain of these certificates; or the rule is broken at this place, and they are no chain
 abbrev pub ProfileOf : List ℕ → List CertView → Option ℕ → Type 0
 ProfileOf bytes chain None = Chain bytes chain
-ProfileOf bytes chain (Some number) = (1 ≤ number) × Whole bytes (number - 1) × ((any : List CertView) → Chain bytes any → ⊥) × (chain ≡ [])
+ProfileOf bytes chain (Some place) = IsBrokenAt bytes place × ((any : List CertView) → Chain bytes any → ⊥) × (chain ≡ [])
 
 abbrev pub ProfileIs : List ℕ → JudgedView → Type 0
 ProfileIs bytes judged = ProfileOf bytes judged.certificates judged.profile
@@ -80,6 +83,15 @@ SignedAs Holds count (Failed part) = (number : ℕ) → 1 ≤ number → number 
 abbrev pub SignaturesAre : List CertView → Says → JudgedView → Type 0
 SignaturesAre anchors says judged = (anchor : Option ℕ) → Path judged.certificates anchors anchor → judged.authority ≡ None
     → SignedAs (IsSigned says anchors anchor judged.certificates) (length judged.certificates) judged.asked
+
+-- of each certificate of a path the key of its issuer is kept, and none of one that is itself an anchor
+pub record HasKeys (anchors : List CertView) (anchor : Option ℕ) (judged : JudgedView) : Type 0 where
+  pub count : length judged.keys ≡ length judged.certificates
+  pub each : (number : ℕ) (c issuer : CertView) → 1 ≤ number → IsNumbered judged.certificates number c
+      → issuer_of judged.certificates anchors anchor number ≡ Some issuer → slice_get judged.keys (number - 1) ≡ Some (key_under anchors c issuer)
+
+abbrev pub KeysAre : List CertView → JudgedView → Type 0
+KeysAre anchors judged = (anchor : Option ℕ) → Path judged.certificates anchors anchor → HasKeys anchors anchor judged
 
 -- no signature was asked for exactly where rule 11, 12 or 14 is broken
 abbrev pub UnaskedIs : JudgedView → Type 0

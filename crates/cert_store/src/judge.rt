@@ -1,14 +1,14 @@
 //! A chain judged by the rules on it.
-ghost use Rattle.std.specs.Prelude.{◌≡◌, ◌+◌, ◌≤◌, ℕ, Option, None, length, vec_len, IfOk};
+ghost use Rattle.std.specs.Prelude.{◌≡◌, ◌≤◌, ℕ, vec_len, IfOk};
 ghost use Rattle.delegation.specs.Path.{Path, anchor_of};
-ghost use Rattle.cert_store.specs.Judged.{Asks, FailedIs, HasCount, IsJudged, judged_chain, judged_of, judged_path, outside_profile, without_path};
+ghost use Rattle.cert_store.specs.Judged.{Asks, HasCount, IsJudged, QuietIs, judged_chain, judged_of, judged_path, outside_profile, without_path};
 ghost use Rattle.cert_store.specs.Links.{links_below};
-ghost use Rattle.cert_store.specs.Words.{AuthorityIs, DatesAre, PathIs, ProfileIs, SignaturesAre, UnaskedIs};
+ghost use Rattle.cert_store.specs.Words.{AuthorityIs, DatesAre, KeysAre, PathIs, ProfileIs, SignaturesAre, UnaskedIs};
 
 use crate::Memory;
 use crate::authority::first_unauthorized;
 use crate::judged::{Asked, Judged};
-use crate::path::{issuer_of_last, periods_of};
+use crate::path::{issuer_keys, issuer_of_last, periods_of};
 use crate::signatures::ask;
 use delegation::{Anchors, shape};
 use std::alloc::{AllocError, Global};
@@ -16,13 +16,17 @@ use stir_outside::Provider;
 use tn_auth_list::CodeTable;
 use x509_profile::{Certificate, ChainFault, read_chain};
 
+/// The most bytes that a chain may have: six certificates of 8,192.
+const MOST_BYTES: usize = 49_152;
+
 /// What the rules on a chain say of these bytes, which are to be certificates one after another, the leaf's first.
 ///
-/// Rule 11: they are at most six certificates of the profile. Rule 12: they are a path up to an anchor (RFC 5280 section 6.1).
-/// Rule 14: the leaf has an authority list, and the authority of each lies within its issuer's (RFC 9060). Where these hold, the
-/// provider is asked for the signatures, from the leaf's on up to the first that it doesn't confirm, save those of certificates
-/// that are themselves anchors, byte for byte (rule 15). Rule 13, on dates, is asked of the answer. `Memory` comes where there is
-/// none for the certificates or for comparing their authorities, and then no signature was asked for.
+/// Rule 11: they are at most 49,152, and at most six certificates of the profile. Rule 12: they are a path up to an anchor (RFC
+/// 5280 section 6.1). Rule 14: the leaf has an authority list, and the authority of each lies within its issuer's (RFC 9060).
+/// Where these hold, the provider is asked for the signatures, once each, from the leaf's on up to the first that it doesn't
+/// confirm, save those of certificates that are themselves anchors, byte for byte (rule 15). Rule 13, on dates, is asked of the
+/// answer. `Memory` comes where there is none for the certificates, for what is kept of them or for comparing their authorities,
+/// and then no signature was asked for.
 pub fn judge_chain<P: Provider>(
     alloc: Global,
     bytes: &[u8],
@@ -30,7 +34,7 @@ pub fn judge_chain<P: Provider>(
     table: &CodeTable,
     provider: &mut P,
 ) -> Result<Judged, Memory>
-    // What the rules say, as far as the provider answered; a question failed only where its count of faults rose.
+    // What the rules say, as far as the provider answered. A question failed only where its count of faults rose.
     ensures exact { IfOk result (IsJudged (judged_of anchors.now table.now (P.says provider.old) bytes.now) (P.faults provider.old) (P.faults provider.new)) }
 
     // The same in the rules' own words.
@@ -40,9 +44,12 @@ pub fn judge_chain<P: Provider>(
     ensures authority { IfOk result (AuthorityIs anchors.now table.now) }
     ensures signatures { IfOk result (SignaturesAre anchors.now (P.says provider.old)) }
 
-    // Where signatures were asked for, how often, and what that changed of the provider.
+    // Where no fault was counted, the answer is all that the rules say.
+    ensures quiet { IfOk result (QuietIs (judged_of anchors.now table.now (P.says provider.old) bytes.now) (P.faults provider.old) (P.faults provider.new)) }
+
+    // Where signatures were asked for, of which certificates, how often, and what that changed of the provider.
     ensures unasked { IfOk result UnaskedIs }
-    ensures question { IfOk result (FailedIs anchors.now) }
+    ensures keys { IfOk result (KeysAre anchors.now) }
     ensures asks { Asks (P.asks provider.old) (P.asks provider.new) result }
     ensures faults { HasCount (P.faults provider.old) (P.faults provider.new) result }
     ensures same_says { P.says provider.new ≡ P.says provider.old }
@@ -60,12 +67,14 @@ fn judge_bytes<P: Provider>(
     provider: &mut P,
 ) -> Result<Judged, Memory>
     ensures exact { IfOk result (IsJudged (judged_of anchors.now table.now (P.says provider.old) bytes.now) (P.faults provider.old) (P.faults provider.new)) }
-    ensures question { IfOk result (FailedIs anchors.now) }
     ensures asks { Asks (P.asks provider.old) (P.asks provider.new) result }
     ensures faults { HasCount (P.faults provider.old) (P.faults provider.new) result }
     ensures same_says { P.says provider.new ≡ P.says provider.old }
     ensures same_signs { P.signs provider.new ≡ P.signs provider.old }
 {
+    if bytes.len() > MOST_BYTES {
+        return Ok(outside_profile(alloc, 0));
+    }
     match read_chain(alloc, bytes) {
         Ok(certificates) => judge_certificates(alloc, certificates, anchors, table, provider),
         Err(ChainFault::At { number, .. }) => Ok(outside_profile(alloc, number)),
@@ -83,7 +92,6 @@ fn judge_certificates<P: Provider>(
 ) -> Result<Judged, Memory>
     requires { vec_len certificates ≤ 6 }
     ensures exact { IfOk result (IsJudged (judged_chain anchors.now table.now (P.says provider.old) certificates.items) (P.faults provider.old) (P.faults provider.new)) }
-    ensures question { IfOk result (FailedIs anchors.now) }
     ensures asks { Asks (P.asks provider.old) (P.asks provider.new) result }
     ensures faults { HasCount (P.faults provider.old) (P.faults provider.new) result }
     ensures same_says { P.says provider.new ≡ P.says provider.old }
@@ -108,7 +116,6 @@ fn judge_path<P: Provider>(
     requires path { Path certificates.items anchors.now anchor }
     ensures exact { IfOk result (IsJudged (judged_path anchors.now table.now (P.says provider.old) certificates.items
         (links_below certificates.items (anchor_of certificates.items anchors.now anchor))) (P.faults provider.old) (P.faults provider.new)) }
-    ensures question { IfOk result (FailedIs anchors.now) }
     ensures asks { Asks (P.asks provider.old) (P.asks provider.new) result }
     ensures faults { HasCount (P.faults provider.old) (P.faults provider.new) result }
     ensures same_says { P.says provider.new ≡ P.says provider.old }
@@ -116,14 +123,16 @@ fn judge_path<P: Provider>(
 {
     let periods = periods_of(alloc, &certificates, anchors)?;
     let top = issuer_of_last(&certificates, anchors, anchor);
+    let keys = issuer_keys(alloc, &certificates, top, anchors)?;
     let authority = first_unauthorized(alloc, &certificates, top, table)?;
     let asked = match authority {
         Some(_) => Asked::NotAsked,
-        None => ask(&certificates, top, anchors, provider),
+        None => ask(&certificates, &keys, provider),
     };
     Ok(Judged {
         certificates,
         periods,
+        keys,
         profile: None,
         shape: None,
         authority,
@@ -131,14 +140,15 @@ fn judge_path<P: Provider>(
     })
 }
 
-/// Of bytes of which the certificate of this number isn't one of the profile, or is a seventh one.
-fn outside_profile(alloc: Global, number: u8) -> Judged
-    ensures { result ≡ outside_profile number }
+/// Of bytes that break rule 11 at this place.
+fn outside_profile(alloc: Global, place: u8) -> Judged
+    ensures { result ≡ outside_profile place }
 {
     Judged {
         certificates: Vec::new(alloc),
         periods: Vec::new(alloc),
-        profile: Some(number),
+        keys: Vec::new(alloc),
+        profile: Some(place),
         shape: None,
         authority: None,
         asked: Asked::NotAsked,
@@ -152,6 +162,7 @@ fn without_path(alloc: Global, certificates: Vec<Certificate>, place: u8) -> Jud
     Judged {
         certificates,
         periods: Vec::new(alloc),
+        keys: Vec::new(alloc),
         profile: None,
         shape: Some(place),
         authority: None,

@@ -3,8 +3,9 @@ ghost use Rattle.std.specs.Prelude.{◌≡◌, ◌&&◌, ℕ, pos, int_le, lengt
 ghost use Rattle.std.specs.List.{slice_get};
 ghost use Rattle.std.specs.Option.{option_copied};
 ghost use Rattle.cert_store.specs.Rules.{first_out, is_in_date};
-ghost use Rattle.cert_store.specs.Judged.{out_of_date};
+ghost use Rattle.cert_store.specs.Judged.{Holds, out_of_date};
 
+use crate::path::Key;
 use std::marker::Model;
 use x509_profile::Certificate;
 
@@ -50,11 +51,12 @@ impl Period {
 /// [`Judged::out_of_date`].
 ///
 /// Certificates count from 1, the leaf's. A contract sees the certificates, the seconds at which those are valid that aren't
-/// trust anchors, and what the rules gave.
+/// trust anchors, the keys of their issuers, and what the rules gave.
 #[derive(Drop)]
 pub struct Judged {
     pub(crate) certificates: Vec<Certificate>,
     pub(crate) periods: Vec<Period>,
+    pub(crate) keys: Vec<Option<Key>>,
     pub(crate) profile: Option<u8>,
     pub(crate) shape: Option<u8>,
     pub(crate) authority: Option<u8>,
@@ -62,23 +64,18 @@ pub struct Judged {
 }
 
 impl Model for Judged {
-    ghost use Rattle.cert_store.specs.Judged.{JudgedView};
+    ghost use Rattle.cert_store.specs.Judged.{Holds, JudgedView, view_of};
 
     ghost Value = { JudgedView };
 
-    ghost view = { λ j. record {
-      profile = j.profile;
-      shape = j.shape;
-      authority = j.authority;
-      asked = j.asked;
-      certificates = j.certificates.items;
-      periods = j.periods.items;
-    } };
+    ghost view = { λ j. view_of j.profile j.shape j.authority j.asked j.certificates.items j.periods.items j.keys.items };
+
+    ghost invariant = { λ j. Holds (view_of j.profile j.shape j.authority j.asked j.certificates.items j.periods.items j.keys.items) };
 }
 
 impl Judged {
-    /// Where rule 11 is broken: the first certificate that isn't one of the profile, or the seventh. None where the bytes are
-    /// at most six certificates of the profile.
+    /// Where rule 11 is broken: 0 where the bytes are more than 49,152, else the first certificate that isn't one of the profile,
+    /// or the seventh. None where the bytes are at most six certificates of the profile.
     pub fn profile(&self) -> Option<u8>
         ensures { result ≡ self.now.profile }
     {
@@ -101,9 +98,11 @@ impl Judged {
         self.authority
     }
 
-    /// How the signatures were answered for, which is what rule 15 asks.
+    /// How the signatures were answered for, which is what rule 15 asks: something else than `NotAsked` only where rules 11, 12
+    /// and 14 hold.
     pub fn asked(&self) -> Asked
-        ensures { result ≡ self.now.asked }
+        ensures exact { result ≡ self.now.asked }
+        ensures holds { Holds self.now }
     {
         self.asked
     }
@@ -116,9 +115,11 @@ impl Judged {
         first_out(&self.periods, moment)
     }
 
-    /// The leaf. None exactly where rule 11 is broken or there are no certificates.
+    /// The leaf. None exactly where rule 11 is broken or there are no certificates; where rules 11, 12 and 14 hold, it has an
+    /// authority list.
     pub fn leaf(&self) -> Option<&Certificate>
-        ensures { option_copied result ≡ slice_get self.now.certificates 0 }
+        ensures exact { option_copied result ≡ slice_get self.now.certificates 0 }
+        ensures holds { Holds self.now }
     {
         self.certificates.first()
     }
