@@ -1,0 +1,6 @@
+pub mod DigitLaws
+pub mod EntrySteps
+pub mod HeaderLaws
+pub mod LogLaws
+pub mod MessageSteps
+pub mod NumberSteps

@@ -1,0 +1,111 @@
+ghost use Rattle.std.specs.Prelude.{◌≡◌, ℕ, ◌≤◌, [], Err, Ok, IfSome, IfNone};
+ghost use Rattle.std.specs.Io.KnownBytes.{prepend_known};
+ghost use Rattle.stir_base.specs.Count.{Rose};
+
+use crate::ahead::Ahead;
+use crate::call::Call;
+use crate::entry::{Found, next_entry};
+use crate::fault::LogFault;
+use crate::progress::Progress;
+use std::alloc::Global;
+use std::marker::Model;
+use stir_outside::Source;
+
+/// A reader of a call log, which hands out its calls one by one.
+#[derive(Drop)]
+pub struct LogReader {
+    alloc: Global,
+    ahead: Ahead,
+    passed: Progress,
+    fault: Option<LogFault>,
+}
+
+impl Model for LogReader {
+    ghost use Rattle.std.specs.Prelude.{◌≡◌, ◌+◌, ◌*◌, ◌≤◌, []};
+    ghost use Rattle.call_log.specs.Reads.{LogState};
+
+    ghost Value = { LogState };
+
+    ghost view = { λ r. record { passed = r.passed; ahead = r.ahead; fault = r.fault } };
+
+    ghost invariant = { λ r. (r.passed.count ≤ 1000000) × (r.passed.number ≤ 4000000000 + r.passed.count) × (r.passed.place ≤ 131093 * r.passed.count) × (r.ahead ≡ []) };
+}
+
+impl LogReader {
+    ghost use Rattle.call_log.specs.Entry.{most_entries};
+    ghost use Rattle.call_log.specs.Log.{start};
+    ghost use Rattle.call_log.specs.HandsOut.{HandsOutOf, NoLongerLog, OneLog};
+    ghost use Rattle.call_log.specs.Reads.{LogState, Moves, Reads};
+
+    /// A reader at the beginning of a log.
+    pub fn new(alloc: Global) -> LogReader
+        ensures { result ≡ record { passed = start 0 0; ahead = []; fault = None } }
+    {
+        LogReader {
+            alloc,
+            ahead: Ahead::new(),
+            passed: Progress {
+                number: 0,
+                moment: 0,
+                count: 0,
+                place: 0,
+            },
+            fault: None,
+        }
+    }
+
+    /// Reads the next call of the log; `None` where the log has ended.
+    ///
+    /// A place is the offset of the entry's first byte, counted from where the reader began. After a fault every call
+    /// answers that fault. `Source` comes only where a read failed; what was taken of the source is what was needed.
+    #[tactic(auto, using(crate::proofs::LogLaws::hands_out))]
+    pub fn next<I: Source>(&mut self, source: &mut I) -> Result<Option<Call>, LogFault>
+        // After a fault nothing is read and nothing changes.
+        ensures again { IfSome self.old.fault (λ fault. (result ≡ Err fault) × (self.new ≡ self.old) × (source.new ≡ source.old)) }
+
+        // What was taken, whether the source tells it or not, and what of all that is left, where it does.
+        ensures reads { IfNone self.old.fault (Reads self.old.passed (prepend_known self.old.ahead (I.left source.old)) (prepend_known self.new.ahead (I.left source.new)) result) }
+        ensures hands_out { IfNone self.old.fault (HandsOutOf self.old.passed (prepend_known self.old.ahead (I.left source.old)) (prepend_known self.new.ahead (I.left source.new)) result) }
+        ensures moves { IfNone self.old.fault (Moves self.old.passed self.new result) }
+        ensures none_ahead { self.new.ahead ≡ [] }
+        ensures bounded { self.new.passed.count ≤ most_entries }
+
+        // The source failed in this call, or in that which first said so.
+        ensures rose { IfNone self.old.fault (result ≡ Err LogFault.Source → Rose (I.faults source.old) (I.faults source.new)) }
+        ensures never_falls { I.faults source.old ≤ I.faults source.new }
+
+        // Bytes are one log, and no longer one.
+        ensures one_log { OneLog }
+        ensures no_longer { NoLongerLog }
+    {
+        self.next_exactly(source)
+    }
+
+    /// Reads the next call of the log.
+    #[tactic(auto, using(crate::proofs::LogLaws::reads))]
+    fn next_exactly<I: Source>(&mut self, source: &mut I) -> Result<Option<Call>, LogFault>
+        ensures again { IfSome self.old.fault (λ fault. (result ≡ Err fault) × (self.new ≡ self.old) × (source.new ≡ source.old)) }
+        ensures reads { IfNone self.old.fault (Reads self.old.passed (prepend_known self.old.ahead (I.left source.old)) (prepend_known self.new.ahead (I.left source.new)) result) }
+        ensures moves { IfNone self.old.fault (Moves self.old.passed self.new result) }
+        ensures none_ahead { self.new.ahead ≡ [] }
+        ensures bounded { self.new.passed.count ≤ most_entries }
+        ensures rose { IfNone self.old.fault (result ≡ Err LogFault.Source → Rose (I.faults source.old) (I.faults source.new)) }
+        ensures never_falls { I.faults source.old ≤ I.faults source.new }
+    {
+        if let Some(fault) = self.fault {
+            return Err(fault);
+        }
+        match next_entry(self.alloc, &mut self.ahead, source, self.passed) {
+            Ok(Some(found)) => {
+                let Found { call, size } = found;
+                self.passed = self.passed.after(&call, size);
+                Ok(Some(call))
+            }
+            Ok(None) => Ok(None),
+            Err(fault) => {
+                self.fault = Some(fault);
+                Err(fault)
+            }
+        }
+    }
+}
