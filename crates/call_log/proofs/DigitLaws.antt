@@ -94,14 +94,14 @@ first_digit b d =
     let same : 0 * 10 + (b - 48) ≡ b - 48 = omega arith in
     sym (ap decimal same ∙ decimal_digit (b - 48) (omega (arith, range)) ∙ ap (λ x. x ∷ []) value)
 
-lone_zero : (digits : Digits) → (digits.length == 1 && digits.value == 0) ≡ false → digits.length ≡ 1 → 0 < digits.value
+lone_zero : (digits : Digits) → (digits.count == 1 && digits.value == 0) ≡ false → digits.count ≡ 1 → 0 < digits.value
 lone_zero digits free e = grind (arith, nat_tests)
 
-above_by : (v : ℕ) (digits : Digits) → digits.value ≡ v → digits.length ≡ length (decimal digits.value) → (digits.length == 1 && digits.value == 0) ≡ false → 0 < digits.value
+above_by : (v : ℕ) (digits : Digits) → digits.value ≡ v → digits.count ≡ length (decimal digits.value) → (digits.count == 1 && digits.value == 0) ≡ false → 0 < digits.value
 above_by zero digits e size free = lone_zero digits free (size ∙ ap (λ x. length (decimal x)) e ∙ ap length (decimal_digit 0 (omega arith)))
 above_by (suc v) digits e size free = omega (arith, e)
 
-written_on : (most byte : ℕ) (digits : Digits) (bytes : List ℕ) → most < 2 ^ 40 → is_ascii_digit byte ≡ true → (digits.length == 1 && digits.value == 0) ≡ false → AreDigits most digits bytes
+written_on : (most byte : ℕ) (digits : Digits) (bytes : List ℕ) → most < 2 ^ 40 → is_ascii_digit byte ≡ true → (digits.count == 1 && digits.value == 0) ≡ false → AreDigits most digits bytes
     → bytes ++ byte ∷ [] ≡ decimal (digits.value * 10 + (byte - 48))
 written_on most byte digits bytes low d free are =
     elim are.written [
@@ -109,8 +109,8 @@ written_on most byte digits bytes low d free are =
       | inr some ↦ ap (λ x. x ++ byte ∷ []) some ∙ next_digit digits.value byte (above_by digits.value digits refl (are.size ∙ ap length some) free) (omega (arith, are.within)) d
     ]
 
-pub goes_on : (most byte : ℕ) (digits : Digits) (bytes : List ℕ) → most < 2 ^ 40 → is_ascii_digit byte ≡ true → (digits.length == 1 && digits.value == 0) ≡ false → digits.value * 10 + (byte - 48) ≤ most
-    → AreDigits most digits bytes → AreDigits most (record { value = digits.value * 10 + (byte - 48); length = digits.length + 1 }) (bytes ++ byte ∷ [])
+pub goes_on : (most byte : ℕ) (digits : Digits) (bytes : List ℕ) → most < 2 ^ 40 → is_ascii_digit byte ≡ true → (digits.count == 1 && digits.value == 0) ≡ false → digits.value * 10 + (byte - 48) ≤ most
+    → AreDigits most digits bytes → AreDigits most (record { value = digits.value * 10 + (byte - 48); count = digits.count + 1 }) (bytes ++ byte ∷ [])
 goes_on most byte digits bytes low d free within are = record {
   within = within;
   size = omega (arith, are.size, length-append bytes (byte ∷ []));
@@ -145,10 +145,10 @@ zero_by (suc n) byte last (f ∷ text) more behind low t d m e =
     let same : 48 ≡ f = cc in
     omega (arith, high, first, same)
 
-pub leading_zero : (most byte last : ℕ) (digits : Digits) (bytes more : List ℕ) → most < 2 ^ 40 → is_ascii_digit byte ≡ true → (digits.length == 1 && digits.value == 0) ≡ true → AreDigits most digits bytes
+pub leading_zero : (most byte last : ℕ) (digits : Digits) (bytes more : List ℕ) → most < 2 ^ 40 → is_ascii_digit byte ≡ true → (digits.count == 1 && digits.value == 0) ≡ true → AreDigits most digits bytes
     → is_ascii_digit last ≡ false → NoNumber most last (bytes ++ byte ∷ more)
 leading_zero most byte last digits bytes more low d is are m = λ number behind within e.
-    let one : digits.length ≡ 1 = grind (arith, nat_tests) in
+    let one : digits.count ≡ 1 = grind (arith, nat_tests) in
     let none : digits.value ≡ 0 = grind (arith, nat_tests) in
     let text : bytes ≡ 48 ∷ [] = elim are.written [
       | inl empty ↦ absurd (omega (arith, one, are.size, ap length empty.0))
@@ -156,7 +156,7 @@ leading_zero most byte last digits bytes more low d is are m = λ number behind 
     ] in
     zero_by number byte last (decimal number) more behind (omega arith) refl d m (ap (λ x. x ++ byte ∷ more) (sym text) ∙ e)
 
-pub too_large : (most byte last : ℕ) (digits : Digits) (bytes more : List ℕ) → most < 2 ^ 40 → is_ascii_digit byte ≡ true → (digits.length == 1 && digits.value == 0) ≡ false
+pub too_large : (most byte last : ℕ) (digits : Digits) (bytes more : List ℕ) → most < 2 ^ 40 → is_ascii_digit byte ≡ true → (digits.count == 1 && digits.value == 0) ≡ false
     → most < digits.value * 10 + (byte - 48) → AreDigits most digits bytes → is_ascii_digit last ≡ false → NoNumber most last (bytes ++ byte ∷ more)
 too_large most byte last digits bytes more low d free above are m = λ number behind within e.
     let range : IsInRange 48 57 byte = grind (arith, nat_tests) in

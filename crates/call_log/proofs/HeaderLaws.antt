@@ -125,7 +125,7 @@ no_end passed moment said m s b =
 
 -- ---- how many bytes an entry has
 
-pub entry_size : (moment said : Digits) → IsNumber last_moment moment → IsNumber most_message_length said → (moment.length ≤ 12) × (said.length ≤ 6)
+pub entry_size : (moment said : Digits) → IsNumber last_moment moment → IsNumber most_message_length said → (moment.count ≤ 12) × (said.count ≤ 6)
 entry_size moment said m s = (
   omega (arith, m.size, length-decimal-le 12 moment.value (omega arith) (omega (arith, m.within)) (omega (arith, m.within))),
   omega (arith, s.size, length-decimal-le 6 said.value (omega arith) (omega (arith, s.within)) (omega (arith, s.within))),
@@ -136,7 +136,7 @@ unfolding headed
 headed_size moment said behind = omega (arith, length-append (decimal moment) (32 ∷ (decimal said ++ 10 ∷ behind)), length-append (decimal said) (10 ∷ behind))
 
 pub size_of : (call : Entry) (number : ℕ) (moment said : Digits) (message : List ℕ) → call ≡ record { number = number; moment = moment.value; message = message } → length message ≡ said.value
-    → moment.length ≡ length (decimal moment.value) → said.length ≡ length (decimal said.value) → 3 + moment.length + said.length + said.value ≡ length (entry_text call)
+    → moment.count ≡ length (decimal moment.value) → said.count ≡ length (decimal said.value) → 3 + moment.count + said.count + said.value ≡ length (entry_text call)
 size_of call number moment said message e size m s =
     let text : length (entry_text call) ≡ length (headed moment.value (length message) message) = ap (λ (x : Entry). length (entry_text x)) e in
     let same : length (decimal (length message)) ≡ length (decimal said.value) = ap (λ x. length (decimal x)) size in

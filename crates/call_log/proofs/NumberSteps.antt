@@ -16,7 +16,7 @@ pub record Took (most : ℕ) (left left_now : Option (List ℕ)) (digits : Digit
   pub taken : Consumes left left_now bytes
   pub are : AreDigits most digits bytes
 
-pub took_none : (most : ℕ) (left : Option (List ℕ)) → Took most left left (record { value = 0; length = 0 })
+pub took_none : (most : ℕ) (left : Option (List ℕ)) → Took most left left (record { value = 0; count = 0 })
 took_none most left = record { bytes = []; taken = Consumes-nil left; are = record { within = omega arith; size = refl; written = inl (refl, refl) } }
 
 pub took_more : (most byte : ℕ) (left mid now : Option (List ℕ)) (digits more : Digits) → Took most left mid digits → Consumes mid now (byte ∷ []) → GoesOn most digits byte (Some more) → Took most left now more
@@ -25,7 +25,7 @@ took_more most byte left mid now digits more t c goes = record { bytes = t.bytes
 pub value_within : (most : ℕ) (left now : Option (List ℕ)) (digits : Digits) → Took most left now digits → digits.value ≤ most
 value_within most left now digits t = t.are.within
 
-length_by : (most : ℕ) (digits : Digits) (bytes : List ℕ) → most < 2 ^ 40 → AreDigits most digits bytes → (digits.length ≤ digits.value + 1) × (digits.length ≤ 13)
+length_by : (most : ℕ) (digits : Digits) (bytes : List ℕ) → most < 2 ^ 40 → AreDigits most digits bytes → (digits.count ≤ digits.value + 1) × (digits.count ≤ 13)
 length_by most digits bytes low are =
     elim are.written [
       | inl none ↦ (omega (arith, are.size, ap length none.0), omega (arith, are.size, ap length none.0))
@@ -35,7 +35,7 @@ length_by most digits bytes low are =
       )
     ]
 
-pub few_digits : (most : ℕ) (left now : Option (List ℕ)) (digits : Digits) → most < 2 ^ 40 → Took most left now digits → (digits.length ≤ digits.value + 1) × (digits.length ≤ 13)
+pub few_digits : (most : ℕ) (left now : Option (List ℕ)) (digits : Digits) → most < 2 ^ 40 → Took most left now digits → (digits.count ≤ digits.value + 1) × (digits.count ≤ 13)
 few_digits most left now digits low t = length_by most digits t.bytes low t.are
 
 begun : (most : ℕ) (digits : Digits) (bytes : List ℕ) → AreDigits most digits bytes → BeginsNumber most bytes
@@ -46,7 +46,7 @@ begun most digits bytes are =
     ]
 
 -- the byte behind the number came
-pub number_taken : (most last : ℕ) (left mid now : Option (List ℕ)) (digits : Digits) → Took most left mid digits → Consumes mid now (last ∷ []) → digits.length ≢ 0 → TakesNumber most last left now digits
+pub number_taken : (most last : ℕ) (left mid now : Option (List ℕ)) (digits : Digits) → Took most left mid digits → Consumes mid now (last ∷ []) → digits.count ≢ 0 → TakesNumber most last left now digits
 number_taken most last left mid now digits t c some =
     let text : t.bytes ≡ decimal digits.value = elim t.are.written [ inl none ↦ absurd (some (t.are.size ∙ ap length none.0)) | inr here ↦ here ] in
     record {
@@ -60,7 +60,7 @@ no_first most last more low m = λ number behind within e.
     omega (arith, decimal_nonempty number (omega arith), ap length none)
 
 -- the byte came before any digit
-pub no_digit : (most last : ℕ) (left mid now : Option (List ℕ)) (digits : Digits) → most < 2 ^ 40 → is_ascii_digit last ≡ false → Took most left mid digits → Consumes mid now (last ∷ []) → digits.length ≡ 0
+pub no_digit : (most last : ℕ) (left mid now : Option (List ℕ)) (digits : Digits) → most < 2 ^ 40 → is_ascii_digit last ≡ false → Took most left mid digits → Consumes mid now (last ∷ []) → digits.count ≡ 0
     → TakesNoNumber most last left now
 no_digit most last left mid now digits low m t c none =
     let empty : t.bytes ≡ [] = nil_from_length t.bytes (sym t.are.size ∙ none) in
@@ -107,9 +107,9 @@ pub number_failed : (most : ℕ) (left mid now : Option (List ℕ)) (digits : Di
 number_failed most left mid now digits t c = record { bytes = t.bytes; taken = joined left mid now t.bytes t.taken c; begun = begun most digits t.bytes t.are }
 
 -- a further digit brings the number nearer its end
-pub nearer : (most byte : ℕ) (left now : Option (List ℕ)) (digits more : Digits) → most < 2 ^ 40 → Took most left now digits → GoesOn most digits byte (Some more) → 14 - more.length < 14 - digits.length
+pub nearer : (most byte : ℕ) (left now : Option (List ℕ)) (digits more : Digits) → most < 2 ^ 40 → Took most left now digits → GoesOn most digits byte (Some more) → 14 - more.count < 14 - digits.count
 nearer most byte left now digits more low t goes =
     let are : AreDigits most more (t.bytes ++ byte ∷ []) = goes t.bytes t.are in
     let few = (length_by most more (t.bytes ++ byte ∷ []) low are).1 in
-    let longer : more.length ≡ digits.length + 1 = omega (arith, are.size, t.are.size, length-append t.bytes (byte ∷ [])) in
+    let longer : more.count ≡ digits.count + 1 = omega (arith, are.size, t.are.size, length-append t.bytes (byte ∷ [])) in
     omega (arith, few, longer)

@@ -13,14 +13,14 @@ pub record HandsCall (passed : Passed) (bytes : List ℕ) (left_now : Option (Li
   pub goes_on : (others : List Entry) (rest : List ℕ) → LogText (after passed call) behind others rest → LogText passed bytes (call ∷ others) rest
 
 -- no call comes before the fault
-pub record HandsFault (passed : Passed) (bytes : List ℕ) (fault : Type 0) : Type 0 where
+pub record HandsFault (passed : Passed) (bytes : List ℕ) (Has : List ℕ → Type 0) : Type 0 where
   pub log : LogText passed bytes [] bytes
-  pub has : fault
+  pub has : Has bytes
 
 abbrev pub HandsNone : Passed → List ℕ → LogFault → Type 0
-HandsNone passed bytes (Grammar place) = HandsFault passed bytes (IsGrammar passed place bytes)
-HandsNone passed bytes (Backward place) = HandsFault passed bytes (IsBackward passed place bytes)
-HandsNone passed bytes (Many place) = HandsFault passed bytes (IsMany passed place bytes)
+HandsNone passed bytes (Grammar place) = HandsFault passed bytes (IsGrammar passed place)
+HandsNone passed bytes (Backward place) = HandsFault passed bytes (IsBackward passed place)
+HandsNone passed bytes (Many place) = HandsFault passed bytes (IsMany passed place)
 HandsNone passed bytes Source = ⊤
 HandsNone passed bytes Memory = ⊤
 

@@ -20,12 +20,12 @@ pub record BeginsNumber (most : ℕ) (bytes : List ℕ) : Type 0 where
 -- the digits are those of a number of at most `most`
 pub record IsNumber (most : ℕ) (digits : Digits) : Type 0 where
   pub within : digits.value ≤ most
-  pub size : digits.length ≡ length (decimal digits.value)
+  pub size : digits.count ≡ length (decimal digits.value)
 
 -- the bytes are these digits, of which there may be none yet
 pub record AreDigits (most : ℕ) (digits : Digits) (bytes : List ℕ) : Type 0 where
   pub within : digits.value ≤ most
-  pub size : digits.length ≡ length bytes
+  pub size : digits.count ≡ length bytes
   pub written : ((bytes ≡ []) × (digits.value ≡ 0)) ⊎ (bytes ≡ decimal digits.value)
 
 -- the byte is a further digit, or no number goes on with it

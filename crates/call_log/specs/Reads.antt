@@ -1,6 +1,6 @@
 -- What the log's reader hands out, and what it takes for it.
 use Rattle.std.specs.Prelude.{◌≡◌, ℕ, List, [], Option, Some, None, Result, Ok, Err}
-use Rattle.std.specs.Io.KnownBytes.{Consumes, IsAtEnd}
+use Rattle.std.specs.Io.KnownBytes.{Consumes, IsAtEnd, prepend_known}
 use Rattle.call_log.specs.Entry.{Entry, entry_text}
 use Rattle.call_log.specs.Fault.{Knows}
 use Rattle.call_log.specs.Log.{IsNext, Passed, after}
@@ -11,6 +11,10 @@ pub record LogState : Type 0 where
   pub passed : Passed
   pub ahead : List ℕ
   pub fault : Option LogFault
+
+-- what is left to the reader: the bytes ahead, then what the source has left
+abbrev pub left_to : LogState → Option (List ℕ) → Option (List ℕ)
+left_to reader left = prepend_known reader.ahead left
 
 -- the call is the next of the log, and its entry was taken
 pub record ReadsEntry (passed : Passed) (left left_now : Option (List ℕ)) (call : Entry) : Type 0 where

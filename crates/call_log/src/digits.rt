@@ -11,22 +11,22 @@ use stir_outside::{Failed, Source};
 #[derive(Clone, Copy)]
 pub(crate) struct Digits {
     pub(crate) value: u64,
-    pub(crate) length: u64,
+    pub(crate) count: u64,
 }
 
 impl Digits {
     /// The digits are `0`, behind which no further digit may stand.
     fn is_zero(self) -> bool
-        ensures { result ≡ (self.length == 1 && self.value == 0) }
+        ensures { result ≡ (self.count == 1 && self.value == 0) }
     {
-        self.length == 1 && self.value == 0
+        self.count == 1 && self.value == 0
     }
 
     /// These digits and one more; `None` where no number of at most `most` begins so.
     fn with(self, byte: u8, most: u64) -> Option<Digits>
         requires most { most < 2 ^ 40 }
         requires value { self.value ≤ most }
-        requires length { self.length ≤ self.value + 1 }
+        requires count { self.count ≤ self.value + 1 }
         ensures { GoesOn most self byte result }
     {
         if !byte.is_ascii_digit() {
@@ -41,7 +41,7 @@ impl Digits {
         }
         Some(Digits {
             value,
-            length: self.length + 1,
+            count: self.count + 1,
         })
     }
 }
@@ -61,16 +61,13 @@ pub(crate) fn next_number<I: Source>(
     ensures used_up { ahead.old ≡ [] → ahead.new ≡ [] }
     ensures cause { HasCause (I.faults source.old) (I.faults source.new) result }
 {
-    let mut digits = Digits {
-        value: 0,
-        length: 0,
-    };
+    let mut digits = Digits { value: 0, count: 0 };
     loop {
         let Some(byte) = ahead.next_byte(source)? else {
             return Ok(None);
         };
         if byte == last {
-            return if digits.length == 0 {
+            return if digits.count == 0 {
                 Ok(None)
             } else {
                 Ok(Some(digits))

@@ -142,7 +142,7 @@ fn after_header<I: Source>(
             place: passed.place,
         });
     };
-    let size = 3 + moment.length + length.length + length.value;
+    let size = 3 + moment.count + length.count + length.value;
     let call = Call::new(passed.number + 1, moment.value, message);
     Ok(Some(Found { call, size }))
 }

@@ -1,5 +1,4 @@
 ghost use Rattle.std.specs.Prelude.{◌≡◌, ℕ, ◌≤◌, [], Err, Ok, IfSome, IfNone};
-ghost use Rattle.std.specs.Io.KnownBytes.{prepend_known};
 ghost use Rattle.stir_base.specs.Count.{Rose};
 
 use crate::ahead::Ahead;
@@ -35,7 +34,7 @@ impl LogReader {
     ghost use Rattle.call_log.specs.Entry.{most_entries};
     ghost use Rattle.call_log.specs.Log.{start};
     ghost use Rattle.call_log.specs.HandsOut.{HandsOutOf, NoLongerLog, OneLog};
-    ghost use Rattle.call_log.specs.Reads.{LogState, Moves, Reads};
+    ghost use Rattle.call_log.specs.Reads.{LogState, Moves, Reads, left_to};
 
     /// A reader at the beginning of a log.
     pub fn new(alloc: Global) -> LogReader
@@ -64,8 +63,8 @@ impl LogReader {
         ensures again { IfSome self.old.fault (λ fault. (result ≡ Err fault) × (self.new ≡ self.old) × (source.new ≡ source.old)) }
 
         // What was taken, whether the source tells it or not, and what of all that is left, where it does.
-        ensures reads { IfNone self.old.fault (Reads self.old.passed (prepend_known self.old.ahead (I.left source.old)) (prepend_known self.new.ahead (I.left source.new)) result) }
-        ensures hands_out { IfNone self.old.fault (HandsOutOf self.old.passed (prepend_known self.old.ahead (I.left source.old)) (prepend_known self.new.ahead (I.left source.new)) result) }
+        ensures reads { IfNone self.old.fault (Reads self.old.passed (left_to self.old (I.left source.old)) (left_to self.new (I.left source.new)) result) }
+        ensures hands_out { IfNone self.old.fault (HandsOutOf self.old.passed (left_to self.old (I.left source.old)) (left_to self.new (I.left source.new)) result) }
         ensures moves { IfNone self.old.fault (Moves self.old.passed self.new result) }
         ensures none_ahead { self.new.ahead ≡ [] }
         ensures bounded { self.new.passed.count ≤ most_entries }
@@ -85,7 +84,7 @@ impl LogReader {
     #[tactic(auto, using(crate::proofs::LogLaws::reads))]
     fn next_exactly<I: Source>(&mut self, source: &mut I) -> Result<Option<Call>, LogFault>
         ensures again { IfSome self.old.fault (λ fault. (result ≡ Err fault) × (self.new ≡ self.old) × (source.new ≡ source.old)) }
-        ensures reads { IfNone self.old.fault (Reads self.old.passed (prepend_known self.old.ahead (I.left source.old)) (prepend_known self.new.ahead (I.left source.new)) result) }
+        ensures reads { IfNone self.old.fault (Reads self.old.passed (left_to self.old (I.left source.old)) (left_to self.new (I.left source.new)) result) }
         ensures moves { IfNone self.old.fault (Moves self.old.passed self.new result) }
         ensures none_ahead { self.new.ahead ≡ [] }
         ensures bounded { self.new.passed.count ≤ most_entries }

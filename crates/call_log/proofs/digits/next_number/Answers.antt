@@ -7,8 +7,8 @@ returns-then-digits-eq0-clause-number g c =
     let byte = rw c.in-Some.is at c.in_ok-byte.ensures.byte in
     no_digit _ _ _ _ _ _ c.requires.most c.requires.last c.loop-byte.invariant.took (rw c.if-byte-last.true at byte) c.if-digits-eq0.true
 
-pub with-requires-clause-length : goal.with-requires-clause-length
-with-requires-clause-length g c = (few_digits _ _ _ _ c.requires.most c.loop-byte.invariant.took).0
+pub with-requires-clause-count : goal.with-requires-clause-count
+with-requires-clause-count g c = (few_digits _ _ _ _ c.requires.most c.loop-byte.invariant.took).0
 
 pub returns-in_default-with-clause-number : goal.returns-in_default-with-clause-number
 returns-in_default-with-clause-number g c =

@@ -11,4 +11,4 @@ invariant-loop-byte g l = record {
 }
 
 abbrev pub decreases-loop-byte : goal.decreases-loop-byte
-decreases-loop-byte g l = 14 - l.digits.length
+decreases-loop-byte g l = 14 - l.digits.count
