@@ -1,0 +1,71 @@
+//! What a call answers, as the words of a line.
+
+use crate::table::Unread;
+use std::alloc::Global;
+use std::fmt::Display;
+
+/// The words of a line, put one behind the other.
+#[derive(Drop)]
+pub struct Answer {
+    alloc: Global,
+    line: String,
+}
+
+impl Answer {
+    /// A line of no word.
+    pub fn new(alloc: Global) -> Answer {
+        Answer {
+            alloc,
+            line: String::new(alloc),
+        }
+    }
+
+    /// A word that stands as it is, as `ok`, a fault's name or a number does.
+    pub fn word<D: Display + Drop>(mut self, word: D) -> Result<Answer, Unread> {
+        if !self.line.is_empty() {
+            self.line.push_str(" ")?;
+        }
+        let word = word.to_string(self.alloc)?;
+        self.line.push_str(word.as_str())?;
+        Ok(self)
+    }
+
+    /// A text, in which what isn't printable stands escaped. The empty text is `x:`.
+    pub fn text(self, text: &[u8]) -> Result<Answer, Unread> {
+        if text.is_empty() {
+            return self.word("x:");
+        }
+        let mut word = String::new(self.alloc);
+        for byte in text {
+            put_escaped(&mut word, *byte)?;
+        }
+        self.word(word.as_str())
+    }
+
+    /// Bytes, as `x:` and hex digits.
+    pub fn hex(self, bytes: &[u8]) -> Result<Answer, Unread> {
+        let digits = hex::encode(self.alloc, bytes)?;
+        let word = format!(in self.alloc; "x:{digits}")?;
+        self.word(word.as_str())
+    }
+
+    /// The whole line.
+    pub fn line(self) -> String {
+        let Answer { alloc: _, line } = self;
+        line
+    }
+}
+
+/// Puts a byte behind a text, escaped as the table's plain texts are where it isn't printable.
+fn put_escaped(out: &mut String, byte: u8) -> Result<(), Unread> {
+    match byte {
+        b' ' => out.push_str("\\s")?,
+        b'\n' => out.push_str("\\n")?,
+        b'\r' => out.push_str("\\r")?,
+        b'\t' => out.push_str("\\t")?,
+        b'\\' => out.push_str("\\\\")?,
+        b'!'..=b'~' => out.push(char::from(byte))?,
+        _ => write!(out, "\\x{byte:02x}")?,
+    }
+    Ok(())
+}

@@ -1,0 +1,88 @@
+//! Reads a table of cases from its standard input, makes the call that each line names, and writes one line with what
+//! the call answers. The head of `stdin` says how a line is written.
+#![tactic(auto)]
+
+mod answer;
+mod numbers;
+mod table;
+
+use std::alloc::Global;
+use std::io;
+use std::process::ExitCode;
+use table::{Line, Names, Unread};
+
+/// The status where a line can't be read.
+const UNREAD: u8 = 2;
+/// The status where the table can't be taken in or an answer can't be written.
+const FAILED: u8 = 3;
+
+fn main(rt: HostRuntime) -> ExitCode {
+    match run(&rt) {
+        Ok(()) => ExitCode::SUCCESS,
+        Err(Stop::Unread(number, reason)) => {
+            let _ = eprintln!(rt; "line {number} can't be read: {reason}");
+            ExitCode::from(UNREAD)
+        }
+        Err(Stop::Failed(error)) => {
+            let _ = eprintln!(rt; "{error}");
+            ExitCode::from(FAILED)
+        }
+    }
+}
+
+/// Why a run ends before the table does.
+#[derive(Debug, Drop)]
+enum Stop {
+    /// The line of this number can't be read.
+    Unread(u64, Unread),
+    /// The table wasn't given, or an answer wasn't taken.
+    Failed(io::Error),
+}
+
+impl From<io::Error> for Stop {
+    fn from(error: io::Error) -> Stop {
+        Stop::Failed(error)
+    }
+}
+
+/// Answers each line of the table.
+fn run(rt: &HostRuntime) -> Result<(), Stop> {
+    let mut names = Names::new(rt.alloc());
+    let mut number: u64 = 0;
+    for line in rt.lines(rt.alloc()) {
+        let line = line?;
+        number = number.saturating_add(1);
+        match answered(rt.alloc(), &mut names, line.as_str()) {
+            Ok(text) => rt.println(text.as_str())?,
+            Err(reason) => return Err(Stop::Unread(number, reason)),
+        }
+    }
+    Ok(())
+}
+
+/// What is written for a line.
+fn answered(alloc: Global, names: &mut Names, line: &str) -> Result<String, Unread> {
+    match Line::of(line)? {
+        Line::Comment => Ok(String::from_str(alloc, line)?),
+        Line::Definition { name, words } => {
+            names.define(alloc, name, words)?;
+            Ok(format!(in alloc; "{name} =")?)
+        }
+        Line::Call {
+            subject,
+            call,
+            words,
+        } => {
+            let words = names.arguments(alloc, words)?;
+            called(alloc, subject, call, words.as_slice())
+        }
+    }
+}
+
+/// What a call answers.
+fn called(alloc: Global, subject: &str, call: &str, words: &[Vec<u8>]) -> Result<String, Unread> {
+    match subject {
+        "numbers" => numbers::answer(alloc, call, words),
+        _ => Err(Unread::Call),
+    }
+}
