@@ -30,6 +30,14 @@ impl Answer {
         Ok(self)
     }
 
+    /// A word, or `-` for None.
+    pub fn option<D: Display + Drop>(self, word: Option<D>) -> Result<Answer, Unread> {
+        match word {
+            Some(word) => self.word(word),
+            None => self.word("-"),
+        }
+    }
+
     /// A text, in which what isn't printable stands escaped. The empty text is `x:`.
     pub fn text(self, text: &[u8]) -> Result<Answer, Unread> {
         if text.is_empty() {
@@ -54,6 +62,25 @@ impl Answer {
         let Answer { alloc: _, line } = self;
         line
     }
+}
+
+/// An answer of one word.
+pub fn word<D: Display + Drop>(alloc: Global, word: D) -> Result<String, Unread> {
+    Ok(Answer::new(alloc).word(word)?.line())
+}
+
+/// An answer of one word, or `none`.
+pub fn or_none<D: Display + Drop>(alloc: Global, found: Option<D>) -> Result<String, Unread> {
+    match found {
+        Some(found) => word(alloc, found),
+        None => word(alloc, "none"),
+    }
+}
+
+/// `fault`, its kind and its place.
+pub fn fault<D: Display + Drop>(alloc: Global, kind: u8, place: D) -> Result<String, Unread> {
+    let answer = Answer::new(alloc).word("fault")?;
+    Ok(answer.word(kind)?.word(place)?.line())
 }
 
 /// Puts a byte behind a text, escaped as the table's plain texts are where it isn't printable.

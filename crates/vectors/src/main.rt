@@ -3,8 +3,14 @@
 #![tactic(auto)]
 
 mod answer;
+mod authority;
+mod certificates;
+mod chains;
+mod der;
 mod numbers;
+mod paths;
 mod table;
+mod text;
 
 use std::alloc::Global;
 use std::io;
@@ -82,7 +88,13 @@ fn answered(alloc: Global, names: &mut Names, line: &str) -> Result<String, Unre
 /// What a call answers.
 fn called(alloc: Global, subject: &str, call: &str, words: &[Vec<u8>]) -> Result<String, Unread> {
     match subject {
+        "text" => text::answer(alloc, call, words),
         "numbers" => numbers::answer(alloc, call, words),
+        "der" => der::answer(alloc, call, words),
+        "authority" => authority::answer(alloc, call, words),
+        "certificates" => certificates::answer(alloc, call, words),
+        "paths" => paths::answer(alloc, call, words),
+        "chains" => chains::answer(alloc, call, words),
         _ => Err(Unread::Call),
     }
 }
