@@ -8,16 +8,10 @@
 
 mod authority;
 mod judge;
-#[cfg(test)]
-mod judge_tests;
 mod judged;
 mod map;
 mod map_rows;
-#[cfg(test)]
-mod map_tests;
 mod path;
-#[cfg(test)]
-mod samples;
 mod signatures;
 
 pub use judge::judge_chain;

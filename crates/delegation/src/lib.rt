@@ -8,17 +8,11 @@
 
 mod anchors;
 mod authority;
-#[cfg(test)]
-mod authority_tests;
 mod coverage;
 mod fault;
 mod found;
 mod gathering;
 mod path;
-#[cfg(test)]
-mod samples;
-#[cfg(test)]
-mod tests;
 mod usage;
 
 pub use anchors::Anchors;

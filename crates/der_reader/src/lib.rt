@@ -10,8 +10,6 @@ mod element;
 mod fault;
 mod integer;
 mod moment;
-#[cfg(test)]
-mod tests;
 mod time;
 mod write;
 

@@ -9,6 +9,3 @@ mod split;
 pub use decimal::read_number;
 pub use line::next_line;
 pub use split::{behind, cut};
-
-#[cfg(test)]
-mod tests;

@@ -6,6 +6,3 @@ mod words;
 
 pub use lines::{Line, Lines, line_count};
 pub use words::{Words, words_of};
-
-#[cfg(test)]
-mod tests;

@@ -13,11 +13,7 @@ mod reading;
 mod table;
 mod table_groups;
 mod table_rows;
-#[cfg(test)]
-mod table_tests;
 mod tags;
-#[cfg(test)]
-mod tests;
 mod writing;
 
 pub use codes::Code;

@@ -23,6 +23,3 @@ pub use sets::NumberSet;
 pub use spans::Span;
 /// Memory ran out.
 pub use std::alloc::AllocError as Memory;
-
-#[cfg(test)]
-mod tests;

@@ -12,14 +12,10 @@ mod fields;
 mod known;
 mod name;
 mod part;
-#[cfg(test)]
-mod samples;
 mod signature;
 mod signed;
 mod span;
 mod tags;
-#[cfg(test)]
-mod tests;
 mod validity;
 mod within;
 
