@@ -1,5 +1,5 @@
 -- Each kind of step keeps the rule of the desk.
-use Rattle.std.proofs.Common.{◌≡◌, ℕ, zero, suc, ◌+◌, ◌-◌, ◌/◌, ◌==◌, ◌<◌, ◌≤◌, ⊎_elim, List, [], ◌∷◌, ◌++◌, length, get_or, set, refl, sym, ap, ◌∙◌, subst, arith}
+use Rattle.std.proofs.Common.{◌≡◌, ℕ, zero, suc, ◌+◌, ◌-◌, ◌/◌, ◌==◌, ◌<◌, ◌≤◌, ◌⊎◌, ⊎_elim, List, [], ◌∷◌, ◌++◌, length, get_or, set, refl, sym, ap, ◌∙◌, subst, arith}
 use Rattle.std.proofs.lemmas.List.{length-set, set-get_or, get_or-set_same}
 use prog.Atomic.{either}
 use mathlib.Core.Option.{none, some, some-ne-none}
@@ -49,10 +49,11 @@ winners_one (suc n) some_call = refl
 module _ {S : Type 0} (classes : ℕ) where
   pub known_of : (s : State S View) → Holds classes s → (id : ℕ) (v : View) → get_elem? s.views id ≡ some v → 0 < v.share → Known v.wins v.losses v.share
   known_of s holds id v at above =
-      let stand : Stand s.words (v.wins ++ v.losses) = stand_append s.words v.wins v.losses (holds.wins id v at) (holds.losses id v at) in
+      let word : (class call : ℕ) → In (class, call) v.wins ⊎ In (class, call) v.losses → get_or s.words class 0 ≡ call + 1 =
+      λ class call has. ⊎_elim (holds.wins id v at (class, call)) (holds.losses id v at (class, call)) has in
       record {
         once = λ class. omega (arith, total_le (λ (u : View). times class u.wins) s.views id v at, holds.one_winner class, winners_le (get_or s.words class 0));
-        agree = λ class one other first second. (let a = stand (class, one) first in let b = stand (class, other) second in omega arith);
+        agree = λ class one other first second. (let a = word class one first in let b = word class other second in omega arith);
         named = λ all p lost.
             let word : get_or s.words p.0 0 ≡ p.1 + 1 = holds.losses id v at p lost in
             let mine = all_mine (λ (u : View). times p.0 u.wins) (λ (u : View). u.share) s.views id v at (holds.shares ∙ sym all) (λ j u there spent. ap (times p.0) (holds.spent j u there spent).0) in

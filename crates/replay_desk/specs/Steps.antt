@@ -1,5 +1,5 @@
 -- What the steps of a desk do to a seat's view, and what a seat knows after each (this project's own rule).
-use Rattle.std.specs.Prelude.{◌≡◌, ℕ, ◌+◌, ◌-◌, ◌/◌, ◌<◌, ◌≤◌, List, [], ◌∷◌, ◌++◌}
+use Rattle.std.specs.Prelude.{◌≡◌, ℕ, ◌+◌, ◌-◌, ◌/◌, ◌<◌, ◌≤◌, ◌⊎◌, List, [], ◌∷◌, ◌++◌}
 use Rattle.atomic_table.specs.Table.{Me, Step}
 use Rattle.replay_desk.specs.Pairs.{In, times, whole}
 use Rattle.replay_desk.specs.declared.view.View.{View}
@@ -37,7 +37,7 @@ pub record Known (wins losses : List (ℕ × ℕ)) (share : ℕ) : Type 0 where
   -- no class was won twice
   pub once : (class : ℕ) → times class wins ≤ 1
   -- of one class, all wins and losses name one call
-  pub agree : (class one other : ℕ) → In (class, one) (wins ++ losses) → In (class, other) (wins ++ losses) → one ≡ other
+  pub agree : (class one other : ℕ) → In (class, one) wins ⊎ In (class, one) losses → In (class, other) wins ⊎ In (class, other) losses → one ≡ other
   -- a seat of share 1 has all wins, so each of its losses names one of them
   pub named : share ≡ whole → (p : ℕ × ℕ) → In p losses → In p wins
   -- the share is above 0

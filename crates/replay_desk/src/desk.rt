@@ -28,7 +28,8 @@ impl Model for Desk {
 }
 
 /// The right to claim on one desk, with the wins and losses of all claims that were made with it, and a share of the desk.
-/// It has no bytes, and may go to another thread.
+/// It has no bytes, and may go to another thread. A seat that is dropped takes its share with it, so that no other has the
+/// whole share again.
 #[derive(Drop)]
 pub struct Seat {
     token: atomic_table::Seat<(), View>,

@@ -23,6 +23,7 @@ fn claim_all(desk: &Desk, mut seat: Seat, call: u32) -> (Seat, [bool; CLASSES])
     (seat, won)
 }
 
+/// One desk, two seats: the second claim of a class is lost to the first, at whichever seat.
 #[test]
 fn a_class_goes_to_its_first_claim(rt: HostRuntime) -> Result<(), Fail> {
     let (desk, mut seat) = Desk::new(rt.alloc(), 2)?;
@@ -38,6 +39,7 @@ fn a_class_goes_to_its_first_claim(rt: HostRuntime) -> Result<(), Fail> {
     Ok(())
 }
 
+/// Two threads claim all classes at once, each for its own call.
 #[test]
 fn two_threads_win_each_class_once(rt: HostRuntime) -> Result<(), Fail> {
     let (desk, mut seat) = Desk::new(rt.alloc(), 64)?;
@@ -58,6 +60,7 @@ fn two_threads_win_each_class_once(rt: HostRuntime) -> Result<(), Fail> {
     Ok(())
 }
 
+/// A purge at a call's last second keeps it, and one a second later drops it.
 #[test]
 fn the_past_keeps_a_call_up_to_its_last_second(rt: HostRuntime) -> Result<(), Fail> {
     let ticket = [7u8; 32];
