@@ -105,6 +105,10 @@ begun_short bytes method uri groups left b =
 head_short : (bytes : List ℕ) (message : MessageView) → Head bytes message → AreShort message.fields
 head_short bytes message h = subst AreShort (sym h.fields) (begun_short bytes message.method message.uri h.groups (h.empty ∷ h.body) h.begins)
 
+-- so no value of what is read is longer
+pub read_short : (bytes : List ℕ) (message : MessageView) → read bytes ≡ Ok message → AreShort message.fields
+read_short bytes message e = head_short bytes message (read_found bytes message e)
+
 pub answers_short : (bytes : List ℕ) (answer : Result MessageView MessageFault) → Gives (λ (message : MessageView). message) answer (read bytes) → IfOk answer (λ message. AreShort message.fields)
 answers_short bytes (Ok message) r = head_short bytes message (read_found bytes message r)
 answers_short bytes (Err fault) r = tt

@@ -6,10 +6,11 @@ use Rattle.sip_message.specs.declared.fault.MessageFault.TheVariants.{Form, Memo
 use Rattle.sip_message.specs.declared.field.Field.{Field}
 use Rattle.sip_message.specs.declared.head.HeadFields.{HeadFields}
 use Rattle.sip_message.specs.declared.lines.Line.{Line}
+use Rattle.sip_message.specs.declared.message.Parts.{Parts}
 use Rattle.sip_message.specs.declared.value.Value.{Value}
 use Rattle.sip_message.specs.declared.value.Value.TheVariants.{View, Joined}
 use Rattle.sip_message.specs.Lines.{LineView}
-use Rattle.sip_message.specs.Message.{FieldView}
+use Rattle.sip_message.specs.Message.{FieldView, MessageView}
 use Rattle.sip_message.specs.Reading.{HeadView, PlacedField}
 
 abbrev pub line_seen : Line → LineView
@@ -27,6 +28,9 @@ placed_seen field = record { place = field.place; field = field_seen field }
 
 abbrev pub head_seen : HeadFields → HeadView
 head_seen head = record { fields = map placed_seen head.fields.items; end = head.end }
+
+abbrev pub parts_seen : Parts → MessageView
+parts_seen parts = record { method = parts.method.now; uri = parts.uri.now; fields = map field_seen parts.fields.items }
 
 -- ---- results, in which want of memory is free
 

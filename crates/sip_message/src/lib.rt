@@ -8,12 +8,14 @@ mod field;
 mod field_line;
 mod head;
 mod known;
+mod laws;
 mod lines;
 mod message;
 mod start_line;
 mod value;
 
 pub use fault::{FormFault, MessageFault};
+pub use laws::head_law;
 pub use message::Message;
 
 #[cfg(test)]

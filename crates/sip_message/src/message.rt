@@ -6,7 +6,7 @@ ghost use Rattle.sip_message.specs.Head.{Head};
 ghost use Rattle.sip_message.specs.Message.{MessageView};
 ghost use Rattle.sip_message.specs.Accessors.{asserted_number, calling_number, date, from_number, identities, is_invite, target_number, to_number};
 ghost use Rattle.sip_message.specs.Reading.{checked, fault, read};
-ghost use Rattle.sip_message.specs.Seen.{Gives, head_seen};
+ghost use Rattle.sip_message.specs.Seen.{Gives, head_seen, parts_seen};
 ghost use Rattle.sip_message.specs.Short.{AreShort};
 
 use crate::address::uri_number;
@@ -35,12 +35,20 @@ const TO: u8 = 6;
 /// The head of a SIP request (RFC 3261, section 7): its method, its URI and its header fields in their order.
 ///
 /// Values that stand in one line are views into the bytes that were read; those of several lines are joined. A contract
-/// sees method, URI and the list of names and values.
+/// sees method, URI and the list of names and values. No value is longer than 65,535 bytes.
 #[derive(Drop)]
 pub struct Message<'a> {
     method: &'a [u8],
     uri: &'a [u8],
     fields: Vec<Field<'a>>,
+}
+
+/// Method, URI and header fields as they are read, before it is known how long the values are.
+#[derive(Drop)]
+pub(crate) struct Parts<'a> {
+    pub method: &'a [u8],
+    pub uri: &'a [u8],
+    pub fields: Vec<Field<'a>>,
 }
 
 impl<'a> Model for Message<'a> {
@@ -50,8 +58,11 @@ impl<'a> Model for Message<'a> {
     ghost Value = { MessageView };
 
     ghost use Rattle.sip_message.specs.Seen.{field_seen};
+    ghost use Rattle.sip_message.specs.Short.{AreShort};
 
     ghost view = { λ m. record { method = m.method.now; uri = m.uri.now; fields = map field_seen m.fields.items } };
+
+    ghost invariant = { λ m. AreShort (map field_seen m.fields.items) };
 }
 
 impl<'a> Message<'a> {
@@ -134,18 +145,35 @@ impl<'a> Message<'a> {
         count(&self.fields, Known::Identity)
     }
 
-    /// The value of Identity field `i` in message order, counted from 0. Each call goes over the fields.
+    /// The value of Identity field `i` in message order, counted from 0, at most 65,535 bytes. Each call goes over the fields.
     pub fn identity(&self, i: usize) -> &[u8]
         requires { i < length (identities self.now) }
-        ensures { result.now ≡ slice_index_or (identities self.now) i [] }
+        ensures value { result.now ≡ slice_index_or (identities self.now) i [] }
+        ensures short { length result.now ≤ 65535 }
     {
         value_at(&self.fields, Known::Identity, i)
     }
 }
 
-#[tactic(auto, unfolding(crate::specs::Reading::read))]
+// Of what is read no value is longer than all bytes.
 fn read_message<'a>(alloc: Global, bytes: &'a [u8]) -> Result<Message<'a>, MessageFault>
     ensures { Gives (λ message. message) result (read bytes.now) }
+{
+    let Parts {
+        method,
+        uri,
+        fields,
+    } = read_parts(alloc, bytes)?;
+    Ok(Message {
+        method,
+        uri,
+        fields,
+    })
+}
+
+#[tactic(auto, unfolding(crate::specs::Reading::read))]
+fn read_parts<'a>(alloc: Global, bytes: &'a [u8]) -> Result<Parts<'a>, MessageFault>
+    ensures { Gives parts_seen result (read bytes.now) }
 {
     if bytes.len() > MOST_BYTES {
         return fault(SIZE, MOST_BYTES as u32);
@@ -162,19 +190,19 @@ fn read_message<'a>(alloc: Global, bytes: &'a [u8]) -> Result<Message<'a>, Messa
     checked(method, uri, head)
 }
 
-fn fault<'a>(kind: u8, place: u32) -> Result<Message<'a>, MessageFault>
+fn fault<T>(kind: u8, place: u32) -> Result<T, MessageFault>
     ensures { result ≡ Err (MessageFault.Form (fault kind place)) }
 {
     Err(MessageFault::Form(FormFault { kind, place }))
 }
 
-// The message of these parts, where exactly one field is From and exactly one is To.
+// The parts of a message, where exactly one field is From and exactly one is To.
 fn checked<'a>(
     method: &'a [u8],
     uri: &'a [u8],
     head: HeadFields<'a>,
-) -> Result<Message<'a>, MessageFault>
-    ensures { Gives (λ message. message) result (checked (method.now, uri.now) (Ok (head_seen head.entry))) }
+) -> Result<Parts<'a>, MessageFault>
+    ensures { Gives parts_seen result (checked (method.now, uri.now) (Ok (head_seen head.entry))) }
 {
     if let Some(place) = head.surplus(Known::From) {
         return fault(FROM, place);
@@ -183,7 +211,7 @@ fn checked<'a>(
         return fault(TO, place);
     }
     let HeadFields { fields, end: _ } = head;
-    Ok(Message {
+    Ok(Parts {
         method,
         uri,
         fields,
