@@ -1,5 +1,5 @@
 -- The law of an Identity value, and what it says of its readers.
-use Rattle.std.proofs.Common.{◌≡◌, ℕ, ◌-◌, ◌≤◌, true, false, List, [], ◌∷◌, ◌++◌, length, None, Ok, Err, refl, sym, ◌∙◌, ap, arith, codes, map, length-append}
+use Rattle.std.proofs.Common.{◌≡◌, ℕ, ◌-◌, ◌≤◌, true, false, List, [], ◌∷◌, ◌++◌, length, None, Ok, Err, refl, sym, ◌∙◌, ap, arith, codes, map, length-append, subst}
 use Rattle.std.specs.Prelude.{◌==◌}
 use Rattle.std.proofs.lemmas.Bool.{eq-eqb}
 use Rattle.text_grammar.specs.Bytes.{is_blank, lower}
@@ -11,6 +11,7 @@ use Rattle.text_grammar.proofs.Runs.{law_blanks, law_run}
 use Rattle.text_grammar.specs.Bytes.{is_uri_byte}
 use Rattle.identity_header.specs.Parts.{Parts, is_digest_byte}
 use Rattle.identity_header.specs.FieldText.{Params, InfoText, FieldText, FieldPlace}
+use Rattle.identity_header.specs.Read.{placed, read}
 use Rattle.identity_header.specs.Reading.{params_up_to, params_at, head_at, field_at}
 use Rattle.identity_header.proofs.Heads.{byte_head, blanks_head, no_blank, not_of}
 use Rattle.identity_header.proofs.Turns.{same_bound}
@@ -151,3 +152,17 @@ one_reading value f g a b = one_value Parts (length value) field_at FieldText va
 pub field_refused : (value left : List ℕ) (f : Parts) → field_at value ≡ Err left → FieldText f value → ⊥
 field_refused value left f e m =
     let h : ◌≡◌ {A = Read Parts} (Err left) (Ok f) = sym e ∙ field_again value f m in absurd (cc)
+
+-- ---- the same of what is read or where it stops
+
+found_of : (text : List ℕ) (f : Parts) (r : Read Parts) → field_at text ≡ r → placed (length text) r ≡ Ok f → FieldText f text
+found_of text f (Ok g) e h =
+    let same : g ≡ f = cc in
+    subst (λ p. FieldText p text) same (field_found text g e)
+found_of text f (Err left) e h = absurd cc
+
+pub read_found : (text : List ℕ) (f : Parts) → read text ≡ Ok f → FieldText f text
+read_found text f h = found_of text f (field_at text) refl h
+
+pub read_again : (text : List ℕ) (f : Parts) → FieldText f text → read text ≡ Ok f
+read_again text f m = ap (placed (length text)) (field_again text f m)

@@ -112,6 +112,9 @@ impl<'a> Field<'a> {
 
         // Its reading gives the same parts.
         ensures reads_back { IfOk result (λ text. FieldText self.now text.items) }
+
+        // So what reads it again finds this field.
+        ensures read_again { IfOk result (λ text. read text.items ≡ Ok self.now) }
     {
         spell(alloc, self.token, self.info, self.alg, self.ppt)
     }

@@ -4,9 +4,11 @@
 
 mod bytes;
 mod field;
+mod laws;
 mod params;
 
 pub use field::{Field, FieldFault};
+pub use laws::field_law;
 // The refused allocation, which is all that can fail when a field is written.
 pub use std::alloc::AllocError as Memory;
 
