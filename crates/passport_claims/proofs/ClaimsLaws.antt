@@ -172,7 +172,7 @@ issued_only payload iat h =
     let is : value ≡ number (unsigned iat) = number_by value n ea ∙ ap number (unsigned_by n seconds eu ∙ ap unsigned k.0) in
     record { member = ev ∙ ap (λ x. Some x) is; within = grind (arith, nat_tests) })))
 
-claims_only : (header payload : Data) (ppt : Option (List ℕ)) (info : List ℕ) (claims : ClaimsView) → IsKnown ppt → read_claims header payload ppt info ≡ Ok claims
+pub claims_only : (header payload : Data) (ppt : Option (List ℕ)) (info : List ℕ) (claims : ClaimsView) → IsKnown ppt → read_claims header payload ppt info ≡ Ok claims
     → Claims header payload ppt info claims
 unfolding read_claims
 claims_only header payload ppt info claims known h =

@@ -6,6 +6,7 @@
 mod diversion;
 mod fault;
 mod kind;
+mod laws;
 mod links;
 mod members;
 mod order;
@@ -17,6 +18,7 @@ mod values;
 pub use diversion::chain;
 pub use fault::ClaimFault;
 pub use kind::{Attest, Kind};
+pub use laws::claims_law;
 pub use order::{ChainFault, Order};
 pub use passport::Passport;
 pub use std::alloc::AllocError as Memory;

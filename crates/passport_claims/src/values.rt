@@ -1,5 +1,5 @@
 //! A PASSporT written as header and payload.
-ghost use Rattle.std.specs.Prelude.{◌≡◌, true, codes, IfOk};
+ghost use Rattle.std.specs.Prelude.{◌≡◌, true, codes, Ok, IfOk};
 ghost use Rattle.std.specs.List.{list_all};
 ghost use Rattle.serde_json.specs.Data.{array, member, no_members, number, object, string, unsigned};
 ghost use Rattle.serde_json.specs.View.{view};
@@ -10,6 +10,7 @@ ghost use Rattle.passport_claims.specs.Claims.{Claims};
 ghost use Rattle.passport_claims.specs.Kind.{ppt_of};
 ghost use Rattle.passport_claims.specs.Origid.{IsOrigid};
 ghost use Rattle.passport_claims.specs.Passport.{AreNumbers, IsPassport, members_of};
+ghost use Rattle.passport_claims.specs.Read.{read_claims};
 
 use crate::kind::Kind;
 use crate::passport::Passport;
@@ -26,6 +27,7 @@ impl Passport {
         ensures payload { IfOk result (λ values. view values.1 ≡ Payload (members_of self.now)) }
         ensures writable { IfOk result (λ values. IsWritable (view values.0) × IsWritable (view values.1)) }
         ensures reads_back { IfOk result (λ values. Claims (view values.0) (view values.1) (ppt_of self.now.kind) self.now.x5u self.now) }
+        ensures read_again { IfOk result (λ values. read_claims (view values.0) (view values.1) (ppt_of self.now.kind) self.now.x5u ≡ Ok self.now) }
     {
         let header = self.header(alloc)?;
         let payload = self.payload(alloc)?;
