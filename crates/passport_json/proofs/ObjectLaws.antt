@@ -53,8 +53,11 @@ object_text bytes (object ms) text e h = record { members = ms; utf8 = text; rea
 pub json_text : (bytes : List ℕ) (value : Data) → IsUtf8 bytes → read bytes ≡ Some value → is_some (as_object value) ≡ true → IsObjectText bytes value
 json_text = object_text
 
-pub json_again : (part : ℕ) (bytes : List ℕ) (value : Data) → IsObjectText bytes value → checked_json part bytes ≡ Ok value
-json_again part bytes value t =
+pub object_again : (bytes : List ℕ) (value : Data) → IsObjectText bytes value → object_of bytes ≡ Some value
+object_again bytes value t =
     let text = t.utf8 in
     let e : read bytes ≡ Some (object t.members) = cc in
     rw (object_of_text bytes text, e, t.is_object) refl
+
+pub json_again : (part : ℕ) (bytes : List ℕ) (value : Data) → IsObjectText bytes value → checked_json part bytes ≡ Ok value
+json_again part bytes value t = rw (object_again bytes value t) refl

@@ -26,7 +26,7 @@ drop_front : (byte : ℕ) (a b : List ℕ) → drop (length a + 1) (a ++ byte �
 drop_front byte [] b = refl
 drop_front byte (x ∷ xs) b = let e : suc (length xs) + 1 ≡ suc (length xs + 1) = omega arith in rw e (drop_front byte xs b)
 
-cut_again : (byte : ℕ) (a b : List ℕ) → lacks byte a ≡ true → cut byte (a ++ byte ∷ b) ≡ Some (a, b)
+pub cut_again : (byte : ℕ) (a b : List ℕ) → lacks byte a ≡ true → cut byte (a ++ byte ∷ b) ≡ Some (a, b)
 cut_again byte a b h =
     let within : nat_lt (length a) (length (a ++ byte ∷ b)) ≡ true = grind (arith, nat_tests, length-append a (byte ∷ b)) in
     rw (place byte a b h, within, take_front a (byte ∷ b), drop_front byte a b) refl

@@ -9,6 +9,7 @@ pub mod Parts
 pub mod Passport
 pub mod Reading
 pub mod Seen
+pub mod Signed
 pub mod Signing
 pub mod Token
 pub mod Uri

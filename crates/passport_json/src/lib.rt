@@ -7,6 +7,7 @@
 
 mod compact;
 mod fault;
+mod laws;
 mod parts;
 mod read;
 mod signing;
@@ -16,6 +17,7 @@ mod view;
 mod writing;
 
 pub use fault::TokenFault;
+pub use laws::token_law;
 pub use signing::{signing_input, ticket};
 pub use std::alloc::AllocError as Memory;
 pub use token::Token;

@@ -5,6 +5,7 @@ ghost use Rattle.passport_json.specs.Compact.{CompactText, rebuilt};
 ghost use Rattle.passport_json.specs.IssuedAt.{issued_at, IsIssuedAt};
 ghost use Rattle.passport_json.specs.Reading.{Gives, IsOkUnlessMemory};
 ghost use Rattle.passport_json.specs.Seen.{call_of, passport_of};
+ghost use Rattle.passport_json.specs.Signed.{payload_in};
 ghost use Rattle.passport_json.specs.Token.{FullText, TokenText, read_compact, read_full, read_token};
 ghost use Rattle.passport_json.specs.Uri.{is_uri};
 ghost use Rattle.passport_json.specs.View.{TokenView};
@@ -69,6 +70,9 @@ impl Token {
             → IsOkUnlessMemory result (λ read. read ≡ token) }
         ensures unique { (one other : TokenView) → TokenText text.now (call_of view.now) one
             → TokenText text.now (call_of view.now) other → one ≡ other }
+        ensures read_again { (token : TokenView) → TokenText text.now (call_of view.now) token
+            → read_token (call_of view.now) text.now ≡ Ok token }
+        ensures signed { IfOk result (λ token. payload_in token.signing ≡ Some token.payload) }
     {
         if text.starts_with(b"..") {
             checked_compact(alloc, text, view)
@@ -131,6 +135,7 @@ impl Token {
 fn read_full(alloc: Global, text: &[u8]) -> Result<Token, TokenFault>
     ensures exact { Gives (λ token. token) result (read_full text.now) }
     ensures found { IfOk result (λ token. FullText text.now token) }
+    ensures signed { IfOk result (λ token. payload_in token.signing ≡ Some token.payload) }
 {
     let parts = checked_parts(text)?;
     let header_bytes = checked_base64(alloc, parts.header, 1)?;
@@ -156,6 +161,7 @@ fn checked_compact(alloc: Global, text: &[u8], view: &View<'_>) -> Result<Token,
     requires dots { starts_with nat_eq text.now (codes "..") ≡ true }
     ensures exact { Gives (λ token. token) result (read_compact (call_of view.now) text.now) }
     ensures found { IfOk result (λ token. CompactText text.now (call_of view.now) token) }
+    ensures signed { IfOk result (λ token. payload_in token.signing ≡ Some token.payload) }
 {
     let parts = checked_parts(text)?;
     let decoded = checked_base64(alloc, parts.signature, 3)?;
@@ -170,6 +176,7 @@ fn checked_compact(alloc: Global, text: &[u8], view: &View<'_>) -> Result<Token,
 fn rebuilt(alloc: Global, base: &Base<'_>, signature: [u8; 64]) -> Result<Token, AllocError>
     requires { IsTrue (is_uri base.now.info.now) }
     ensures exact { IfOk result (λ token. token ≡ rebuilt (passport_of base.now) signature) }
+    ensures signed { IfOk result (λ token. payload_in token.signing ≡ Some token.payload) }
 {
     let header = header_of(alloc, base)?;
     let payload = payload_of(alloc, base)?;

@@ -1,4 +1,5 @@
 ghost use Rattle.std.specs.Prelude.{◌≡◌, ◌↔◌, Some, IfOk, IsTrue, IsUtf8};
+ghost use Rattle.base64.specs.GeneralPurpose.{IsBytes};
 ghost use Rattle.serde_json.specs.Read.{read};
 ghost use Rattle.serde_json.specs.View.{view, items_view, members_view};
 ghost use Rattle.passport_json.specs.Deterministic.{Det, IsInOrder, IsWritable, is_plain, are_plain_items, are_plain_members};
@@ -18,9 +19,17 @@ pub fn deterministic(alloc: Global, value: &Value) -> Result<Vec<u8>, AllocError
     ensures in_order { IfOk result (λ text. IsInOrder (view value.now)) }
     ensures utf8 { IfOk result (λ text. IsUtf8 text.items) }
     ensures reads_back { IfOk result (λ text. read text.items ≡ Some (view value.now)) }
+    ensures bytes { IfOk result (λ text. IsBytes text.items) }
 {
-    value.to_vec(alloc)
+    let text = value.to_vec(alloc)?;
+    tell_bytes(&text);
+    Ok(text)
 }
+
+// Does nothing: that what a slice holds are bytes is known of a parameter alone.
+fn tell_bytes(text: &[u8])
+    ensures { IsBytes text.now }
+{}
 
 /// Whether [`deterministic`] takes the value: no floating-point number stands in it, and arrays and objects stand
 /// at most 127 deep in one another.

@@ -2,7 +2,7 @@
 use Rattle.std.proofs.Common.{◌≡◌, true, false, codes, sym}
 use Rattle.std.specs.Bool.{nat_eq}
 use Rattle.std.specs.List.{starts_with}
-use Rattle.passport_json.proofs.CompactLaws.{only_dots, only_else, read_unique}
+use Rattle.passport_json.proofs.CompactLaws.{only_dots, only_else, read_again, read_unique}
 use Rattle.passport_json.specs.Seen.{call_of}
 use Rattle.passport_json.proofs.token.Token.read.Goals as goal
 
@@ -21,3 +21,9 @@ returns-else-starts_with-clause-only c =
 
 pub returns-else-starts_with-clause-unique : goal.returns-else-starts_with-clause-unique
 returns-else-starts_with-clause-unique c = read_unique c.args.text.now (call_of c.args.view.now)
+
+pub returns-then-starts_with-clause-read_again : goal.returns-then-starts_with-clause-read_again
+returns-then-starts_with-clause-read_again c = read_again c.args.text.now (call_of c.args.view.now)
+
+pub returns-else-starts_with-clause-read_again : goal.returns-else-starts_with-clause-read_again
+returns-else-starts_with-clause-read_again c = read_again c.args.text.now (call_of c.args.view.now)
