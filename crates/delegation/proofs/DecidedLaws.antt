@@ -87,6 +87,13 @@ means_in table number (Code code) h = means_granted (grant_in table code) number
 means_in table number (Range span) h = means_owned number (Range span) h
 means_in table number (Single own) h = means_owned number (Single own) h
 
+-- an answer that is true just where some entry holds the number is that of the test
+pub same_coverage : (answer : Bool) (entries : List Entry) (table : Table) (number : List ℕ) → IsTrue answer ↔ Covers entries table number
+    → answer ≡ covers_number entries table number
+same_coverage answer entries table number h =
+    same_from_decides answer (covers_number entries table number) h
+    (some_found (In table number) (is_in table number) (in_means table number) entries, some_tested (In table number) (is_in table number) (means_in table number) entries)
+
 -- ---- a number that the child holds
 
 -- what is owned has to be covered
@@ -111,8 +118,6 @@ means_keeps child parent table number covers =
     if_kept (owns_number child number) (covers_number parent table number)
     (λ h. some_tested (In table number) (is_in table number) (means_in table number) parent
     (covers (some_found (Owns number) (is_owned number) (owned_means number) child h)))
-
--- ---- the codes
 
 -- ---- lists
 

@@ -1,7 +1,8 @@
 //! Which numbers a list covers.
-ghost use Rattle.std.specs.Prelude.{◌↔◌, ℕ, List, IsTrue};
+ghost use Rattle.std.specs.Prelude.{◌≡◌, ◌↔◌, ℕ, List, IsTrue};
 ghost use Rattle.tn_auth_list.specs.Grant.{GrantHolds, TableOf, grant_view};
 ghost use Rattle.delegation.specs.Coverage.{Covers, CoversByRows, In};
+ghost use Rattle.delegation.specs.Decided.{covers_number};
 
 use tn_auth_list::{AuthList, CodeTable, Entry, Grant};
 use tn_values::Number;
@@ -11,6 +12,7 @@ use tn_values::Number;
 /// A single holds the number that equals it, a range those of its start's length that it reaches, and a code those that
 /// the table has for it, or every number where the table says so. A code that the table doesn't name holds none.
 pub fn covers(list: &AuthList, number: &Number, table: &CodeTable) -> bool
+    ensures exact { result ≡ covers_number list.now table.now number.now }
     ensures covers { IsTrue result ↔ Covers list.now table.now number.now }
 
     // The same by the rows of the text from which the table was read.
