@@ -1,0 +1,14 @@
+//! Laws: a function here does nothing, and its clauses are the law.
+ghost use Rattle.std.specs.Prelude.{◌≡◌, ◌-◌, ℕ, List, Ok, Err};
+ghost use Rattle.der_reader.specs.Elem.{AllBytes};
+ghost use Rattle.x509_profile.specs.Chain.{Chain, EndsAt, RefusedCertificate, Whole, certificates_in};
+ghost use Rattle.x509_profile.specs.View.{CertView};
+
+/// Certificates are read of bytes just where these are their chain; else reading ends behind as many whole certificates as
+/// the bytes begin with, of at most six.
+pub fn chain_law()
+    ensures again { (bytes : List ℕ) (certificates : List CertView) → Chain bytes certificates → certificates_in bytes ≡ Ok certificates }
+    ensures found { (bytes : List ℕ) (certificates : List CertView) → AllBytes bytes → certificates_in bytes ≡ Ok certificates → Chain bytes certificates }
+    ensures ends { (bytes : List ℕ) (refused : RefusedCertificate) → AllBytes bytes → certificates_in bytes ≡ Err refused → EndsAt bytes refused }
+    ensures whole { (bytes : List ℕ) (refused : RefusedCertificate) → EndsAt bytes refused → Whole bytes (refused.number - 1) }
+{}
