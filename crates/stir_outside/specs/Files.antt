@@ -1,6 +1,7 @@
 -- What a shelf holds and counts.
-use Rattle.std.specs.Prelude.{ℕ, ◌≤◌, ◌<◌, ⊤, List, [], ◌∷◌, length, Option, Some, None, if◌then◌else◌}
+use Rattle.std.specs.Prelude.{ℕ, ◌<◌, ⊤, List, [], ◌∷◌, length, Option, Some, None, if◌then◌else◌}
 use Rattle.std.specs.Str.{bytes_eq}
+use Rattle.stir_base.specs.Count.{GoesOn}
 
 -- a finite map from names to contents, as a list of pairs of which the first of a name counts
 abbrev pub Files : Type 0
@@ -29,8 +30,8 @@ pub record Counts : Type 0 where
   pub faults : ℕ
 
 -- no count fell, and none passed its last value
-pub record NoneFell (before now : Counts) : Type 0 where
-  pub reads : before.reads ≤ now.reads
-  pub misses : before.misses ≤ now.misses
-  pub longs : before.longs ≤ now.longs
-  pub faults : before.faults ≤ now.faults
+pub record CountsGoOn (before now : Counts) : Type 0 where
+  pub reads : GoesOn before.reads now.reads
+  pub misses : GoesOn before.misses now.misses
+  pub longs : GoesOn before.longs now.longs
+  pub faults : GoesOn before.faults now.faults

@@ -1,6 +1,6 @@
 ghost use Rattle.std.specs.Prelude.{◌≡◌, ℕ, ◌≤◌, Option, Some, None, Err, IfOk, is_ok, vec_len, if◌then◌else◌};
 ghost use Rattle.stir_base.specs.Count.{Rose, one_more};
-ghost use Rattle.stir_outside.specs.Files.{Files, Counts, NoneFell, OfFile, IsLonger};
+ghost use Rattle.stir_outside.specs.Files.{Files, Counts, CountsGoOn, OfFile, IsLonger};
 
 use std::alloc::Global;
 
@@ -29,7 +29,7 @@ pub trait Shelf {
     /// Reads the file of that name whole, where it has at most `limit` bytes.
     fn read(&mut self, alloc: Global, name: &str, limit: usize) -> Result<Vec<u8>, ShelfFault>
         ensures same { files self.new ≡ files self.old }
-        ensures never_fall { NoneFell (counts self.old) (counts self.new) }
+        ensures go_on { CountsGoOn (counts self.old) (counts self.new) }
         ensures reads { (counts self.new).reads ≡ (if is_ok result then one_more (counts self.old).reads else (counts self.old).reads) }
 
         ensures within { IfOk result (λ bytes. vec_len bytes ≤ limit) }

@@ -1,6 +1,6 @@
 ghost use Rattle.std.specs.Prelude.{◌≡◌, ℕ, ◌<◌, ◌≤◌, Err, OnOk, OnErr, vec_len};
 ghost use Rattle.std.specs.Io.KnownBytes.{Appends, IsAtEnd};
-ghost use Rattle.stir_base.specs.Count.{Rose, HasCause};
+ghost use Rattle.stir_base.specs.Count.{GoesOn, HasCause, Rose};
 ghost use Rattle.stir_base.specs.Told.{Takes, AppendsFront};
 
 use crate::sink::Sink;
@@ -51,7 +51,8 @@ pub fn read_up_to<I: Source>(
     ensures taken { Takes (I.left source.old) (I.left source.new) bytes.old.items bytes.new.items }
     ensures limited { vec_len bytes.new ≤ limit }
     ensures ended { OnOk result (vec_len bytes.new < limit → IsAtEnd (I.left source.new)) }
-    ensures never_falls { I.faults source.old ≤ I.faults source.new }
+    ensures short { OnErr result (vec_len bytes.new < limit) }
+    ensures go_on { GoesOn (I.faults source.old) (I.faults source.new) }
     ensures rose { result ≡ Err ReadFault.Source → Rose (I.faults source.old) (I.faults source.new) }
 {
     let mut block = [0; BLOCK];

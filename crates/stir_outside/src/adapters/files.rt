@@ -1,16 +1,22 @@
-ghost use Rattle.std.specs.Prelude.{◌≡◌, ℕ, ◌≤◌, None, IfOk, vec_len};
-ghost use Rattle.stir_base.specs.Count.{last_count};
+ghost use Rattle.std.specs.Prelude.{◌≡◌, ◌≢◌, ℕ, ◌<◌, ◌≤◌, None, Err, IfOk, IfSome, is_ok, length, vec_len, if◌then◌else◌};
+ghost use Rattle.stir_base.specs.Count.{Rose, one_more};
+ghost use Rattle.stir_outside.specs.Files.{CountsGoOn};
+ghost use Rattle.stir_outside.specs.Shelf.{counted};
 
 use crate::adapters::stdin::StdinSource;
 use crate::shelf::{Shelf, ShelfFault};
+use crate::source::Source;
 use crate::transfer::{ReadFault, read_up_to};
 use std::alloc::Global;
 use std::fs;
 use std::io::ErrorKind;
+use std::marker::Model;
 use std::rt::Files;
 
 /// The shelf over the file system. A file that isn't there is `Missing`; one that is there and can't be
 /// opened or read, as a folder, is `Failed`. Of a file that is too long, one byte past the limit is read.
+///
+/// A contract sees it as its counts alone: it tells nothing of the files.
 #[derive(Drop)]
 pub struct FileShelf<R: Files + Drop> {
     rt: R,
@@ -20,13 +26,18 @@ pub struct FileShelf<R: Files + Drop> {
     faults: u64,
 }
 
-impl<R: Files + Drop> FileShelf<R> {
+impl<R: Files + Drop> Model for FileShelf<R> {
     ghost use Rattle.stir_outside.specs.Files.{Counts};
 
+    ghost Value = { Counts };
+
+    ghost view = { λ s. record { reads = s.reads; misses = s.misses; longs = s.longs; faults = s.faults } };
+}
+
+impl<R: Files + Drop> FileShelf<R> {
     /// The shelf over this runtime's files, with no count so far.
     pub fn new(rt: R) -> FileShelf<R>
-        ensures files { ⟦<FileShelf<R> as Shelf>⟧.files result ≡ None }
-        ensures counts { ⟦<FileShelf<R> as Shelf>⟧.counts result ≡ record { reads = 0; misses = 0; longs = 0; faults = 0 } }
+        ensures { result ≡ record { reads = 0; misses = 0; longs = 0; faults = 0 } }
     {
         FileShelf {
             rt,
@@ -39,28 +50,28 @@ impl<R: Files + Drop> FileShelf<R> {
 
     /// How many files were read.
     pub fn reads(&self) -> u64
-        ensures { result ≡ (⟦<FileShelf<R> as Shelf>⟧.counts self.now).reads }
+        ensures { result ≡ self.now.reads }
     {
         self.reads
     }
 
     /// How many files were missing.
     pub fn misses(&self) -> u64
-        ensures { result ≡ (⟦<FileShelf<R> as Shelf>⟧.counts self.now).misses }
+        ensures { result ≡ self.now.misses }
     {
         self.misses
     }
 
     /// How many files were too long.
     pub fn longs(&self) -> u64
-        ensures { result ≡ (⟦<FileShelf<R> as Shelf>⟧.counts self.now).longs }
+        ensures { result ≡ self.now.longs }
     {
         self.longs
     }
 
     /// How many reads failed.
     pub fn faults(&self) -> u64
-        ensures { result ≡ (⟦<FileShelf<R> as Shelf>⟧.counts self.now).faults }
+        ensures { result ≡ self.now.faults }
     {
         self.faults
     }
@@ -69,9 +80,20 @@ impl<R: Files + Drop> FileShelf<R> {
 impl<R: Files + Drop> Shelf for FileShelf<R> {
     ghost files = { λ _. None };
 
-    ghost counts = { λ s. record { reads = s.reads; misses = s.misses; longs = s.longs; faults = s.faults } };
+    ghost counts = { λ s. s };
 
-    fn read(&mut self, alloc: Global, name: &str, limit: usize) -> Result<Vec<u8>, ShelfFault> {
+    fn read(&mut self, alloc: Global, name: &str, limit: usize) -> Result<Vec<u8>, ShelfFault>
+        ensures go_on { CountsGoOn self.old self.new }
+        ensures reads { self.new.reads ≡ (if is_ok result then one_more self.old.reads else self.old.reads) }
+
+        ensures within { IfOk result (λ bytes. vec_len bytes ≤ limit) }
+        ensures missing_rose { result ≡ Err ShelfFault.Missing → Rose self.old.misses self.new.misses }
+        ensures long_rose { result ≡ Err ShelfFault.Long → Rose self.old.longs self.new.longs }
+        ensures failed_rose { result ≡ Err ShelfFault.Failed → Rose self.old.faults self.new.faults }
+
+        // Each answer raises its own count and no other; want of memory raises none.
+        ensures counted { self.new ≡ counted self.old result }
+    {
         let result = content(&self.rt, alloc, name, limit);
         match result {
             Ok(_) => self.reads = self.reads.saturating_add(1),
@@ -87,17 +109,23 @@ impl<R: Files + Drop> Shelf for FileShelf<R> {
 fn content<R: Files>(rt: &R, alloc: Global, name: &str, limit: usize) -> Result<Vec<u8>, ShelfFault>
     ensures { IfOk result (λ bytes. vec_len bytes ≤ limit) }
 {
-    let file = match fs::open(rt, name) {
-        Ok(file) => file,
-        Err(error) if error.kind() == ErrorKind::NotFound => return Err(ShelfFault::Missing),
-        Err(_) => return Err(ShelfFault::Failed),
-    };
+    match fs::open(rt, name) {
+        Ok(file) => whole(alloc, &mut StdinSource::new(file), limit),
+        Err(error) if error.kind() == ErrorKind::NotFound => Err(ShelfFault::Missing),
+        Err(_) => Err(ShelfFault::Failed),
+    }
+}
+
+/// All that the source has left, where that is no more than the limit.
+fn whole<I: Source>(alloc: Global, source: &mut I, limit: usize) -> Result<Vec<u8>, ShelfFault>
+    ensures within { IfOk result (λ bytes. vec_len bytes ≤ limit) }
+    ensures whole { IfOk result (λ bytes. IfSome (I.left source.old) (λ left. bytes.items ≡ left)) }
+    ensures long { result ≡ Err ShelfFault.Long → IfSome (I.left source.old) (λ left. limit < length left) }
+    ensures failed { result ≡ Err ShelfFault.Failed → Rose (I.faults source.old) (I.faults source.new) }
+    ensures present { result ≢ Err ShelfFault.Missing }
+{
     let mut bytes = Vec::new(alloc);
-    match read_up_to(
-        &mut StdinSource::new(file),
-        &mut bytes,
-        limit.saturating_add(1),
-    ) {
+    match read_up_to(source, &mut bytes, limit.saturating_add(1)) {
         Ok(()) if bytes.len() > limit => Err(ShelfFault::Long),
         Ok(()) => Ok(bytes),
         Err(ReadFault::Source) => Err(ShelfFault::Failed),

@@ -1,7 +1,10 @@
-ghost use Rattle.std.specs.Prelude.{◌≡◌, ℕ};
+ghost use Rattle.std.specs.Prelude.{◌≡◌, ℕ, ◌<◌, ◌≤◌, length, IfOk};
+ghost use Rattle.std.specs.Io.KnownBytes.{ReadConsumes};
+ghost use Rattle.stir_base.specs.Count.{HasCause, faults_after};
 
 use crate::source::{Failed, Source};
 use std::io::Read;
+use std::marker::Model;
 
 /// The source over a reader, as the standard input. Each of its errors is `Failed` and is counted.
 #[derive(Drop)]
@@ -10,29 +13,44 @@ pub struct StdinSource<R: Read + Drop> {
     faults: u64,
 }
 
+impl<R: Read + Drop> Model for StdinSource<R> {
+    ghost use Rattle.stir_outside.specs.Adapters.{ReaderState};
+
+    ghost Value = { ReaderState };
+
+    ghost view = { λ s. record { left = R.remaining s.reader; faults = s.faults } };
+}
+
 impl<R: Read + Drop> StdinSource<R> {
     /// The source over this reader, with no fault so far.
     pub fn new(reader: R) -> StdinSource<R>
-        ensures reader { ⟦<StdinSource<R> as Source>⟧.left result ≡ R.remaining reader }
-        ensures faults { ⟦<StdinSource<R> as Source>⟧.faults result ≡ 0 }
+        ensures { result ≡ record { left = R.remaining reader; faults = 0 } }
     {
         StdinSource { reader, faults: 0 }
     }
 
     /// How many reads failed.
     pub fn faults(&self) -> u64
-        ensures { result ≡ ⟦<StdinSource<R> as Source>⟧.faults self.now }
+        ensures { result ≡ self.now.faults }
     {
         self.faults
     }
 }
 
 impl<R: Read + Drop> Source for StdinSource<R> {
-    ghost left = { λ s. R.remaining s.reader };
+    ghost left = { λ s. s.left };
 
     ghost faults = { λ s. s.faults };
 
-    fn read(&mut self, buf: &mut [u8]) -> Result<usize, Failed> {
+    fn read(&mut self, buf: &mut [u8]) -> Result<usize, Failed>
+        requires { 0 < length buf.old }
+        ensures within { IfOk result (λ count. count ≤ length buf.new) }
+        ensures bytes { ReadConsumes self.old.left self.new.left result buf.new }
+        ensures cause { HasCause self.old.faults self.new.faults result }
+
+        // A read that failed is a fault, and no other is: not the end of the bytes.
+        ensures faults { self.new.faults ≡ faults_after self.old.faults result }
+    {
         match self.reader.read(buf) {
             Ok(count) => Ok(count),
             Err(_) => {

@@ -1,9 +1,9 @@
 ghost use Rattle.std.specs.Prelude.{◌≡◌, ℕ, ◌≤◌, Option, Some, None, Err, IfOk, is_ok, vec_len, map, false, if◌then◌else◌};
 ghost use Rattle.std.specs.Option.{option_copied};
 ghost use Rattle.stir_base.specs.Count.{Rose, one_more};
-ghost use Rattle.stir_outside.specs.Files.{NoneFell, OfFile, IsLonger, file};
+ghost use Rattle.stir_outside.specs.Files.{CountsGoOn, OfFile, IsLonger, file};
 ghost use Rattle.stir_outside.specs.Memory.{is_failing};
-ghost use Rattle.stir_outside.specs.Shelf.{is_failed};
+ghost use Rattle.stir_outside.specs.Shelf.{counted, is_failed};
 
 use crate::shelf::{Shelf, ShelfFault};
 use std::alloc::Global;
@@ -93,7 +93,7 @@ impl Shelf for ShelfMem {
 
     fn read(&mut self, alloc: Global, name: &str, limit: usize) -> Result<Vec<u8>, ShelfFault>
         ensures same { Some self.new.files ≡ Some self.old.files }
-        ensures never_fall { NoneFell self.old.counts self.new.counts }
+        ensures go_on { CountsGoOn self.old.counts self.new.counts }
         ensures reads { self.new.counts.reads ≡ (if is_ok result then one_more self.old.counts.reads else self.old.counts.reads) }
 
         ensures within { IfOk result (λ bytes. vec_len bytes ≤ limit) }
@@ -109,7 +109,7 @@ impl Shelf for ShelfMem {
 
         // Exactly the listed calls fail; of any other the file decides.
         ensures fails { is_failed result ≡ is_failing self.old.calls self.old.failing }
-        ensures faults { self.new.counts.faults ≡ (if is_failed result then one_more self.old.counts.faults else self.old.counts.faults) }
+        ensures counted { self.new.counts ≡ counted self.old.counts result }
         ensures absent { is_failed result ≡ false → file name.now self.old.files ≡ None → result ≡ Err ShelfFault.Missing }
         ensures too_long { is_failed result ≡ false → IsLonger limit (file name.now self.old.files) → result ≡ Err ShelfFault.Long }
         ensures calls { self.new.calls ≡ one_more self.old.calls }

@@ -1,5 +1,6 @@
 -- What was taken so far, and no more than the limit.
 use Rattle.std.proofs.Common.{◌≤◌, ◌-◌, vec_len}
+use Rattle.stir_base.specs.Count.{GoesOn}
 use Rattle.stir_base.specs.Told.{Takes}
 use Rattle.stir_outside.proofs.transfer.read_up_to.Given as goal
 
@@ -7,7 +8,7 @@ abbrev pub invariant-loop-block : goal.invariant-loop-block
 invariant-loop-block g l = record {
   limited : vec_len l.bytes ≤ l.limit;
   taken : Takes (g.I.Source.left l.fn.source) (g.I.Source.left l.source) l.fn.bytes.items l.bytes.items;
-  never_falls : g.I.Source.faults l.fn.source ≤ g.I.Source.faults l.source;
+  goes_on : GoesOn (g.I.Source.faults l.fn.source) (g.I.Source.faults l.source);
 }
 
 abbrev pub decreases-loop-block : goal.decreases-loop-block
