@@ -1,6 +1,6 @@
 -- What the reads and writes of a loop do together.
-use Rattle.std.proofs.Common.{◌≡◌, ◌+◌, ◌<◌, min, length, arith, ℕ, List, [], ◌++◌, Option, refl, sym, ◌∙◌, ap, append_assoc, append-nil, take, drop, take-append-drop, subst, Some, None}
-use Rattle.std.proofs.lemmas.List.{drop-drop, drop_all, length-drop}
+use Rattle.std.proofs.Common.{◌≡◌, ◌+◌, ◌<◌, min, length, arith, ℕ, List, [], ◌∷◌, ◌++◌, slice_index_or, slice_set, Option, refl, sym, ◌∙◌, ap, append_assoc, append-nil, take, drop, take-append-drop, subst, Some, None}
+use Rattle.std.proofs.lemmas.List.{drop-drop, drop_all, drop_more, length-drop}
 use Rattle.std.specs.Io.KnownBytes.{Appends, Consumes, Keeps}
 use Rattle.std.proofs.KnownBytes.{Appends-nil, Appends-trans, Consumes-nil, Consumes-trans}
 use Rattle.stir_base.specs.Told.{Takes, AppendsFront}
@@ -51,3 +51,9 @@ consumed items buf taken count e = sym (take-append-drop count (drop taken items
 -- a read that gives nothing although there is room has nothing left
 pub nothing_left : (items : List ℕ) (room taken count : ℕ) → count ≡ min room (length (drop taken items)) → count ≡ 0 → 0 < room → drop (taken + count) items ≡ []
 nothing_left items room taken count e zero some = drop_all (taken + count) items (omega (arith, length-drop taken items))
+
+-- one byte given from the front of what was left
+pub one_given : (items buf : List ℕ) (taken byte : ℕ) → taken < length items → byte ≡ slice_index_or items taken byte → 0 < length buf
+    → drop taken items ≡ take 1 (slice_set buf 0 byte) ++ drop (taken + 1) items
+one_given items [] taken byte h e some = absurd (omega arith)
+one_given items (x ∷ xs) taken byte h e some = drop_more items taken byte h ∙ ap (λ b. b ∷ drop (taken + 1) items) (sym e)

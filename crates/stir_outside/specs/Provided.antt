@@ -1,6 +1,6 @@
 -- What a provider over an answers file is seen as.
-use Rattle.std.specs.Prelude.{◌≡◌, ℕ, ◌≤◌, List, Result, is_err, if◌then◌else◌}
-use Rattle.stir_base.specs.Count.{HasCause, one_more}
+use Rattle.std.specs.Prelude.{◌≡◌, ℕ, ◌≤◌, List, Result, is_err}
+use Rattle.stir_base.specs.Count.{HasCause, faults_after, one_more}
 use Rattle.stir_outside.specs.Held.{Held}
 use Rattle.stir_outside.specs.Memory.{is_failing}
 
@@ -11,6 +11,11 @@ pub record ProviderState : Type 0 where
   pub asks : ℕ
   pub faults : ℕ
 
+-- what a provider that never fails answers, and the count of calls
+pub record SteadyState : Type 0 where
+  pub held : Held
+  pub asks : ℕ
+
 -- a call was counted, and failed where it is listed
 pub record Asked {T E : Type 0} (before now : ProviderState) (result : Result T E) : Type 0 where
   pub held : now.held ≡ before.held
@@ -19,4 +24,4 @@ pub record Asked {T E : Type 0} (before now : ProviderState) (result : Result T 
   pub asks_stay : before.asks ≤ now.asks
   pub cause : HasCause before.faults now.faults result
   pub fails : is_err result ≡ is_failing before.asks before.failing
-  pub faults : now.faults ≡ (if is_err result then one_more before.faults else before.faults)
+  pub faults : now.faults ≡ faults_after before.faults result

@@ -4,5 +4,6 @@ pub mod held;
 pub mod key_name;
 pub mod provider;
 pub mod rows;
+pub mod steady;
 #[cfg(test)]
 mod tests;

@@ -1,11 +1,12 @@
 //! The outside of the program as it is proved against: a shelf of named files, a source of bytes, a sink for
-//! bytes and a provider of signatures, each with counts of what went wrong. Every contract above speaks of these
-//! traits; memory forms tell their content, adapters over the real files and streams tell nothing of it. The
-//! program's provider answers as an answers file does.
+//! bytes and a provider of signatures, each with counts of what went wrong, and a gate for workers. Every contract
+//! above speaks of these traits; memory forms tell their content, adapters over the real files and streams tell
+//! nothing of it. The program's provider answers as an answers file does.
 #![tactic(auto)]
 
 mod adapters;
 mod answers;
+mod gate;
 mod memory;
 mod provider;
 mod shelf;
@@ -18,8 +19,11 @@ pub use adapters::stdin::StdinSource;
 pub use adapters::stdout::StdoutSink;
 pub use answers::held::{AnswerFault, Answers};
 pub use answers::provider::AnswerProvider;
+pub use answers::steady::SteadyProvider;
+pub use gate::{Gate, NoGate};
 pub use memory::shelf::ShelfMem;
 pub use memory::sink::SinkMem;
+pub use memory::slow::SlowMem;
 pub use memory::source::SourceMem;
 pub use provider::Provider;
 pub use shelf::{Shelf, ShelfFault};

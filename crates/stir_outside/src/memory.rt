@@ -2,4 +2,5 @@
 
 pub mod shelf;
 pub mod sink;
+pub mod slow;
 pub mod source;

@@ -6,6 +6,7 @@ ghost use Rattle.stir_outside.specs.declared.answers.rows.Row.{Row};
 use crate::answers::key_name::KeyName;
 use crate::answers::provider::AnswerProvider;
 use crate::answers::rows::{Order, Row, Triple, row_of};
+use crate::answers::steady::SteadyProvider;
 use std::alloc::{AllocError, Global};
 use std::collections::{HashMap, HashSet};
 use std::marker::Model;
@@ -151,5 +152,12 @@ impl Answers {
     {
         let failing = Vec::from_slice(self.alloc, failing)?;
         Ok(AnswerProvider::new(self, failing))
+    }
+
+    /// A provider that gives these answers and never fails.
+    pub fn steady(&self) -> SteadyProvider<'_>
+        ensures { result ≡ record { held = self.now; asks = 0 } }
+    {
+        SteadyProvider::new(self)
     }
 }

@@ -1,6 +1,6 @@
 //! A provider over an answers file.
-ghost use Rattle.std.specs.Prelude.{◌≡◌, ◌≤◌, IfOk, OnErr, is_err, if◌then◌else◌};
-ghost use Rattle.stir_base.specs.Count.{HasCause, one_more};
+ghost use Rattle.std.specs.Prelude.{◌≡◌, ◌≤◌, IfOk, OnErr, is_err};
+ghost use Rattle.stir_base.specs.Count.{HasCause, faults_after, one_more};
 ghost use Rattle.stir_outside.specs.Held.{held_says, held_signs};
 ghost use Rattle.stir_outside.specs.Memory.{is_failing};
 
@@ -93,7 +93,7 @@ impl<'a> Provider for AnswerProvider<'a> {
 
         // Exactly the listed calls fail; so where none is listed, `faults` stands still.
         ensures fails { is_err result ≡ is_failing self.old.asks self.old.failing }
-        ensures faults { self.new.faults ≡ (if is_err result then one_more self.old.faults else self.old.faults) }
+        ensures faults { self.new.faults ≡ faults_after self.old.faults result }
         ensures failing { self.new.failing ≡ self.old.failing }
         ensures steady { self.old.failing ≡ [] → self.new.faults ≡ self.old.faults }
     {
@@ -111,7 +111,7 @@ impl<'a> Provider for AnswerProvider<'a> {
 
         // As with `confirm`.
         ensures fails { is_err result ≡ is_failing self.old.asks self.old.failing }
-        ensures faults { self.new.faults ≡ (if is_err result then one_more self.old.faults else self.old.faults) }
+        ensures faults { self.new.faults ≡ faults_after self.old.faults result }
         ensures failing { self.new.failing ≡ self.old.failing }
         ensures steady { self.old.failing ≡ [] → self.new.faults ≡ self.old.faults }
     {

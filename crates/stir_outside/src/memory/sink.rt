@@ -1,6 +1,6 @@
-ghost use Rattle.std.specs.Prelude.{◌≡◌, ℕ, ◌-◌, ◌+◌, ◌≤◌, ◌<◌, ◌==◌, ◌||◌, Option, Some, length, min, max, IfOk, OnOk, OnErr, is_err, if◌then◌else◌};
+ghost use Rattle.std.specs.Prelude.{◌≡◌, ℕ, ◌-◌, ◌+◌, ◌≤◌, ◌<◌, ◌==◌, ◌||◌, Option, Some, length, min, max, IfOk, OnOk, OnErr, is_err};
 ghost use Rattle.std.specs.Io.KnownBytes.{WriteAppends};
-ghost use Rattle.stir_base.specs.Count.{HasCause, one_more};
+ghost use Rattle.stir_base.specs.Count.{HasCause, faults_after, one_more};
 ghost use Rattle.stir_outside.specs.Memory.{is_failing};
 
 use crate::sink::Sink;
@@ -90,7 +90,7 @@ impl Sink for SinkMem {
         ensures room_kept { OnErr result (self.new.room ≡ self.old.room) }
         ensures calls { self.new.calls ≡ one_more self.old.calls }
         ensures failing { self.new.failing ≡ self.old.failing }
-        ensures faults { self.new.faults ≡ (if is_err result then one_more self.old.faults else self.old.faults) }
+        ensures faults { self.new.faults ≡ faults_after self.old.faults result }
     {
         self.calls = self.calls.saturating_add(1);
         if self.failing.contains(&self.calls) || self.room == 0 {

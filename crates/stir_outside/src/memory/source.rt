@@ -1,6 +1,6 @@
-ghost use Rattle.std.specs.Prelude.{◌≡◌, ℕ, ◌-◌, ◌≤◌, ◌<◌, Option, Some, length, min, take, drop, IfOk, is_err, if◌then◌else◌};
+ghost use Rattle.std.specs.Prelude.{◌≡◌, ℕ, ◌-◌, ◌≤◌, ◌<◌, Option, Some, length, min, take, drop, IfOk, is_err};
 ghost use Rattle.std.specs.Io.KnownBytes.{ReadConsumes};
-ghost use Rattle.stir_base.specs.Count.{HasCause, one_more};
+ghost use Rattle.stir_base.specs.Count.{HasCause, faults_after, one_more};
 ghost use Rattle.stir_outside.specs.Memory.{is_failing};
 
 use crate::source::{Failed, Source};
@@ -75,7 +75,7 @@ impl Source for SourceMem {
         ensures gives { IfOk result (λ count. count ≡ min (length buf.old) (length self.old.left)) }
         ensures calls { self.new.calls ≡ one_more self.old.calls }
         ensures failing { self.new.failing ≡ self.old.failing }
-        ensures faults { self.new.faults ≡ (if is_err result then one_more self.old.faults else self.old.faults) }
+        ensures faults { self.new.faults ≡ faults_after self.old.faults result }
     {
         self.calls = self.calls.saturating_add(1);
         if self.failing.contains(&self.calls) {
