@@ -1,4 +1,6 @@
 pub mod CompactLaws
+pub mod DecodedLaws
+pub mod FoundLaws
 pub mod ObjectLaws
 pub mod OrderLaws
 pub mod PartLaws
