@@ -31,6 +31,3 @@ pub use sink::Sink;
 pub use source::{Failed, Source};
 pub use std::alloc::AllocError as Memory;
 pub use transfer::{ReadFault, read_up_to, write_whole};
-
-#[cfg(test)]
-mod tests;
