@@ -1,22 +1,20 @@
 -- Each fault is the answer where it holds, so that there is one at most.
-use Rattle.std.proofs.Common.{◌≡◌, ℕ, zero, suc, ◌==◌, ◌+◌, ◌-◌, ◌<◌, ◌≤◌, Bool, true, false, not, cond, nat_lt, inl, inr, List, [], ◌∷◌, length, Option, Some, None, Result, Ok, Err, refl, sym, ap, ◌∙◌, subst, arith}
-use Rattle.std.specs.Prelude.{Contains}
-use Rattle.std.specs.Result.{IsErrAnd}
-use Rattle.std.proofs.lemmas.Bool.{cases_order, eq-eqb, le-ltb, lt-ltb, ne_eqb}
+use Rattle.std.proofs.Common.{◌≡◌, ℕ, ◌==◌, ◌+◌, ◌-◌, ◌≤◌, true, false, nat_lt, inl, inr, List, ◌∷◌, length, Option, Some, None, Result, Ok, Err, refl, sym, ap, ◌∙◌, arith}
+use Rattle.std.proofs.lemmas.Bool.{eq-eqb, le-ltb, lt-ltb, ne_eqb}
 use Rattle.passport_claims.specs.Passport.{ClaimsView}
-use Rattle.passport_claims.specs.Links.{AreWithin, IsOneOf, dest_at, div_at}
-use Rattle.passport_claims.specs.Order.{IsCalled, is_among, last_of}
-use Rattle.passport_claims.specs.OrderFault.{Called, Cut, EndsAtOnce, EndsLater, IsFault, IsFirst, IsLast, IsLeft, IsStart, Many, MayStart, NoneStarts, OfNone, Repeat, Repeats, Start, StartsElsewhere, TwoStart}
+use Rattle.passport_claims.specs.Links.{IsOneOf, dest_at, div_at}
+use Rattle.passport_claims.specs.Order.{is_among, last_of}
+use Rattle.passport_claims.specs.OrderFault.{Cut, EndsAtOnce, EndsLater, IsFault, IsLast, IsLeft, Many, MayStart, OfNone, Repeat, Repeats, Start}
 use Rattle.passport_claims.specs.OrderReading.{behind, calls, calls_one_of, fault_at, first_from, is_left, is_one_of, may_start, order_of, repeats, start_of, undiverted, way_from}
 use Rattle.passport_claims.specs.OrderSeen.{order_seen}
 use Rattle.passport_claims.specs.declared.order.ChainFault.{ChainFault}
 use Rattle.passport_claims.specs.declared.order.Order.{Order}
-use Rattle.passport_claims.proofs.FirstLaws.{Says, first_is, first_isnt, means_first, means_none, none_more, not_so}
-use Rattle.passport_claims.proofs.LinkLaws.{called_means, calls_means, distinct, one_means, repeats_says, start_says}
+use Rattle.passport_claims.proofs.FirstLaws.{first_is, first_isnt, means_first, means_none, none_more, not_so}
+use Rattle.passport_claims.proofs.LinkLaws.{called_means, calls_means, one_means, repeats_says, start_says}
 use Rattle.passport_claims.proofs.OrderLaws.{each_found, next_follows}
 use Rattle.passport_claims.proofs.StartLaws.{NoStart, start_again}
-use Rattle.passport_claims.proofs.TurnLaws.{Next, next_first, next_second, next_there, within_among}
-use Rattle.passport_claims.proofs.WayLaws.{behind_follow, behind_within, starts}
+use Rattle.passport_claims.proofs.TurnLaws.{next_second, next_there, within_among}
+use Rattle.passport_claims.proofs.WayLaws.{behind_follow, behind_within}
 use Rattle.passport_claims.proofs.OrderFaultLaws.{Started, is_walked, left_says, reached_on}
 
 -- a fault of this kind and this link is the one that is given
