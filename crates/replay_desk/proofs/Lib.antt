@@ -1,4 +1,4 @@
-pub mod Sums
-pub mod Words
-pub mod Keeping
+mod Keeping
+mod Words
 pub mod Shared
+pub mod Sums

@@ -1,5 +1,5 @@
--- The past: which call passed on which ticket, and until when its PASSporT is fresh (this project's own rule, after RFC 8224,
--- section 12.1: a receiver keeps what it saw for as long as it is fresh).
+-- The past: which call passed on which ticket, for as long as its PASSporT is fresh (this project's own rule). It is a finite map
+-- from tickets to calls, and `found` is what it has at a ticket.
 use Rattle.std.specs.Prelude.{ℕ, nat_lt, List, Option, Some, None, if◌then◌else◌}
 use Rattle.std.specs.Map.{lookup}
 use Rattle.std.specs.Str.{bytes_eq}

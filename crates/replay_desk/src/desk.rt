@@ -13,6 +13,7 @@ use std::marker::Model;
 /// A word for each class of a round, on which workers claim without waiting for each other. A class is won once.
 #[derive(Drop)]
 pub struct Desk {
+    /// The words, whose rule is `OneWinner`.
     table: Table<(), View, u64, OneWinner, Global>,
 }
 
@@ -32,6 +33,7 @@ impl Model for Desk {
 /// whole share again.
 #[derive(Drop)]
 pub struct Seat {
+    /// The right to step on the table, with the seat's view.
     token: atomic_table::Seat<(), View>,
 }
 

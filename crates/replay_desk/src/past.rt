@@ -12,8 +12,9 @@ use std::marker::Model;
 /// A contract sees a finite map, and `spare`: how many tickets can be added without memory.
 #[derive(Drop)]
 pub struct Past {
+    /// The calls by ticket.
     calls: HashMap<[u8; 32], Kept>,
-    // how many tickets can be added; the map may have room for more
+    /// How many tickets can be added; the map may have room for more.
     spare: usize,
 }
 
