@@ -1,7 +1,7 @@
 -- What the log's reader hands out, and what it takes for it.
-use Rattle.std.specs.Prelude.{◌≡◌, ℕ, List, [], Option, Some, None, Result, Ok, Err}
+use Rattle.std.specs.Prelude.{◌≡◌, ℕ, ◌+◌, ◌*◌, ◌≤◌, List, [], Option, Some, None, Result, Ok, Err}
 use Rattle.std.specs.Io.KnownBytes.{Consumes, IsAtEnd, prepend_known}
-use Rattle.call_log.specs.Entry.{Entry, entry_text}
+use Rattle.call_log.specs.Entry.{Entry, entry_text, most_entries}
 use Rattle.call_log.specs.Fault.{Knows}
 use Rattle.call_log.specs.Log.{IsNext, Passed, after}
 use Rattle.call_log.specs.declared.fault.LogFault.{LogFault}
@@ -11,6 +11,13 @@ pub record LogState : Type 0 where
   pub passed : Passed
   pub ahead : List ℕ
   pub fault : Option LogFault
+
+-- the bounds within which a reader stays; none of the bytes that it took stays unused
+pub record Bounded (passed : Passed) (ahead : List ℕ) : Type 0 where
+  pub count : passed.count ≤ most_entries
+  pub number : passed.number ≤ 4000000000 + passed.count
+  pub place : passed.place ≤ 131093 * passed.count
+  pub none_ahead : ahead ≡ []
 
 -- what is left to the reader: the bytes ahead, then what the source has left
 abbrev pub left_to : LogState → Option (List ℕ) → Option (List ℕ)

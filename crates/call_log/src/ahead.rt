@@ -41,7 +41,8 @@ impl Ahead {
 
     /// The next byte, of those ahead or else of the source; `None` where the source has ended.
     pub(crate) fn next_byte<I: Source>(&mut self, source: &mut I) -> Result<Option<u8>, Failed>
-        ensures byte { ByteFrom (prepend_known self.old (I.left source.old)) (prepend_known self.new (I.left source.new)) result }
+        ensures byte { ByteFrom
+            (prepend_known self.old (I.left source.old)) (prepend_known self.new (I.left source.new)) result }
         ensures cause { HasCause (I.faults source.old) (I.faults source.new) result }
         ensures ahead { self.new ≡ [] }
     {

@@ -57,7 +57,8 @@ pub(crate) fn next_number<I: Source>(
 ) -> Result<Option<Digits>, Failed>
     requires most { most < 2 ^ 40 }
     requires last { is_ascii_digit last ≡ false }
-    ensures number { NumberFrom most last (prepend_known ahead.old (I.left source.old)) (prepend_known ahead.new (I.left source.new)) result }
+    ensures number { NumberFrom most last
+        (prepend_known ahead.old (I.left source.old)) (prepend_known ahead.new (I.left source.new)) result }
     ensures used_up { ahead.old ≡ [] → ahead.new ≡ [] }
     ensures cause { HasCause (I.faults source.old) (I.faults source.new) result }
 {

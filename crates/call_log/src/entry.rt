@@ -2,7 +2,7 @@ ghost use Rattle.std.specs.Prelude.{◌≡◌, ◌^◌, ◌-◌, ◌+◌, ◌<�
 ghost use Rattle.std.specs.Fmt.{decimal};
 ghost use Rattle.std.specs.Io.KnownBytes.{prepend_known};
 ghost use Rattle.stir_base.specs.Count.{Rose};
-ghost use Rattle.call_log.specs.Entry.{headed};
+ghost use Rattle.call_log.specs.Entry.{headed, last_moment, most_entries, most_message_length};
 ghost use Rattle.call_log.specs.Number.{IsNumber};
 ghost use Rattle.call_log.specs.Reading.{Finds};
 
@@ -50,9 +50,10 @@ pub(crate) fn next_entry<I: Source>(
     source: &mut I,
     passed: Progress,
 ) -> Result<Option<Found>, LogFault>
-    requires count { passed.count ≤ 1000000 }
+    requires count { passed.count ≤ most_entries }
     requires number { passed.number < 2 ^ 32 - 1 }
-    ensures found { Finds passed [] (prepend_known ahead.old (I.left source.old)) (prepend_known ahead.new (I.left source.new)) result }
+    ensures found { Finds passed []
+        (prepend_known ahead.old (I.left source.old)) (prepend_known ahead.new (I.left source.new)) result }
     ensures never_falls { I.faults source.old ≤ I.faults source.new }
     ensures used_up { ahead.old ≡ [] → ahead.new ≡ [] }
     ensures rose { result ≡ Err LogFault.Source → Rose (I.faults source.old) (I.faults source.new) }
@@ -77,9 +78,10 @@ fn after_at<I: Source>(
     source: &mut I,
     passed: Progress,
 ) -> Result<Option<Found>, LogFault>
-    requires count { passed.count < 1000000 }
+    requires count { passed.count < most_entries }
     requires number { passed.number < 2 ^ 32 - 1 }
-    ensures found { Finds passed (64 ∷ []) (prepend_known ahead.old (I.left source.old)) (prepend_known ahead.new (I.left source.new)) result }
+    ensures found { Finds passed (64 ∷ [])
+        (prepend_known ahead.old (I.left source.old)) (prepend_known ahead.new (I.left source.new)) result }
     ensures never_falls { I.faults source.old ≤ I.faults source.new }
     ensures used_up { ahead.old ≡ [] → ahead.new ≡ [] }
     ensures rose { result ≡ Err LogFault.Source → Rose (I.faults source.old) (I.faults source.new) }
@@ -100,10 +102,11 @@ fn after_moment<I: Source>(
     passed: Progress,
     moment: Digits,
 ) -> Result<Option<Found>, LogFault>
-    requires count { passed.count < 1000000 }
+    requires count { passed.count < most_entries }
     requires number { passed.number < 2 ^ 32 - 1 }
-    requires moment { IsNumber 253402300799 moment }
-    ensures found { Finds passed (64 ∷ (decimal moment.value ++ 32 ∷ [])) (prepend_known ahead.old (I.left source.old)) (prepend_known ahead.new (I.left source.new)) result }
+    requires moment { IsNumber last_moment moment }
+    ensures found { Finds passed (64 ∷ (decimal moment.value ++ 32 ∷ []))
+        (prepend_known ahead.old (I.left source.old)) (prepend_known ahead.new (I.left source.new)) result }
     ensures never_falls { I.faults source.old ≤ I.faults source.new }
     ensures used_up { ahead.old ≡ [] → ahead.new ≡ [] }
     ensures rose { result ≡ Err LogFault.Source → Rose (I.faults source.old) (I.faults source.new) }
@@ -127,12 +130,13 @@ fn after_header<I: Source>(
     moment: Digits,
     length: Digits,
 ) -> Result<Option<Found>, LogFault>
-    requires count { passed.count < 1000000 }
+    requires count { passed.count < most_entries }
     requires number { passed.number < 2 ^ 32 - 1 }
-    requires moment { IsNumber 253402300799 moment }
-    requires length { IsNumber 131072 length }
+    requires moment { IsNumber last_moment moment }
+    requires length { IsNumber most_message_length length }
     requires forward { passed.moment ≤ moment.value }
-    ensures found { Finds passed (headed moment.value length.value []) (prepend_known ahead.old (I.left source.old)) (prepend_known ahead.new (I.left source.new)) result }
+    ensures found { Finds passed (headed moment.value length.value [])
+        (prepend_known ahead.old (I.left source.old)) (prepend_known ahead.new (I.left source.new)) result }
     ensures never_falls { I.faults source.old ≤ I.faults source.new }
     ensures used_up { ahead.old ≡ [] → ahead.new ≡ [] }
     ensures rose { result ≡ Err LogFault.Source → Rose (I.faults source.old) (I.faults source.new) }

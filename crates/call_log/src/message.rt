@@ -15,7 +15,8 @@ pub(crate) fn next_message<I: Source>(
     source: &mut I,
     length: usize,
 ) -> Result<Option<Vec<u8>>, ReadFault>
-    ensures message { MessageFrom length (prepend_known ahead.old (I.left source.old)) (prepend_known ahead.new (I.left source.new)) result }
+    ensures message { MessageFrom length
+        (prepend_known ahead.old (I.left source.old)) (prepend_known ahead.new (I.left source.new)) result }
     ensures never_falls { I.faults source.old ≤ I.faults source.new }
     ensures used_up { ahead.old ≡ [] → ahead.new ≡ [] }
     ensures rose { result ≡ Err ReadFault.Source → Rose (I.faults source.old) (I.faults source.new) }

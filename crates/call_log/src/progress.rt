@@ -1,5 +1,5 @@
 ghost use Rattle.std.specs.Prelude.{◌≡◌, ◌+◌, ◌*◌, ◌<◌, ◌≤◌, length};
-ghost use Rattle.call_log.specs.Entry.{entry_text};
+ghost use Rattle.call_log.specs.Entry.{entry_text, most_entries};
 ghost use Rattle.call_log.specs.Log.{after};
 
 use crate::call::Call;
@@ -28,7 +28,7 @@ impl Model for Progress {
 impl Progress {
     /// One more entry was read, of so many bytes.
     pub(crate) fn after(self, call: &Call, size: u64) -> Progress
-        requires count { self.count < 1000000 }
+        requires count { self.count < most_entries }
         requires place { self.place ≤ 131093 * self.count }
         requires short { size ≤ 131093 }
         requires size { size ≡ length (entry_text call.now) }

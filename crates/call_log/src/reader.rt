@@ -20,14 +20,13 @@ pub struct LogReader {
 }
 
 impl Model for LogReader {
-    ghost use Rattle.std.specs.Prelude.{◌≡◌, ◌+◌, ◌*◌, ◌≤◌, []};
-    ghost use Rattle.call_log.specs.Reads.{LogState};
+    ghost use Rattle.call_log.specs.Reads.{Bounded, LogState};
 
     ghost Value = { LogState };
 
     ghost view = { λ r. record { passed = r.passed; ahead = r.ahead; fault = r.fault } };
 
-    ghost invariant = { λ r. (r.passed.count ≤ 1000000) × (r.passed.number ≤ 4000000000 + r.passed.count) × (r.passed.place ≤ 131093 * r.passed.count) × (r.ahead ≡ []) };
+    ghost invariant = { λ r. Bounded r.passed r.ahead };
 }
 
 impl LogReader {
@@ -63,14 +62,17 @@ impl LogReader {
         ensures again { IfSome self.old.fault (λ fault. (result ≡ Err fault) × (self.new ≡ self.old) × (source.new ≡ source.old)) }
 
         // What was taken, whether the source tells it or not, and what of all that is left, where it does.
-        ensures reads { IfNone self.old.fault (Reads self.old.passed (left_to self.old (I.left source.old)) (left_to self.new (I.left source.new)) result) }
-        ensures hands_out { IfNone self.old.fault (HandsOutOf self.old.passed (left_to self.old (I.left source.old)) (left_to self.new (I.left source.new)) result) }
+        ensures reads { IfNone self.old.fault (Reads self.old.passed
+            (left_to self.old (I.left source.old)) (left_to self.new (I.left source.new)) result) }
+        ensures hands_out { IfNone self.old.fault (HandsOutOf self.old.passed
+            (left_to self.old (I.left source.old)) (left_to self.new (I.left source.new)) result) }
         ensures moves { IfNone self.old.fault (Moves self.old.passed self.new result) }
         ensures none_ahead { self.new.ahead ≡ [] }
         ensures bounded { self.new.passed.count ≤ most_entries }
 
         // The source failed in this call, or in that which first said so.
-        ensures rose { IfNone self.old.fault (result ≡ Err LogFault.Source → Rose (I.faults source.old) (I.faults source.new)) }
+        ensures rose { IfNone self.old.fault (result ≡ Err LogFault.Source
+            → Rose (I.faults source.old) (I.faults source.new)) }
         ensures never_falls { I.faults source.old ≤ I.faults source.new }
 
         // Bytes are one log, and no longer one.
@@ -84,11 +86,13 @@ impl LogReader {
     #[tactic(auto, using(crate::proofs::LogLaws::reads))]
     fn next_exactly<I: Source>(&mut self, source: &mut I) -> Result<Option<Call>, LogFault>
         ensures again { IfSome self.old.fault (λ fault. (result ≡ Err fault) × (self.new ≡ self.old) × (source.new ≡ source.old)) }
-        ensures reads { IfNone self.old.fault (Reads self.old.passed (left_to self.old (I.left source.old)) (left_to self.new (I.left source.new)) result) }
+        ensures reads { IfNone self.old.fault (Reads self.old.passed
+            (left_to self.old (I.left source.old)) (left_to self.new (I.left source.new)) result) }
         ensures moves { IfNone self.old.fault (Moves self.old.passed self.new result) }
         ensures none_ahead { self.new.ahead ≡ [] }
         ensures bounded { self.new.passed.count ≤ most_entries }
-        ensures rose { IfNone self.old.fault (result ≡ Err LogFault.Source → Rose (I.faults source.old) (I.faults source.new)) }
+        ensures rose { IfNone self.old.fault (result ≡ Err LogFault.Source
+            → Rose (I.faults source.old) (I.faults source.new)) }
         ensures never_falls { I.faults source.old ≤ I.faults source.new }
     {
         if let Some(fault) = self.fault {

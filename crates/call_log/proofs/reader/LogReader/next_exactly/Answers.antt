@@ -10,5 +10,5 @@ after-self-inside-requires-clause-short g c =
 pub invariant_of-self : goal.invariant_of-self
 invariant_of-self g c =
     let found = rw c.in-Ok-Some.field-0-is at c.in-Ok-Some.ensures.found in
-    let b = bounds _ _ _ _ c.after-self-inside.ensures found.next c.found.view_is c.self.invariant.1 c.self.invariant.2 in
-    (b.0, b.1, b.2, c.next_entry.ensures.used_up c.self.invariant.3)
+    let b = bounds _ _ _ _ c.after-self-inside.ensures found.next c.found.view_is c.self.invariant.number c.self.invariant.place in
+    record { count = b.0; number = b.1; place = b.2; none_ahead = c.next_entry.ensures.used_up c.self.invariant.none_ahead }
