@@ -7,3 +7,4 @@ pub mod ParamLaw
 pub mod FieldLaw
 pub mod Rows
 pub mod Written
+pub mod LineLaws

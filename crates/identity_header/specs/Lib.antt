@@ -4,3 +4,4 @@ pub mod Spelling
 pub mod Reading
 pub mod Views
 pub mod Read
+pub mod OneLine

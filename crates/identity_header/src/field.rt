@@ -4,6 +4,7 @@ ghost use Rattle.text_grammar.specs.Grammar.{Any, Run};
 ghost use Rattle.identity_header.specs.Parts.{Parts, InRows, parts, is_digest_byte, is_quoted_byte};
 ghost use Rattle.text_grammar.specs.Bytes.{is_uri_byte};
 ghost use Rattle.identity_header.specs.FieldText.{FieldText, FieldPlace};
+ghost use Rattle.identity_header.specs.OneLine.{IsOneLine};
 ghost use Rattle.identity_header.specs.Spelling.{spelling, param_text};
 
 use crate::Memory;
@@ -115,6 +116,9 @@ impl<'a> Field<'a> {
 
         // So what reads it again finds this field.
         ensures read_again { IfOk result (λ text. read text.items ≡ Ok self.now) }
+
+        // It can stand in a line of a message, whose blanks at both ends are no part of a value.
+        ensures one_line { IfOk result (λ text. IsOneLine text.items) }
     {
         spell(alloc, self.token, self.info, self.alg, self.ppt)
     }
