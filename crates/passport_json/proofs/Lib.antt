@@ -6,5 +6,6 @@ pub mod OrderLaws
 pub mod PartLaws
 pub mod PlainLaws
 pub mod SignedLaws
+pub mod SpelledLaws
 pub mod TokenLaws
 pub mod UriLaws

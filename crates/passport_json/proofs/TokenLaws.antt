@@ -75,7 +75,7 @@ empty_is_no_object : (value : Data) → IsObjectText [] value → ⊥
 unfolding serde_json_on_literals
 empty_is_no_object value t = let e : read [] ≡ None = refl in let some = t.read_as in absurd cc
 
-not_empty : (text bytes : List ℕ) (value : Data) → IsBase64 text bytes → IsObjectText bytes value → text ≢ []
+pub not_empty : (text bytes : List ℕ) (value : Data) → IsBase64 text bytes → IsObjectText bytes value → text ≢ []
 not_empty text bytes value is t empty =
     let none : bytes ≡ [] = no_bytes bytes (sym empty ∙ is.encoded) in
     let P : List ℕ → Type 0 = λ b. IsObjectText b value in

@@ -11,6 +11,7 @@ pub mod Reading
 pub mod Seen
 pub mod Signed
 pub mod Signing
+pub mod Spelled
 pub mod Token
 pub mod Uri
 pub mod View

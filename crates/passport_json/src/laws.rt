@@ -1,8 +1,16 @@
 //! Laws: a function here does nothing, and its clause is the law.
-ghost use Rattle.std.specs.Prelude.{◌≡◌, ℕ, ◌↔◌, List, Ok, IsTrue};
-ghost use Rattle.base64.specs.GeneralPurpose.{IsBytes};
-ghost use Rattle.passport_json.specs.Compact.{CallView};
-ghost use Rattle.passport_json.specs.Token.{TokenText, read_token};
+ghost use Rattle.std.specs.List.{list_all};
+ghost use Rattle.std.specs.Prelude.{◌≡◌, ◌+◌, ◌*◌, ◌/◌, ℕ, ◌↔◌, true, List, length, Ok, Some, IsTrue};
+ghost use Rattle.base64.specs.Engines.{url_safe_no_pad};
+ghost use Rattle.base64.specs.GeneralPurpose.{IsBytes, encode_of};
+ghost use Rattle.serde_json.specs.Data.{Data};
+ghost use Rattle.stir_base.specs.Cut.{lacks};
+ghost use Rattle.passport_json.specs.Compact.{CallView, CompactText, base_of, rebuilt};
+ghost use Rattle.passport_json.specs.Parts.{dot};
+ghost use Rattle.passport_json.specs.Passport.{PassportView};
+ghost use Rattle.passport_json.specs.Signing.{Signing};
+ghost use Rattle.passport_json.specs.Spelled.{IsSignature, IsSpelled, compact_text, full_text, full_token, is_symbol};
+ghost use Rattle.passport_json.specs.Token.{FullText, TokenText, read_token};
 ghost use Rattle.passport_json.specs.Uri.{is_uri};
 ghost use Rattle.passport_json.specs.View.{TokenView};
 ghost use Rattle.text_grammar.specs.Bytes.{is_uri_byte};
@@ -22,4 +30,25 @@ pub fn token_found_law()
 /// a certificate, and nothing else can.
 pub fn uri_law()
     ensures { (text : List ℕ) → Run is_uri_byte 2048 text ↔ IsTrue (is_uri text) }
+{}
+
+/// Header, payload and signature written as a full token hold these (RFC 7515, section 7.1), whatever the signature.
+pub fn full_text_law()
+    ensures { (header_text payload_text signature : List ℕ) (header payload : Data) → IsSpelled header_text header → IsSpelled payload_text payload
+        → IsSignature signature
+        → FullText (full_text (Signing header_text payload_text) signature) (full_token header payload header_text payload_text signature) }
+{}
+
+/// A signature written as a compact token (RFC 8225, section 7) is that of the PASSporT that the call gives.
+pub fn compact_text_law()
+    ensures { (signature : List ℕ) (call : CallView) (passport : PassportView) → IsSignature signature → base_of call ≡ Some passport
+        → CompactText (compact_text signature) call (rebuilt passport signature) }
+{}
+
+/// The base64url text of bytes (RFC 4648, section 5, without padding): its symbols are letters, digits, `-` and `_`, so that no
+/// dot is among them, four for each three bytes.
+pub fn base64_law()
+    ensures symbols { (bytes : List ℕ) → IsBytes bytes → list_all is_symbol (encode_of url_safe_no_pad bytes) ≡ true }
+    ensures dots { (bytes : List ℕ) → lacks dot (encode_of url_safe_no_pad bytes) ≡ true }
+    ensures size { (bytes : List ℕ) → length (encode_of url_safe_no_pad bytes) ≡ (4 * length bytes + 2) / 3 }
 {}
