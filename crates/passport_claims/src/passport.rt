@@ -176,7 +176,6 @@ fn claims_of(
 }
 
 // The URI as text, where it is one: it is ASCII.
-#[tactic(auto, using(passport_json::proofs::UriLaws::uri_utf8))]
 fn uri_text(uri: &[u8]) -> Option<&str>
     ensures { option_copied result ≡ (if is_uri uri.now then Some uri.now else None) }
 {

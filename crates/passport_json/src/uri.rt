@@ -1,5 +1,5 @@
 //! The URI of a certificate.
-ghost use Rattle.std.specs.Prelude.{◌≡◌, IsTrue};
+ghost use Rattle.std.specs.Prelude.{◌≡◌, IsTrue, IsUtf8};
 ghost use Rattle.std.specs.List.{list_all};
 ghost use Rattle.passport_json.specs.Uri.{is_uri};
 ghost use Rattle.text_grammar.specs.Bytes.{is_uri_byte};
@@ -9,9 +9,10 @@ use text_grammar::is_uri_byte;
 
 /// Whether a text can be the URI of a certificate in an Identity header field's `info` (RFC 8224, section 4): 1 to
 /// 2,048 visible ASCII bytes without `"`, `<`, `>` and backslash.
-#[tactic(auto, unfolding(crate::specs::Uri::is_uri))]
+#[tactic(auto, using(crate::proofs::UriLaws::uri_utf8), unfolding(crate::specs::Uri::is_uri))]
 pub fn is_uri(text: &[u8]) -> bool
-    ensures { result ≡ is_uri text.now }
+    ensures value { result ≡ is_uri text.now }
+    ensures utf8 { IsTrue (is_uri text.now) → IsUtf8 text.now }
 {
     match text.len() {
         1..=2048 => are_uri_bytes(text),
