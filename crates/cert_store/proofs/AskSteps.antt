@@ -6,7 +6,7 @@ use Rattle.std.proofs.lemmas.List.Sums.{count_by_more_no, count_by_more_yes}
 use Rattle.stir_base.specs.Count.{last_count, one_more}
 use Rattle.x509_profile.specs.View.{CertView}
 use Rattle.cert_store.specs.declared.judged.Asked.{Asked}
-use Rattle.cert_store.specs.declared.judged.Asked.TheVariants.{NotAsked, Yes, No, Failed}
+use Rattle.cert_store.specs.declared.judged.Asked.TheVariants.{NotAsked, No, Failed}
 use Rattle.cert_store.specs.Asking.{Answers, IsOpen, IsQuestion, Keys, RoseBy, asked_by, first_refused, questions}
 use Rattle.cert_store.specs.Judged.{HasAsked, JudgedView}
 use Rattle.cert_store.specs.Rules.{Says}

@@ -11,7 +11,7 @@ use Rattle.cert_store.specs.declared.judged.Asked.{Asked}
 use Rattle.cert_store.specs.declared.judged.Asked.TheVariants.{NotAsked}
 use Rattle.cert_store.specs.declared.judged.Period.{Period}
 use Rattle.cert_store.specs.Asking.{Keys, first_refused}
-use Rattle.cert_store.specs.Judged.{Holds, IsJudged, JudgedView, asked_where, judged_chain, judged_of, judged_shape, outside_profile, view_of}
+use Rattle.cert_store.specs.Judged.{IsConsistent, IsJudged, JudgedView, asked_where, judged_chain, judged_of, judged_shape, outside_profile, view_of}
 use Rattle.cert_store.specs.Links.{Link, by_number, first_or, links_below, links_from, links_up_to, path_up_to, read_file}
 use Rattle.cert_store.specs.Rules.{Says, fault_place, first_unauthorized, first_unsigned, keys_of, periods_from}
 use Rattle.cert_store.proofs.RuleSteps.{leaf_listed}
@@ -117,7 +117,7 @@ long_judged anchors table says bytes faults judged long = refused_by anchors tab
 
 pub path_holds : (table : Table) (chain : List CertView) (top leaf : CertView) (authority : Option ℕ) (asked : Asked) (periods : List Period) (keys : Keys)
     → slice_get chain 0 ≡ Some leaf → length keys ≡ length chain → authority ≡ first_unauthorized table (links_from 1 chain top) → (asked ≢ NotAsked → authority ≡ None)
-    → Holds (view_of None None authority asked chain periods keys)
+    → IsConsistent (view_of None None authority asked chain periods keys)
 path_holds table chain top leaf authority asked periods keys is count found only = record {
   leaf = λ path. ap is_some is;
   keys = λ path. count;

@@ -18,7 +18,7 @@ use Rattle.cert_store.specs.Asking.{FailedWithCause, SoFar, asked_by}
 use Rattle.cert_store.specs.Judged.{IsJudged, JudgedAs, JudgedView, QuietIs, asked_where, judged_of, out_of_date}
 use Rattle.cert_store.specs.Links.{by_number, chain_in, first_or, links_from, links_of, path_of, path_up_to, read_file, read_or_nothing}
 use Rattle.cert_store.specs.Rules.{Says, fault_place, first_out, first_unauthorized, first_unsigned, key_under, keys_of, periods_from, place_in, refused_place, rule_11, rule_12, rule_14, rule_15}
-use Rattle.cert_store.specs.Words.{AuthorityIs, DatesAre, HasKeys, IsAuthorized, IsFirstBroken, IsNumbered, IsSigned, IsValid, KeysAre, PathIs, PathOf, ProfileIs, ProfileOf, SignaturesAre, SignedAs, UnaskedIs}
+use Rattle.cert_store.specs.Words.{AuthorityIs, DatesAre, IsAuthorized, IsFirstBroken, IsNumbered, IsSigned, IsValid, KeysAre, PathIs, PathOf, ProfileIs, ProfileOf, SignaturesAre, SignedAs, UnaskedIs}
 use Rattle.cert_store.proofs.PathFacts.{some_certificate}
 use Rattle.cert_store.proofs.WalkLaws.{inside}
 use Rattle.cert_store.proofs.WordLaws.{authority_worded, dates_worded, signatures_worded, the_issuer}

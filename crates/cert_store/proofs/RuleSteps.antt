@@ -4,7 +4,7 @@ use Rattle.std.specs.List.{slice_get}
 use Rattle.x509_profile.specs.View.{CertView}
 use Rattle.delegation.specs.Coverage.{Table}
 use Rattle.delegation.specs.Decided.{is_within}
-use Rattle.cert_store.specs.Links.{first_or, link, links_from}
+use Rattle.cert_store.specs.Links.{first_or, links_from}
 use Rattle.cert_store.specs.Rules.{first_outside, first_unauthorized, key_under, keys_of}
 use Rattle.cert_store.specs.Asking.{Keys}
 use Rattle.cert_store.proofs.WalkLaws.{inside}

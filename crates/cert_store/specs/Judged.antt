@@ -144,7 +144,7 @@ pub record HasAuthority (judged : JudgedView) : Type 0 where
 
 -- A path has a leaf, and for each certificate the key of its issuer or none; what is no path has no keys. With authority, the leaf has
 -- an authority list. Signatures were asked for only with authority.
-pub record Holds (judged : JudgedView) : Type 0 where
+pub record IsConsistent (judged : JudgedView) : Type 0 where
   pub leaf : IsPath judged → IsSome (slice_get judged.certificates 0)
   pub keys : IsPath judged → length judged.keys ≡ length judged.certificates
   pub no_keys : (IsPath judged → ⊥) → judged.keys ≡ []

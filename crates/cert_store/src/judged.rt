@@ -3,7 +3,7 @@ ghost use Rattle.std.specs.Prelude.{◌≡◌, ◌&&◌, ℕ, pos, int_le, lengt
 ghost use Rattle.std.specs.List.{slice_get};
 ghost use Rattle.std.specs.Option.{option_copied};
 ghost use Rattle.cert_store.specs.Rules.{first_out, is_in_date};
-ghost use Rattle.cert_store.specs.Judged.{Holds, out_of_date};
+ghost use Rattle.cert_store.specs.Judged.{IsConsistent, out_of_date};
 
 use crate::path::Key;
 use std::marker::Model;
@@ -64,13 +64,13 @@ pub struct Judged {
 }
 
 impl Model for Judged {
-    ghost use Rattle.cert_store.specs.Judged.{Holds, JudgedView, view_of};
+    ghost use Rattle.cert_store.specs.Judged.{IsConsistent, JudgedView, view_of};
 
     ghost Value = { JudgedView };
 
     ghost view = { λ j. view_of j.profile j.shape j.authority j.asked j.certificates.items j.periods.items j.keys.items };
 
-    ghost invariant = { λ j. Holds (view_of j.profile j.shape j.authority j.asked j.certificates.items j.periods.items j.keys.items) };
+    ghost invariant = { λ j. IsConsistent (view_of j.profile j.shape j.authority j.asked j.certificates.items j.periods.items j.keys.items) };
 }
 
 impl Judged {
@@ -102,7 +102,7 @@ impl Judged {
     /// and 14 hold.
     pub fn asked(&self) -> Asked
         ensures exact { result ≡ self.now.asked }
-        ensures holds { Holds self.now }
+        ensures consistent { IsConsistent self.now }
     {
         self.asked
     }
@@ -119,7 +119,7 @@ impl Judged {
     /// authority list.
     pub fn leaf(&self) -> Option<&Certificate>
         ensures exact { option_copied result ≡ slice_get self.now.certificates 0 }
-        ensures holds { Holds self.now }
+        ensures consistent { IsConsistent self.now }
     {
         self.certificates.first()
     }

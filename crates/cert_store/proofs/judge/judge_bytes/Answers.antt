@@ -1,5 +1,5 @@
 -- What is said of bytes is what is said of what is read from them.
-use Rattle.std.proofs.Common.{◌≡◌, ◌<◌, ◌≤◌, length, Ok, IfOk, subst, arith}
+use Rattle.std.proofs.Common.{◌≡◌, Ok, IfOk, subst, arith}
 use Rattle.std.proofs.lemmas.Bool.Decides.{nat_tests}
 use Rattle.x509_profile.specs.Chain.{certificates_in, refused_at}
 use Rattle.cert_store.specs.Judged.{IsJudged, JudgedView}
