@@ -2,7 +2,7 @@
 
 use crate::table::Unread;
 use std::alloc::Global;
-use std::fmt::Display;
+use std::fmt::{Debug, Display};
 
 /// The words of a line, put one behind the other.
 #[derive(Drop)]
@@ -81,6 +81,26 @@ pub fn or_none<D: Display + Drop>(alloc: Global, found: Option<D>) -> Result<Str
 pub fn fault<D: Display + Drop>(alloc: Global, kind: u8, place: D) -> Result<String, Unread> {
     let answer = Answer::new(alloc).word("fault")?;
     Ok(answer.word(kind)?.word(place)?.line())
+}
+
+/// `ok` and a word.
+pub fn ok<D: Display + Drop>(alloc: Global, found: D) -> Result<String, Unread> {
+    Ok(Answer::new(alloc).word("ok")?.word(found)?.line())
+}
+
+/// `line` and its number.
+pub fn line(alloc: Global, number: u32) -> Result<String, Unread> {
+    Ok(Answer::new(alloc).word("line")?.word(number)?.line())
+}
+
+/// A value as it is printed: plainly, at the right of fifteen places, and for a programmer.
+pub fn shown<D: Display + Debug>(alloc: Global, value: &D) -> Result<String, Unread> {
+    let plain = format!(in alloc; "{value}")?;
+    let padded = format!(in alloc; "{value:>15}")?;
+    let debug = format!(in alloc; "{value:?}")?;
+    let answer = Answer::new(alloc).text(plain.as_bytes())?;
+    let answer = answer.text(padded.as_bytes())?;
+    Ok(answer.text(debug.as_bytes())?.line())
 }
 
 /// Puts a byte behind a text, escaped as the table's plain texts are where it isn't printable.

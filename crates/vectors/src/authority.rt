@@ -1,7 +1,7 @@
 //! Authority lists and code tables: the calls of `tn_auth_list`.
 
-use crate::answer::{Answer, fault, or_none, word};
-use crate::numbers::{number_of, ordering, span_of};
+use crate::answer::{Answer, fault, line, or_none, shown, word};
+use crate::numbers::{number_of, ordering, put_span, span_of};
 use crate::table::{Unread, number, text};
 use std::alloc::Global;
 use tn_auth_list::{AuthList, Code, CodeTable, Entry, Grant, ListFault, TableFault};
@@ -10,26 +10,18 @@ use tn_auth_list::{AuthList, Code, CodeTable, Entry, Grant, ListFault, TableFaul
 pub fn answer(alloc: Global, call: &str, words: &[Vec<u8>]) -> Result<String, Unread> {
     match (call, words) {
         ("code", [text]) => or_none(alloc, Code::new(text.as_slice())),
-        ("compare_codes", [left, right]) => {
-            let right = code_of(right.as_slice())?;
-            word(alloc, ordering(code_of(left.as_slice())?.cmp(&right)))
-        }
-        ("show_code", [code]) => show_code(alloc, &code_of(code.as_slice())?),
+        ("compare_codes", [left, right]) => compared(alloc, left.as_slice(), right.as_slice()),
+        ("show_code", [code]) => shown(alloc, &code_of(code.as_slice())?),
         ("read", [bytes]) => read(alloc, bytes.as_slice()),
-        ("count", [bytes]) => {
-            let list = AuthList::read(alloc, bytes.as_slice()).ok();
-            or_none(alloc, list.map(|list| list.entries().len()))
-        }
+        ("count", [bytes]) => count(alloc, AuthList::read(alloc, bytes.as_slice()).ok()),
         ("write", [bytes]) => write(alloc, bytes.as_slice()),
         ("build", [entries]) => {
-            let list = AuthList::build(entries_of(alloc, entries.as_slice())?);
-            or_none(alloc, list.map(|list| list.entries().len()))
+            count(
+                alloc,
+                AuthList::build(entries_of(alloc, entries.as_slice())?),
+            )
         }
-        ("fault", [kind, place]) => {
-            let kind = number(kind.as_slice())?;
-            let place = number(place.as_slice())?;
-            word(alloc, ListFault::At { kind, place })
-        }
+        ("fault", [kind, place]) => says(alloc, kind.as_slice(), place.as_slice()),
         _ => table_answer(alloc, call, words),
     }
 }
@@ -38,32 +30,44 @@ pub fn answer(alloc: Global, call: &str, words: &[Vec<u8>]) -> Result<String, Un
 fn table_answer(alloc: Global, call: &str, words: &[Vec<u8>]) -> Result<String, Unread> {
     match (call, words) {
         ("table", [text]) => table(alloc, text.as_slice()),
-        ("table_fault", [line]) => {
-            let line = number(line.as_slice())?;
-            word(alloc, TableFault::Line { line })
-        }
+        ("table_fault", [line]) => table_says(alloc, line.as_slice()),
         ("grant", [text, code, digits]) => {
             let table = table_of(alloc, text.as_slice())?;
-            let code = code_of(code.as_slice())?;
-            grant(alloc, table.numbers(&code), digits.as_slice())
+            granted(alloc, &table, code.as_slice(), digits.as_slice())
         }
         _ => Err(Unread::Call),
     }
 }
 
+/// What a fault of a code table says.
+fn table_says(alloc: Global, line: &[u8]) -> Result<String, Unread> {
+    let line = number(line)?;
+    word(alloc, TableFault::Line { line })
+}
+
+/// What a fault of a list says.
+fn says(alloc: Global, kind: &[u8], place: &[u8]) -> Result<String, Unread> {
+    let kind = number(kind)?;
+    let place = number(place)?;
+    word(alloc, ListFault::At { kind, place })
+}
+
+/// How many entries a list has, or `none`.
+fn count(alloc: Global, list: Option<AuthList>) -> Result<String, Unread> {
+    match list {
+        Some(list) => word(alloc, list.entries().len()),
+        None => word(alloc, "none"),
+    }
+}
+
+/// How one code stands to another.
+fn compared(alloc: Global, left: &[u8], right: &[u8]) -> Result<String, Unread> {
+    word(alloc, ordering(code_of(left)?.cmp(&code_of(right)?)))
+}
+
 /// The code that a word is.
 fn code_of(text: &[u8]) -> Result<Code, Unread> {
     Code::new(text).ok_or(Unread::Value)
-}
-
-/// The code as it is printed: plainly, at the right of six places, and for a programmer.
-fn show_code(alloc: Global, code: &Code) -> Result<String, Unread> {
-    let plain = format!(in alloc; "{code}")?;
-    let padded = format!(in alloc; "{code:>6}")?;
-    let debug = format!(in alloc; "{code:?}")?;
-    let answer = Answer::new(alloc).text(plain.as_bytes())?;
-    let answer = answer.text(padded.as_bytes())?;
-    Ok(answer.text(debug.as_bytes())?.line())
 }
 
 /// The entries of a list in DER, or the fault.
@@ -88,7 +92,7 @@ pub fn put_entries(answer: Answer, list: &AuthList) -> Result<Answer, Unread> {
 fn put_entry(answer: Answer, entry: &Entry) -> Result<Answer, Unread> {
     match entry {
         Entry::Code(code) => answer.word("code")?.word(*code),
-        Entry::Range(span) => answer.word("range")?.word(span.start())?.word(span.size()),
+        Entry::Range(span) => put_span(answer.word("range")?, span),
         Entry::Single(number) => answer.word("single")?.word(*number),
     }
 }
@@ -110,10 +114,18 @@ pub fn list_of(alloc: Global, words: &[u8]) -> Result<AuthList, Unread> {
 /// Entries as those of [`list_of`].
 fn entries_of(alloc: Global, words: &[u8]) -> Result<Vec<Entry>, Unread> {
     let mut entries = Vec::new(alloc);
-    for word in text(words)?.split(',').filter(|word| !word.is_empty()) {
-        entries.push(entry_of(word)?)?;
+    for word in text(words)?.split(',') {
+        put_entry_of(word, &mut entries)?;
     }
     Ok(entries)
+}
+
+/// Puts the entry that a word is behind others; an empty word is none.
+fn put_entry_of(word: &str, entries: &mut Vec<Entry>) -> Result<(), Unread> {
+    if !word.is_empty() {
+        entries.push(entry_of(word)?)?;
+    }
+    Ok(())
 }
 
 /// The entry that a word is.
@@ -134,7 +146,7 @@ fn table(alloc: Global, text: &[u8]) -> Result<String, Unread> {
     }
     match CodeTable::read(alloc, text) {
         Ok(_) => word(alloc, "ok"),
-        Err(TableFault::Line { line }) => Ok(format!(in alloc; "line {line}")?),
+        Err(TableFault::Line { line: bad }) => line(alloc, bad),
         Err(TableFault::Memory) => Err(Unread::Memory),
     }
 }
@@ -151,9 +163,9 @@ pub fn table_of(alloc: Global, text: &[u8]) -> Result<CodeTable, Unread> {
     }
 }
 
-/// What is granted: `nothing`, `all`, or whether this number is among those.
-fn grant(alloc: Global, granted: Grant<'_>, digits: &[u8]) -> Result<String, Unread> {
-    match granted {
+/// What a table grants a code: `nothing`, `all`, or whether a number is among those that it grants.
+fn granted(alloc: Global, table: &CodeTable, code: &[u8], digits: &[u8]) -> Result<String, Unread> {
+    match table.numbers(&code_of(code)?) {
         Grant::Nothing => word(alloc, "nothing"),
         Grant::All => word(alloc, "all"),
         Grant::These(set) => word(alloc, set.has(&number_of(digits)?)),

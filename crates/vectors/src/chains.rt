@@ -1,6 +1,6 @@
 //! Chain maps and the rules on a chain: the calls of `cert_store`.
 
-use crate::answer::{Answer, or_none, word};
+use crate::answer::{Answer, line, or_none, word};
 use crate::authority::table_of;
 use crate::paths::anchors_of;
 use crate::table::{Unread, number, text};
@@ -17,10 +17,7 @@ pub fn answer(alloc: Global, call: &str, words: &[Vec<u8>]) -> Result<String, Un
             let map = map_of(alloc, text.as_slice())?;
             or_none(alloc, map.file(x5u.as_slice()))
         }
-        ("map_fault", [line]) => {
-            let line = number(line.as_slice())?;
-            word(alloc, MapFault::Line { line })
-        }
+        ("map_fault", [line]) => map_says(alloc, line.as_slice()),
         (_, [chain, anchors, table, answers, words @ ..]) => {
             let table = table_of(alloc, table.as_slice())?;
             let answers = answers_of(alloc, answers.as_slice())?;
@@ -34,6 +31,12 @@ pub fn answer(alloc: Global, call: &str, words: &[Vec<u8>]) -> Result<String, Un
         }
         _ => Err(Unread::Call),
     }
+}
+
+/// What a fault of a chain map says.
+fn map_says(alloc: Global, line: &[u8]) -> Result<String, Unread> {
+    let line = number(line)?;
+    word(alloc, MapFault::Line { line })
 }
 
 /// A chain and what it is judged by.
@@ -79,16 +82,26 @@ impl Case<'_> {
 
 /// Where rules 11, 12 and 14 are broken, `-` where they aren't; how the signatures were answered for; how often was asked.
 fn said(alloc: Global, judged: &Judged, asks: u64) -> Result<String, Unread> {
-    let answer = Answer::new(alloc).option(judged.profile())?;
-    let answer = answer.option(judged.shape())?;
-    let answer = answer.option(judged.authority())?;
-    let answer = match judged.asked() {
-        Asked::NotAsked => answer.word("unasked")?,
-        Asked::Yes => answer.word("yes")?,
-        Asked::No { part } => answer.word("no")?.word(part)?,
-        Asked::Failed { part } => answer.word("failed")?.word(part)?,
-    };
+    let places = [judged.profile(), judged.shape(), judged.authority()];
+    let answer = put_asked(put_places(alloc, places)?, judged.asked())?;
     Ok(answer.word(asks)?.line())
+}
+
+/// Three places, `-` where there is none.
+fn put_places(alloc: Global, places: [Option<u8>; 3]) -> Result<Answer, Unread> {
+    let [profile, shape, authority] = places;
+    let answer = Answer::new(alloc).option(profile)?.option(shape)?;
+    answer.option(authority)
+}
+
+/// Puts how the signatures were answered for behind other words.
+fn put_asked(answer: Answer, asked: Asked) -> Result<Answer, Unread> {
+    match asked {
+        Asked::NotAsked => answer.word("unasked"),
+        Asked::Yes => answer.word("yes"),
+        Asked::No { part } => answer.word("no")?.word(part),
+        Asked::Failed { part } => answer.word("failed")?.word(part),
+    }
 }
 
 /// The bytes of the leaf, or `none`.
@@ -102,10 +115,18 @@ fn leaf(alloc: Global, judged: &Judged) -> Result<String, Unread> {
 /// Numbers with commas between.
 fn numbers_of(alloc: Global, words: &[u8]) -> Result<Vec<u64>, Unread> {
     let mut numbers = Vec::new(alloc);
-    for word in text(words)?.split(',').filter(|word| !word.is_empty()) {
-        numbers.push(number(word.as_bytes())?)?;
+    for word in text(words)?.split(',') {
+        put_number(word, &mut numbers)?;
     }
     Ok(numbers)
+}
+
+/// Puts the number that a word is behind others; an empty word is none.
+fn put_number(word: &str, numbers: &mut Vec<u64>) -> Result<(), Unread> {
+    if !word.is_empty() {
+        numbers.push(number(word.as_bytes())?)?;
+    }
+    Ok(())
 }
 
 /// The answers that a text holds.
@@ -127,7 +148,7 @@ fn map(alloc: Global, text: &[u8]) -> Result<String, Unread> {
     }
     match ChainMap::read(alloc, text) {
         Ok(_) => word(alloc, "ok"),
-        Err(MapFault::Line { line }) => Ok(format!(in alloc; "line {line}")?),
+        Err(MapFault::Line { line: bad }) => line(alloc, bad),
         Err(MapFault::Memory) => Err(Unread::Memory),
     }
 }

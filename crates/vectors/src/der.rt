@@ -11,18 +11,9 @@ pub fn answer(alloc: Global, call: &str, words: &[Vec<u8>]) -> Result<String, Un
     match (call, words) {
         ("next", [bytes]) => next(alloc, bytes.as_slice()),
         ("put", [tag, content]) => put_answer(alloc, tag_of(tag.as_slice())?, content.as_slice()),
-        ("fault", [kind, place]) => {
-            let kind = number(kind.as_slice())?;
-            let place = number(place.as_slice())?;
-            word(alloc, DerFault { kind, place })
-        }
+        ("fault", [kind, place]) => says(alloc, kind.as_slice(), place.as_slice()),
         (_, [tag, content]) => {
-            let content = content.as_slice();
-            let element = Der {
-                tag: tag_of(tag.as_slice())?,
-                whole: content,
-                content,
-            };
+            let element = element_of(tag_of(tag.as_slice())?, content.as_slice());
             value(alloc, call, &element)
         }
         _ => Err(Unread::Call),
@@ -37,16 +28,35 @@ fn tag_of(word: &[u8]) -> Result<u8, Unread> {
     }
 }
 
-/// The first element's tag, its whole bytes, its content and what stands behind it, or the fault.
+/// An element with this tag and content.
+fn element_of(tag: u8, content: &[u8]) -> Der<'_> {
+    Der {
+        tag,
+        whole: content,
+        content,
+    }
+}
+
+/// What a fault says.
+fn says(alloc: Global, kind: &[u8], place: &[u8]) -> Result<String, Unread> {
+    let kind = number(kind)?;
+    let place = number(place)?;
+    word(alloc, DerFault { kind, place })
+}
+
+/// The first element and what stands behind it, or the fault.
 fn next(alloc: Global, bytes: &[u8]) -> Result<String, Unread> {
     match Der::next(bytes) {
-        Ok((element, rest)) => {
-            let answer = Answer::new(alloc).word("ok")?.hex(&[element.tag])?;
-            let answer = answer.hex(element.whole)?.hex(element.content)?;
-            Ok(answer.hex(rest)?.line())
-        }
+        Ok((element, rest)) => parts(alloc, &element, rest),
         Err(found) => fault(alloc, found.kind, found.place),
     }
+}
+
+/// The tag of an element, its whole bytes, its content, and what stands behind it.
+fn parts(alloc: Global, element: &Der<'_>, rest: &[u8]) -> Result<String, Unread> {
+    let answer = Answer::new(alloc).word("ok")?.hex(&[element.tag])?;
+    let answer = answer.hex(element.whole)?.hex(element.content)?;
+    Ok(answer.hex(rest)?.line())
 }
 
 /// What stands in front of the content in the element that is put, and how many bytes the content has.

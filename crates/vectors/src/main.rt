@@ -12,6 +12,7 @@ mod paths;
 mod table;
 mod text;
 
+use answer::Answer;
 use std::alloc::Global;
 use std::io;
 use std::process::ExitCode;
@@ -72,7 +73,7 @@ fn answered(alloc: Global, names: &mut Names, line: &str) -> Result<String, Unre
         Line::Comment => Ok(String::from_str(alloc, line)?),
         Line::Definition { name, words } => {
             names.define(alloc, name, words)?;
-            Ok(format!(in alloc; "{name} =")?)
+            Ok(Answer::new(alloc).word(name)?.word("=")?.line())
         }
         Line::Call {
             subject,

@@ -1,6 +1,6 @@
 //! Numbers, the local numbering, spans and sets: the calls of `tn_values`.
 
-use crate::answer::{Answer, or_none, word};
+use crate::answer::{Answer, or_none, shown, word};
 use crate::table::{Unread, number, text};
 use std::alloc::Global;
 use std::cmp::Ordering;
@@ -11,17 +11,11 @@ pub fn answer(alloc: Global, call: &str, words: &[Vec<u8>]) -> Result<String, Un
     match (call, words) {
         ("exact", [digits]) => or_none(alloc, Number::exact(digits.as_slice())),
         ("compare", [left, right]) => compared(alloc, left.as_slice(), right.as_slice()),
-        ("show", [digits]) => shown(alloc, digits.as_slice()),
+        ("show", [digits]) => shown(alloc, &number_of(digits.as_slice())?),
         ("span", [start, size]) => span(alloc, start.as_slice(), size.as_slice()),
         ("set", [words]) => set(alloc, words.as_slice()),
-        ("has", [words, digits]) => {
-            let set = set_of(alloc, words.as_slice())?;
-            word(alloc, set.has(&number_of(digits.as_slice())?))
-        }
-        ("within", [child, parent]) => {
-            let parent = set_of(alloc, parent.as_slice())?;
-            word(alloc, set_of(alloc, child.as_slice())?.within(&parent))
-        }
+        ("has", [words, digits]) => has(alloc, words.as_slice(), digits.as_slice()),
+        ("within", [child, parent]) => within(alloc, child.as_slice(), parent.as_slice()),
         ("local", [country, national]) => local(alloc, country.as_slice(), national.as_slice()),
         (_, [country, national, words @ ..]) => {
             let local = local_of(country.as_slice(), national.as_slice())?;
@@ -41,8 +35,7 @@ fn local_answer(
     match (call, words) {
         ("read", [text]) => or_none(alloc, Number::read(text.as_slice(), local)),
         ("is_read_from", [digits, text]) => {
-            let number = number_of(digits.as_slice())?;
-            word(alloc, number.is_read_from(text.as_slice(), local))
+            is_read_from(alloc, digits.as_slice(), text.as_slice(), local)
         }
         ("are_read_alike", [left, right]) => word(
             alloc,
@@ -50,6 +43,16 @@ fn local_answer(
         ),
         _ => Err(Unread::Call),
     }
+}
+
+/// Whether a number is read from a text.
+fn is_read_from(
+    alloc: Global,
+    digits: &[u8],
+    text: &[u8],
+    local: &Local,
+) -> Result<String, Unread> {
+    word(alloc, number_of(digits)?.is_read_from(text, local))
 }
 
 /// The number that a word is.
@@ -64,9 +67,14 @@ pub fn local_of(country: &[u8], national: &[u8]) -> Result<Local, Unread> {
 
 /// The country and the national length of a local numbering, or `none`.
 fn local(alloc: Global, country: &[u8], national: &[u8]) -> Result<String, Unread> {
-    let Some(local) = Local::new(country, number(national)?) else {
-        return word(alloc, "none");
-    };
+    match Local::new(country, number(national)?) {
+        Some(local) => local_words(alloc, &local),
+        None => word(alloc, "none"),
+    }
+}
+
+/// The country and the national length of a local numbering.
+fn local_words(alloc: Global, local: &Local) -> Result<String, Unread> {
     let answer = Answer::new(alloc).word(local.country())?;
     Ok(answer.word(local.national())?.line())
 }
@@ -85,24 +93,17 @@ pub fn ordering(order: Ordering) -> &'static str {
     }
 }
 
-/// The number as it is printed: plainly, at the right of fifteen places, and for a programmer.
-fn shown(alloc: Global, digits: &[u8]) -> Result<String, Unread> {
-    let number = number_of(digits)?;
-    let plain = format!(in alloc; "{number}")?;
-    let padded = format!(in alloc; "{number:>15}")?;
-    let debug = format!(in alloc; "{number:?}")?;
-    let answer = Answer::new(alloc).text(plain.as_bytes())?;
-    let answer = answer.text(padded.as_bytes())?;
-    Ok(answer.text(debug.as_bytes())?.line())
-}
-
 /// The start and the size of a span, or `none`.
 fn span(alloc: Global, start: &[u8], size: &[u8]) -> Result<String, Unread> {
-    let Some(span) = Span::new(number_of(start)?, number(size)?) else {
-        return word(alloc, "none");
-    };
-    let answer = Answer::new(alloc).word(span.start())?;
-    Ok(answer.word(span.size())?.line())
+    match Span::new(number_of(start)?, number(size)?) {
+        Some(span) => Ok(put_span(Answer::new(alloc), &span)?.line()),
+        None => word(alloc, "none"),
+    }
+}
+
+/// Puts the start and the size of a span behind other words.
+pub fn put_span(answer: Answer, span: &Span) -> Result<Answer, Unread> {
+    answer.word(span.start())?.word(span.size())
 }
 
 /// The spans and the single numbers of a set, in their order.
@@ -110,7 +111,7 @@ fn set(alloc: Global, words: &[u8]) -> Result<String, Unread> {
     let set = set_of(alloc, words)?;
     let mut answer = Answer::new(alloc).word("spans")?;
     for span in set.spans() {
-        answer = answer.word(span.start())?.word(span.size())?;
+        answer = put_span(answer, span)?;
     }
     answer = answer.word("singles")?;
     for single in set.singles() {
@@ -119,17 +120,38 @@ fn set(alloc: Global, words: &[u8]) -> Result<String, Unread> {
     Ok(answer.line())
 }
 
+/// Whether a set has a number.
+fn has(alloc: Global, words: &[u8], digits: &[u8]) -> Result<String, Unread> {
+    let set = set_of(alloc, words)?;
+    word(alloc, set.has(&number_of(digits)?))
+}
+
+/// Whether a set lies within another.
+fn within(alloc: Global, child: &[u8], parent: &[u8]) -> Result<String, Unread> {
+    let parent = set_of(alloc, parent)?;
+    word(alloc, set_of(alloc, child)?.within(&parent))
+}
+
 /// The set of spans `START+SIZE` and single numbers, with commas between.
 fn set_of(alloc: Global, words: &[u8]) -> Result<NumberSet, Unread> {
     let mut spans = Vec::new(alloc);
     let mut singles = Vec::new(alloc);
-    for word in text(words)?.split(',').filter(|word| !word.is_empty()) {
-        match word.split_once('+') {
-            Some((start, size)) => spans.push(span_of(start, size)?)?,
-            None => singles.push(number_of(word.as_bytes())?)?,
-        }
+    for word in text(words)?.split(',') {
+        put_member(word, &mut spans, &mut singles)?;
     }
     Ok(NumberSet::build(spans, singles)?)
+}
+
+/// Puts the span or the single number that a word is behind others; an empty word is neither.
+fn put_member(word: &str, spans: &mut Vec<Span>, singles: &mut Vec<Number>) -> Result<(), Unread> {
+    if word.is_empty() {
+        return Ok(());
+    }
+    match word.split_once('+') {
+        Some((start, size)) => spans.push(span_of(start, size)?)?,
+        None => singles.push(number_of(word.as_bytes())?)?,
+    }
+    Ok(())
 }
 
 /// The span of a start and a size.

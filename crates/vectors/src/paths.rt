@@ -1,10 +1,10 @@
 //! Authorities, trust anchors and paths up to them: the calls of `delegation`.
 
-use crate::answer::{Answer, fault, word};
+use crate::answer::{Answer, fault, ok, word};
 use crate::authority::{list_of, table_of};
 use crate::numbers::number_of;
 use crate::table::{Unread, number};
-use delegation::{AnchorFault, Anchors, Authority, PathFault, covers, shape, within};
+use delegation::{AnchorFault, Anchors, Authority, PathFault, Shape, covers, shape, within};
 use std::alloc::Global;
 use tn_auth_list::{AuthList, CodeTable};
 use x509_profile::{Certificate, read_chain};
@@ -13,9 +13,8 @@ use x509_profile::{Certificate, read_chain};
 pub fn answer(alloc: Global, call: &str, words: &[Vec<u8>]) -> Result<String, Unread> {
     match (call, words) {
         ("covers", [list, digits, table]) => {
-            let list = list_of(alloc, list.as_slice())?;
             let table = table_of(alloc, table.as_slice())?;
-            word(alloc, covers(&list, &number_of(digits.as_slice())?, &table))
+            covers_answer(alloc, list.as_slice(), digits.as_slice(), &table)
         }
         ("within", [child, parent, table]) => {
             let table = table_of(alloc, table.as_slice())?;
@@ -25,13 +24,27 @@ pub fn answer(alloc: Global, call: &str, words: &[Vec<u8>]) -> Result<String, Un
             let anchors = anchors_of(alloc, anchors.as_slice())?;
             shape_answer(alloc, chain.as_slice(), &anchors)
         }
-        ("path_fault", [kind, place]) => {
-            let kind = number(kind.as_slice())?;
-            let place = number(place.as_slice())?;
-            word(alloc, PathFault { kind, place })
-        }
+        ("path_fault", [kind, place]) => path_says(alloc, kind.as_slice(), place.as_slice()),
         _ => anchor_answer(alloc, call, words),
     }
+}
+
+/// What a fault of a path says.
+fn path_says(alloc: Global, kind: &[u8], place: &[u8]) -> Result<String, Unread> {
+    let kind = number(kind)?;
+    let place = number(place)?;
+    word(alloc, PathFault { kind, place })
+}
+
+/// Whether a list covers a number.
+fn covers_answer(
+    alloc: Global,
+    list: &[u8],
+    digits: &[u8],
+    table: &CodeTable,
+) -> Result<String, Unread> {
+    let list = list_of(alloc, list)?;
+    word(alloc, covers(&list, &number_of(digits)?, table))
 }
 
 /// What a call of trust anchors answers.
@@ -44,16 +57,24 @@ fn anchor_answer(alloc: Global, call: &str, words: &[Vec<u8>]) -> Result<String,
         }
         ("contains", [bytes, certificate]) => {
             let anchors = anchors_of(alloc, bytes.as_slice())?;
-            let Ok(certificate) = Certificate::read(alloc, certificate.as_slice()) else {
-                return Err(Unread::Value);
-            };
-            word(alloc, anchors.contains(&certificate))
+            contains(alloc, &anchors, certificate.as_slice())
         }
-        ("anchor_fault", [place]) => {
-            let place = number(place.as_slice())?;
-            word(alloc, AnchorFault::At { place })
-        }
+        ("anchor_fault", [place]) => anchor_says(alloc, place.as_slice()),
         _ => Err(Unread::Call),
+    }
+}
+
+/// What a fault of trust anchors says.
+fn anchor_says(alloc: Global, place: &[u8]) -> Result<String, Unread> {
+    let place = number(place)?;
+    word(alloc, AnchorFault::At { place })
+}
+
+/// Whether a certificate is one of the anchors.
+fn contains(alloc: Global, anchors: &Anchors, certificate: &[u8]) -> Result<String, Unread> {
+    match Certificate::read(alloc, certificate) {
+        Ok(certificate) => word(alloc, anchors.contains(&certificate)),
+        Err(_) => Err(Unread::Value),
     }
 }
 
@@ -99,12 +120,15 @@ pub fn anchors_of(alloc: Global, bytes: &[u8]) -> Result<Anchors, Unread> {
 /// How many anchors there are, or the place of the first that is none.
 fn anchors(alloc: Global, bytes: &[u8]) -> Result<String, Unread> {
     match Anchors::read(alloc, bytes) {
-        Ok(anchors) => Ok(Answer::new(alloc).word("ok")?.word(anchors.count())?.line()),
-        Err(AnchorFault::At { place }) => {
-            Ok(Answer::new(alloc).word("fault")?.word(place)?.line())
-        }
+        Ok(anchors) => ok(alloc, anchors.count()),
+        Err(AnchorFault::At { place }) => place_of(alloc, place),
         Err(AnchorFault::Memory) => Err(Unread::Memory),
     }
+}
+
+/// `fault` and its place.
+fn place_of(alloc: Global, place: u32) -> Result<String, Unread> {
+    Ok(Answer::new(alloc).word("fault")?.word(place)?.line())
 }
 
 /// The bytes of an anchor.
@@ -117,14 +141,21 @@ fn anchor(alloc: Global, anchors: &Anchors, place: u16) -> Result<String, Unread
 
 /// The number of the anchor above the last certificate, `-` where this is itself an anchor, or the fault.
 fn shape_answer(alloc: Global, chain: &[u8], anchors: &Anchors) -> Result<String, Unread> {
-    let Ok(chain) = read_chain(alloc, chain) else {
-        return Err(Unread::Value);
-    };
-    if chain.len() > 6 {
-        return Err(Unread::Value);
+    match read_chain(alloc, chain) {
+        Ok(chain) if chain.len() <= 6 => shape_words(alloc, shape(&chain, anchors)),
+        _ => Err(Unread::Value),
     }
-    match shape(&chain, anchors) {
-        Ok(found) => Ok(Answer::new(alloc).word("ok")?.option(found.anchor)?.line()),
+}
+
+/// What a path comes to.
+fn shape_words(alloc: Global, found: Result<Shape, PathFault>) -> Result<String, Unread> {
+    match found {
+        Ok(
+            Shape {
+                anchor: Some(anchor),
+            },
+        ) => ok(alloc, anchor),
+        Ok(Shape { anchor: None }) => ok(alloc, "-"),
         Err(found) => fault(alloc, found.kind, found.place),
     }
 }

@@ -259,7 +259,11 @@ pub fn number<N: FromStr>(word: &[u8]) -> Result<N, Unread>
 where
     N::Err: Drop,
 {
-    match text(word)?.parse::<N>() {
+    let digits = text(word)?;
+    if !are_digits(digits) {
+        return Err(Unread::Value);
+    }
+    match digits.parse::<N>() {
         Ok(number) => Ok(number),
         Err(_) => Err(Unread::Value),
     }

@@ -4,7 +4,7 @@ use crate::answer::{Answer, or_none, word};
 use crate::table::{Unread, number};
 use std::alloc::Global;
 use stir_base::{behind, cut, next_line, read_number};
-use text_file::{Lines, Words, line_count, words_of};
+use text_file::{Line, Lines, Words, line_count, words_of};
 
 /// What a call answers.
 pub fn answer(alloc: Global, call: &str, words: &[Vec<u8>]) -> Result<String, Unread> {
@@ -13,18 +13,17 @@ pub fn answer(alloc: Global, call: &str, words: &[Vec<u8>]) -> Result<String, Un
         ("line_count", [text]) => word(alloc, line_count(text.as_slice())),
         ("words", [line]) => words_answer(alloc, line.as_slice()),
         ("number", [digits, most]) => {
-            let most = number(most.as_slice())?;
-            or_none(alloc, read_number(digits.as_slice(), most))
+            or_none(
+                alloc,
+                read_number(digits.as_slice(), number(most.as_slice())?),
+            )
         }
         ("next_line", [bytes]) => two_or_none(alloc, next_line(bytes.as_slice())),
-        ("cut", [bytes, byte]) => match byte.as_slice() {
-            [byte] => two_or_none(alloc, cut(bytes.as_slice(), *byte)),
-            _ => Err(Unread::Value),
-        },
-        ("behind", [bytes, front]) => match behind(bytes.as_slice(), front.as_slice()) {
-            Some(rest) => Ok(Answer::new(alloc).text(rest)?.line()),
-            None => word(alloc, "none"),
-        },
+        ("cut", [bytes, byte]) => cut_answer(alloc, bytes.as_slice(), byte.as_slice()),
+        ("behind", [bytes, front]) => text_or_none(
+            alloc,
+            behind(bytes.as_slice(), front.as_slice()),
+        ),
         _ => Err(Unread::Call),
     }
 }
@@ -37,23 +36,50 @@ fn lines(alloc: Global, text: &[u8]) -> Result<String, Unread> {
     let mut lines = Lines::new(text);
     let mut answer = Answer::new(alloc);
     for _ in 0..text.len() {
-        if let Some(line) = lines.next() {
-            answer = answer.word(line.number)?.text(line.text)?;
-        }
+        answer = put_line(answer, lines.next())?;
     }
     Ok(answer.word("end")?.line())
 }
 
+/// Puts the number of a line and what stands on it behind other words.
+fn put_line(answer: Answer, line: Option<Line<'_>>) -> Result<Answer, Unread> {
+    match line {
+        Some(line) => answer.word(line.number)?.text(line.text),
+        None => Ok(answer),
+    }
+}
+
 /// The words of a line, or `none`.
 fn words_answer(alloc: Global, line: &[u8]) -> Result<String, Unread> {
-    let answer = Answer::new(alloc);
-    let answer = match words_of(line) {
-        Some(Words::Two(a, b)) => answer.text(a)?.text(b)?,
-        Some(Words::Three(a, b, c)) => answer.text(a)?.text(b)?.text(c)?,
-        Some(Words::Four(a, b, c, d)) => answer.text(a)?.text(b)?.text(c)?.text(d)?,
-        None => answer.word("none")?,
-    };
-    Ok(answer.line())
+    match words_of(line) {
+        Some(words) => Ok(put_words(Answer::new(alloc), words)?.line()),
+        None => word(alloc, "none"),
+    }
+}
+
+/// Puts the words of a line behind others.
+fn put_words(answer: Answer, words: Words<'_>) -> Result<Answer, Unread> {
+    match words {
+        Words::Two(a, b) => answer.text(a)?.text(b),
+        Words::Three(a, b, c) => answer.text(a)?.text(b)?.text(c),
+        Words::Four(a, b, c, d) => answer.text(a)?.text(b)?.text(c)?.text(d),
+    }
+}
+
+/// A text cut at the first byte that is the one byte of a word.
+fn cut_answer(alloc: Global, bytes: &[u8], byte: &[u8]) -> Result<String, Unread> {
+    match byte {
+        [byte] => two_or_none(alloc, cut(bytes, *byte)),
+        _ => Err(Unread::Value),
+    }
+}
+
+/// A text, or `none`.
+fn text_or_none(alloc: Global, text: Option<&[u8]>) -> Result<String, Unread> {
+    match text {
+        Some(text) => Ok(Answer::new(alloc).text(text)?.line()),
+        None => word(alloc, "none"),
+    }
 }
 
 /// Two texts, or `none`.
