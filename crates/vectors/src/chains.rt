@@ -113,7 +113,7 @@ fn leaf(alloc: Global, judged: &Judged) -> Result<String, Unread> {
 }
 
 /// Numbers with commas between.
-fn numbers_of(alloc: Global, words: &[u8]) -> Result<Vec<u64>, Unread> {
+pub fn numbers_of(alloc: Global, words: &[u8]) -> Result<Vec<u64>, Unread> {
     let mut numbers = Vec::new(alloc);
     for word in text(words)?.split(',') {
         put_number(word, &mut numbers)?;
@@ -130,7 +130,7 @@ fn put_number(word: &str, numbers: &mut Vec<u64>) -> Result<(), Unread> {
 }
 
 /// The answers that a text holds.
-fn answers_of(alloc: Global, text: &[u8]) -> Result<Answers, Unread> {
+pub fn answers_of(alloc: Global, text: &[u8]) -> Result<Answers, Unread> {
     if text.len() >= 4_000_000_000 {
         return Err(Unread::Value);
     }

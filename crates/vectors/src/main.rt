@@ -3,14 +3,20 @@
 #![tactic(auto)]
 
 mod answer;
+mod answers;
 mod authority;
 mod certificates;
 mod chains;
+mod claims;
 mod der;
+mod identity;
+mod messages;
 mod numbers;
 mod paths;
 mod table;
 mod text;
+mod tokens;
+mod words;
 
 use answer::Answer;
 use std::alloc::Global;
@@ -96,6 +102,11 @@ fn called(alloc: Global, subject: &str, call: &str, words: &[Vec<u8>]) -> Result
         "certificates" => certificates::answer(alloc, call, words),
         "paths" => paths::answer(alloc, call, words),
         "chains" => chains::answer(alloc, call, words),
+        "messages" => messages::answer(alloc, call, words),
+        "identity" => identity::answer(alloc, call, words),
+        "tokens" => tokens::answer(alloc, call, words),
+        "claims" => claims::answer(alloc, call, words),
+        "answers" => answers::answer(alloc, call, words),
         _ => Err(Unread::Call),
     }
 }

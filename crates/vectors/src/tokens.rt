@@ -1,0 +1,164 @@
+//! PASSporT tokens and their JSON texts: the calls of `passport_json`.
+
+use crate::answer::{Answer, word};
+use crate::table::{Unread, number, text};
+use crate::words::{given, joined, seconds, telephone};
+use passport_json::{
+    Token, TokenFault, View, deterministic, is_uri, is_writable, signing_input, ticket,
+};
+use serde_json::Value;
+use std::alloc::Global;
+
+/// What a call answers.
+pub fn answer(alloc: Global, call: &str, words: &[Vec<u8>]) -> Result<String, Unread> {
+    match call {
+        "read" => read(alloc, words),
+        "signed" => signed(alloc, words),
+        "fault" => said(alloc, words),
+        "is_uri" => word(alloc, is_uri(joined(alloc, words)?.as_slice())),
+        "ticket" => {
+            let ticket = ticket(joined(alloc, words)?.as_slice());
+            Ok(Answer::new(alloc).hex(&ticket)?.line())
+        }
+        _ => json_answer(alloc, call, words),
+    }
+}
+
+/// What a call about JSON texts answers.
+fn json_answer(alloc: Global, call: &str, words: &[Vec<u8>]) -> Result<String, Unread> {
+    match (call, words) {
+        ("deterministic", words) => {
+            let value = value_of(alloc, joined(alloc, words)?.as_slice())?;
+            Ok(put_value(alloc, Answer::new(alloc), &value)?.line())
+        }
+        ("is_writable", [arrays, words @ ..]) => {
+            let value = value_of(alloc, joined(alloc, words)?.as_slice())?;
+            let value = nested(alloc, value, number(arrays.as_slice())?)?;
+            word(alloc, is_writable(&value))
+        }
+        ("signing_input", [header, payload]) => {
+            let text = signing_input(alloc, header.as_slice(), payload.as_slice())?;
+            Ok(Answer::new(alloc).text(text.as_slice())?.line())
+        }
+        _ => Err(Unread::Call),
+    }
+}
+
+/// A token's form, when it was issued, its header and its payload.
+fn read(alloc: Global, words: &[Vec<u8>]) -> Result<String, Unread> {
+    let token = match token_of(alloc, words)? {
+        Ok(token) => token,
+        Err(fault) => return refused(alloc, fault),
+    };
+    let form = if token.compact() { "compact" } else { "full" };
+    let answer = Answer::new(alloc).word("ok")?.word(form)?;
+    let answer = answer.option(token.issued_at())?;
+    let answer = put_value(alloc, answer, token.header())?;
+    let answer = put_value(alloc, answer, token.payload())?;
+    Ok(answer.line())
+}
+
+/// What was signed, and the signature.
+fn signed(alloc: Global, words: &[Vec<u8>]) -> Result<String, Unread> {
+    let token = match token_of(alloc, words)? {
+        Ok(token) => token,
+        Err(fault) => return refused(alloc, fault),
+    };
+    let answer = Answer::new(alloc).word("ok")?.text(token.signing())?;
+    Ok(answer.hex(token.signature())?.line())
+}
+
+/// What reading a token comes to: five words are what the message says, the others the token's text.
+fn token_of(alloc: Global, words: &[Vec<u8>]) -> Result<Result<Token, TokenFault>, Unread> {
+    let [iat, orig, dest, info, ppt, bytes @ ..] = words else {
+        return Err(Unread::Call);
+    };
+    let view = View {
+        iat: seconds(iat.as_slice())?,
+        orig: telephone(orig.as_slice())?,
+        dest: telephone(dest.as_slice())?,
+        info: info.as_slice(),
+        ppt: given(ppt.as_slice()),
+    };
+    if !is_uri(view.info) {
+        return Err(Unread::Value);
+    }
+    let bytes = joined(alloc, bytes)?;
+    Ok(Token::read(alloc, bytes.as_slice(), &view))
+}
+
+/// The first check that a text breaks.
+fn refused(alloc: Global, fault: TokenFault) -> Result<String, Unread> {
+    match fault {
+        TokenFault::Parts => word(alloc, "parts"),
+        TokenFault::Base64 { part } => of_part(alloc, "base64", part),
+        TokenFault::Json { part } => of_part(alloc, "json", part),
+        TokenFault::SignatureLength => word(alloc, "signature_length"),
+        TokenFault::Compact => word(alloc, "compact"),
+        TokenFault::Memory => Err(Unread::Memory),
+    }
+}
+
+/// A fault of a part.
+fn of_part(alloc: Global, name: &str, part: u8) -> Result<String, Unread> {
+    Ok(Answer::new(alloc).word(name)?.word(part)?.line())
+}
+
+/// The number of a fault, and how it is printed.
+fn said(alloc: Global, words: &[Vec<u8>]) -> Result<String, Unread> {
+    let fault = match words {
+        [name] => fault_of(text(name.as_slice())?)?,
+        [name, part] => fault_of_part(text(name.as_slice())?, number(part.as_slice())?)?,
+        _ => return Err(Unread::Call),
+    };
+    let answer = Answer::new(alloc).option(fault.number())?;
+    Ok(answer.word(fault)?.line())
+}
+
+/// The fault of this name.
+fn fault_of(name: &str) -> Result<TokenFault, Unread> {
+    match name {
+        "parts" => Ok(TokenFault::Parts),
+        "signature_length" => Ok(TokenFault::SignatureLength),
+        "compact" => Ok(TokenFault::Compact),
+        "memory" => Ok(TokenFault::Memory),
+        _ => Err(Unread::Value),
+    }
+}
+
+/// The fault of this name in a part.
+fn fault_of_part(name: &str, part: u8) -> Result<TokenFault, Unread> {
+    match name {
+        "base64" => Ok(TokenFault::Base64 { part }),
+        "json" => Ok(TokenFault::Json { part }),
+        _ => Err(Unread::Value),
+    }
+}
+
+/// The value of a JSON text.
+fn value_of(alloc: Global, json: &[u8]) -> Result<Value, Unread> {
+    match Value::from_str(alloc, text(json)?) {
+        Ok(value) => Ok(value),
+        Err(_) => Err(Unread::Value),
+    }
+}
+
+/// A value within so many arrays.
+fn nested(alloc: Global, value: Value, arrays: u8) -> Result<Value, Unread> {
+    let mut value = value;
+    for _ in 0..arrays {
+        let mut items = Vec::new(alloc);
+        items.push(value)?;
+        value = Value::Array(items);
+    }
+    Ok(value)
+}
+
+/// The deterministic form of a value, or `unwritable`.
+pub fn put_value(alloc: Global, answer: Answer, value: &Value) -> Result<Answer, Unread> {
+    if !is_writable(value) {
+        return answer.word("unwritable");
+    }
+    let text = deterministic(alloc, value)?;
+    answer.text(text.as_slice())
+}
