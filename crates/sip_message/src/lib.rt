@@ -17,6 +17,3 @@ mod value;
 pub use fault::{FormFault, MessageFault};
 pub use laws::head_law;
 pub use message::Message;
-
-#[cfg(test)]
-mod tests;
