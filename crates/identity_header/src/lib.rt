@@ -11,6 +11,3 @@ pub use field::{Field, FieldFault};
 pub use laws::field_law;
 // The refused allocation, which is all that can fail when a field is written.
 pub use std::alloc::AllocError as Memory;
-
-#[cfg(test)]
-mod tests;
