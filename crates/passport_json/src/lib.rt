@@ -24,10 +24,3 @@ pub use token::Token;
 pub use uri::is_uri;
 pub use view::View;
 pub use writing::{deterministic, is_writable};
-
-#[cfg(test)]
-mod compact_tests;
-#[cfg(test)]
-mod form_tests;
-#[cfg(test)]
-mod tests;
