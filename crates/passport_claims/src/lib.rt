@@ -22,6 +22,3 @@ pub use laws::claims_law;
 pub use order::{ChainFault, Order};
 pub use passport::Passport;
 pub use std::alloc::AllocError as Memory;
-
-#[cfg(test)]
-mod tests;
