@@ -5,5 +5,3 @@ pub mod key_name;
 pub mod provider;
 pub mod rows;
 pub mod steady;
-#[cfg(test)]
-mod tests;
