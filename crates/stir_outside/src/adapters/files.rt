@@ -106,6 +106,7 @@ impl<R: Files + Drop> Shelf for FileShelf<R> {
     }
 }
 
+/// The file of that name, opened and read whole.
 fn content<R: Files>(rt: &R, alloc: Global, name: &str, limit: usize) -> Result<Vec<u8>, ShelfFault>
     ensures { IfOk result (λ bytes. vec_len bytes ≤ limit) }
 {
