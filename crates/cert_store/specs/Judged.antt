@@ -114,7 +114,7 @@ pub record AllAnswered (truth judged : JudgedView) : Type 0 where
 abbrev pub QuietIs : JudgedView → ℕ → ℕ → JudgedView → Type 0
 QuietIs truth faults faults_now judged = faults_now ≡ faults → faults ≢ last_count → AllAnswered truth judged
 
--- The certificates that aren't anchors were asked for once each, up to the one at which asking stopped, and nothing else was.
+-- As many questions were asked as certificates stand up to the one at which asking stopped that aren't themselves anchors.
 pub record HasAsked (asks asks_now : ℕ) (judged : JudgedView) : Type 0 where
   pub exact : RoseBy (questions judged.keys judged.asked) asks asks_now
   pub most : asks_now ≤ asks + length judged.certificates
