@@ -38,7 +38,7 @@ unfolding order_of
 repeat_again origin links called fault r =
     let few = small links r.few in
     let first : first_from (repeats links) 1 (length links) ≡ Some fault.link =
-        means_first (Repeats links) (repeats links) (length links) fault.link (repeats_says links (length links)) r.repeats in
+    means_first (Repeats links) (repeats links) (length links) fault.link (repeats_says links (length links)) r.repeats in
     rw (few, first) (named 2 fault.link fault r.kind refl)
 
 -- ---- no start
@@ -65,7 +65,7 @@ no_start_again dests links link (inr (inr s)) =
     let says = start_says links (length links) in
     let first : first_from (may_start links) 1 (length links) ≡ Some link = means_first (MayStart links) (may_start links) (length links) link says s.is in
     let second : first_from (may_start links) (link + 1) (length links - link) ≡ None =
-        none_more (may_start links) (length links) link s.is.is (λ other o t. s.only other o ((says.tells other o).0 t)) in
+    none_more (may_start links) (length links) link s.is.is (λ other o t. s.only other o ((says.tells other o).0 t)) in
     let elsewhere : is_one_of dests (div_at links link) ≡ false = not_so (is_one_of dests (div_at links link)) (λ t. s.elsewhere (one_means dests (div_at links link) t)) in
     rw (first, second, elsewhere) refl
 
@@ -103,19 +103,19 @@ cut_again origin links called fault c =
     let s : Started origin links c.start = record { few = c.few; apart = c.apart; starts = c.starts } in
     let turn = c.start ∷ behind links c.start in
     let left : first_from (is_left turn) 1 (length links) ≡ Some fault.link =
-        means_first (IsLeft links c.start) (is_left turn) (length links) fault.link (left_says links c.start (is_walked origin links c.start s)) c.left in
+    means_first (IsLeft links c.start) (is_left turn) (length links) fault.link (left_says links c.start (is_walked origin links c.start s)) c.left in
     way_fault_again origin links called c.start fault s (rw left (named 4 fault.link fault c.kind refl))
 
 -- the last link is that of the way
 last_of_way : (links : List ClaimsView) (start link : ℕ) → IsOneOf (length links) start → is_among link (start ∷ behind links start) ≡ true → IsLast links link
     → last_of start (behind links start) ≡ link
 last_of_way links start link is on last = elim (next_there start (behind links start) link on) [
-    | inl same ↦ sym same
-    | inr (other, next) ↦
-        let way = behind links start in
-        let at : IsOneOf (length links) other = within_among (length links) way other (behind_within links start) (next_second start way link other next) in
-        absurd (last other at (next_follows links start way link other (behind_follow links start) next))
-  ]
+  | inl same ↦ sym same
+  | inr (other, next) ↦
+      let way = behind links start in
+      let at : IsOneOf (length links) other = within_among (length links) way other (behind_within links start) (next_second start way link other next) in
+      absurd (last other at (next_follows links start way link other (behind_follow links start) next))
+]
 
 later_again : (origin : ClaimsView) (links : List ClaimsView) (called : Option (List ℕ)) (fault : ChainFault) → fault.kind ≡ 5
     → EndsLater origin.dest links called fault.link → order_of origin links called ≡ Err fault
@@ -125,11 +125,11 @@ later_again origin links called fault kind l =
     let w = is_walked origin links l.start s in
     let way = behind links l.start in
     let each : (link : ℕ) → IsOneOf (length links) link → is_among link (l.start ∷ way) ≡ true = λ link is.
-        let r = l.reached link is in reached_on links l.start r.0 link w is r.1 in
+    let r = l.reached link is in reached_on links l.start r.0 link w is r.1 in
     let left : first_from (is_left (l.start ∷ way)) 1 (length links) ≡ None = each_found (l.start ∷ way) (length links) each in
     let last : last_of l.start way ≡ fault.link = last_of_way links l.start fault.link l.starts.is.is (each fault.link l.is) l.last in
     let elsewhere : calls called (dest_at links fault.link) ≡ false =
-        not_so (calls called (dest_at links fault.link)) (λ t. l.elsewhere ((calls_means called (dest_at links fault.link)).0 t)) in
+    not_so (calls called (dest_at links fault.link)) (λ t. l.elsewhere ((calls_means called (dest_at links fault.link)).0 t)) in
     way_fault_again origin links called l.start fault s (rw (left, last, elsewhere) (named 5 fault.link fault kind refl))
 
 once_again : (origin : ClaimsView) (links : List ClaimsView) (called : Option (List ℕ)) (fault : ChainFault) → fault.kind ≡ 5
@@ -140,7 +140,7 @@ once_again origin links called fault kind o =
     let apart : first_from (repeats links) 1 (length links) ≡ None = first_isnt (repeats links) 1 (length links) (λ link l k. let none = o.none in absurd (omega (arith, none, l, k))) in
     let empty : (length links == 0) ≡ true = eq-eqb (length links) 0 o.none in
     let elsewhere : calls_one_of origin.dest called ≡ false =
-        not_so (calls_one_of origin.dest called) (λ t. o.elsewhere ((called_means origin.dest called).0 t)) in
+    not_so (calls_one_of origin.dest called) (λ t. o.elsewhere ((called_means origin.dest called).0 t)) in
     rw (few, apart, empty, elsewhere) (named 5 0 fault kind o.named)
 
 fault_again : (origin : ClaimsView) (links : List ClaimsView) (called : Option (List ℕ)) (fault : ChainFault) → IsFault origin links called fault
@@ -150,9 +150,9 @@ fault_again origin links called fault (inr (inl r)) = repeat_again origin links 
 fault_again origin links called fault (inr (inr (inl s))) = start_fault_again origin links called fault s
 fault_again origin links called fault (inr (inr (inr (inl c)))) = cut_again origin links called fault c
 fault_again origin links called fault (inr (inr (inr (inr c)))) = elim c.ends [
-    | inl once ↦ once_again origin links called fault c.kind once
-    | inr later ↦ later_again origin links called fault c.kind later
-  ]
+  | inl once ↦ once_again origin links called fault c.kind once
+  | inr later ↦ later_again origin links called fault c.kind later
+]
 
 pub fault_only : (origin : ClaimsView) (links : List ClaimsView) (called : Option (List ℕ)) (result : Result Order ChainFault)
     → order_seen result ≡ order_of origin links called → (fault : ChainFault) → IsFault origin links called fault → result ≡ Err fault
