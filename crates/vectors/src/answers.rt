@@ -1,6 +1,6 @@
 //! Answers files and the provider over one: the calls of `stir_outside` about them.
 
-use crate::answer::{Answer, word};
+use crate::answer::{Answer, line, word};
 use crate::chains::{answers_of, numbers_of};
 use crate::table::{Unread, text};
 use crate::words::joined;
@@ -27,7 +27,7 @@ fn read(alloc: Global, file: &[u8]) -> Result<String, Unread> {
     }
     match Answers::read(alloc, file) {
         Ok(_) => word(alloc, "ok"),
-        Err(AnswerFault::Line { line }) => Ok(format!(in alloc; "line {line}")?),
+        Err(AnswerFault::Line { line: bad }) => line(alloc, bad),
         Err(AnswerFault::Memory) => Err(Unread::Memory),
     }
 }

@@ -17,15 +17,9 @@ pub fn answer(alloc: Global, call: &str, words: &[Vec<u8>]) -> Result<String, Un
             let local = local_of(country.as_slice(), national.as_slice())?;
             numbers(alloc, &local, joined(alloc, bytes)?.as_slice())
         }
-        ("fault", [kind, place]) => said(
-            alloc,
-            MessageFault::Form(FormFault {
-                kind: number(kind.as_slice())?,
-                place: number(place.as_slice())?,
-            }),
-        ),
+        ("fault", [kind, place]) => says(alloc, kind.as_slice(), place.as_slice()),
         ("fault", [name]) if name.as_slice() == b"memory".as_slice() => {
-            said(alloc, MessageFault::Memory)
+            word(alloc, MessageFault::Memory)
         }
         _ => Err(Unread::Call),
     }
@@ -83,7 +77,9 @@ fn refused(alloc: Global, reason: MessageFault) -> Result<String, Unread> {
     }
 }
 
-/// How a fault is printed.
-fn said(alloc: Global, reason: MessageFault) -> Result<String, Unread> {
-    word(alloc, reason)
+/// What a fault says.
+fn says(alloc: Global, kind: &[u8], place: &[u8]) -> Result<String, Unread> {
+    let kind = number(kind)?;
+    let place = number(place)?;
+    word(alloc, MessageFault::Form(FormFault { kind, place }))
 }
