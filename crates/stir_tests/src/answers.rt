@@ -1,4 +1,4 @@
-//! Providers that fail on command: the answers file's at its listed calls, and one written here.
+//! Providers that fail on command, the answers file's at its listed calls and one written here, and one that never fails.
 
 use std::test::Fail;
 use stir_outside::{Answers, Failed, Provider};
@@ -97,4 +97,14 @@ fn a_provider_can_fail_on_command(rt: HostRuntime) {
     provider.is_broken = true;
     assert!(rt; answered(&mut provider) == [false, false, false] && provider.faults == 3);
     assert!(rt; provider.asks == 6);
+}
+
+#[test]
+fn a_steady_provider_answers_every_call(rt: HostRuntime) {
+    let answers = Answers::read(rt.alloc(), b"").ok().expect(&rt, "answers");
+    let mut provider = answers.steady();
+    assert!(rt; answered(&mut provider) == [true, true, true]);
+    assert!(rt; provider.confirm(&key(0xAB), &DIGEST, &SIGNATURE) == Ok(false));
+    assert!(rt; provider.sign(b"a", &DIGEST) == Ok(None));
+    assert!(rt; provider.asks() == 5);
 }

@@ -9,7 +9,11 @@ mod answers;
 #[cfg(test)]
 mod devices;
 #[cfg(test)]
+mod gates;
+#[cfg(test)]
 mod large;
+#[cfg(test)]
+mod numbers;
 #[cfg(test)]
 mod runs;
 #[cfg(test)]

@@ -3,7 +3,8 @@
 use crate::devices::{Drip, Trickle};
 use std::test::Fail;
 use stir_outside::{
-    Failed, ReadFault, Shelf, ShelfFault, ShelfMem, SinkMem, SourceMem, read_up_to, write_whole,
+    Failed, ReadFault, Shelf, ShelfFault, ShelfMem, SinkMem, SlowMem, Source, SourceMem,
+    read_up_to, write_whole,
 };
 
 #[test]
@@ -81,5 +82,18 @@ fn shelf_in_memory_answers_by_name_and_limit(rt: HostRuntime) -> Result<(), Fail
         (shelf.reads(), shelf.misses(), shelf.longs(), shelf.faults()),
         (2, 1, 1, 1)
     );
+    Ok(())
+}
+
+#[test]
+fn a_slow_source_gives_one_byte_a_read(rt: HostRuntime) -> Result<(), Fail> {
+    let mut source = SlowMem::new(b"abc".to_vec(rt.alloc())?);
+    let mut buf = [0; 2];
+    assert!(rt; source.read(&mut buf) == Ok(1) && buf == [b'a', 0]);
+    assert_eq!(rt; source.bytes(), b"bc".as_slice());
+    let mut bytes = Vec::new(rt.alloc());
+    assert!(rt; read_up_to(&mut source, &mut bytes, 9) == Ok(()));
+    assert_eq!(rt; bytes.as_slice(), b"bc".as_slice());
+    assert!(rt; source.read(&mut buf) == Ok(0));
     Ok(())
 }

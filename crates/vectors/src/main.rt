@@ -10,8 +10,10 @@ mod chains;
 mod claims;
 mod der;
 mod identity;
+mod log;
 mod messages;
 mod numbers;
+mod order;
 mod paths;
 mod table;
 mod text;
@@ -107,6 +109,8 @@ fn called(alloc: Global, subject: &str, call: &str, words: &[Vec<u8>]) -> Result
         "tokens" => tokens::answer(alloc, call, words),
         "claims" => claims::answer(alloc, call, words),
         "answers" => answers::answer(alloc, call, words),
+        "order" => order::answer(alloc, call, words),
+        "log" => log::answer(alloc, call, words),
         _ => Err(Unread::Call),
     }
 }

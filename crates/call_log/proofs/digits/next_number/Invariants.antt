@@ -1,5 +1,6 @@
 -- The digits so far were taken. They are at most 13.
-use Rattle.std.proofs.Common.{◌≤◌, ◌-◌}
+use Rattle.std.proofs.Common.{◌-◌}
+use Rattle.stir_base.specs.Count.{GoesOn}
 use Rattle.std.specs.Io.KnownBytes.{prepend_known}
 use Rattle.call_log.proofs.NumberSteps.{Took}
 use Rattle.call_log.proofs.digits.next_number.Given as goal
@@ -7,7 +8,7 @@ use Rattle.call_log.proofs.digits.next_number.Given as goal
 abbrev pub invariant-loop-byte : goal.invariant-loop-byte
 invariant-loop-byte g l = record {
   took : Took l.most (prepend_known l.fn.ahead (g.I.Source.left l.fn.source)) (prepend_known l.ahead (g.I.Source.left l.source)) l.digits;
-  never_falls : g.I.Source.faults l.fn.source ≤ g.I.Source.faults l.source;
+  goes_on : GoesOn (g.I.Source.faults l.fn.source) (g.I.Source.faults l.source);
 }
 
 abbrev pub decreases-loop-byte : goal.decreases-loop-byte

@@ -1,0 +1,84 @@
+//! The order of a diverted call's PASSporTs: `chain` of `passport_claims`.
+
+ghost use Rattle.std.specs.Prelude.{All, IfOk};
+ghost use Rattle.passport_claims.specs.Links.{IsLink};
+
+use crate::answer::{Answer, fault};
+use crate::numbers::number_of;
+use crate::table::{Unread, text};
+use crate::words::telephone;
+use passport_claims::{Kind, Order, Passport, chain};
+use std::alloc::Global;
+use tn_values::Number;
+
+/// What a call answers.
+pub fn answer(alloc: Global, call: &str, words: &[Vec<u8>]) -> Result<String, Unread> {
+    match (call, words) {
+        ("chain", [dests, called, links @ ..]) => {
+            let origin = origin_of(alloc, dests.as_slice())?;
+            let called = telephone(called.as_slice())?;
+            let links = links_of(alloc, links)?;
+            match chain(&origin, links.as_slice(), called) {
+                Ok(order) => turn(alloc, &order),
+                Err(found) => fault(alloc, found.kind, found.link),
+            }
+        }
+        _ => Err(Unread::Call),
+    }
+}
+
+/// `ok` and the numbers of the links, in the order in which the call went.
+fn turn(alloc: Global, order: &Order) -> Result<String, Unread> {
+    let mut answer = Answer::new(alloc).word("ok")?;
+    for (place, link) in order.turn.iter().enumerate() {
+        if place < usize::from(order.length) {
+            answer = answer.word(*link)?;
+        }
+    }
+    Ok(answer.line())
+}
+
+/// An originating PASSporT that calls these numbers, with commas between.
+fn origin_of(alloc: Global, dests: &[u8]) -> Result<Passport, Unread> {
+    let mut numbers = Vec::new(alloc);
+    for word in text(dests)?.split(',') {
+        numbers.push(number_of(word.as_bytes())?)?;
+    }
+    made(alloc, Kind::Base, numbers.as_slice())
+}
+
+/// A PASSporT of this kind that calls these numbers.
+fn made(alloc: Global, kind: Kind, dest: &[Number]) -> Result<Passport, Unread> {
+    let orig = number_of(b"12155551212")?;
+    match Passport::new(alloc, kind, b"u", 0, orig, dest) {
+        Ok(passport) => Ok(passport),
+        Err(_) => Err(Unread::Value),
+    }
+}
+
+/// A link from `DIV>DEST`.
+fn link_of(alloc: Global, word: &[u8]) -> Result<Passport, Unread>
+    ensures { IfOk result IsLink }
+{
+    let Some((div, dest)) = text(word)?.split_once('>') else {
+        return Err(Unread::Value);
+    };
+    let div = number_of(div.as_bytes())?;
+    let dest = number_of(dest.as_bytes())?;
+    let orig = number_of(b"12155551212")?;
+    match Passport::new(alloc, Kind::Div { div }, b"u", 0, orig, &[dest]) {
+        Ok(passport) => Ok(passport),
+        Err(_) => Err(Unread::Value),
+    }
+}
+
+/// The links of these words, in the order of the message.
+fn links_of(alloc: Global, words: &[Vec<u8>]) -> Result<Vec<Passport>, Unread>
+    ensures { IfOk result (λ links. All IsLink links.items) }
+{
+    let mut links = Vec::new(alloc);
+    for word in words {
+        links.push(link_of(alloc, word.as_slice())?)?;
+    }
+    Ok(links)
+}
