@@ -1,5 +1,4 @@
 pub mod CountLaws
 pub mod CutLaws
 pub mod DecimalLaws
-pub mod LineLaws
 pub mod Passing

@@ -1,7 +1,5 @@
--- Physical lines (RFC 3261, section 7). A line ends at LF, and one CR directly before it is dropped; that a bare LF ends
--- a line too is this project's own leniency.
-use Rattle.std.specs.Prelude.{ℕ, ◌==◌, List, [], ◌∷◌, map, if◌then◌else◌}
-use Rattle.std.specs.Str.Lines.{strip_carriage_return}
+-- Physical lines (RFC 3261, section 7). A line ends at LF; that a bare LF ends one is this project's own leniency.
+use Rattle.std.specs.Prelude.{ℕ, ◌==◌, List, [], ◌∷◌, if◌then◌else◌}
 
 -- a byte in front of the first piece
 abbrev pub onto_first : ℕ → List (List ℕ) → List (List ℕ)
@@ -12,7 +10,3 @@ onto_first byte (piece ∷ others) = (byte ∷ piece) ∷ others
 abbrev pub pieces : List ℕ → List (List ℕ)
 pieces [] = []
 pieces (byte ∷ more) = if byte == 10 then [] ∷ pieces more else onto_first byte (pieces more)
-
--- the lines that the bytes hold whole
-abbrev pub lines : List ℕ → List (List ℕ)
-lines bytes = map strip_carriage_return (pieces bytes)

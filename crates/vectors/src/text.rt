@@ -3,7 +3,7 @@
 use crate::answer::{Answer, or_none, word};
 use crate::table::{Unread, number};
 use std::alloc::Global;
-use stir_base::{behind, cut, next_line, read_number};
+use stir_base::{behind, cut, read_number};
 use text_file::{Line, Lines, Words, line_count, words_of};
 
 /// What a call answers.
@@ -18,7 +18,6 @@ pub fn answer(alloc: Global, call: &str, words: &[Vec<u8>]) -> Result<String, Un
                 read_number(digits.as_slice(), number(most.as_slice())?),
             )
         }
-        ("next_line", [bytes]) => two_or_none(alloc, next_line(bytes.as_slice())),
         ("cut", [bytes, byte]) => cut_answer(alloc, bytes.as_slice(), byte.as_slice()),
         ("behind", [bytes, front]) => text_or_none(
             alloc,
