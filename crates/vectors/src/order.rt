@@ -66,9 +66,12 @@ fn link_of(alloc: Global, word: &[u8]) -> Result<Passport, Unread>
     let div = number_of(div.as_bytes())?;
     let dest = number_of(dest.as_bytes())?;
     let orig = number_of(b"12155551212")?;
-    match Passport::new(alloc, Kind::Div { div }, b"u", 0, orig, &[dest]) {
-        Ok(passport) => Ok(passport),
-        Err(_) => Err(Unread::Value),
+    let Ok(link) = Passport::new(alloc, Kind::Div { div }, b"u", 0, orig, &[dest]) else {
+        return Err(Unread::Value);
+    };
+    match link.kind() {
+        Kind::Div { .. } => Ok(link),
+        _ => Err(Unread::Value),
     }
 }
 
