@@ -1,0 +1,9 @@
+pub mod EarlySteps
+pub mod FieldSteps
+pub mod FirstLaws
+pub mod FreshLaws
+pub mod Known
+pub mod ReadSteps
+pub mod ReadingLaws
+pub mod ScreenedLaws
+pub mod TurnSteps

@@ -1,0 +1,5 @@
+pub mod Call
+pub mod Code
+pub mod Rules
+pub mod Screened
+pub mod Seen

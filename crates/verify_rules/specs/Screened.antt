@@ -1,0 +1,73 @@
+-- What comes of a call by rules 1 to 9.
+use Rattle.std.specs.Prelude.{◌≡◌, ⊤, ℕ, ◌+◌, ◌-◌, ◌<◌, ◌≤◌, List, [], ◌∷◌, ◌++◌, length, take, slice_index, Option, Some, None, Result, Ok, Err}
+use Rattle.std.specs.List.{slice_get}
+use Rattle.passport_claims.specs.Links.{IsOneOf}
+use Rattle.passport_claims.specs.Passport.{ClaimsView}
+use Rattle.verify_rules.specs.Call.{Call, Reading, in_chain, reading}
+use Rattle.verify_rules.specs.Rules.{HoldAll, IsFirst, Rule, first}
+use Rattle.verify_rules.specs.declared.readings.Mark.{Mark}
+use Rattle.verify_rules.specs.declared.refusal.ScreenFault.{ScreenFault}
+use Rattle.verify_rules.specs.declared.refusal.ScreenFault.TheVariants.{Refused, Memory}
+
+-- the judged PASSporTs in chain order, and the last second at which the last of them is fresh
+pub record ScreenedView : Type 0 where
+  pub readings : List Reading
+  pub last : ℕ
+
+abbrev pub field_in : Reading → ℕ
+field_in one = one.mark.field
+
+abbrev pub digest_in : Reading → List ℕ
+digest_in one = one.mark.digest
+
+abbrev pub signature_in : Reading → List ℕ
+signature_in one = one.mark.signature
+
+abbrev pub last_of : List Reading → Option Reading
+last_of readings = slice_get readings (length readings - 1)
+
+abbrev pub iat_or_none : Option Reading → ℕ
+iat_or_none None = 0
+iat_or_none (Some one) = one.passport.iat
+
+-- PASSporTs in chain order, with the last one's iat plus the window
+unfoldable pub screened_by : ℕ → List Reading → ScreenedView
+screened_by window readings = record { readings = readings; last = iat_or_none (last_of readings) + window }
+
+abbrev pub screened_of : Call → ScreenedView
+screened_of call = screened_by call.settings.window (in_chain call)
+
+-- ---- how they are kept
+
+-- PASSporTs beside their marks
+abbrev pub paired : List ClaimsView → List Mark → List Reading
+paired [] marks = []
+paired (passport ∷ others) [] = []
+paired (passport ∷ others) (mark ∷ marks) = reading passport mark ∷ paired others marks
+
+-- an order of so many links behind the originating PASSporT: each of its numbers is that of a link
+pub record IsTurned (readings : List Reading) (count : ℕ) (turn : List ℕ) : Type 0 where
+  pub all : length readings ≡ count + 1
+  pub few : count ≤ 8
+  pub turns : length (take count turn) ≡ count
+  pub each : (at : ℕ) → at < count → IsOneOf count (slice_index turn at)
+
+-- ---- answers
+
+-- screened where none of these rules is broken; else refused by the first that is. Want of memory alone is free
+abbrev pub IsScreenedBy : List Rule → Call → Result ScreenedView ScreenFault → Type 0
+IsScreenedBy rules call (Ok screened) = (first rules call ≡ None) × (screened ≡ screened_of call)
+IsScreenedBy rules call (Err (Refused refused)) = first rules call ≡ Some refused
+IsScreenedBy rules call (Err Memory) = ⊤
+
+-- screened where each of these rules holds; else refused by one, and those before it hold
+abbrev pub IsLeast : List Rule → Call → Result ScreenedView ScreenFault → Type 0
+IsLeast rules call (Ok screened) = HoldAll rules call
+IsLeast rules call (Err (Refused refused)) = IsFirst rules call refused
+IsLeast rules call (Err Memory) = ⊤
+
+-- whatever rules come behind these: screened is left to those, and refused is refused
+abbrev pub IsFirstBefore : List Rule → List Rule → Call → Result ScreenedView ScreenFault → Type 0
+IsFirstBefore rules late call (Ok screened) = first (rules ++ late) call ≡ first late call
+IsFirstBefore rules late call (Err (Refused refused)) = first (rules ++ late) call ≡ Some refused
+IsFirstBefore rules late call (Err Memory) = ⊤

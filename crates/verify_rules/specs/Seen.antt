@@ -1,0 +1,84 @@
+-- The code's views, as the definitions speak of them, and what each step of the rules gives.
+use Rattle.std.specs.Prelude.{◌≡◌, ⊤, ℕ, ◌+◌, ◌≤◌, List, [], ◌∷◌, ◌++◌, length, map, take, drop, Some, None, Result, Ok, Err}
+use Rattle.identity_header.specs.Parts.{Parts}
+use Rattle.identity_header.specs.declared.field.FieldFault.{FieldFault}
+use Rattle.passport_claims.specs.Links.{IsLink}
+use Rattle.passport_claims.specs.declared.order.Order.{Order}
+use Rattle.verify_rules.specs.Call.{IdentityField, Reading, links, numbered, reading, readings_of, turn_of}
+use Rattle.verify_rules.specs.Rules.{bad_field, each, no_order, place, unread}
+use Rattle.verify_rules.specs.Screened.{IsTurned}
+use Rattle.verify_rules.specs.declared.facts.Facts.{Facts}
+use Rattle.verify_rules.specs.declared.fields.NumberedField.{NumberedField}
+use Rattle.verify_rules.specs.declared.passports.Marked.{Marked}
+use Rattle.verify_rules.specs.declared.readings.Taken.{Taken}
+use Rattle.verify_rules.specs.declared.refusal.Place.{Place}
+use Rattle.verify_rules.specs.declared.refusal.Stop.{Stop}
+use Rattle.verify_rules.specs.declared.refusal.Stop.TheVariants.{Broken, Memory}
+
+abbrev pub field_seen : NumberedField → IdentityField
+field_seen field = record { number = field.number; parts = field.parts }
+
+abbrev pub marked_seen : Marked → Reading
+marked_seen one = reading one.passport one.mark
+
+-- ---- the Identity fields
+
+-- the field with this number; or where its value stops being one
+abbrev pub GivesField : ℕ → Result NumberedField Place → Result Parts FieldFault → Type 0
+GivesField number (Ok field) read = (read ≡ Ok field.parts) × (field.number ≡ number)
+GivesField number (Err bad) read = (stop : FieldFault) × (read ≡ Err stop) × (bad ≡ place number stop.place)
+
+-- these are the numbered fields of all values, none of which is bad; or this is the first that is
+abbrev pub AreFields : {X : Type 0} → (X → List IdentityField) → List (List ℕ) → Result X Stop → Type 0
+AreFields seen values (Ok fields) = (bad_field 1 values ≡ None) × (seen fields ≡ numbered 1 values)
+AreFields seen values (Err (Broken bad)) = bad_field 1 values ≡ Some bad
+AreFields seen values (Err Memory) = ⊤
+
+-- of the values up to here none is bad, and these are their fields
+pub record SoFar (values : List (List ℕ)) (i : ℕ) (fields : List IdentityField) : Type 0 where
+  pub good : bad_field (i + 1) (drop i values) ≡ bad_field 1 values
+  pub all : fields ++ numbered (i + 1) (drop i values) ≡ numbered 1 values
+
+-- ---- the PASSporTs
+
+-- the PASSporT of the field with this number is read; or it is broken there
+abbrev pub GivesReading : ℕ → Result Marked Stop → Result Reading ℕ → Type 0
+GivesReading number (Ok one) read = read ≡ Ok (marked_seen one)
+GivesReading number (Err (Broken bad)) read = (part : ℕ) × (read ≡ Err part) × (bad ≡ place number part)
+GivesReading number (Err Memory) read = ⊤
+
+-- all are links
+abbrev pub AreLinks : List Reading → Type 0
+AreLinks [] = ⊤
+AreLinks (one ∷ others) = IsLink one.passport × AreLinks others
+
+-- all behind the first are links
+abbrev pub IsChainable : List Reading → Type 0
+IsChainable [] = ⊤
+IsChainable (origin ∷ others) = AreLinks others
+
+-- these are the PASSporTs of the fields, all of which can be read; or this is the first that can't
+abbrev pub AreReadings : Facts → List IdentityField → Result (List Reading) Stop → Type 0
+AreReadings said fields (Ok readings) = (each (unread said) fields ≡ None) × (readings ≡ readings_of said fields)
+AreReadings said fields (Err (Broken bad)) = each (unread said) fields ≡ Some bad
+AreReadings said fields (Err Memory) = ⊤
+
+-- the originating field and the links up to here can be read, and these are their PASSporTs
+pub record ReadSoFar (said : Facts) (origin : IdentityField) (fields : List NumberedField) (i : ℕ) (so_far : List Reading) : Type 0 where
+  pub first : unread said origin ≡ None
+  pub good : each (unread said) (links (map field_seen (drop i fields))) ≡ each (unread said) (links (map field_seen fields))
+  pub all : so_far ++ readings_of said (links (map field_seen (drop i fields))) ≡ readings_of said (origin ∷ links (map field_seen fields))
+  pub kept : IsChainable so_far
+  pub some : 1 ≤ length so_far
+
+-- ---- the order
+
+-- the order of the PASSporTs; or where they have none
+abbrev pub GivesOrder : Facts → List Reading → Result Order Place → Type 0
+GivesOrder said readings (Ok order) = (turn_of said readings ≡ Ok (take order.length order.turn)) × IsTurned readings order.length order.turn
+GivesOrder said readings (Err bad) = no_order readings (turn_of said readings) ≡ Some bad
+
+-- ---- one PASSporT
+
+abbrev pub taken_seen : Taken → Reading
+taken_seen one = reading one.passport.now one.mark.now

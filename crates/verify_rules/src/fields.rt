@@ -1,0 +1,149 @@
+//! Rules 3 to 5: the Identity fields, and which of them are judged.
+ghost use Rattle.std.specs.Prelude.{◌≡◌, ◌≤◌, ℕ, true, [], List, ◌∷◌, map, find, length, codes, Option, IfOk, IfSome};
+ghost use Rattle.std.specs.Option.{option_copied, option_map};
+ghost use Rattle.identity_header.specs.Read.{read};
+ghost use Rattle.passport_claims.specs.Claims.{IsKnown};
+ghost use Rattle.sip_message.specs.Accessors.{identities};
+ghost use Rattle.verify_rules.specs.Call.{has_ppt, is_text, lacks_ppt, links, originating};
+ghost use Rattle.verify_rules.specs.Rules.{each, foreign_alg, is_es256};
+ghost use Rattle.verify_rules.specs.Seen.{AreFields, GivesField, field_seen};
+
+use crate::refusal::{Place, Stop};
+use identity_header::Field;
+use sip_message::Message;
+use std::alloc::Global;
+
+/// How many Identity fields a message may have (this project's own limit).
+const MOST_FIELDS: usize = 16;
+
+/// An Identity field with its number, counted from 1 in message order.
+#[derive(Drop)]
+pub(crate) struct NumberedField<'a> {
+    pub(crate) number: u32,
+    pub(crate) parts: Field<'a>,
+}
+
+/// The Identity fields of a message, in message order.
+#[tactic(auto, using(crate::proofs::FieldSteps::fields_start, crate::proofs::FieldSteps::field_more, crate::proofs::FieldSteps::numbers_more, crate::proofs::FieldSteps::field_bad, crate::proofs::FieldSteps::fields_many, crate::proofs::FieldSteps::none_bad, crate::proofs::FieldSteps::all_numbered))]
+pub(crate) fn read_fields<'a>(
+    alloc: Global,
+    message: &'a Message<'a>,
+) -> Result<Vec<NumberedField<'a>>, Stop>
+    ensures { AreFields (λ fields. map field_seen fields.items) (identities message.now) result }
+{
+    let mut fields = Vec::new(alloc);
+    'fields: for i in 0..message.identity_count() {
+        if i >= MOST_FIELDS {
+            return Err(Stop::Broken(Place::new(17, 0)));
+        }
+        match read_field(message.identity(i), i as u32 + 1) {
+            Ok(field) => {
+                if fields.push(field).is_err() {
+                    return Err(Stop::Memory);
+                }
+            }
+            Err(bad) => return Err(Stop::Broken(bad)),
+        }
+    }
+    Ok(fields)
+}
+
+/// The field with this value and this number, or where it stops being readable.
+fn read_field(value: &[u8], number: u32) -> Result<NumberedField<'_>, Place>
+    requires { length value.now ≤ 65535 }
+    ensures { GivesField number result (read value.now) }
+{
+    match Field::read(value) {
+        Ok(parts) => Ok(NumberedField { number, parts }),
+        Err(fault) => Err(Place::new(number, fault.place)),
+    }
+}
+
+/// The field of the PASSporT that the originating side signed.
+#[tactic(auto, using(crate::proofs::Known::known_with, crate::proofs::Known::known_without))]
+pub(crate) fn originating<'f, 'a>(fields: &'f [NumberedField<'a>]) -> Option<&'f NumberedField<'a>>
+    ensures field { option_map (λ field. field_seen field.now) result ≡ originating (map field_seen fields.now) }
+    ensures known { IfSome result (λ field. IsKnown field.now.parts.ppt) }
+{
+    match first_with(fields, b"shaken") {
+        Some(field) => Some(field),
+        None => first_without(fields),
+    }
+}
+
+/// The first field with this type.
+fn first_with<'f, 'a>(fields: &'f [NumberedField<'a>], ppt: &[u8]) -> Option<&'f NumberedField<'a>>
+    ensures field { option_map (λ field. field_seen field.now) result ≡ find (has_ppt ppt.now) (map field_seen fields.now) }
+    ensures with { IfSome result (λ field. has_ppt ppt.now (field_seen field.now) ≡ true) }
+{
+    for field in fields {
+        if has_ppt(field, ppt) {
+            return Some(field);
+        }
+    }
+    None
+}
+
+/// The first field without a type.
+fn first_without<'f, 'a>(fields: &'f [NumberedField<'a>]) -> Option<&'f NumberedField<'a>>
+    ensures field { option_map (λ field. field_seen field.now) result ≡ find lacks_ppt (map field_seen fields.now) }
+    ensures without { IfSome result (λ field. lacks_ppt (field_seen field.now) ≡ true) }
+{
+    for field in fields {
+        if field.parts.ppt().is_none() {
+            return Some(field);
+        }
+    }
+    None
+}
+
+/// Where the first judged field with another algorithm stands.
+pub(crate) fn foreign_alg(origin: &NumberedField<'_>, fields: &[NumberedField<'_>]) -> Option<Place>
+    ensures { result ≡ each foreign_alg (field_seen origin.now ∷ links (map field_seen fields.now)) }
+{
+    if !is_es256(origin) {
+        return Some(Place::new(origin.number, 0));
+    }
+    foreign_link(fields)
+}
+
+/// Where the first link with another algorithm stands.
+fn foreign_link(fields: &[NumberedField<'_>]) -> Option<Place>
+    ensures { result ≡ each foreign_alg (links (map field_seen fields.now)) }
+{
+    for field in fields {
+        if is_link(field) && !is_es256(field) {
+            return Some(Place::new(field.number, 0));
+        }
+    }
+    None
+}
+
+/// Whether the field is that of a diversion (RFC 8946).
+pub(crate) fn is_link(field: &NumberedField<'_>) -> bool
+    ensures { result ≡ has_ppt (codes "div") (field_seen field.now) }
+{
+    has_ppt(field, b"div")
+}
+
+fn has_ppt(field: &NumberedField<'_>, ppt: &[u8]) -> bool
+    ensures { result ≡ has_ppt ppt.now (field_seen field.now) }
+{
+    is_text(field.parts.ppt(), ppt)
+}
+
+/// Whether the field's algorithm is ES256, which it is where none is given.
+fn is_es256(field: &NumberedField<'_>) -> bool
+    ensures { result ≡ is_es256 field.now.parts.alg }
+{
+    field.parts.alg().is_none() || is_text(field.parts.alg(), b"ES256")
+}
+
+fn is_text(given: Option<&[u8]>, text: &[u8]) -> bool
+    ensures { result ≡ is_text text.now (option_copied given.entry) }
+{
+    match given {
+        Some(value) => value == text,
+        None => false,
+    }
+}

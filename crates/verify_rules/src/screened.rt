@@ -1,0 +1,159 @@
+//! A call that was screened.
+ghost use Rattle.std.specs.Prelude.{◌≡◌, ◌<◌, ◌≤◌, length, take, Some};
+ghost use Rattle.std.specs.List.{slice_get};
+ghost use Rattle.std.specs.Option.{option_map};
+ghost use Rattle.verify_rules.specs.Call.{in_turn, passport_in, reading};
+ghost use Rattle.verify_rules.specs.Rules.{each, stale};
+ghost use Rattle.verify_rules.specs.Screened.{IsTurned, digest_in, field_in, iat_or_none, last_of, screened_by, signature_in};
+ghost use Rattle.verify_rules.specs.Seen.{taken_seen};
+
+use crate::readings::{Readings, Taken};
+use crate::refusal::Place;
+use passport_claims::{Order, Passport};
+use std::marker::Model;
+
+/// A call that breaks none of the rules 1 to 9: its judged PASSporTs in the order in which the call went, the originating one first,
+/// and the last second at which the last of them is fresh. In contracts it is the record of these two.
+#[derive(Drop)]
+pub struct Screened {
+    readings: Readings,
+    turn: [u8; 8],
+    links: u8,
+    last: u64,
+}
+
+impl Model for Screened {
+    ghost use Rattle.std.specs.Prelude.{take};
+    ghost use Rattle.verify_rules.specs.Call.{in_turn};
+    ghost use Rattle.verify_rules.specs.Screened.{IsTurned, ScreenedView};
+
+    ghost Value = { ScreenedView };
+
+    ghost view = { λ s. record { readings = in_turn s.readings (take s.links s.turn); last = s.last } };
+
+    ghost invariant = { λ s. IsTurned s.readings s.links s.turn };
+}
+
+impl Screened {
+    /// The PASSporTs in this order, each fresh for so many seconds.
+    #[tactic(auto, unfolding(crate::specs::Screened::screened_by))]
+    pub(crate) fn new(readings: Readings, order: Order, window: u64) -> Screened
+        requires turned { IsTurned readings order.length order.turn }
+        requires window { window ≤ 86400 }
+        ensures { result ≡ screened_by window (in_turn readings (take order.length order.turn)) }
+    {
+        let turn = order.turn;
+        let mut screened = Screened {
+            readings,
+            turn,
+            links: order.length,
+            last: 0,
+        };
+        let last = screened.last_iat() + window;
+        screened.last = last;
+        screened
+    }
+
+    /// How many PASSporTs were judged, at least one.
+    #[tactic(auto, using(crate::proofs::ScreenedLaws::turned_count))]
+    pub fn count(&self) -> usize
+        ensures count { result ≡ length self.now.readings }
+        ensures some { 1 ≤ result }
+    {
+        usize::from(self.links) + 1
+    }
+
+    /// What the PASSporT at this index says.
+    pub fn passport(&self, i: usize) -> &Passport
+        requires { i < length self.now.readings }
+        ensures { option_map passport_in (slice_get self.now.readings i) ≡ Some result.now }
+    {
+        self.taken(i).passport
+    }
+
+    /// The number of its Identity field, counted from 1 in message order.
+    pub fn field(&self, i: usize) -> u32
+        requires { i < length self.now.readings }
+        ensures { option_map field_in (slice_get self.now.readings i) ≡ Some result }
+    {
+        self.taken(i).mark.field
+    }
+
+    /// The digest of what was signed, SHA-256.
+    pub fn digest(&self, i: usize) -> &[u8; 32]
+        requires { i < length self.now.readings }
+        ensures { option_map digest_in (slice_get self.now.readings i) ≡ Some result.now }
+    {
+        &self.taken(i).mark.digest
+    }
+
+    /// Its signature.
+    pub fn signature(&self, i: usize) -> &[u8; 64]
+        requires { i < length self.now.readings }
+        ensures { option_map signature_in (slice_get self.now.readings i) ≡ Some result.now }
+    {
+        &self.taken(i).mark.signature
+    }
+
+    /// The ticket by which the call is known again: the digest of its last PASSporT.
+    #[tactic(auto, using(crate::proofs::ScreenedLaws::last_digest))]
+    pub fn ticket(&self) -> &[u8; 32]
+        ensures { option_map digest_in (last_of self.now.readings) ≡ Some result.now }
+    {
+        let count = self.count();
+        self.digest(count - 1)
+    }
+
+    /// The last second at which the call is fresh: the iat of its last PASSporT and the window, in Unix time.
+    pub fn last(&self) -> u64
+        ensures { result ≡ self.now.last }
+    {
+        self.last
+    }
+
+    /// The iat of the last PASSporT.
+    #[tactic(auto, using(crate::proofs::ScreenedLaws::last_iat_is))]
+    fn last_iat(&self) -> u64
+        ensures value { result ≡ iat_or_none (last_of self.now.readings) }
+        ensures within { result ≤ 253402300799 }
+    {
+        let count = self.count();
+        self.passport(count - 1).iat()
+    }
+
+    /// The PASSporT at this index and its mark.
+    #[tactic(auto, using(crate::proofs::ScreenedLaws::turned_first, crate::proofs::ScreenedLaws::turned_low, crate::proofs::ScreenedLaws::turned_some, crate::proofs::ScreenedLaws::turned_within, crate::proofs::ScreenedLaws::turned_at))]
+    fn taken(&self, i: usize) -> Taken<'_>
+        requires { i < length self.now.readings }
+        ensures { slice_get self.now.readings i ≡ Some (taken_seen result) }
+    {
+        if i == 0 {
+            return self.readings.taken(0);
+        }
+        self.readings.taken(usize::from(self.turn[i - 1]))
+    }
+}
+
+/// Where the first PASSporT stands whose iat and the moment differ by more than the window, in the order in which the call went.
+#[tactic(auto, using(crate::proofs::TurnSteps::stale_more, crate::proofs::TurnSteps::stale_here, crate::proofs::TurnSteps::stale_done))]
+pub(crate) fn stale(screened: &Screened, moment: u64, window: u64) -> Option<Place>
+    ensures { result ≡ each (stale window moment) screened.now.readings }
+{
+    'readings: for i in 0..screened.count() {
+        if let Some(bad) = stale_at(&screened.taken(i), moment, window) {
+            return Some(bad);
+        }
+    }
+    None
+}
+
+/// Where this PASSporT stands, if its iat and the moment differ by more than the window.
+#[tactic(auto, unfolding(crate::specs::Rules::stale))]
+fn stale_at(one: &Taken<'_>, moment: u64, window: u64) -> Option<Place>
+    ensures { result ≡ stale window moment (taken_seen one.now) }
+{
+    if moment.abs_diff(one.passport.iat()) > window {
+        return Some(Place::new(one.mark.field, 0));
+    }
+    None
+}

@@ -1,0 +1,83 @@
+//! Rules 7 and 8: the calling number, and the order in which the call went.
+ghost use Rattle.std.specs.Prelude.{◌≡◌, ◌≤◌, length, if◌then◌else◌};
+ghost use Rattle.verify_rules.specs.Call.{is_text};
+ghost use Rattle.verify_rules.specs.Rules.{each, field_at, foreign_orig};
+ghost use Rattle.verify_rules.specs.Seen.{GivesOrder, IsChainable, taken_seen};
+
+use crate::facts::Facts;
+use crate::readings::{Readings, Taken};
+use crate::refusal::Place;
+use passport_claims::{Order, chain};
+use tn_values::Number;
+
+/// Where the first PASSporT for another calling number stands, in message order.
+#[tactic(auto, using(crate::proofs::TurnSteps::orig_more, crate::proofs::TurnSteps::orig_here, crate::proofs::TurnSteps::orig_done))]
+pub(crate) fn foreign_orig(readings: &Readings, facts: &Facts) -> Option<Place>
+    ensures { result ≡ each (foreign_orig facts.now.calling) readings.now }
+{
+    'readings: for i in 0..readings.len() {
+        if let Some(bad) = foreign_orig_at(&readings.taken(i), facts) {
+            return Some(bad);
+        }
+    }
+    None
+}
+
+/// Where this PASSporT stands, if it is for another calling number.
+#[tactic(auto, unfolding(crate::specs::Rules::foreign_orig))]
+fn foreign_orig_at(one: &Taken<'_>, facts: &Facts) -> Option<Place>
+    ensures { result ≡ foreign_orig facts.now.calling (taken_seen one.now) }
+{
+    if is_calling(facts.calling, one.passport.orig()) {
+        return None;
+    }
+    Some(Place::new(one.mark.field, 0))
+}
+
+/// Whether this is the calling number.
+fn is_calling(calling: Option<Number>, number: Number) -> bool
+    ensures { result ≡ is_text number calling }
+{
+    match calling {
+        Some(calling) => calling == number,
+        None => false,
+    }
+}
+
+/// The order of the links, or where they show that there is none.
+#[tactic(auto, using(crate::proofs::TurnSteps::rest_links, crate::proofs::TurnSteps::order_is, crate::proofs::TurnSteps::order_turned, crate::proofs::TurnSteps::no_order_is))]
+pub(crate) fn order_of(readings: &Readings, facts: &Facts) -> Result<Order, Place>
+    requires some { 1 ≤ length readings.now }
+    requires kept { IsChainable readings.now }
+    ensures { GivesOrder facts.now readings.now result }
+{
+    let passports = readings.passports();
+    let links = &passports[1..];
+    let called = called(facts, links.is_empty());
+    match chain(&passports[0], links, called) {
+        Ok(order) => Ok(order),
+        Err(fault) => Err(Place::new(
+            field_at(readings, usize::from(fault.link)),
+            u32::from(fault.kind),
+        )),
+    }
+}
+
+/// The called number: To's where there is no link, else that of the request URI.
+fn called(facts: &Facts, is_direct: bool) -> Option<Number>
+    ensures { result ≡ (if is_direct then facts.now.to else facts.now.target) }
+{
+    if is_direct { facts.to } else { facts.target }
+}
+
+/// The number of the field of the PASSporT at this index; 0 where there is none.
+#[tactic(auto, using(crate::proofs::TurnSteps::field_there, crate::proofs::TurnSteps::field_behind))]
+fn field_at(readings: &Readings, i: usize) -> u32
+    ensures { result ≡ field_at readings.now i }
+{
+    if i < readings.len() {
+        readings.taken(i).mark.field
+    } else {
+        0
+    }
+}
