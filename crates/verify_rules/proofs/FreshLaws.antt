@@ -16,7 +16,7 @@ use Rattle.verify_rules.proofs.FirstLaws.{least}
 
 -- ---- a rule that holds of each
 
-here_none : (one later : Option Place) → option_or one later ≡ None → (one ≡ None) × (later ≡ None)
+pub here_none : (one later : Option Place) → option_or one later ≡ None → (one ≡ None) × (later ≡ None)
 here_none None later e = (refl, e)
 here_none (Some bad) later e = absurd cc
 

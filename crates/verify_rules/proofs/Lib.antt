@@ -7,3 +7,5 @@ pub mod ReadSteps
 pub mod ReadingLaws
 pub mod ScreenedLaws
 pub mod TurnSteps
+pub mod WordLaws
+pub mod WordSteps

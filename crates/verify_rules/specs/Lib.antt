@@ -3,3 +3,4 @@ pub mod Code
 pub mod Rules
 pub mod Screened
 pub mod Seen
+pub mod Words
