@@ -65,7 +65,7 @@ fields_are settings moment message result e some good h =
 judged_is : (call : Call) (fields : List IdentityField) (o : IdentityField) → fields ≡ fields_of call → Some o ≡ originating fields → judged_fields (fields_of call) ≡ o ∷ links fields
 judged_is call fields o is e = ap judged_fields (sym is) ∙ ap (λ x. option_to_list x ++ links fields) (sym e)
 
-message_is : (call : Call) (fields : List IdentityField) (o : IdentityField) (said : Facts) (readings : List Reading) → fields ≡ fields_of call → Some o ≡ originating fields → said ≡ facts call
+pub message_is : (call : Call) (fields : List IdentityField) (o : IdentityField) (said : Facts) (readings : List Reading) → fields ≡ fields_of call → Some o ≡ originating fields → said ≡ facts call
     → readings ≡ readings_of said (o ∷ links fields) → in_message call ≡ readings
 message_is call fields o said readings is e s r =
     ap (readings_of (facts call)) (judged_is call fields o is e) ∙ ap (λ x. readings_of x (o ∷ links fields)) (sym s) ∙ sym r

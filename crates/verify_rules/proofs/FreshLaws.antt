@@ -47,7 +47,7 @@ read_by : (number : ℕ) (r : Result Reading ℕ) → unread_at number r ≡ Non
 read_by number (Ok one) e = (one, refl)
 read_by number (Err part) e = absurd cc
 
-read_there : (said : Facts) (field : IdentityField) → unread said field ≡ None → (one : Reading) × (read_field said field ≡ Ok one)
+pub read_there : (said : Facts) (field : IdentityField) → unread said field ≡ None → (one : Reading) × (read_field said field ≡ Ok one)
 unfolding unread
 read_there said field e = read_by field.number (read_field said field) e
 

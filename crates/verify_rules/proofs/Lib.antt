@@ -9,3 +9,6 @@ pub mod ScreenedLaws
 pub mod TurnSteps
 pub mod WordLaws
 pub mod WordSteps
+pub mod TokenWords
+pub mod AllWords
+pub mod OrderWords

@@ -16,7 +16,7 @@ use Rattle.verify_rules.proofs.Known.{text_by}
 
 -- ---- one field
 
-read_one : (said : Facts) (field : IdentityField) (one : Reading) → read_field said field ≡ Ok one → unread said field ≡ None
+pub read_one : (said : Facts) (field : IdentityField) (one : Reading) → read_field said field ≡ Ok one → unread said field ≡ None
 unfolding unread
 read_one said field one e = ap (unread_at field.number) e
 
@@ -24,7 +24,7 @@ pub unread_one : (said : Facts) (field : IdentityField) (part : ℕ) → read_fi
 unfolding unread
 unread_one said field part e = ap (unread_at field.number) e
 
-readings_one : (said : Facts) (field : IdentityField) (others : List IdentityField) (one : Reading) → read_field said field ≡ Ok one
+pub readings_one : (said : Facts) (field : IdentityField) (others : List IdentityField) (one : Reading) → read_field said field ≡ Ok one
     → readings_of said (field ∷ others) ≡ one ∷ readings_of said others
 readings_one said field others one e = rw e refl
 

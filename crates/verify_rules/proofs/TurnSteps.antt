@@ -69,7 +69,7 @@ links_at [] k d all within = absurd (omega arith)
 links_at (one ∷ others) zero d all within = all.0
 links_at (one ∷ others) (suc k) d all within = links_at others k d all.1 (omega arith)
 
-rest_is : (origin : Reading) (others : List Reading) (passports : List ClaimsView) → passports ≡ passports_of (origin ∷ others)
+pub rest_is : (origin : Reading) (others : List Reading) (passports : List ClaimsView) → passports ≡ passports_of (origin ∷ others)
     → take (length passports - 1) (drop 1 passports) ≡ passports_of others
 rest_is origin others passports is = take_rest passports 1 ∙ ap (drop 1) is
 
@@ -78,7 +78,7 @@ pub rest_links : (readings : List Reading) (passports : List ClaimsView) → pas
 rest_links [] passports is some kept = absurd (omega arith)
 rest_links (origin ∷ others) passports is some kept = subst (All IsLink) (sym (rest_is origin others passports is)) (λ k d within. links_at others k d kept within)
 
-called_is : (said : Facts) (others : List Reading) → (if length (passports_of others) == 0 then said.to else said.target) ≡ called_by said others
+pub called_is : (said : Facts) (others : List Reading) → (if length (passports_of others) == 0 then said.to else said.target) ≡ called_by said others
 called_is said [] = refl
 called_is said (one ∷ others) = let some : (length (passports_of (one ∷ others)) == 0) ≡ false = grind (arith, nat_tests) in rw some refl
 

@@ -1,9 +1,9 @@
 -- What an answer says of a rule in its own words, once for all rules.
-use Rattle.std.proofs.Common.{◌≡◌, ◌↔◌, ℕ, suc, ◌<◌, ◌≤◌, List, [], ◌∷◌, ◌++◌, Option, Some, None, Result, Ok, Err, refl, sym, ◌∙◌, ap, arith}
+use Rattle.std.proofs.Common.{◌≡◌, ◌↔◌, ℕ, ◌<◌, List, [], ◌∷◌, ◌++◌, Option, Some, None, Result, Ok, Err, refl, sym, ◌∙◌, ap, arith}
 use Rattle.std.specs.Prelude.{⊤}
 use Rattle.std.specs.Option.{option_or}
 use Rattle.verify_rules.specs.Call.{Call}
-use Rattle.verify_rules.specs.Rules.{HoldAll, Rule, each, first, or_later, refusal}
+use Rattle.verify_rules.specs.Rules.{Rule, each, first, or_later}
 use Rattle.verify_rules.specs.Screened.{IsScreenedBy, ScreenedView}
 use Rattle.verify_rules.specs.Words.{Each, Means}
 use Rattle.verify_rules.specs.declared.refusal.Place.{Place}

@@ -1,8 +1,7 @@
 -- What the holding of each rule means.
-use Rattle.std.proofs.Common.{◌≡◌, ◌↔◌, ◌⊎◌, inl, inr, ℕ, zero, suc, ◌+◌, ◌<◌, ◌≤◌, nat_lt, Bool, true, false, List, [], ◌∷◌, ◌++◌, length, filter, find, codes, cond, Option, Some, None, Result, Ok, Err, refl, sym, ◌∙◌, ap, subst, arith, option_to_list}
+use Rattle.std.proofs.Common.{◌≡◌, ◌↔◌, ◌⊎◌, inl, inr, ℕ, suc, ◌+◌, ◌≤◌, nat_lt, Bool, true, false, List, [], ◌∷◌, length, find, codes, cond, Option, Some, None, Result, Ok, Err, refl, sym, ◌∙◌, ap, arith}
 use Rattle.std.specs.Int.{abs_diff}
 use Rattle.std.specs.Option.{option_or}
-use Rattle.std.specs.Str.{bytes_eq}
 use Rattle.std.proofs.lemmas.Bool.Decides.{nat_tests}
 use Rattle.std.proofs.lemmas.Slice.Eq.{bytes_eq-Decides}
 use Rattle.identity_header.specs.FieldText.{FieldText}
@@ -14,7 +13,7 @@ use Rattle.sip_message.specs.Head.{Head}
 use Rattle.sip_message.specs.Message.{MessageView}
 use Rattle.sip_message.specs.Reading.{read}
 use Rattle.sip_message.specs.declared.fault.FormFault.{FormFault}
-use Rattle.verify_rules.specs.Call.{Call, IdentityField, Reading, has_ppt, is_absent, is_text, lacks_ppt, originating}
+use Rattle.verify_rules.specs.Call.{IdentityField, Reading, has_ppt, is_absent, is_text, lacks_ppt, originating}
 use Rattle.verify_rules.specs.Rules.{bad_field, bad_or_later, foreign_alg, foreign_orig, is_es256, no_identity, no_invite, no_originating, place, stale}
 use Rattle.verify_rules.specs.Words.{AreFewFields, Each, IsEs256, IsFieldText, IsFresh, IsFrom, IsInvite, MayOriginate, OfOne}
 use Rattle.verify_rules.specs.declared.refusal.Place.{Place}
@@ -36,11 +35,12 @@ invite_by bytes (Ok message) heads h =
 invite_by bytes (Err fault) heads h = absurd cc
 
 pub invite_means : (bytes : List ℕ) → ((bytes : List ℕ) (message : MessageView) → (read bytes ≡ Ok message) ↔ Head bytes message) → (no_invite (read bytes) ≡ None) ↔ IsInvite bytes
-invite_means bytes law =
-    (invite_by bytes (read bytes) (λ message e. (law bytes message).0 e),
-     (λ (h : IsInvite bytes).
-       let is : is_invite h.message ≡ true = (bytes_eq-Decides h.message.method (codes "INVITE")).1 h.method in
-       ap no_invite ((law bytes h.message).1 h.head) ∙ rw is refl))
+invite_means bytes law = (
+  invite_by bytes (read bytes) (λ message e. (law bytes message).0 e),
+  (λ (h : IsInvite bytes).
+      let is : is_invite h.message ≡ true = (bytes_eq-Decides h.message.method (codes "INVITE")).1 h.method in
+      ap no_invite ((law bytes h.message).1 h.head) ∙ rw is refl),
+)
 
 -- ---- rule 2
 
@@ -78,9 +78,10 @@ good_again law number (value ∷ others) few h =
     rw (low, e) rest
 
 pub fields_mean : (values : List (List ℕ)) → ((text : List ℕ) (f : Parts) → (read_parts text ≡ Ok f) ↔ FieldText f text) → (bad_field 1 values ≡ None) ↔ AreFewFields values
-fields_mean values law =
-    ((λ h. let few = few_by 1 values (omega arith) h in record { few = omega (arith, few); texts = texts_by law 1 values h }),
-     (λ (h : AreFewFields values). let few = h.few in good_again law 1 values (omega (arith, few)) h.texts))
+fields_mean values law = (
+  (λ h. let few = few_by 1 values (omega arith) h in record { few = omega (arith, few); texts = texts_by law 1 values h }),
+  (λ (h : AreFewFields values). let few = h.few in good_again law 1 values (omega (arith, few)) h.texts),
+)
 
 -- ---- rule 4
 
@@ -130,9 +131,10 @@ origin_again fields None None e f (inl p) = absurd (missed_by (has_ppt (codes "s
 origin_again fields None None e f (inr p) = absurd (missed_by lacks_ppt HasNoType (λ field is. ap is_absent is) fields f p)
 
 pub origin_means : (fields : List IdentityField) → (no_originating (originating fields) ≡ None) ↔ OfOne MayOriginate fields
-origin_means fields =
-    (origin_by fields (find (has_ppt (codes "shaken")) fields) (find lacks_ppt fields) refl refl,
-     (λ p. origin_again fields (find (has_ppt (codes "shaken")) fields) (find lacks_ppt fields) refl refl (either fields p)))
+origin_means fields = (
+  origin_by fields (find (has_ppt (codes "shaken")) fields) (find lacks_ppt fields) refl refl,
+  (λ p. origin_again fields (find (has_ppt (codes "shaken")) fields) (find lacks_ppt fields) refl refl (either fields p)),
+)
 
 -- ---- rule 5
 
@@ -145,17 +147,19 @@ alg_again alg (inl e) = ap is_es256 e
 alg_again alg (inr e) = ap is_es256 e
 
 pub alg_means : (field : IdentityField) → (foreign_alg field ≡ None) ↔ IsEs256 field
-alg_means field =
-    ((λ h. alg_by field.parts.alg (none_if (place field.number 0) (is_es256 field.parts.alg) h)),
-     (λ h. let is : is_es256 field.parts.alg ≡ true = alg_again field.parts.alg h in rw is refl))
+alg_means field = (
+  (λ h. alg_by field.parts.alg (none_if (place field.number 0) (is_es256 field.parts.alg) h)),
+  (λ h. let is : is_es256 field.parts.alg ≡ true = alg_again field.parts.alg h in rw is refl),
+)
 
 -- ---- rule 7
 
 pub orig_means : (calling : Option (List ℕ)) (one : Reading) → (foreign_orig calling one ≡ None) ↔ IsFrom calling one
 unfolding foreign_orig
-orig_means calling one =
-    ((λ h. text_by one.passport.orig calling (none_if (place one.mark.field 0) (is_text one.passport.orig calling) h)),
-     (λ h. let is : is_text one.passport.orig calling ≡ true = text_is one.passport.orig calling h in rw is refl))
+orig_means calling one = (
+  (λ h. text_by one.passport.orig calling (none_if (place one.mark.field 0) (is_text one.passport.orig calling) h)),
+  (λ h. let is : is_text one.passport.orig calling ≡ true = text_is one.passport.orig calling h in rw is refl),
+)
 
 -- ---- rule 9
 
@@ -165,8 +169,9 @@ fresh_by window moment one bad false e h = record { not_old = grind (arith, nat_
 
 pub fresh_means : (window moment : ℕ) (one : Reading) → (stale window moment one ≡ None) ↔ IsFresh window moment one
 unfolding stale
-fresh_means window moment one =
-    (fresh_by window moment one (place one.mark.field 0) (nat_lt window (abs_diff moment one.passport.iat)) refl,
-     (λ (h : IsFresh window moment one).
-       let old = h.not_old in let early = h.not_early in
-       let low : nat_lt window (abs_diff moment one.passport.iat) ≡ false = grind (arith, nat_tests) in rw low refl))
+fresh_means window moment one = (
+  fresh_by window moment one (place one.mark.field 0) (nat_lt window (abs_diff moment one.passport.iat)) refl,
+  (λ (h : IsFresh window moment one).
+      let old = h.not_old in let early = h.not_early in
+      let low : nat_lt window (abs_diff moment one.passport.iat) ≡ false = grind (arith, nat_tests) in rw low refl),
+)

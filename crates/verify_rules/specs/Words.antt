@@ -76,6 +76,9 @@ abbrev pub HasOrder : Facts → List Reading → Type 0
 HasOrder said [] = ⊤
 HasOrder said (origin ∷ others) = (turn : List ℕ) × IsOrder origin.passport (passports_of others) (called_by said others) turn
 
+abbrev pub CallHasOrder : Call → Type 0
+CallHasOrder call = HasOrder (facts call) (in_message call)
+
 -- 9: the moment and the iat differ by at most the window
 pub record IsFresh (window moment : ℕ) (one : Reading) : Type 0 where
   pub not_old : moment ≤ one.passport.iat + window
@@ -105,4 +108,5 @@ pub record SaysWords (bytes : List ℕ) (call : Call) (result : Result ScreenedV
   pub tokens : Means 6 (Each (CanBeRead (facts call)) (judged_fields (fields_of call))) result
   pub read : SpeaksOfRead call result
   pub calling : Means 7 (Each (IsFrom (facts call).calling) (in_message call)) result
+  pub order : Means 8 (CallHasOrder call) result
   pub fresh : Means 9 (Each (IsFresh call.settings.window call.moment) (in_chain call)) result
