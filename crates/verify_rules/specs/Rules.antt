@@ -1,5 +1,5 @@
 -- The rules by which a call is judged, and the first that it breaks. A rule is stated of a call only where all rules before it
--- hold; where it isn't stated it says nothing of importance.
+-- hold; what its definition gives elsewhere is never looked at.
 use Rattle.std.specs.Prelude.{◌≡◌, ℕ, suc, nat_lt, Bool, ◌||◌, ⊤, List, [], ◌∷◌, ◌++◌, map, slice_index_or, Option, Some, None, Result, Ok, Err, codes, if◌then◌else◌}
 use Rattle.std.specs.Int.{abs_diff}
 use Rattle.std.specs.Option.{option_or}

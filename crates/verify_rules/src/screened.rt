@@ -71,7 +71,7 @@ impl Screened {
         self.taken(i).passport
     }
 
-    /// The number of its Identity field, counted from 1 in message order.
+    /// The number of the Identity field of the PASSporT at this index, counted from 1 in message order.
     pub fn field(&self, i: usize) -> u32
         requires { i < length self.now.readings }
         ensures { option_map field_in (slice_get self.now.readings i) ≡ Some result }
@@ -79,7 +79,7 @@ impl Screened {
         self.taken(i).mark.field
     }
 
-    /// The digest of what was signed, SHA-256.
+    /// The digest of what was signed as the PASSporT at this index: SHA-256 (FIPS 180-4).
     pub fn digest(&self, i: usize) -> &[u8; 32]
         requires { i < length self.now.readings }
         ensures { option_map digest_in (slice_get self.now.readings i) ≡ Some result.now }
@@ -87,7 +87,7 @@ impl Screened {
         &self.taken(i).mark.digest
     }
 
-    /// Its signature.
+    /// The signature of the PASSporT at this index.
     pub fn signature(&self, i: usize) -> &[u8; 64]
         requires { i < length self.now.readings }
         ensures { option_map signature_in (slice_get self.now.readings i) ≡ Some result.now }
