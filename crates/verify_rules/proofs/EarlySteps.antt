@@ -12,6 +12,8 @@ use Rattle.verify_rules.specs.declared.refusal.Place.{Place}
 use Rattle.verify_rules.specs.declared.refusal.ScreenFault.{ScreenFault}
 use Rattle.verify_rules.specs.declared.refusal.ScreenFault.TheVariants.{Refused, Memory}
 use Rattle.verify_rules.specs.declared.settings.Settings.{Settings}
+use Rattle.verify_rules.specs.Seen.{Serves}
+use Rattle.verify_rules.proofs.FactLaws.{turn_same}
 use Rattle.verify_rules.proofs.FirstLaws.{breaks, holds}
 
 -- ---- rules 1 to 3
@@ -65,14 +67,14 @@ fields_are settings moment message result e some good h =
 judged_is : (call : Call) (fields : List IdentityField) (o : IdentityField) → fields ≡ fields_of call → Some o ≡ originating fields → judged_fields (fields_of call) ≡ o ∷ links fields
 judged_is call fields o is e = ap judged_fields (sym is) ∙ ap (λ x. option_to_list x ++ links fields) (sym e)
 
-pub message_is : (call : Call) (fields : List IdentityField) (o : IdentityField) (said : Facts) (readings : List Reading) → fields ≡ fields_of call → Some o ≡ originating fields → said ≡ facts call
+pub message_is : (call : Call) (fields : List IdentityField) (o : IdentityField) (said : Facts) (readings : List Reading) → fields ≡ fields_of call → Some o ≡ originating fields → Serves said (facts call) (o ∷ links fields)
     → readings ≡ readings_of said (o ∷ links fields) → in_message call ≡ readings
 message_is call fields o said readings is e s r =
-    ap (readings_of (facts call)) (judged_is call fields o is e) ∙ ap (λ x. readings_of x (o ∷ links fields)) (sym s) ∙ sym r
+    ap (readings_of (facts call)) (judged_is call fields o is e) ∙ sym s.readings ∙ sym r
 
-chain_is : (call : Call) (said : Facts) (readings : List Reading) (turn : List ℕ) → in_message call ≡ readings → said ≡ facts call → turn_of said readings ≡ Ok turn → in_chain call ≡ in_turn readings turn
+chain_is : (call : Call) (said : Facts) (readings : List Reading) (turn : List ℕ) → in_message call ≡ readings → turn_of said readings ≡ turn_of (facts call) readings → turn_of said readings ≡ Ok turn → in_chain call ≡ in_turn readings turn
 chain_is call said readings turn m s t =
-    ap (λ x. in_turn x (or_none (turn_of (facts call) x))) m ∙ ap (λ x. in_turn readings (or_none (turn_of x readings))) (sym s) ∙ ap (λ x. in_turn readings (or_none x)) t
+    ap (λ x. in_turn x (or_none (turn_of (facts call) x))) m ∙ ap (λ x. in_turn readings (or_none x)) (sym s) ∙ ap (λ x. in_turn readings (or_none x)) t
 
 origin_there : (call : Call) (fields : List IdentityField) (o : IdentityField) → fields ≡ fields_of call → Some o ≡ originating fields → rule_4.broken call ≡ None
 origin_there call fields o is e = ap (λ x. no_originating (originating x)) (sym is) ∙ ap no_originating (sym e)
@@ -80,18 +82,18 @@ origin_there call fields o is e = ap (λ x. no_originating (originating x)) (sym
 algs_are : (call : Call) (fields : List IdentityField) (o : IdentityField) (k : Option Place) → fields ≡ fields_of call → Some o ≡ originating fields → k ≡ each foreign_alg (o ∷ links fields) → rule_5.broken call ≡ k
 algs_are call fields o k is e h = ap (each foreign_alg) (judged_is call fields o is e) ∙ sym h
 
-tokens_are : (call : Call) (fields : List IdentityField) (o : IdentityField) (said : Facts) (k : Option Place) → fields ≡ fields_of call → Some o ≡ originating fields → said ≡ facts call
+tokens_are : (call : Call) (fields : List IdentityField) (o : IdentityField) (said : Facts) (k : Option Place) → fields ≡ fields_of call → Some o ≡ originating fields → Serves said (facts call) (o ∷ links fields)
     → each (unread said) (o ∷ links fields) ≡ k → rule_6.broken call ≡ k
 tokens_are call fields o said k is e s h =
-    ap (each (unread (facts call))) (judged_is call fields o is e) ∙ ap (λ x. each (unread x) (o ∷ links fields)) (sym s) ∙ h
+    ap (each (unread (facts call))) (judged_is call fields o is e) ∙ sym s.unread ∙ h
 
-origs_are : (call : Call) (said : Facts) (readings : List Reading) (k : Option Place) → in_message call ≡ readings → said ≡ facts call → k ≡ each (foreign_orig said.calling) readings → rule_7.broken call ≡ k
+origs_are : (call : Call) (said : Facts) (readings : List Reading) (k : Option Place) → in_message call ≡ readings → said.calling ≡ (facts call).calling → k ≡ each (foreign_orig said.calling) readings → rule_7.broken call ≡ k
 origs_are call said readings k m s h =
-    ap (each (foreign_orig (facts call).calling)) m ∙ ap (λ (x : Facts). each (foreign_orig x.calling) readings) (sym s) ∙ sym h
+    ap (each (foreign_orig (facts call).calling)) m ∙ ap (λ x. each (foreign_orig x) readings) (sym s) ∙ sym h
 
-order_is : (call : Call) (said : Facts) (readings : List Reading) (k : Option Place) → in_message call ≡ readings → said ≡ facts call → no_order readings (turn_of said readings) ≡ k → rule_8.broken call ≡ k
+order_is : (call : Call) (said : Facts) (readings : List Reading) (k : Option Place) → in_message call ≡ readings → turn_of said readings ≡ turn_of (facts call) readings → no_order readings (turn_of said readings) ≡ k → rule_8.broken call ≡ k
 order_is call said readings k m s h =
-    ap (λ x. no_order x (turn_of (facts call) x)) m ∙ ap (λ x. no_order readings (turn_of x readings)) (sym s) ∙ h
+    ap (λ x. no_order x (turn_of (facts call) x)) m ∙ ap (no_order readings) (sym s) ∙ h
 
 seen_in : (window : ℕ) (screened : ScreenedView) (chain : List Reading) → screened ≡ screened_by window chain → screened.readings ≡ chain
 unfolding screened_by
@@ -118,54 +120,54 @@ early_hold call fields o is e h =
     holds rule_4 (rule_5 ∷ rule_6 ∷ chain_rules) call (origin_there call fields o is e) ∙ holds rule_5 (rule_6 ∷ chain_rules) call (algs_are call fields o None is e h)
 
 pub refused_token : (call : Call) (fields : List IdentityField) (o : IdentityField) (said : Facts) (bad : Place) → fields ≡ fields_of call → Some o ≡ originating fields
-    → None ≡ each foreign_alg (o ∷ links fields) → said ≡ facts call → each (unread said) (o ∷ links fields) ≡ Some bad → first field_rules call ≡ Some (refusal 6 bad)
+    → None ≡ each foreign_alg (o ∷ links fields) → Serves said (facts call) (o ∷ links fields) → each (unread said) (o ∷ links fields) ≡ Some bad → first field_rules call ≡ Some (refusal 6 bad)
 refused_token call fields o said bad is e h5 s h6 =
     early_hold call fields o is e h5 ∙ breaks rule_6 chain_rules call bad (tokens_are call fields o said (Some bad) is e s h6)
 
 -- ---- rules 7 to 9
 
 chain_left : (call : Call) (fields : List IdentityField) (o : IdentityField) (said : Facts) → fields ≡ fields_of call → Some o ≡ originating fields
-    → None ≡ each foreign_alg (o ∷ links fields) → said ≡ facts call → each (unread said) (o ∷ links fields) ≡ None → first field_rules call ≡ first chain_rules call
+    → None ≡ each foreign_alg (o ∷ links fields) → Serves said (facts call) (o ∷ links fields) → each (unread said) (o ∷ links fields) ≡ None → first field_rules call ≡ first chain_rules call
 chain_left call fields o said is e h5 s h6 =
     early_hold call fields o is e h5 ∙ holds rule_6 chain_rules call (tokens_are call fields o said None is e s h6)
 
 pub refused_orig : (call : Call) (fields : List IdentityField) (o : IdentityField) (said : Facts) (readings : List Reading) (bad : Place) → fields ≡ fields_of call → Some o ≡ originating fields
-    → None ≡ each foreign_alg (o ∷ links fields) → said ≡ facts call → each (unread said) (o ∷ links fields) ≡ None → readings ≡ readings_of said (o ∷ links fields)
+    → None ≡ each foreign_alg (o ∷ links fields) → Serves said (facts call) (o ∷ links fields) → each (unread said) (o ∷ links fields) ≡ None → readings ≡ readings_of said (o ∷ links fields)
     → Some bad ≡ each (foreign_orig said.calling) readings → first field_rules call ≡ Some (refusal 7 bad)
 refused_orig call fields o said readings bad is e h5 s h6 r h7 =
     chain_left call fields o said is e h5 s h6
-    ∙ breaks rule_7 (rule_8 ∷ rule_9 ∷ []) call bad (origs_are call said readings (Some bad) (message_is call fields o said readings is e s r) s h7)
+    ∙ breaks rule_7 (rule_8 ∷ rule_9 ∷ []) call bad (origs_are call said readings (Some bad) (message_is call fields o said readings is e s r) s.calling h7)
 
 pub refused_order : (call : Call) (fields : List IdentityField) (o : IdentityField) (said : Facts) (readings : List Reading) (bad : Place) → fields ≡ fields_of call → Some o ≡ originating fields
-    → None ≡ each foreign_alg (o ∷ links fields) → said ≡ facts call → each (unread said) (o ∷ links fields) ≡ None → readings ≡ readings_of said (o ∷ links fields)
+    → None ≡ each foreign_alg (o ∷ links fields) → Serves said (facts call) (o ∷ links fields) → each (unread said) (o ∷ links fields) ≡ None → readings ≡ readings_of said (o ∷ links fields)
     → None ≡ each (foreign_orig said.calling) readings → no_order readings (turn_of said readings) ≡ Some bad → first field_rules call ≡ Some (refusal 8 bad)
 refused_order call fields o said readings bad is e h5 s h6 r h7 h8 =
     let m = message_is call fields o said readings is e s r in
     chain_left call fields o said is e h5 s h6
-    ∙ holds rule_7 (rule_8 ∷ rule_9 ∷ []) call (origs_are call said readings None m s h7) ∙ breaks rule_8 (rule_9 ∷ []) call bad (order_is call said readings (Some bad) m s h8)
+    ∙ holds rule_7 (rule_8 ∷ rule_9 ∷ []) call (origs_are call said readings None m s.calling h7) ∙ breaks rule_8 (rule_9 ∷ []) call bad (order_is call said readings (Some bad) m (turn_same said (facts call) readings s.to s.target) h8)
 
 iats_left : (call : Call) (fields : List IdentityField) (o : IdentityField) (said : Facts) (readings : List Reading) (turn : List ℕ) → fields ≡ fields_of call → Some o ≡ originating fields
-    → None ≡ each foreign_alg (o ∷ links fields) → said ≡ facts call → each (unread said) (o ∷ links fields) ≡ None → readings ≡ readings_of said (o ∷ links fields)
+    → None ≡ each foreign_alg (o ∷ links fields) → Serves said (facts call) (o ∷ links fields) → each (unread said) (o ∷ links fields) ≡ None → readings ≡ readings_of said (o ∷ links fields)
     → None ≡ each (foreign_orig said.calling) readings → turn_of said readings ≡ Ok turn → first field_rules call ≡ first (rule_9 ∷ []) call
 iats_left call fields o said readings turn is e h5 s h6 r h7 t =
     let m = message_is call fields o said readings is e s r in
     chain_left call fields o said is e h5 s h6
-    ∙ holds rule_7 (rule_8 ∷ rule_9 ∷ []) call (origs_are call said readings None m s h7) ∙ holds rule_8 (rule_9 ∷ []) call (order_is call said readings None m s (ap (no_order readings) t))
+    ∙ holds rule_7 (rule_8 ∷ rule_9 ∷ []) call (origs_are call said readings None m s.calling h7) ∙ holds rule_8 (rule_9 ∷ []) call (order_is call said readings None m (turn_same said (facts call) readings s.to s.target) (ap (no_order readings) t))
 
 pub refused_stale : (call : Call) (fields : List IdentityField) (o : IdentityField) (said : Facts) (readings : List Reading) (turn : List ℕ) (screened : ScreenedView) (bad : Place) → fields ≡ fields_of call
-    → Some o ≡ originating fields → None ≡ each foreign_alg (o ∷ links fields) → said ≡ facts call → each (unread said) (o ∷ links fields) ≡ None → readings ≡ readings_of said (o ∷ links fields)
+    → Some o ≡ originating fields → None ≡ each foreign_alg (o ∷ links fields) → Serves said (facts call) (o ∷ links fields) → each (unread said) (o ∷ links fields) ≡ None → readings ≡ readings_of said (o ∷ links fields)
     → None ≡ each (foreign_orig said.calling) readings → turn_of said readings ≡ Ok turn → screened ≡ screened_by call.settings.window (in_turn readings turn)
     → Some bad ≡ each (stale call.settings.window call.moment) screened.readings → first field_rules call ≡ Some (refusal 9 bad)
 refused_stale call fields o said readings turn screened bad is e h5 s h6 r h7 t v h9 =
-    let c = chain_is call said readings turn (message_is call fields o said readings is e s r) s t in
+    let c = chain_is call said readings turn (message_is call fields o said readings is e s r) (turn_same said (facts call) readings s.to s.target) t in
     iats_left call fields o said readings turn is e h5 s h6 r h7 t ∙ breaks rule_9 [] call bad (iats_are call (in_turn readings turn) screened (Some bad) c v h9)
 
 pub none_refused : (call : Call) (fields : List IdentityField) (o : IdentityField) (said : Facts) (readings : List Reading) (turn : List ℕ) (screened : ScreenedView) → fields ≡ fields_of call
-    → Some o ≡ originating fields → None ≡ each foreign_alg (o ∷ links fields) → said ≡ facts call → each (unread said) (o ∷ links fields) ≡ None → readings ≡ readings_of said (o ∷ links fields)
+    → Some o ≡ originating fields → None ≡ each foreign_alg (o ∷ links fields) → Serves said (facts call) (o ∷ links fields) → each (unread said) (o ∷ links fields) ≡ None → readings ≡ readings_of said (o ∷ links fields)
     → None ≡ each (foreign_orig said.calling) readings → turn_of said readings ≡ Ok turn → screened ≡ screened_by call.settings.window (in_turn readings turn)
     → None ≡ each (stale call.settings.window call.moment) screened.readings → (first field_rules call ≡ None) × (screened ≡ screened_of call)
 none_refused call fields o said readings turn screened is e h5 s h6 r h7 t v h9 =
-    let c = chain_is call said readings turn (message_is call fields o said readings is e s r) s t in (
+    let c = chain_is call said readings turn (message_is call fields o said readings is e s r) (turn_same said (facts call) readings s.to s.target) t in (
       iats_left call fields o said readings turn is e h5 s h6 r h7 t ∙ holds rule_9 [] call (iats_are call (in_turn readings turn) screened None c v h9),
       v ∙ ap (screened_by call.settings.window) (sym c),
     )

@@ -13,6 +13,8 @@ use Rattle.verify_rules.specs.declared.refusal.Place.{Place}
 use Rattle.verify_rules.specs.declared.refusal.ScreenFault.{ScreenFault}
 use Rattle.verify_rules.specs.declared.refusal.ScreenFault.TheVariants.{Refused}
 use Rattle.verify_rules.specs.declared.settings.Settings.{Settings}
+use Rattle.verify_rules.specs.Seen.{Serves}
+use Rattle.verify_rules.proofs.FactLaws.{order_same}
 use Rattle.verify_rules.proofs.EarlySteps.{message_is}
 use Rattle.verify_rules.proofs.TurnSteps.{called_is, rest_is}
 
@@ -56,15 +58,15 @@ order_missing said (origin ∷ others) passports called d is some c none has =
 
 -- ---- the call
 
-pub order_of_call : (call : Call) (fields : List IdentityField) (o : IdentityField) (said : Facts) (readings : List Reading) → fields ≡ fields_of call → Some o ≡ originating fields → said ≡ facts call
+pub order_of_call : (call : Call) (fields : List IdentityField) (o : IdentityField) (said : Facts) (readings : List Reading) → fields ≡ fields_of call → Some o ≡ originating fields → Serves said (facts call) (o ∷ links fields)
     → readings ≡ readings_of said (o ∷ links fields) → HasOrder said readings → CallHasOrder call
 order_of_call call fields o said readings is e s r has =
-    subst (HasOrder (facts call)) (sym (message_is call fields o said readings is e s r)) (subst (λ x. HasOrder x readings) s has)
+    subst (HasOrder (facts call)) (sym (message_is call fields o said readings is e s r)) (order_same said (facts call) readings s.to s.target has)
 
-pub none_of_call : (call : Call) (fields : List IdentityField) (o : IdentityField) (said : Facts) (readings : List Reading) → fields ≡ fields_of call → Some o ≡ originating fields → said ≡ facts call
+pub none_of_call : (call : Call) (fields : List IdentityField) (o : IdentityField) (said : Facts) (readings : List Reading) → fields ≡ fields_of call → Some o ≡ originating fields → Serves said (facts call) (o ∷ links fields)
     → readings ≡ readings_of said (o ∷ links fields) → (HasOrder said readings → ⊥) → CallHasOrder call → ⊥
 none_of_call call fields o said readings is e s r none has =
-    none (subst (λ x. HasOrder x readings) (sym s) (subst (HasOrder (facts call)) (message_is call fields o said readings is e s r) has))
+    none (order_same (facts call) said readings (sym s.to) (sym s.target) (subst (HasOrder (facts call)) (message_is call fields o said readings is e s r) has))
 
 -- ---- what the answers say of it
 

@@ -1,5 +1,6 @@
 -- The code's views, as the definitions speak of them, and what each step of the rules gives.
-use Rattle.std.specs.Prelude.{◌≡◌, ⊤, ℕ, ◌+◌, ◌≤◌, List, [], ◌∷◌, ◌++◌, length, map, take, drop, Some, None, Result, Ok, Err}
+use Rattle.std.specs.Prelude.{Bool, nat_eq, codes, if◌then◌else◌, ◌≡◌, ⊤, ℕ, ◌+◌, ◌≤◌, List, [], ◌∷◌, ◌++◌, length, map, take, drop, Some, None, Result, Ok, Err}
+use Rattle.std.specs.List.{starts_with}
 use Rattle.identity_header.specs.Parts.{Parts}
 use Rattle.identity_header.specs.declared.field.FieldFault.{FieldFault}
 use Rattle.passport_claims.specs.Links.{IsLink}
@@ -39,6 +40,24 @@ AreFields seen values (Err Memory) = ⊤
 pub record SoFar (values : List (List ℕ)) (i : ℕ) (fields : List IdentityField) : Type 0 where
   pub good : bad_field (i + 1) (drop i values) ≡ bad_field 1 values
   pub all : fields ++ numbered (i + 1) (drop i values) ≡ numbered 1 values
+
+-- ---- what the message says
+
+-- the field's text is a token in its compact form, which leaves its Date to the message (RFC 8225, section 7)
+abbrev pub is_compact : IdentityField → Bool
+is_compact field = starts_with nat_eq field.parts.token (codes "..")
+
+-- what a message says, its Date only where it is asked for
+abbrev pub facts_asked : Bool → Facts → Facts
+facts_asked asked full = record { date = if asked then full.date else None; calling = full.calling; to = full.to; target = full.target }
+
+-- these facts serve these fields as well as those do
+pub record Serves (said full : Facts) (fields : List IdentityField) : Type 0 where
+  pub calling : said.calling ≡ full.calling
+  pub to : said.to ≡ full.to
+  pub target : said.target ≡ full.target
+  pub unread : each (unread said) fields ≡ each (unread full) fields
+  pub readings : readings_of said fields ≡ readings_of full fields
 
 -- ---- the PASSporTs
 

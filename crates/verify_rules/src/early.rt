@@ -122,7 +122,7 @@ fn screen_fields(
     if let Some(place) = foreign_alg(origin, fields) {
         return Err(ScreenFault::broken(5, place));
     }
-    let facts = Facts::read(message, &settings.local);
+    let facts = Facts::for_judged(message, &settings.local, origin, fields);
     let readings = match read_all(alloc, &facts, origin, fields) {
         Ok(readings) => readings,
         Err(stop) => match stop {

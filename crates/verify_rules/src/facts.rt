@@ -1,7 +1,10 @@
 //! What a message says beside its Identity fields.
-ghost use Rattle.std.specs.Prelude.{◌≡◌};
-ghost use Rattle.verify_rules.specs.Call.{facts_of};
+ghost use Rattle.std.specs.Prelude.{◌≡◌, ◌∷◌, map, None, if◌then◌else◌};
+ghost use Rattle.sip_message.specs.Accessors.{date};
+ghost use Rattle.verify_rules.specs.Call.{facts_of, links};
+ghost use Rattle.verify_rules.specs.Seen.{Serves, facts_asked, field_seen};
 
+use crate::fields::{NumberedField, asks_date};
 use sip_message::Message;
 use tn_values::{Local, Number};
 
@@ -15,15 +18,36 @@ pub(crate) struct Facts {
 }
 
 impl Facts {
-    /// What this message says.
-    pub(crate) fn read(message: &Message<'_>, local: &Local) -> Facts
-        ensures { result ≡ facts_of local.now message.now }
+    /// What this message says; its Date only where it is asked for.
+    fn read(message: &Message<'_>, local: &Local, asks_date: bool) -> Facts
+        ensures { result ≡ facts_asked asks_date (facts_of local.now message.now) }
     {
         Facts {
-            date: message.date(),
+            date: date_where(message, asks_date),
             calling: message.calling_number(local),
             to: message.to_number(local),
             target: message.target_number(local),
         }
     }
+
+    /// What this message says, as far as the PASSporTs of the originating field and of the links among the fields ask for it: one in its full
+    /// form needs no Date.
+    #[tactic(auto, using(crate::proofs::FactLaws::serves))]
+    pub(crate) fn for_judged(
+        message: &Message<'_>,
+        local: &Local,
+        origin: &NumberedField<'_>,
+        fields: &[NumberedField<'_>],
+    ) -> Facts
+        ensures { Serves result (facts_of local.now message.now) (field_seen origin.now ∷ links (map field_seen fields.now)) }
+    {
+        Facts::read(message, local, asks_date(origin, fields))
+    }
+}
+
+/// The Date, where it is asked for.
+fn date_where(message: &Message<'_>, asked: bool) -> Option<u64>
+    ensures { result ≡ (if asked then date message.now else None) }
+{
+    if asked { message.date() } else { None }
 }

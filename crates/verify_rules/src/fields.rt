@@ -1,12 +1,13 @@
 //! Rules 3 to 5: the Identity fields, and which of them are judged.
 ghost use Rattle.std.specs.Prelude.{◌≡◌, ◌≤◌, ℕ, true, [], List, ◌∷◌, map, find, length, codes, Option, IfOk, IfSome};
+ghost use Rattle.std.specs.List.{list_any};
 ghost use Rattle.std.specs.Option.{option_copied, option_map};
 ghost use Rattle.identity_header.specs.Read.{read};
 ghost use Rattle.passport_claims.specs.Claims.{IsKnown};
 ghost use Rattle.sip_message.specs.Accessors.{identities};
 ghost use Rattle.verify_rules.specs.Call.{has_ppt, is_text, lacks_ppt, links, originating};
 ghost use Rattle.verify_rules.specs.Rules.{each, foreign_alg, is_es256};
-ghost use Rattle.verify_rules.specs.Seen.{AreFields, GivesField, field_seen};
+ghost use Rattle.verify_rules.specs.Seen.{AreFields, GivesField, field_seen, is_compact};
 
 use crate::refusal::{Place, Stop};
 use identity_header::Field;
@@ -117,6 +118,31 @@ fn foreign_link(fields: &[NumberedField<'_>]) -> Option<Place>
         }
     }
     None
+}
+
+/// Whether a judged field's text is a token in its compact form, which leaves its Date to the message (RFC 8225, section 7).
+pub(crate) fn asks_date(origin: &NumberedField<'_>, fields: &[NumberedField<'_>]) -> bool
+    ensures { result ≡ list_any is_compact (field_seen origin.now ∷ links (map field_seen fields.now)) }
+{
+    is_compact(origin) || has_compact_link(fields)
+}
+
+/// Whether a link's is.
+fn has_compact_link(fields: &[NumberedField<'_>]) -> bool
+    ensures { result ≡ list_any is_compact (links (map field_seen fields.now)) }
+{
+    for field in fields {
+        if is_link(field) && is_compact(field) {
+            return true;
+        }
+    }
+    false
+}
+
+fn is_compact(field: &NumberedField<'_>) -> bool
+    ensures { result ≡ is_compact (field_seen field.now) }
+{
+    field.parts.token().starts_with(b"..")
 }
 
 /// Whether the field is that of a diversion (RFC 8946).

@@ -1,0 +1,73 @@
+-- The Date serves tokens in their compact form alone.
+use Rattle.std.proofs.Common.{◌≡◌, ◌||◌, ℕ, Bool, true, false, List, [], ◌∷◌, refl, sym, ◌∙◌, ap, subst, codes}
+use Rattle.std.specs.Prelude.{nat_eq}
+use Rattle.std.specs.List.{list_any, starts_with}
+use Rattle.std.specs.Option.{option_or}
+use Rattle.passport_claims.specs.Order.{IsOrder}
+use Rattle.passport_claims.specs.OrderReading.{order_of}
+use Rattle.passport_json.specs.Compact.{CallView}
+use Rattle.passport_json.specs.Token.{read_token}
+use Rattle.verify_rules.specs.Call.{IdentityField, Reading, called_by, left_out, passports_of, read_field, reading_by, readings_of, turn_of}
+use Rattle.verify_rules.specs.Rules.{each, unread, unread_at}
+use Rattle.verify_rules.specs.Seen.{Serves, facts_asked, is_compact}
+use Rattle.verify_rules.specs.Words.{HasOrder}
+use Rattle.verify_rules.specs.declared.facts.Facts.{Facts}
+
+neither : (a b : Bool) → (a || b) ≡ false → (a ≡ false) × (b ≡ false)
+neither true b h = absurd cc
+neither false b h = (refl, h)
+
+same_token : (one other : CallView) (text : List ℕ) → starts_with nat_eq text (codes "..") ≡ false → read_token one text ≡ read_token other text
+unfolding read_token
+same_token one other text e = rw e refl
+
+same_field : (said full : Facts) (field : IdentityField) → is_compact field ≡ false → read_field said field ≡ read_field full field
+unfolding read_field
+same_field said full field e = ap (reading_by field) (same_token (left_out said field.parts) (left_out full field.parts) field.parts.token e)
+
+same_unread_one : (said full : Facts) (field : IdentityField) → is_compact field ≡ false → unread said field ≡ unread full field
+unfolding unread
+same_unread_one said full field e = ap (unread_at field.number) (same_field said full field e)
+
+same_unread : (said full : Facts) (fields : List IdentityField) → list_any is_compact fields ≡ false → each (unread said) fields ≡ each (unread full) fields
+same_unread said full [] h = refl
+same_unread said full (field ∷ fields) h =
+    let k = neither (is_compact field) (list_any is_compact fields) h in
+    ap (λ x. option_or x (each (unread said) fields)) (same_unread_one said full field k.0) ∙ ap (option_or (unread full field)) (same_unread said full fields k.1)
+
+same_readings : (said full : Facts) (fields : List IdentityField) → list_any is_compact fields ≡ false → readings_of said fields ≡ readings_of full fields
+same_readings said full [] h = refl
+same_readings said full (field ∷ fields) h =
+    let k = neither (is_compact field) (list_any is_compact fields) h in
+    let one = same_field said full field k.0 in
+    let rest = same_readings said full fields k.1 in
+    rw (one, rest) refl
+
+serves_by : (full : Facts) (fields : List IdentityField) (asked : Bool) → asked ≡ list_any is_compact fields → Serves (facts_asked asked full) full fields
+serves_by full fields true e = record { calling = refl; to = refl; target = refl; unread = refl; readings = refl }
+serves_by full fields false e =
+    record {
+      calling = refl;
+      to = refl;
+      target = refl;
+      unread = same_unread (facts_asked false full) full fields (sym e);
+      readings = same_readings (facts_asked false full) full fields (sym e);
+    }
+
+pub serves : (full said : Facts) (fields : List IdentityField) (asked : Bool) → asked ≡ list_any is_compact fields → said ≡ facts_asked asked full → Serves said full fields
+serves full said fields asked e is = subst (λ x. Serves x full fields) (sym is) (serves_by full fields asked e)
+
+-- ---- the called number
+
+called_same : (said full : Facts) (others : List Reading) → said.to ≡ full.to → said.target ≡ full.target → called_by said others ≡ called_by full others
+called_same said full [] t g = t
+called_same said full (one ∷ others) t g = g
+
+pub turn_same : (said full : Facts) (readings : List Reading) → said.to ≡ full.to → said.target ≡ full.target → turn_of said readings ≡ turn_of full readings
+turn_same said full [] t g = refl
+turn_same said full (origin ∷ others) t g = ap (order_of origin.passport (passports_of others)) (called_same said full others t g)
+
+pub order_same : (said full : Facts) (readings : List Reading) → said.to ≡ full.to → said.target ≡ full.target → HasOrder said readings → HasOrder full readings
+order_same said full [] t g has = tt
+order_same said full (origin ∷ others) t g has =
+    (has.0, subst (λ x. IsOrder origin.passport (passports_of others) x has.0) (called_same said full others t g) has.1)
