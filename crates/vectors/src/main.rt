@@ -15,6 +15,7 @@ mod messages;
 mod numbers;
 mod order;
 mod paths;
+mod rules;
 mod table;
 mod text;
 mod tokens;
@@ -111,6 +112,7 @@ fn called(alloc: Global, subject: &str, call: &str, words: &[Vec<u8>]) -> Result
         "answers" => answers::answer(alloc, call, words),
         "order" => order::answer(alloc, call, words),
         "log" => log::answer(alloc, call, words),
+        "rules" => rules::answer(alloc, call, words),
         _ => Err(Unread::Call),
     }
 }
