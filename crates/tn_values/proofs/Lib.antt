@@ -5,6 +5,15 @@ pub mod KeptFacts
 pub mod CanonLaws
 pub mod ValueLaws
 pub mod SetLaws
-pub mod WalkLaws
 pub mod WithinLaws
 pub mod EveryLaws
+pub mod RankLaws
+pub mod ApartLaws
+pub mod MergeLaws
+pub mod TextLaws
+pub mod BuildLaws
+pub mod SideLaws
+pub mod OrderLaws
+pub mod StepLaws
+pub mod MergedLaws
+pub mod SearchLaws

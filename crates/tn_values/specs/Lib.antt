@@ -6,3 +6,6 @@ pub mod Span
 pub mod NumberSet
 pub mod Place
 pub mod Every
+pub mod Merged
+pub mod Sides
+pub mod Steps

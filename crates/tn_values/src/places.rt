@@ -2,6 +2,7 @@
 ghost use Rattle.std.specs.Prelude.{◌≡◌, ◌+◌, ◌^◌, ◌<◌, ◌≤◌, length, IsTrue, IfSome};
 ghost use Rattle.tn_values.specs.Digit.{are_digits};
 ghost use Rattle.tn_values.specs.Number.{is_number};
+ghost use Rattle.tn_values.specs.Sides.{rank_in};
 ghost use Rattle.tn_values.specs.Span.{value_of};
 
 use crate::alphabet::are_digits;
@@ -32,6 +33,26 @@ impl Place {
             value: value_of(bytes),
         })
     }
+}
+
+/// Where a number of digits alone stands among all such numbers, which go by length and then by value.
+pub(crate) fn rank_of(number: &Number) -> Option<u64>
+    ensures { result ≡ rank_in number.now }
+{
+    let bytes = number.bytes();
+    if !are_digits(bytes) {
+        return None;
+    }
+    Some(numbers_of(bytes.len()) + value_of(bytes))
+}
+
+/// How many numbers of so many digits there are.
+pub(crate) fn numbers_of(digits: usize) -> u64
+    requires { digits ≤ 15 }
+    ensures value { result ≡ 10 ^ digits }
+    ensures short { result ≤ 10 ^ 15 }
+{
+    10_u64.pow(digits as u32)
 }
 
 /// The decimal value of up to 15 digits.

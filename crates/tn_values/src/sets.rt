@@ -1,58 +1,73 @@
 //! Sets of numbers.
-ghost use Rattle.std.specs.Prelude.{◌≡◌, ℕ, ◌+◌, ◌^◌, ◌<◌, ◌≤◌, ◌↔◌, false, List, [], length, IsTrue, IfOk, Ok};
-ghost use Rattle.std.specs.List.{list_any};
+ghost use Rattle.std.specs.Prelude.{◌≡◌, ℕ, ◌+◌, ◌<◌, ◌≤◌, ◌↔◌, false, List, [], Contains, length, IsTrue, IfOk, MatchOption};
 ghost use Rattle.tn_values.specs.Number.{is_number};
-ghost use Rattle.tn_values.specs.Span.{SpanHolds};
-ghost use Rattle.tn_values.specs.NumberSet.{SetView, set_of, SetHolds, IsWithin, Outside, Gap};
-ghost use Rattle.tn_values.specs.Place.{covers, is_at, spans_have, span_end, single_end, end_from};
+ghost use Rattle.tn_values.specs.NumberSet.{Gap, IsWithin, OneSpanHolds, Outside, SetHolds, SetView, part_count, set_of};
+ghost use Rattle.tn_values.specs.Sides.{IsPlaceOf};
+ghost use Rattle.tn_values.specs.Span.{SpanHolds, SpanView, is_span};
+ghost use Rattle.tn_values.specs.Steps.{Spent};
 
 use crate::Memory;
 use crate::numbers::Number;
-use crate::places::Place;
+use crate::search::{entry_of, entry_uncounted};
+use crate::sorted::Sorted;
 use crate::spans::Span;
-use std::marker::Model;
+use crate::steps::Steps;
+use std::marker::{Brand, Model};
+use std::sync::ledger::{Blank, Ledger};
 
 /// A set of numbers: all of some spans, and single ones.
 ///
-/// A contract sees the spans and the singles as two lists, in the order given, and `SetHolds` says which numbers they hold.
+/// A contract sees its spans and its singles as two lists, and `SetHolds` says which numbers they hold.
 #[derive(Debug, Drop)]
 pub struct NumberSet {
-    spans: Vec<Span>,
-    singles: Vec<Number>,
+    entries: Sorted,
 }
 
 impl Model for NumberSet {
+    ghost use Rattle.tn_values.specs.NumberSet.{SetView};
+
     ghost Value = { SetView };
 
-    ghost view = { λ s. record { spans = s.spans.items; singles = s.singles.items } };
+    ghost view = { λ s. s.entries };
 }
 
 impl NumberSet {
     /// The set of all numbers of the spans and all `others`.
     ///
-    /// It keeps both lists as they are, so memory doesn't run out here.
+    /// Spans of one length that overlap or touch become one, and so does a number of digits alone with them. `Memory` comes
+    /// where there is none for the merged spans.
     pub fn build(spans: Vec<Span>, others: Vec<Number>) -> Result<NumberSet, Memory>
-        ensures kept { result ≡ Ok (set_of spans.items others.items) }
         ensures holds { IfOk result (λ set. (n : List ℕ) → SetHolds set n ↔ SetHolds (set_of spans.items others.items) n) }
+        ensures few { IfOk result (λ set. part_count set ≤ length spans.items + length others.items) }
     {
         Ok(NumberSet {
-            spans,
-            singles: others,
+            entries: Sorted::of(spans, others)?,
         })
     }
 
     /// The spans, which with [`NumberSet::singles`] hold exactly the numbers of the set.
     pub fn spans(&self) -> &[Span]
-        ensures { result.now ≡ self.now.spans }
+        ensures value { result.now ≡ self.now.spans }
+        // Where all numbers of a span are in the set, one of its spans holds them all.
+        ensures one { (span : SpanView) → IsTrue (is_number span.start) → IsTrue (is_span span.start span.size)
+            → ((n : List ℕ) → SpanHolds span n → SetHolds self.now n) → OneSpanHolds self.now.spans span }
     {
-        &self.spans
+        self.entries.is_merged();
+        self.entries.spans()
     }
 
     /// The single numbers, which with [`NumberSet::spans`] are exactly the numbers of the set.
     pub fn singles(&self) -> &[Number]
         ensures { result.now ≡ self.now.singles }
     {
-        &self.singles
+        self.entries.singles()
+    }
+
+    /// How many spans and single numbers the set has.
+    pub fn parts(&self) -> usize
+        ensures { result ≡ part_count self.now }
+    {
+        self.entries.len()
     }
 
     /// Whether a span or a single holds the number.
@@ -60,18 +75,43 @@ impl NumberSet {
         ensures holds { IsTrue result ↔ SetHolds self.now number.now }
         ensures number { IsTrue (is_number number.now) }
     {
-        spans_have(&self.spans, number) || self.singles.contains(number)
+        self.has_from::<Brand>(number, Blank::new(1))
     }
 
-    /// Whether every number of this set is in `parent` too.
-    ///
-    /// Each span is walked through the entries of the parent that hold its next number, so it costs a step for an entry of
-    /// the parent, and none for a number.
+    /// The same, and the steps that it takes, each a look at one span or one single: s of them, where 2^s is at most twice
+    /// [`NumberSet::parts`] and one.
+    pub fn has_counted<L: Ledger>(&self, number: &Number, steps: &mut Steps<L>) -> bool
+        ensures holds { IsTrue result ↔ SetHolds self.now number.now }
+        ensures steps { Spent steps.old steps.new (part_count self.now) }
+    {
+        self.entries.is_merged();
+        entry_of(&self.entries, number, steps).is_some()
+    }
+
+    /// The same where no step is counted.
+    fn has_from<L: Ledger>(&self, number: &Number, blank: Blank) -> bool
+        requires name { blank.name ≡ L.name }
+        requires parts { blank.parts ≡ L.parts }
+        requires some { 0 < blank.parts }
+        ensures holds { IsTrue result ↔ SetHolds self.now number.now }
+        ensures number { IsTrue (is_number number.now) }
+    {
+        let mut steps: Steps<L> = Steps::open(blank);
+        let _ = number.bytes();
+        self.has_counted(number, &mut steps)
+    }
+
+    /// Whether every number of this set is in `parent` too. It is one search in the parent for a span or a single.
     pub fn within(&self, parent: &NumberSet) -> bool
         ensures all { IsTrue result → IsWithin self.now parent.now }
         ensures outside { result ≡ false → Outside self.now parent.now }
+        // Two sets of the same numbers have the same spans and the same singles.
+        ensures same_spans { IsWithin self.now parent.now → IsWithin parent.now self.now → self.now.spans ≡ parent.now.spans }
+        ensures same_singles { IsWithin self.now parent.now → IsWithin parent.now self.now → self.now.singles ≡ parent.now.singles }
     {
-        parent.has_singles(&self.singles) && parent.has_spans(&self.spans)
+        self.entries.is_merged();
+        parent.entries.is_merged();
+        parent.has_singles(self.singles()) && parent.has_spans(self.spans())
     }
 
     fn has_singles(&self, singles: &[Number]) -> bool
@@ -98,86 +138,34 @@ impl NumberSet {
         true
     }
 
-    /// Whether the set has every number of the span: each turn goes on behind an entry that holds the next number.
+    /// Whether the set has every number of the span: the one of its spans that holds the first number has them all, or the
+    /// number behind it is missing.
     fn has_span(&self, span: &Span) -> bool
         ensures all { IsTrue result → (n : List ℕ) → SpanHolds span.now n → SetHolds self.now n }
         ensures gap { result ≡ false → Gap span.now self.now }
     {
-        let digits = span.digits();
-        let end = span.end();
-        let mut next = span.first();
-        while next < end {
-            let place = Place {
-                digits,
-                value: next,
-            };
-            match self.end_from(place) {
-                Some(behind) => next = behind,
-                None => return false,
-            }
+        self.entries.is_merged();
+        let behind = span.rank_behind();
+        match self.span_with(span) {
+            Some(own) => behind <= own.rank_behind(),
+            None => false,
         }
-        true
     }
 
-    /// One past the last value of an entry that holds the number at the place, or None where there is no such entry.
-    fn end_from(&self, place: Place) -> Option<u64>
-        requires { place.value < 10 ^ 15 }
-        ensures { result ≡ end_from self.now place }
+    /// The one of the set's spans that holds the first number of another.
+    fn span_with(&self, span: &Span) -> Option<Span>
+        ensures { MatchOption result (SetHolds self.now span.now.start → ⊥) (λ own. Contains self.now.spans own × SpanHolds own span.now.start) }
     {
-        match span_end(&self.spans, place) {
-            Some(end) => Some(end),
-            None => single_end(&self.singles, place),
+        match self.place_with(span) {
+            Some(place) => Some(self.entries.spans()[place]),
+            None => None,
         }
     }
-}
 
-fn spans_have(spans: &[Span], number: &Number) -> bool
-    ensures value { result ≡ spans_have spans.now number.now }
-    ensures number { IsTrue (is_number number.now) }
-{
-    match Place::of(number) {
-        Some(place) => cover(spans, place),
-        None => false,
-    }
-}
-
-fn cover(spans: &[Span], place: Place) -> bool
-    ensures { result ≡ list_any (λ span. covers span place) spans.now }
-{
-    spans.iter().any(|span| span.covers(place))
-}
-
-fn span_end(spans: &[Span], place: Place) -> Option<u64>
-    ensures { result ≡ span_end spans.now place }
-{
-    spans
-        .iter()
-        .find(|span| span.covers(place))
-        .map(|span| span.end())
-}
-
-fn single_end(singles: &[Number], place: Place) -> Option<u64>
-    requires { place.value < 10 ^ 15 }
-    ensures { result ≡ single_end singles.now place }
-{
-    if stand_at(singles, place) {
-        Some(place.value + 1)
-    } else {
-        None
-    }
-}
-
-fn stand_at(singles: &[Number], place: Place) -> bool
-    ensures { result ≡ list_any (λ single. is_at single place) singles.now }
-{
-    singles.iter().any(|single| is_at(single, place))
-}
-
-fn is_at(number: &Number, place: Place) -> bool
-    ensures { result ≡ is_at number.now place }
-{
-    match Place::of(number) {
-        Some(own) => own.digits == place.digits && own.value == place.value,
-        None => false,
+    /// The place of the one of the set's spans that holds the first number of another.
+    fn place_with(&self, span: &Span) -> Option<usize>
+        ensures { MatchOption result (SetHolds self.now span.now.start → ⊥) (λ place. IsPlaceOf self.now span.now.start place) }
+    {
+        entry_uncounted::<Brand>(&self.entries, &span.start(), Blank::new(1))
     }
 }

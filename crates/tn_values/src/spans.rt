@@ -1,11 +1,12 @@
 //! Spans of numbers.
-ghost use Rattle.std.specs.Prelude.{◌≡◌, ◌↔◌, ◌+◌, ◌^◌, ◌<◌, ◌≤◌, length, IsTrue, Some};
+ghost use Rattle.std.specs.Prelude.{◌≡◌, ◌↔◌, ◌*◌, ◌^◌, ◌<◌, ◌≤◌, length, IsTrue, Some};
 ghost use Rattle.tn_values.specs.Digit.{are_digits};
+ghost use Rattle.tn_values.specs.Merged.{IsSpan, clipped, joined, rank_behind, rank_of};
 ghost use Rattle.tn_values.specs.Span.{SpanHolds, span_of, value_of, end_of};
 
 use crate::alphabet::are_digits;
 use crate::numbers::Number;
-use crate::places::{Place, value_of};
+use crate::places::{Place, numbers_of, value_of};
 use std::marker::Model;
 
 /// The numbers of digits alone that are as long as a first one and follow it, `TelephoneNumberRange` of RFC 8226 section 9.
@@ -94,8 +95,59 @@ impl Span {
         ensures value { result ≡ end_of self.now }
         ensures short { result ≤ 10 ^ 15 }
     {
-        let beyond = 10_u64.pow(self.digits() as u32);
-        self.first().saturating_add(self.size).min(beyond)
+        self.first()
+            .saturating_add(self.size)
+            .min(numbers_of(self.digits()))
+    }
+
+    /// Where the first number stands among all numbers of digits alone, which go by length and then by value.
+    pub(crate) fn rank(&self) -> u64
+        ensures value { result ≡ rank_of self.now.start }
+        ensures short { result ≤ 2 * 10 ^ 15 }
+        ensures span { IsSpan self.now }
+    {
+        self.is_span();
+        numbers_of(self.digits()) + self.first()
+    }
+
+    /// One past the rank of the last number.
+    pub(crate) fn rank_behind(&self) -> u64
+        ensures value { result ≡ rank_behind self.now }
+        ensures above { rank_of self.now.start < result }
+        ensures short { result ≤ 2 * 10 ^ 15 }
+        ensures span { IsSpan self.now }
+    {
+        self.is_span();
+        numbers_of(self.digits()) + self.end()
+    }
+
+    /// What is always so of a span.
+    fn is_span(&self)
+        ensures { IsSpan self.now }
+    {
+        let _ = self.start.bytes();
+    }
+
+    /// The span with a size that doesn't pass the last number of its start's length.
+    pub(crate) fn clipped(&self) -> Span
+        ensures value { result ≡ clipped self.now }
+        ensures span { IsSpan self.now }
+    {
+        Span {
+            start: self.start,
+            size: self.rank_behind() - self.rank(),
+        }
+    }
+
+    /// The span made so large that it reaches the end of another.
+    pub(crate) fn joined(&self, other: &Span) -> Span
+        ensures value { result ≡ joined self.now other.now }
+        ensures span { IsSpan other.now }
+    {
+        Span {
+            start: self.start,
+            size: self.rank_behind().max(other.rank_behind()) - self.rank(),
+        }
     }
 
     /// Whether the number at the place is one of the span.

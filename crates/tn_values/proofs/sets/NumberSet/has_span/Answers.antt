@@ -1,31 +1,27 @@
-use Rattle.std.proofs.Common.{◌<◌, ℕ, arith, sym, ◌∙◌, ap}
-use Rattle.tn_values.specs.Span.{end_of}
-use Rattle.tn_values.specs.Place.{end_from}
-use Rattle.tn_values.specs.declared.places.Place.{Place}
-use Rattle.tn_values.proofs.WalkLaws.{ahead_falls, walk_goes_on, walk_ends, walk_stops}
+use Rattle.std.proofs.Common.{◌≤◌, ◌<◌, arith, subst}
+use Rattle.std.proofs.lemmas.Bool.Decides.{nat_tests}
+use Rattle.tn_values.specs.Merged.{IsMerged, rank_behind}
+use Rattle.tn_values.specs.NumberSet.{SetView}
+use Rattle.tn_values.specs.Span.{SpanView}
+use Rattle.tn_values.proofs.MergedLaws.{all_by_first, first_gap, gap_behind}
 use Rattle.tn_values.proofs.sets.NumberSet.has_span.Goals as goal
 
-pub loop-next-smaller : goal.loop-next-smaller
-loop-next-smaller c =
-    let place : Place = record { digits = c.digits-digits.result; value = c.loop-next.next } in
-    ahead_falls c.args.self.now place c.in-Some.behind (sym c.in-Some.ensures)
+pub returns-in-Some-clause-all : goal.returns-in-Some-clause-all
+returns-in-Some-clause-all c = λ had number h.
+    let own : SpanView = c.in-Some.own in
+    let held = c.in-Some.ensures in
+    let reaches : rank_behind c.args.span.now ≤ rank_behind own
+    = grind (arith, nat_tests, had, c.rank_behind-behind.ensures.value, c.rank_behind.ensures.value) in
+    all_by_first c.args.self.now c.args.span.now own held.0 held.1 reaches number h
 
-pub loop-next-preserved : goal.loop-next-preserved
-loop-next-preserved c =
-    let at = λ (digits : ℕ). end_from c.args.self.now (record { digits = digits; value = c.loop-next.next }) in
-    walk_goes_on c.args.span.now c.args.self.now c.loop-next.next c.in-Some.behind c.loop-next.invariant
-    (ap at (sym c.digits-digits.ensures.value) ∙ sym c.in-Some.ensures)
+pub returns-in-Some-clause-gap : goal.returns-in-Some-clause-gap
+returns-in-Some-clause-gap c = λ lacks.
+    let own : SpanView = c.in-Some.own in
+    let held = c.in-Some.ensures in
+    let short : rank_behind own < rank_behind c.args.span.now
+    = grind (arith, nat_tests, lacks, c.rank_behind-behind.ensures.value, c.rank_behind.ensures.value) in
+    gap_behind c.args.self.now c.args.span.now own (subst (λ (set : SetView). IsMerged set) c.self.view_is c.is_merged.ensures)
+    c.rank_behind-behind.ensures.span held.0 held.1 short
 
 pub returns-in-None-clause-gap : goal.returns-in-None-clause-gap
-returns-in-None-clause-gap c = λ _.
-    let at = λ (digits : ℕ). end_from c.args.self.now (record { digits = digits; value = c.loop-next.next }) in
-    let is = c.digits-digits.ensures.value in
-    let inside : c.loop-next.next < end_of c.args.span.now = omega (arith, c.end-end.ensures.value, c.loop-next-test.true) in
-    walk_stops c.args.span.now c.args.self.now c.loop-next.next c.loop-next.invariant inside
-    (omega (arith, is, c.digits-digits.ensures.some)) (omega (arith, is, c.digits-digits.ensures.short))
-    (ap at (sym is) ∙ sym c.in-None.ensures)
-
-pub returns-clause-all : goal.returns-clause-all
-returns-clause-all c = λ _.
-    walk_ends c.args.span.now c.args.self.now c.loop-next.next c.loop-next.invariant
-    (omega (arith, c.end-end.ensures.value, c.loop-next-test.false))
+returns-in-None-clause-gap c = λ lacks. first_gap c.args.self.now c.args.span.now c.rank_behind-behind.ensures.span c.in-None.ensures
