@@ -1,8 +1,9 @@
 -- The gathered sets hold what the entries hold.
-use Rattle.std.proofs.Common.{◌≡◌, ℕ, false, ◌⊎◌, inl, inr, List, [], ◌∷◌, ◌++◌, Option, Some, None, Contains, sym, subst}
-use Rattle.std.proofs.lemmas.List.Elements.{Contains-append_left, Contains-append_right, Contains-append_cases, Contains-push, Contains-push_cases}
+use Rattle.std.proofs.Common.{◌≡◌, ℕ, zero, suc, ◌<◌, false, ◌⊎◌, inl, inr, ◌+◌, List, [], ◌∷◌, ◌++◌, length, take, Option, Some, None, Contains, arith, ap, sym, ◌∙◌, subst}
+use Rattle.std.proofs.lemmas.List.{take_more}
+use Rattle.std.proofs.lemmas.List.Elements.{filter_map-append, Contains-append_left, Contains-append_right, Contains-append_cases, Contains-push, Contains-push_cases}
 use Rattle.std.proofs.lemmas.List.Quantifiers.{Any-push}
-use Rattle.std.specs.List.{fold, list_any}
+use Rattle.std.specs.List.{cons_option, filter_map, fold, slice_index_or}
 use Rattle.tn_values.specs.Span.{SpanView, SpanHolds}
 use Rattle.tn_values.specs.NumberSet.{SetView, SetHolds}
 use Rattle.tn_auth_list.specs.CodeTable.{SomeOf}
@@ -11,9 +12,9 @@ use Rattle.tn_auth_list.specs.declared.table_groups.Held.{Held}
 use Rattle.tn_auth_list.specs.declared.table_groups.Held.TheVariants.{All, These}
 use Rattle.tn_auth_list.specs.declared.entries.Entry.{Entry}
 use Rattle.tn_auth_list.specs.declared.entries.Entry.TheVariants.{Code, Range, Single}
-use Rattle.delegation.specs.Coverage.{Table, In, Owns}
-use Rattle.delegation.specs.Gathered.{is_all, stands_for_all, with_own, with_set, with_held, with_covered}
-use Rattle.delegation.proofs.Lists.{any_left, any_right, any_cases, any_push_cases, neither}
+use Rattle.delegation.specs.Coverage.{Table, NamesCode, Owns}
+use Rattle.delegation.specs.Gathered.{code_in, is_all, with_code, with_held, with_own, with_set}
+use Rattle.delegation.proofs.Lists.{any_left, any_right, any_cases, any_push_cases}
 
 abbrev Holds : List ℕ → SpanView → Type 0
 Holds number span = SpanHolds span number
@@ -94,45 +95,68 @@ held_added set None number some h = absurd h
 held_added set (Some All) number some h = absurd cc
 held_added set (Some (These more)) number some h = set_added set more number h
 
--- ---- what all entries cover
+-- ---- the numbers of codes
 
-covered_cases : (table : Table) (set : SetView) (number : List ℕ) (entry : Entry) → SetHolds (with_covered table set entry) number
-    → SetHolds set number ⊎ In table number entry
-covered_cases table set number (Code code) h = held_cases set (grant_in table code) number h
-covered_cases table set number (Range span) h = own_cases set number (Range span) h
-covered_cases table set number (Single own) h = own_cases set number (Single own) h
+-- the table has the number for the code
+abbrev pub Grants : Table → List ℕ → List ℕ → Type 0
+Grants table number code = GrantHolds (grant_in table code) number
 
-covered_kept : (table : Table) (set : SetView) (number : List ℕ) (entry : Entry) → SetHolds set number → SetHolds (with_covered table set entry) number
-covered_kept table set number (Code code) h = held_kept set (grant_in table code) number h
-covered_kept table set number (Range span) h = own_kept set number (Range span) h
-covered_kept table set number (Single own) h = own_kept set number (Single own) h
-
-covered_added : (table : Table) (set : SetView) (number : List ℕ) (entry : Entry) → stands_for_all table entry ≡ false → In table number entry
-    → SetHolds (with_covered table set entry) number
-covered_added table set number (Code code) some h = held_added set (grant_in table code) number some h
-covered_added table set number (Range span) some h = own_added set number (Range span) h
-covered_added table set number (Single own) some h = own_added set number (Single own) h
-
-pub all_found : (table : Table) (entries : List Entry) (set : SetView) (number : List ℕ) → SetHolds (fold (with_covered table) set entries) number
-    → SetHolds set number ⊎ SomeOf (In table number) entries
-all_found table [] set number h = inl h
-all_found table (entry ∷ entries) set number h =
-    elim (all_found table entries (with_covered table set entry) number h) [
-      | inl s ↦ elim (covered_cases table set number entry s) [ inl a ↦ inl a | inr o ↦ inr (inl o) ]
+pub codes_found : (table : Table) (codes : List (List ℕ)) (set : SetView) (number : List ℕ) → SetHolds (fold (with_code table) set codes) number
+    → SetHolds set number ⊎ SomeOf (Grants table number) codes
+codes_found table [] set number h = inl h
+codes_found table (code ∷ codes) set number h =
+    elim (codes_found table codes (with_code table set code) number h) [
+      | inl s ↦ elim (held_cases set (grant_in table code) number s) [ inl a ↦ inl a | inr o ↦ inr (inl o) ]
       | inr more ↦ inr (inr more)
     ]
 
-all_kept : (table : Table) (entries : List Entry) (set : SetView) (number : List ℕ) → SetHolds set number
-    → SetHolds (fold (with_covered table) set entries) number
-all_kept table [] set number h = h
-all_kept table (entry ∷ entries) set number h = all_kept table entries (with_covered table set entry) number (covered_kept table set number entry h)
+pub codes_kept : (table : Table) (codes : List (List ℕ)) (set : SetView) (number : List ℕ) → SetHolds set number
+    → SetHolds (fold (with_code table) set codes) number
+codes_kept table [] set number h = h
+codes_kept table (code ∷ codes) set number h =
+    codes_kept table codes (with_code table set code) number (held_kept set (grant_in table code) number h)
 
-pub all_added : (table : Table) (entries : List Entry) (set : SetView) (number : List ℕ) → list_any (stands_for_all table) entries ≡ false
-    → SomeOf (In table number) entries → SetHolds (fold (with_covered table) set entries) number
-all_added table [] set number some h = absurd h
-all_added table (entry ∷ entries) set number some (inl o) =
-    let parts = neither (stands_for_all table entry) (list_any (stands_for_all table) entries) some in
-    all_kept table entries (with_covered table set entry) number (covered_added table set number entry parts.0 o)
-all_added table (entry ∷ entries) set number some (inr more) =
-    let parts = neither (stands_for_all table entry) (list_any (stands_for_all table) entries) some in
-    all_added table entries (with_covered table set entry) number parts.1 more
+pub codes_added : (table : Table) (codes : List (List ℕ)) (set : SetView) (number code : List ℕ) → is_all (grant_in table code) ≡ false
+    → Grants table number code → Contains codes code → SetHolds (fold (with_code table) set codes) number
+codes_added table [] set number code some h (k, inside, at) = absurd (omega (arith, inside))
+codes_added table (first ∷ codes) set number code some h (zero, inside, at) =
+    let same : grant_in table code ≡ grant_in table first = ap (grant_in table) (sym at) in
+    codes_kept table codes (with_code table set first) number
+    (subst (λ (held : Option Held). SetHolds (with_held set held) number) same (held_added set (grant_in table code) number some h))
+codes_added table (first ∷ codes) set number code some h (suc k, inside, at) =
+    codes_added table codes (with_code table set first) number code some h (k, omega (arith, inside), at)
+
+-- ---- codes that are named
+
+-- a code of the list is named
+pub code_named : (entries : List Entry) (code : List ℕ) → Contains (filter_map code_in entries) code → NamesCode entries code
+code_named [] code (k, inside, at) = absurd (omega (arith, inside))
+code_named (Code own ∷ entries) code (zero, inside, at) = inl (ap Code at)
+code_named (Code own ∷ entries) code (suc k, inside, at) = inr (code_named entries code (k, omega (arith, inside), at))
+code_named (Range span ∷ entries) code h = inr (code_named entries code h)
+code_named (Single own ∷ entries) code h = inr (code_named entries code h)
+
+front_code : (entry : Entry) (entries : List Entry) (code : List ℕ) → entry ≡ Code code → Contains (filter_map code_in (entry ∷ entries)) code
+front_code (Code own) entries code same = let at : own ≡ code = cc in (0, omega arith, at)
+front_code (Range span) entries code same = absurd cc
+front_code (Single number) entries code same = absurd cc
+
+later_code : (entry : Entry) (entries : List Entry) (code : List ℕ) → Contains (filter_map code_in entries) code
+    → Contains (filter_map code_in (entry ∷ entries)) code
+later_code (Code own) entries code (k, inside, at) = (suc k, omega (arith, inside), at)
+later_code (Range span) entries code h = h
+later_code (Single number) entries code h = h
+
+-- a code that is named is in the list
+pub named_code : (entries : List Entry) (code : List ℕ) → NamesCode entries code → Contains (filter_map code_in entries) code
+named_code [] code h = absurd h
+named_code (entry ∷ entries) code (inl same) = front_code entry entries code same
+named_code (entry ∷ entries) code (inr more) = later_code entry entries code (named_code entries code more)
+
+-- one entry more
+pub codes_more : (entries : List Entry) (i : ℕ) (entry : Entry) → i < length entries → entry ≡ slice_index_or entries i entry
+    → filter_map code_in (take (i + 1) entries) ≡ filter_map code_in (take i entries) ++ cons_option (code_in entry) []
+codes_more entries i entry inside at =
+    let last : take (i + 1) entries ≡ take i entries ++ entry ∷ []
+    = take_more entries i entry inside ∙ ap (λ (e : Entry). take i entries ++ e ∷ []) (sym at) in
+    ap (filter_map code_in) last ∙ filter_map-append code_in (take i entries) (entry ∷ [])

@@ -62,7 +62,11 @@ with_held set None = set
 with_held set (Some All) = set
 with_held set (Some (These more)) = with_set set more
 
-abbrev pub with_covered : Table → SetView → Entry → SetView
-with_covered table set (Code code) = with_held set (grant_in table code)
-with_covered table set (Range span) = with_own set (Range span)
-with_covered table set (Single number) = with_own set (Single number)
+abbrev pub with_code : Table → SetView → List ℕ → SetView
+with_code table set code = with_held set (grant_in table code)
+
+-- the code that an entry is
+abbrev pub code_in : Entry → Option (List ℕ)
+code_in (Code code) = Some code
+code_in (Range span) = None
+code_in (Single number) = None

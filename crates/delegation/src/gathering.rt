@@ -1,13 +1,19 @@
 //! Sets of the numbers that entries hold.
-ghost use Rattle.std.specs.Prelude.{◌≡◌, Ok, OnOk, IfOk};
-ghost use Rattle.std.specs.List.{fold};
+ghost use Rattle.std.specs.Prelude.{◌≡◌, ◌↔◌, ◌++◌, ℕ, false, List, [], Contains, OnOk, IfOk};
+ghost use Rattle.std.specs.Cmp.Lexicographic.{slice_cmp};
+ghost use Rattle.std.specs.List.{cons_option, filter_map, fold, list_any};
+ghost use Rattle.std.specs.List.Sorted.{IsStrictlySortedBy};
+ghost use Rattle.std.specs.Ordering.{nat_cmp};
+ghost use Rattle.tn_values.specs.NumberSet.{SetHolds};
+ghost use Rattle.tn_auth_list.specs.CodeTable.{SomeOf};
 ghost use Rattle.tn_auth_list.specs.Grant.{grant_view};
-ghost use Rattle.delegation.specs.Gathered.{no_numbers, with_own, with_set, with_held, with_covered};
+ghost use Rattle.delegation.specs.Coverage.{Covers, NamesCode, Owns};
+ghost use Rattle.delegation.specs.Gathered.{code_in, no_numbers, stands_for_all, with_code, with_held, with_own, with_set};
 
 use crate::Memory;
 use std::alloc::Global;
 use std::marker::Model;
-use tn_auth_list::{CodeTable, Entry, Grant};
+use tn_auth_list::{Code, CodeTable, Entry, Grant};
 use tn_values::{Number, NumberSet, Span};
 
 /// The spans and the single numbers so far.
@@ -63,17 +69,8 @@ impl Gathered {
         Ok(())
     }
 
-    fn add_covered(&mut self, entry: &Entry, table: &CodeTable) -> Result<(), Memory>
-        ensures { OnOk result (self.new ≡ with_covered table.now self.old entry.now) }
-    {
-        match entry {
-            Entry::Code(code) => self.add_granted(table.numbers(code)),
-            Entry::Range(_) | Entry::Single(_) => self.add_own(entry),
-        }
-    }
-
     fn finish(self) -> Result<NumberSet, Memory>
-        ensures { result ≡ Ok self }
+        ensures { IfOk result (λ set. (number : List ℕ) → SetHolds set number ↔ SetHolds self number) }
     {
         NumberSet::build(self.spans, self.singles)
     }
@@ -81,26 +78,75 @@ impl Gathered {
 
 /// The numbers that singles and ranges hold.
 pub(crate) fn own_numbers(alloc: Global, entries: &[Entry]) -> Result<NumberSet, Memory>
-    ensures { IfOk result (λ set. set ≡ fold with_own no_numbers entries.now) }
+    ensures { IfOk result (λ set. (number : List ℕ) → SetHolds set number ↔ SomeOf (Owns number) entries.now) }
 {
-    let mut gathered = Gathered::new(alloc);
-    for entry in entries {
-        gathered.add_own(entry)?;
-    }
-    gathered.finish()
+    gathered_own(alloc, entries)?.finish()
 }
 
-/// The same with the numbers that the table has for codes, but for a code that has every number.
+/// The numbers that the entries hold, also by a code, where no code of them has every number. Each code is asked for once,
+/// however often it is named.
 pub(crate) fn covered_numbers(
     alloc: Global,
     entries: &[Entry],
     table: &CodeTable,
 ) -> Result<NumberSet, Memory>
-    ensures { IfOk result (λ set. set ≡ fold (with_covered table.now) no_numbers entries.now) }
+    ensures { IfOk result (λ set. list_any (stands_for_all table.now) entries.now ≡ false
+        → (number : List ℕ) → SetHolds set number ↔ Covers entries.now table.now number) }
+{
+    let own = gathered_own(alloc, entries)?;
+    let codes = codes_of(alloc, entries)?;
+    gathered_codes(own, &codes, table)?.finish()
+}
+
+fn gathered_own(alloc: Global, entries: &[Entry]) -> Result<Gathered, Memory>
+    ensures { IfOk result (λ gathered. gathered ≡ fold with_own no_numbers entries.now) }
 {
     let mut gathered = Gathered::new(alloc);
     for entry in entries {
-        gathered.add_covered(entry, table)?;
+        gathered.add_own(entry)?;
     }
-    gathered.finish()
+    Ok(gathered)
+}
+
+fn gathered_codes(own: Gathered, codes: &[Code], table: &CodeTable) -> Result<Gathered, Memory>
+    ensures { IfOk result (λ gathered. gathered ≡ fold (with_code table.now) own codes.now) }
+{
+    let mut gathered = own;
+    for code in codes {
+        gathered.add_granted(table.numbers(code))?;
+    }
+    Ok(gathered)
+}
+
+/// The codes that the entries name, each once.
+fn codes_of(alloc: Global, entries: &[Entry]) -> Result<Vec<Code>, Memory>
+    ensures named { IfOk result (λ codes. (code : List ℕ) → Contains codes.items code ↔ NamesCode entries.now code) }
+    ensures once { IfOk result (λ codes. IsStrictlySortedBy (slice_cmp nat_cmp) codes.items) }
+{
+    let mut codes = codes_in(alloc, entries)?;
+    codes.sort_unstable();
+    codes.dedup();
+    Ok(codes)
+}
+
+/// The codes that the entries name, in their order.
+fn codes_in(alloc: Global, entries: &[Entry]) -> Result<Vec<Code>, Memory>
+    ensures { IfOk result (λ codes. codes.items ≡ filter_map code_in entries.now) }
+{
+    let mut codes = Vec::new(alloc);
+    for entry in entries {
+        put_code(&mut codes, entry)?;
+    }
+    Ok(codes)
+}
+
+/// Puts the code that an entry is behind others.
+fn put_code(codes: &mut Vec<Code>, entry: &Entry) -> Result<(), Memory>
+    ensures { OnOk result (codes.new.items ≡ codes.old.items ++ cons_option (code_in entry.now) []) }
+{
+    match entry {
+        Entry::Code(code) => codes.push(*code)?,
+        Entry::Range(_) | Entry::Single(_) => {}
+    }
+    Ok(())
 }

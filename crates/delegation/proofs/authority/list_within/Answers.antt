@@ -21,5 +21,5 @@ returns c =
     let child = c.args.child.now in
     let parent = c.args.parent.now in
     let had = sym c.has_codes_of.ensures ∙ c.if-not-has_codes_of.false in
-    decided child parent c.args.table.now c.in_ok-own.own c.in_ok-covered.covered c.within.result had
-    (sym c.some_stands_for_all.ensures ∙ c.if-some_stands_for_all.false) c.in_ok-own.ensures c.in_ok-covered.ensures c.within.ensures.all c.within.ensures.outside
+    decided child parent c.args.table.now c.in_ok-own.own c.in_ok-covered.covered c.within.result had c.in_ok-own.ensures
+    (c.in_ok-covered.ensures (sym c.some_stands_for_all.ensures ∙ c.if-some_stands_for_all.false)) c.within.ensures.all c.within.ensures.outside
