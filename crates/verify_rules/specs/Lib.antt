@@ -1,6 +1,10 @@
+pub mod Asking
 pub mod Call
 pub mod Code
+pub mod Late
 pub mod Rules
 pub mod Screened
 pub mod Seen
+pub mod States
+pub mod Verdict
 pub mod Words

@@ -1,20 +1,28 @@
 //! The rules by which a call is judged (RFC 8224, section 6.2): [`screen`] tries rules 1 to 9 on what the call itself says, before any
-//! certificate is looked at.
+//! certificate is looked at, and [`finish`] rules 10 to 17 over the certificate chains of its PASSporTs.
 #![tactic(auto)]
 
+mod asking;
+mod chains;
 mod codes;
 mod early;
 mod facts;
 mod fields;
+mod late;
+mod leaf_authority;
 mod passports;
 mod readings;
 mod refusal;
 mod screened;
 mod settings;
+mod told;
 mod turns;
+mod verdict;
 
+pub use chains::{ChainState, Chains};
 pub use codes::code;
 pub use early::screen;
 pub use refusal::{Place, Refusal, ScreenFault};
 pub use screened::Screened;
 pub use settings::Settings;
+pub use verdict::{Verdict, finish};

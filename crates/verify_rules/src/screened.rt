@@ -123,7 +123,7 @@ impl Screened {
 
     /// The PASSporT at this index and its mark.
     #[tactic(auto, using(crate::proofs::ScreenedLaws::turned_first, crate::proofs::ScreenedLaws::turned_low, crate::proofs::ScreenedLaws::turned_some, crate::proofs::ScreenedLaws::turned_within, crate::proofs::ScreenedLaws::turned_at))]
-    fn taken(&self, i: usize) -> Taken<'_>
+    pub(crate) fn taken(&self, i: usize) -> Taken<'_>
         requires { i < length self.now.readings }
         ensures { slice_get self.now.readings i ≡ Some (taken_seen result) }
     {

@@ -1,0 +1,298 @@
+-- What each event comes to, in the order of the rules.
+use Rattle.std.proofs.Common.{◌≡◌, ◌≢◌, ℕ, ◌<◌, Bool, true, false, List, [], ◌∷◌, Option, Some, None, inl, inr, refl, sym, ◌∙◌, ap, subst, arith}
+use Rattle.std.specs.List.{slice_get}
+use Rattle.std.specs.Option.{option_or}
+use Rattle.stir_base.specs.Count.{Rose, last_count}
+use Rattle.delegation.specs.Coverage.{Table}
+use Rattle.cert_store.specs.Judged.{JudgedView, out_of_date}
+use Rattle.cert_store.specs.Rules.{Says}
+use Rattle.cert_store.specs.declared.judged.Asked.{Asked}
+use Rattle.cert_store.specs.declared.judged.Asked.TheVariants.{NotAsked, Yes, No, Failed}
+use Rattle.verify_rules.specs.Call.{Reading}
+use Rattle.verify_rules.specs.Late.{asking, at_asking, at_rule, by_answer, by_part, covers_leaf, event_of, first_event, first_rule, is_signed_by, or_broken, rules_after, rules_before, told_by, unless_signed}
+use Rattle.verify_rules.specs.Rules.{place}
+use Rattle.verify_rules.specs.States.{State, have, no_chain, long, unread}
+use Rattle.verify_rules.specs.Verdict.{IsLeftOpen, IsOpenAt, IsVerdict, QuietIs, verdict_of}
+use Rattle.verify_rules.specs.declared.late.Event.{Event}
+use Rattle.verify_rules.specs.declared.late.Event.TheVariants as events
+use Rattle.verify_rules.specs.declared.late.LateRule.{LateRule}
+use Rattle.verify_rules.specs.declared.late.LateRule.TheVariants as late
+use Rattle.verify_rules.specs.declared.refusal.Place.{Place}
+use Rattle.verify_rules.specs.declared.verdict.Verdict.{Verdict}
+use Rattle.verify_rules.specs.declared.verdict.Verdict.TheVariants.{Passed, Refused, Unread, Unasked}
+use Rattle.verify_rules.proofs.FirstOf.{both_none, found, none_at}
+
+-- ---- what a rule on a chain that is known can't make of it
+
+part_known : (n field : ℕ) (o : Option ℕ) (bad : Place) → event_of n field (by_part o) ≡ Some (events.Unread bad) → ⊥
+part_known n field None bad h = cc
+part_known n field (Some part) bad h = cc
+
+part_asks_none : (n field : ℕ) (o : Option ℕ) (bad : Place) → event_of n field (by_part o) ≡ Some (events.Unasked bad) → ⊥
+part_asks_none n field None bad h = cc
+part_asks_none n field (Some part) bad h = cc
+
+test_known : (n field : ℕ) (t : Bool) (bad : Place) → event_of n field (or_broken t) ≡ Some (events.Unread bad) → ⊥
+test_known n field true bad h = cc
+test_known n field false bad h = cc
+
+test_asks_none : (n field : ℕ) (t : Bool) (bad : Place) → event_of n field (or_broken t) ≡ Some (events.Unasked bad) → ⊥
+test_asks_none n field true bad h = cc
+test_asks_none n field false bad h = cc
+
+answer_known : (n field : ℕ) (asked : Asked) (bad : Place) → event_of n field (by_answer asked) ≡ Some (events.Unread bad) → ⊥
+answer_known n field NotAsked bad h = cc
+answer_known n field Yes bad h = cc
+answer_known n field (No part) bad h = cc
+answer_known n field (Failed part) bad h = cc
+
+signed_known : (field : ℕ) (t : Bool) (bad : Place) → unless_signed field t ≡ Some (events.Unread bad) → ⊥
+signed_known field true bad h = cc
+signed_known field false bad h = cc
+
+signed_asks_none : (field : ℕ) (t : Bool) (bad : Place) → unless_signed field t ≡ Some (events.Unasked bad) → ⊥
+signed_asks_none field true bad h = cc
+signed_asks_none field false bad h = cc
+
+-- ---- rule 10 meets a chain that isn't known first
+
+judged_known : (rule : LateRule) (table : Table) (moment : ℕ) (one : Reading) (judged : JudgedView) (bad : Place) → at_rule rule table moment one (have judged) ≡ Some (events.Unread bad) → ⊥
+unfolding at_rule
+judged_known late.Listed table moment one judged bad h = cc
+judged_known late.Profile table moment one judged bad h = part_known 11 one.mark.field judged.profile bad h
+judged_known late.Shape table moment one judged bad h = part_known 12 one.mark.field judged.shape bad h
+judged_known late.Dates table moment one judged bad h = part_known 13 one.mark.field (out_of_date judged moment) bad h
+judged_known late.Authority table moment one judged bad h = part_known 14 one.mark.field judged.authority bad h
+judged_known late.Asked table moment one judged bad h = answer_known 15 one.mark.field judged.asked bad h
+judged_known late.Covers table moment one judged bad h = test_known 17 one.mark.field (covers_leaf table one.passport (slice_get judged.certificates 0)) bad h
+
+long_known : (rule : LateRule) (table : Table) (moment : ℕ) (one : Reading) (bad : Place) → at_rule rule table moment one long ≡ Some (events.Unread bad) → ⊥
+unfolding at_rule
+long_known late.Listed table moment one bad h = cc
+long_known late.Profile table moment one bad h = cc
+long_known late.Shape table moment one bad h = cc
+long_known late.Dates table moment one bad h = cc
+long_known late.Authority table moment one bad h = cc
+long_known late.Asked table moment one bad h = cc
+long_known late.Covers table moment one bad h = cc
+
+listed_missing : (table : Table) (moment : ℕ) (one : Reading) → at_rule late.Listed table moment one no_chain ≡ None → ⊥
+unfolding at_rule
+listed_missing table moment one h = cc
+
+listed_unread : (table : Table) (moment : ℕ) (one : Reading) → at_rule late.Listed table moment one unread ≡ None → ⊥
+unfolding at_rule
+listed_unread table moment one h = cc
+
+known_here : (rule : LateRule) (table : Table) (moment : ℕ) (one : Reading) (state : State) (bad : Place) → at_rule late.Listed table moment one state ≡ None
+    → at_rule rule table moment one state ≡ Some (events.Unread bad) → ⊥
+known_here rule table moment one (have judged) bad holds h = judged_known rule table moment one judged bad h
+known_here rule table moment one no_chain bad holds h = listed_missing table moment one holds
+known_here rule table moment one long bad holds h = long_known rule table moment one bad h
+known_here rule table moment one unread bad holds h = listed_unread table moment one holds
+
+signing_here : (says : Says) (table : Table) (moment : ℕ) (one : Reading) (state : State) (bad : Place) → at_rule late.Listed table moment one state ≡ None
+    → at_asking says one state ≡ Some (events.Unread bad) → ⊥
+unfolding at_asking
+signing_here says table moment one (have judged) bad holds h = signed_known one.mark.field (is_signed_by says one (slice_get judged.certificates 0)) bad h
+signing_here says table moment one no_chain bad holds h = cc
+signing_here says table moment one long bad holds h = cc
+signing_here says table moment one unread bad holds h = listed_unread table moment one holds
+
+told_known : (rule : LateRule) (table : Table) (moment : ℕ) (readings : List Reading) (states : List State) (bad : Place) → told_by late.Listed table moment readings states ≡ None
+    → told_by rule table moment readings states ≡ Some (events.Unread bad) → ⊥
+told_known rule table moment readings states bad holds h =
+    let f = found (at_rule rule table moment) readings states (events.Unread bad) h in
+    known_here rule table moment f.one f.state bad (none_at (at_rule late.Listed table moment) readings states f.index f.one f.state holds f.is f.chain) f.gives
+
+asking_known : (says : Says) (table : Table) (moment : ℕ) (readings : List Reading) (states : List State) (bad : Place) → told_by late.Listed table moment readings states ≡ None
+    → asking says readings states ≡ Some (events.Unread bad) → ⊥
+asking_known says table moment readings states bad holds h =
+    let f = found (at_asking says) readings states (events.Unread bad) h in
+    signing_here says table moment f.one f.state bad (none_at (at_rule late.Listed table moment) readings states f.index f.one f.state holds f.is f.chain) f.gives
+
+-- ---- the rule of an event
+
+rule_by : (rule : LateRule) (rules : List LateRule) (table : Table) (moment : ℕ) (readings : List Reading) (states : List State) (event : Event) (o : Option Event)
+    → told_by rule table moment readings states ≡ o → (first_rule rules table moment readings states ≡ Some event → (by : LateRule) × (told_by by table moment readings states ≡ Some event))
+    → option_or o (first_rule rules table moment readings states) ≡ Some event → (by : LateRule) × (told_by by table moment readings states ≡ Some event)
+rule_by rule rules table moment readings states event None e below h = below h
+rule_by rule rules table moment readings states event (Some x) e below h = (rule, e ∙ h)
+
+rule_of : (rules : List LateRule) (table : Table) (moment : ℕ) (readings : List Reading) (states : List State) (event : Event) → first_rule rules table moment readings states ≡ Some event
+    → (by : LateRule) × (told_by by table moment readings states ≡ Some event)
+rule_of [] table moment readings states event h = absurd cc
+rule_of (rule ∷ rules) table moment readings states event h =
+    rule_by rule rules table moment readings states event (told_by rule table moment readings states) refl (rule_of rules table moment readings states event) h
+
+listed_by : (rules : List LateRule) (table : Table) (moment : ℕ) (readings : List Reading) (states : List State) (bad : Place) (o : Option Event) → told_by late.Listed table moment readings states ≡ o
+    → option_or o (first_rule rules table moment readings states) ≡ Some (events.Unread bad) → told_by late.Listed table moment readings states ≡ Some (events.Unread bad)
+listed_by rules table moment readings states bad None e h =
+    let r = rule_of rules table moment readings states (events.Unread bad) h in absurd (told_known r.0 table moment readings states bad e r.1)
+listed_by rules table moment readings states bad (Some x) e h = e ∙ h
+
+abbrev behind_listed : List LateRule
+behind_listed = late.Profile ∷ late.Shape ∷ late.Dates ∷ late.Authority ∷ late.Asked ∷ []
+
+listed_first : (table : Table) (moment : ℕ) (readings : List Reading) (states : List State) (bad : Place) → first_rule rules_before table moment readings states ≡ Some (events.Unread bad)
+    → told_by late.Listed table moment readings states ≡ Some (events.Unread bad)
+listed_first table moment readings states bad h = listed_by behind_listed table moment readings states bad (told_by late.Listed table moment readings states) refl h
+
+listed_holds : (table : Table) (moment : ℕ) (readings : List Reading) (states : List State) → first_rule rules_before table moment readings states ≡ None
+    → told_by late.Listed table moment readings states ≡ None
+listed_holds table moment readings states h = (both_none (told_by late.Listed table moment readings states) (first_rule behind_listed table moment readings states) h).0
+
+-- ---- rule 15 alone, and a question of rule 16 that failed, leave an answer open
+
+failed_by : (one : Reading) (judged : JudgedView) (asked : Asked) (bad : Place) → judged.asked ≡ asked → event_of 15 one.mark.field (by_answer asked) ≡ Some (events.Unasked bad)
+    → (part : ℕ) × (judged.asked ≡ Failed part) × (bad ≡ place one.mark.field part)
+failed_by one judged NotAsked bad e h = absurd cc
+failed_by one judged Yes bad e h = absurd cc
+failed_by one judged (No part) bad e h = absurd cc
+failed_by one judged (Failed part) bad e h = let same : place one.mark.field part ≡ bad = cc in (part, e, sym same)
+
+failed_judged : (rule : LateRule) (table : Table) (moment : ℕ) (one : Reading) (judged : JudgedView) (bad : Place) → at_rule rule table moment one (have judged) ≡ Some (events.Unasked bad)
+    → (part : ℕ) × (judged.asked ≡ Failed part) × (bad ≡ place one.mark.field part)
+unfolding at_rule
+failed_judged late.Listed table moment one judged bad h = absurd cc
+failed_judged late.Profile table moment one judged bad h = absurd (part_asks_none 11 one.mark.field judged.profile bad h)
+failed_judged late.Shape table moment one judged bad h = absurd (part_asks_none 12 one.mark.field judged.shape bad h)
+failed_judged late.Dates table moment one judged bad h = absurd (part_asks_none 13 one.mark.field (out_of_date judged moment) bad h)
+failed_judged late.Authority table moment one judged bad h = absurd (part_asks_none 14 one.mark.field judged.authority bad h)
+failed_judged late.Asked table moment one judged bad h = failed_by one judged judged.asked bad refl h
+failed_judged late.Covers table moment one judged bad h =
+    absurd (test_asks_none 17 one.mark.field (covers_leaf table one.passport (slice_get judged.certificates 0)) bad h)
+
+missing_asks_none : (rule : LateRule) (table : Table) (moment : ℕ) (one : Reading) (bad : Place) → at_rule rule table moment one no_chain ≡ Some (events.Unasked bad) → ⊥
+unfolding at_rule
+missing_asks_none late.Listed table moment one bad h = cc
+missing_asks_none late.Profile table moment one bad h = cc
+missing_asks_none late.Shape table moment one bad h = cc
+missing_asks_none late.Dates table moment one bad h = cc
+missing_asks_none late.Authority table moment one bad h = cc
+missing_asks_none late.Asked table moment one bad h = cc
+missing_asks_none late.Covers table moment one bad h = cc
+
+long_asks_none : (rule : LateRule) (table : Table) (moment : ℕ) (one : Reading) (bad : Place) → at_rule rule table moment one long ≡ Some (events.Unasked bad) → ⊥
+unfolding at_rule
+long_asks_none late.Listed table moment one bad h = cc
+long_asks_none late.Profile table moment one bad h = cc
+long_asks_none late.Shape table moment one bad h = cc
+long_asks_none late.Dates table moment one bad h = cc
+long_asks_none late.Authority table moment one bad h = cc
+long_asks_none late.Asked table moment one bad h = cc
+long_asks_none late.Covers table moment one bad h = cc
+
+unread_asks_none : (rule : LateRule) (table : Table) (moment : ℕ) (one : Reading) (bad : Place) → at_rule rule table moment one unread ≡ Some (events.Unasked bad) → ⊥
+unfolding at_rule
+unread_asks_none rule table moment one bad h = cc
+
+failed_here : (rule : LateRule) (table : Table) (moment : ℕ) (readings : List Reading) (states : List State) (i : ℕ) (one : Reading) (state : State) (bad : Place) → slice_get readings i ≡ Some one
+    → slice_get states i ≡ Some state → at_rule rule table moment one state ≡ Some (events.Unasked bad) → IsLeftOpen readings states bad
+failed_here rule table moment readings states i one (have judged) bad e f h =
+    let p = failed_judged rule table moment one judged bad h in record { at = i; here = one; is = e; judged = judged; chain = f; part = p.0; failed = p.1; place = p.2 }
+failed_here rule table moment readings states i one no_chain bad e f h = absurd (missing_asks_none rule table moment one bad h)
+failed_here rule table moment readings states i one long bad e f h = absurd (long_asks_none rule table moment one bad h)
+failed_here rule table moment readings states i one unread bad e f h = absurd (unread_asks_none rule table moment one bad h)
+
+failed_chain : (rules : List LateRule) (table : Table) (moment : ℕ) (readings : List Reading) (states : List State) (bad : Place)
+    → first_rule rules table moment readings states ≡ Some (events.Unasked bad) → IsLeftOpen readings states bad
+failed_chain rules table moment readings states bad h =
+    let r = rule_of rules table moment readings states (events.Unasked bad) h in
+    let f = found (at_rule r.0 table moment) readings states (events.Unasked bad) r.1 in
+    failed_here r.0 table moment readings states f.index f.one f.state bad f.is f.chain f.gives
+
+covering_here : (table : Table) (moment : ℕ) (one : Reading) (state : State) (bad : Place) → at_rule late.Covers table moment one state ≡ Some (events.Unasked bad) → ⊥
+unfolding at_rule
+covering_here table moment one (have judged) bad h = test_asks_none 17 one.mark.field (covers_leaf table one.passport (slice_get judged.certificates 0)) bad h
+covering_here table moment one no_chain bad h = cc
+covering_here table moment one long bad h = cc
+covering_here table moment one unread bad h = cc
+
+asking_here : (says : Says) (one : Reading) (state : State) (bad : Place) → at_asking says one state ≡ Some (events.Unasked bad) → ⊥
+unfolding at_asking
+asking_here says one (have judged) bad h = signed_asks_none one.mark.field (is_signed_by says one (slice_get judged.certificates 0)) bad h
+asking_here says one no_chain bad h = cc
+asking_here says one long bad h = cc
+asking_here says one unread bad h = cc
+
+or_none : (o : Option Event) (event : Event) → option_or o None ≡ Some event → o ≡ Some event
+or_none None event h = h
+or_none (Some x) event h = h
+
+-- ---- the verdict of each exit
+
+before_by : (says : Says) (table : Table) (moment : ℕ) (readings : List Reading) (states : List State) (faults now : ℕ) (event : Event)
+    → first_rule rules_before table moment readings states ≡ Some event → IsVerdict says table moment readings states faults now (verdict_of event)
+before_by says table moment readings states faults now (events.Refused refused) h =
+    ap (λ x. option_or x (option_or (asking says readings states) (first_rule rules_after table moment readings states))) h
+before_by says table moment readings states faults now (events.Unread bad) h = listed_first table moment readings states bad h
+before_by says table moment readings states faults now (events.Unasked bad) h = inl h
+
+asking_by : (says : Says) (table : Table) (moment : ℕ) (readings : List Reading) (states : List State) (faults now : ℕ) (event : Event)
+    → first_rule rules_before table moment readings states ≡ None → asking says readings states ≡ Some event → IsVerdict says table moment readings states faults now (verdict_of event)
+asking_by says table moment readings states faults now (events.Refused refused) none h =
+    ap (λ x. option_or x (option_or (asking says readings states) (first_rule rules_after table moment readings states))) none
+    ∙ ap (λ x. option_or x (first_rule rules_after table moment readings states)) h
+asking_by says table moment readings states faults now (events.Unread bad) none h =
+    absurd (asking_known says table moment readings states bad (listed_holds table moment readings states none) h)
+asking_by says table moment readings states faults now (events.Unasked bad) none h =
+    let f = found (at_asking says) readings states (events.Unasked bad) h in absurd (asking_here says f.one f.state bad f.gives)
+
+after_by : (says : Says) (table : Table) (moment : ℕ) (readings : List Reading) (states : List State) (faults now : ℕ) (event : Event)
+    → first_rule rules_before table moment readings states ≡ None → asking says readings states ≡ None → first_rule rules_after table moment readings states ≡ Some event
+    → IsVerdict says table moment readings states faults now (verdict_of event)
+after_by says table moment readings states faults now (events.Refused refused) none signed h =
+    ap (λ x. option_or x (option_or (asking says readings states) (first_rule rules_after table moment readings states))) none
+    ∙ ap (λ x. option_or x (first_rule rules_after table moment readings states)) signed ∙ h
+after_by says table moment readings states faults now (events.Unread bad) none signed h =
+    let r = rule_of rules_after table moment readings states (events.Unread bad) h in
+    absurd (told_known r.0 table moment readings states bad (listed_holds table moment readings states none) r.1)
+after_by says table moment readings states faults now (events.Unasked bad) none signed h =
+    let e = or_none (told_by late.Covers table moment readings states) (events.Unasked bad) h in
+    let f = found (at_rule late.Covers table moment) readings states (events.Unasked bad) e in absurd (covering_here table moment f.one f.state bad f.gives)
+
+pub by_before : (says : Says) (table : Table) (moment : ℕ) (readings : List Reading) (states : List State) (faults now : ℕ) (event : Event) (o : Option Event) (v : Verdict)
+    → o ≡ first_rule rules_before table moment readings states → o ≡ Some event → v ≡ verdict_of event → IsVerdict says table moment readings states faults now v
+by_before says table moment readings states faults now event o v is some e =
+    subst (IsVerdict says table moment readings states faults now) (sym e) (before_by says table moment readings states faults now event (sym is ∙ some))
+
+pub by_asking : (says : Says) (table : Table) (moment : ℕ) (readings : List Reading) (states : List State) (faults now : ℕ) (event : Event) (before o : Option Event) (v : Verdict)
+    → before ≡ first_rule rules_before table moment readings states → before ≡ None → o ≡ asking says readings states → o ≡ Some event → v ≡ verdict_of event
+    → IsVerdict says table moment readings states faults now v
+by_asking says table moment readings states faults now event before o v is none asked some e =
+    subst (IsVerdict says table moment readings states faults now) (sym e) (asking_by says table moment readings states faults now event (sym is ∙ none) (sym asked ∙ some))
+
+pub left_open : (says : Says) (table : Table) (moment : ℕ) (readings : List Reading) (states : List State) (faults now : ℕ) (before : Option Event) (bad : Place)
+    → before ≡ first_rule rules_before table moment readings states → before ≡ None → Rose faults now × IsOpenAt says readings states bad
+    → IsVerdict says table moment readings states faults now (Unasked bad)
+left_open says table moment readings states faults now before bad is none open_at = inr (sym is ∙ none, open_at.0, open_at.1)
+
+pub by_after : (says : Says) (table : Table) (moment : ℕ) (readings : List Reading) (states : List State) (faults now : ℕ) (event : Event) (before asked o : Option Event) (v : Verdict)
+    → before ≡ first_rule rules_before table moment readings states → before ≡ None → asked ≡ asking says readings states → asked ≡ None
+    → o ≡ first_rule rules_after table moment readings states → o ≡ Some event → v ≡ verdict_of event → IsVerdict says table moment readings states faults now v
+by_after says table moment readings states faults now event before asked o v is none asks signed after some e =
+    subst (IsVerdict says table moment readings states faults now) (sym e)
+    (after_by says table moment readings states faults now event (sym is ∙ none) (sym asks ∙ signed) (sym after ∙ some))
+
+pub by_none : (says : Says) (table : Table) (moment : ℕ) (readings : List Reading) (states : List State) (before asked o : Option Event)
+    → before ≡ first_rule rules_before table moment readings states → before ≡ None → asked ≡ asking says readings states → asked ≡ None
+    → o ≡ first_rule rules_after table moment readings states → o ≡ None → first_event says table moment readings states ≡ None
+by_none says table moment readings states before asked o is none asks signed after passed =
+    ap (λ x. option_or x (option_or (asking says readings states) (first_rule rules_after table moment readings states))) (sym is ∙ none)
+    ∙ ap (λ x. option_or x (first_rule rules_after table moment readings states)) (sym asks ∙ signed) ∙ sym after ∙ passed
+
+-- ---- where no fault was counted
+
+quiet_by : (says : Says) (table : Table) (moment : ℕ) (readings : List Reading) (states : List State) (faults now : ℕ) (bad : Place)
+    → IsVerdict says table moment readings states faults now (Unasked bad) → now ≡ faults → faults ≢ last_count → IsLeftOpen readings states bad
+quiet_by says table moment readings states faults now bad (inl h) same below = failed_chain rules_before table moment readings states bad h
+quiet_by says table moment readings states faults now bad (inr h) same below =
+    let rose : faults < now = h.1 (λ last. below (sym same ∙ last)) in absurd (omega (arith, same, rose))
+
+pub quiet : (says : Says) (table : Table) (moment : ℕ) (readings : List Reading) (states : List State) (faults now : ℕ) (v : Verdict) → IsVerdict says table moment readings states faults now v
+    → QuietIs readings states faults now v
+quiet says table moment readings states faults now Passed h = λ same below. tt
+quiet says table moment readings states faults now (Refused refused) h = λ same below. tt
+quiet says table moment readings states faults now (Unread bad) h = λ same below. tt
+quiet says table moment readings states faults now (Unasked bad) h = λ same below. quiet_by says table moment readings states faults now bad h same below

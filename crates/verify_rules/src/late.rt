@@ -1,0 +1,163 @@
+//! Rules 10 to 15 and 17, each asked of one PASSporT and of what is known of its chain.
+ghost use Rattle.std.specs.Prelude.{◌≡◌};
+ghost use Rattle.verify_rules.specs.Late.{by_answer, by_part, number, or_broken, tell, tell_judged, tell_long, tell_missing};
+ghost use Rattle.verify_rules.specs.Seen.{taken_seen};
+ghost use Rattle.verify_rules.specs.States.{seen};
+
+use crate::chains::ChainState;
+use crate::leaf_authority::covers_leaf;
+use crate::readings::Taken;
+use crate::refusal::{Place, Refusal};
+use cert_store::{Asked, Judged};
+use tn_auth_list::CodeTable;
+
+/// A rule that asks nothing of the provider.
+#[derive(Clone, Copy)]
+pub(crate) enum LateRule {
+    /// Rule 10: there is a chain (RFC 8224, section 6.2.2).
+    Listed,
+    /// Rule 11: it is at most six certificates of the profile.
+    Profile,
+    /// Rule 12: it is a path up to a trust anchor (RFC 5280, section 6.1).
+    Shape,
+    /// Rule 13: its certificates are valid at the moment (RFC 5280, section 6.1.3).
+    Dates,
+    /// Rule 14: the authority of each lies within its issuer's (RFC 9060).
+    Authority,
+    /// Rule 15: their signatures are good, as far as the provider answered (RFC 5280, section 6.1.3).
+    Asked,
+    /// Rule 17: the leaf's authority covers what the PASSporT vouches for (ATIS-1000074, section 5.2.3; RFC 8946, section 5).
+    Covers,
+}
+
+/// What a rule says of one PASSporT.
+#[derive(Clone, Copy)]
+pub(crate) enum Told {
+    /// It holds.
+    Holds,
+    /// It is broken at the certificate of this number, or at 0 where none is meant.
+    Broken(u8),
+    /// Nothing: the chain isn't known.
+    Unknown,
+    /// Nothing: the provider failed at the signature of the certificate of this number.
+    Unasked(u8),
+}
+
+/// What ends the trial of a call.
+#[derive(Clone, Copy)]
+pub(crate) enum Event {
+    /// A rule is broken.
+    Refused(Refusal),
+    /// The chain of the PASSporT there isn't known.
+    Unread(Place),
+    /// Whether a certificate there is signed isn't known.
+    Unasked(Place),
+}
+
+impl LateRule {
+    /// The rule's number.
+    pub(crate) fn number(self) -> u8
+        ensures { result ≡ number self }
+    {
+        match self {
+            LateRule::Listed => 10,
+            LateRule::Profile => 11,
+            LateRule::Shape => 12,
+            LateRule::Dates => 13,
+            LateRule::Authority => 14,
+            LateRule::Asked => 15,
+            LateRule::Covers => 17,
+        }
+    }
+
+    /// What the rule says of a PASSporT at a moment, in Unix seconds.
+    pub(crate) fn tell(
+        self,
+        table: &CodeTable,
+        moment: u64,
+        one: &Taken<'_>,
+        state: ChainState<'_>,
+    ) -> Told
+        ensures { result ≡ tell self table.now moment (taken_seen one.now) (seen state.entry) }
+    {
+        match state {
+            ChainState::Have(judged) => self.tell_judged(table, moment, one, judged),
+            ChainState::NoChain => self.tell_missing(),
+            ChainState::Long => self.tell_long(),
+            ChainState::Unread => Told::Unknown,
+        }
+    }
+
+    /// What it says where the chain was judged.
+    fn tell_judged(self, table: &CodeTable, moment: u64, one: &Taken<'_>, judged: &Judged) -> Told
+        ensures { result ≡ tell_judged self table.now moment (taken_seen one.now) judged.now }
+    {
+        match self {
+            LateRule::Listed => Told::Holds,
+            LateRule::Profile => by_part(judged.profile()),
+            LateRule::Shape => by_part(judged.shape()),
+            LateRule::Dates => by_part(judged.out_of_date(moment)),
+            LateRule::Authority => by_part(judged.authority()),
+            LateRule::Asked => by_answer(judged.asked()),
+            LateRule::Covers => or_broken(covers_leaf(table, one.passport, judged.leaf())),
+        }
+    }
+
+    /// What it says where there is no chain.
+    fn tell_missing(self) -> Told
+        ensures { result ≡ tell_missing self }
+    {
+        match self {
+            LateRule::Listed => Told::Broken(0),
+            LateRule::Profile
+            | LateRule::Shape
+            | LateRule::Dates
+            | LateRule::Authority
+            | LateRule::Asked
+            | LateRule::Covers => Told::Holds,
+        }
+    }
+
+    /// What it says where the chain's file is too long.
+    fn tell_long(self) -> Told
+        ensures { result ≡ tell_long self }
+    {
+        match self {
+            LateRule::Profile => Told::Broken(0),
+            LateRule::Listed
+            | LateRule::Shape
+            | LateRule::Dates
+            | LateRule::Authority
+            | LateRule::Asked
+            | LateRule::Covers => Told::Holds,
+        }
+    }
+}
+
+/// Broken at the part, where there is one.
+fn by_part(part: Option<u8>) -> Told
+    ensures { result ≡ by_part part }
+{
+    match part {
+        Some(part) => Told::Broken(part),
+        None => Told::Holds,
+    }
+}
+
+/// Broken where a signature isn't good.
+fn by_answer(asked: Asked) -> Told
+    ensures { result ≡ by_answer asked }
+{
+    match asked {
+        Asked::NotAsked | Asked::Yes => Told::Holds,
+        Asked::No { part } => Told::Broken(part),
+        Asked::Failed { part } => Told::Unasked(part),
+    }
+}
+
+/// Broken unless it holds.
+fn or_broken(holds: bool) -> Told
+    ensures { result ≡ or_broken holds }
+{
+    if holds { Told::Holds } else { Told::Broken(0) }
+}

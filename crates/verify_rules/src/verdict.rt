@@ -1,0 +1,115 @@
+//! Rules 10 to 17, tried in their order.
+ghost use Rattle.std.specs.Prelude.{◌≡◌, ◌+◌, ◌≤◌, length};
+ghost use Rattle.verify_rules.specs.Verdict.{IsVerdict, QuietIs, verdict_of};
+
+use crate::asking::ask;
+use crate::chains::Chains;
+use crate::late::{Event, LateRule};
+use crate::refusal::{Place, Refusal};
+use crate::screened::Screened;
+use crate::told::first_rule;
+use stir_outside::Provider;
+use tn_auth_list::CodeTable;
+
+/// What rules 10 to 17 come to.
+#[derive(Clone, Copy, Debug, PartialEq, Eq)]
+pub enum Verdict {
+    /// They hold.
+    Passed,
+    /// This one is the first that is broken.
+    Refused(Refusal),
+    /// The chain of the PASSporT there isn't known, and rule 10 holds for those before it.
+    Unread(Place),
+    /// The provider failed at a signature, and the rules up to it hold: at that of the certificate of this part, when the chain was judged;
+    /// or, where the part is 0, at that of the PASSporT, in this call.
+    Unasked(Place),
+}
+
+/// The rules that are tried before the signatures of the PASSporTs are asked for.
+const BEFORE: [LateRule; 6] = [
+    LateRule::Listed,
+    LateRule::Profile,
+    LateRule::Shape,
+    LateRule::Dates,
+    LateRule::Authority,
+    LateRule::Asked,
+];
+
+/// Those that are tried behind them.
+const AFTER: [LateRule; 1] = [LateRule::Covers];
+
+/// Tries rules 10 to 17 (RFC 8224, section 6.2) on a call that was screened and came at this moment, in Unix seconds, over what is known of
+/// the chains of its PASSporTs, one for each and in the order in which the call went.
+///
+/// The provider is asked for the signatures of the PASSporTs alone (rule 16), and only where rules 10 to 15 hold; what it says of the
+/// certificates' stands in the chains. The first rule that is broken refuses the call, unless a chain that isn't known or a signature at
+/// which the provider failed comes before it.
+#[tactic(auto, using(crate::proofs::VerdictLaws::quiet))]
+pub fn finish<C: Chains, P: Provider>(
+    screened: &Screened,
+    chains: &C,
+    moment: u64,
+    table: &CodeTable,
+    provider: &mut P,
+) -> Verdict
+    requires one_each { length (C.states chains.now) ≡ length screened.now.readings }
+
+    // What the rules give first, over the chains that are handed in.
+    ensures verdict { IsVerdict (P.says provider.old) table.now moment screened.now.readings (C.states chains.now) (P.faults provider.old) (P.faults provider.new) result }
+
+    // Where no fault was counted, only a chain that is handed in leaves an answer open.
+    ensures quiet { QuietIs screened.now.readings (C.states chains.now) (P.faults provider.old) (P.faults provider.new) result }
+
+    // How often the provider was asked, and what that changed of it.
+    ensures asks { P.asks provider.new ≤ P.asks provider.old + length screened.now.readings }
+    ensures asks_stay { P.asks provider.old ≤ P.asks provider.new }
+    ensures faults { P.faults provider.old ≤ P.faults provider.new }
+    ensures same_says { P.says provider.new ≡ P.says provider.old }
+    ensures same_signs { P.signs provider.new ≡ P.signs provider.old }
+{
+    finish_exactly(screened, chains, moment, table, provider)
+}
+
+/// The same, by the rules in their order.
+#[tactic(auto, using(crate::proofs::VerdictLaws::by_before, crate::proofs::VerdictLaws::by_asking, crate::proofs::VerdictLaws::left_open, crate::proofs::VerdictLaws::by_after, crate::proofs::VerdictLaws::by_none))]
+fn finish_exactly<C: Chains, P: Provider>(
+    screened: &Screened,
+    chains: &C,
+    moment: u64,
+    table: &CodeTable,
+    provider: &mut P,
+) -> Verdict
+    requires one_each { length (C.states chains.now) ≡ length screened.now.readings }
+    ensures verdict { IsVerdict (P.says provider.old) table.now moment screened.now.readings (C.states chains.now) (P.faults provider.old) (P.faults provider.new) result }
+    ensures asks { P.asks provider.new ≤ P.asks provider.old + length screened.now.readings }
+    ensures asks_stay { P.asks provider.old ≤ P.asks provider.new }
+    ensures faults { P.faults provider.old ≤ P.faults provider.new }
+    ensures same_says { P.says provider.new ≡ P.says provider.old }
+    ensures same_signs { P.signs provider.new ≡ P.signs provider.old }
+{
+    if let Some(event) = first_rule(&BEFORE, screened, chains, moment, table) {
+        return verdict_of(event);
+    }
+    let asked = match ask(screened, chains, provider) {
+        Ok(asked) => asked,
+        Err(place) => return Verdict::Unasked(place),
+    };
+    if let Some(event) = asked {
+        return verdict_of(event);
+    }
+    match first_rule(&AFTER, screened, chains, moment, table) {
+        Some(event) => verdict_of(event),
+        None => Verdict::Passed,
+    }
+}
+
+/// What is answered at an event.
+fn verdict_of(event: Event) -> Verdict
+    ensures { result ≡ verdict_of event }
+{
+    match event {
+        Event::Refused(refusal) => Verdict::Refused(refusal),
+        Event::Unread(place) => Verdict::Unread(place),
+        Event::Unasked(place) => Verdict::Unasked(place),
+    }
+}
