@@ -56,13 +56,14 @@ def chain_map(lines):
     return "".join(f"https://cert.example.org/{line * 7919:012}.cer {line}.der\n" for line in range(lines))
 
 
-TABLE = ["tn_auth_list", "stir_base", "text_file", "tn_values", "der_reader"]
-CHAINS = ["cert_store", "text_grammar", "stir_outside", "delegation", "x509_profile"] + TABLE
+TEXTS = ["text_file", "text_grammar", "lists"]
+TABLE = ["tn_auth_list", "tn_values", "der_reader"] + TEXTS
+CHAINS = ["cert_store", "stir_outside", "delegation", "x509_profile"] + TABLE
 
 # the kind of file, its reader, the crate of that and those below it, what makes such a file, and of how many lines
 SUBJECTS = [
     ("code table", "CodeTable", TABLE, code_table, [50_000, 100_000, 200_000]),
-    ("answers file", "Answers", ["stir_outside", "stir_base", "text_file"], answers, [50_000, 100_000, 200_000]),
+    ("answers file", "Answers", ["stir_outside"] + TEXTS, answers, [50_000, 100_000, 200_000]),
     ("chain map", "ChainMap", CHAINS, chain_map, [12_500, 25_000, 50_000]),
 ]
 

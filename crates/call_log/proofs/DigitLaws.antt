@@ -8,27 +8,16 @@ use Rattle.std.specs.Str.Parse.{digits_value}
 use Rattle.std.proofs.lemmas.Bool.Decides.{nat_tests}
 use Rattle.std.proofs.lemmas.Fmt.{decimal_digit, decimal_is_IsNumeral, decimal_nonempty, decimal_step, digits_decimal, first_decimal}
 use Rattle.std.proofs.lemmas.Str.Parse.{IsNumeralModel, digits_value-take-le, numerals_by_value}
-use Rattle.stir_base.proofs.Passing.{both}
+use Rattle.std.proofs.lemmas.Bool.{and_parts}
 use lib.Seq.{take-append_seam}
 use Rattle.call_log.specs.Number.{AreDigits, NoNumber}
 use Rattle.call_log.specs.declared.digits.Digits.{Digits}
+use Rattle.text_grammar.proofs.DecimalLaws.{IsDigits, digit_numerals}
 
 -- ---- digits and what stands behind them
 
-abbrev pub IsDigits : List ℕ → Type 0
-IsDigits text = list_all is_ascii_digit text ≡ true
-
-digit_parts : (c : ℕ) (cs : List ℕ) → IsDigits (c ∷ cs) → IsInRange 48 57 c × IsDigits cs
-digit_parts c cs h = (grind (arith, nat_tests), grind (arith, nat_tests))
-
-digit_more : (c : ℕ) (cs : List ℕ) → IsInRange 48 57 c → IsDigits cs → IsDigits (c ∷ cs)
-digit_more c cs low h = grind (arith, nat_tests)
-
-own : IsNumeralModel IsDigits (digits_value 10)
-own = numerals_by_value IsDigits (record { empty = refl; parts = digit_parts; more = digit_more })
-
 pub decimal_digits : (n : ℕ) → n < 2 ^ 64 → IsDigits (decimal n)
-decimal_digits n h = digits_decimal own n h
+decimal_digits n h = digits_decimal digit_numerals n h
 
 differ : (b c : ℕ) → is_ascii_digit b ≡ true → is_ascii_digit c ≡ false → b ≡ c → ⊥
 differ b c d n e = let same : is_ascii_digit b ≡ is_ascii_digit c = ap is_ascii_digit e in cc
@@ -36,12 +25,12 @@ differ b c d n e = let same : is_ascii_digit b ≡ is_ascii_digit c = ap is_asci
 -- digits and the first byte that is none are found again
 pub seam : (p q x y : List ℕ) (b c : ℕ) → IsDigits p → IsDigits q → is_ascii_digit b ≡ false → is_ascii_digit c ≡ false → p ++ b ∷ x ≡ q ++ c ∷ y → (p ≡ q) × (b ≡ c) × (x ≡ y)
 seam [] [] x y b c dp dq nb nc e = (refl, cc, cc)
-seam [] (d ∷ q) x y b c dp dq nb nc e = absurd (differ d b (both (is_ascii_digit d) (list_all is_ascii_digit q) dq).0 nb (cc))
-seam (d ∷ p) [] x y b c dp dq nb nc e = absurd (differ d c (both (is_ascii_digit d) (list_all is_ascii_digit p) dp).0 nc (cc))
+seam [] (d ∷ q) x y b c dp dq nb nc e = absurd (differ d b (and_parts (is_ascii_digit d) (list_all is_ascii_digit q) dq).0 nb (cc))
+seam (d ∷ p) [] x y b c dp dq nb nc e = absurd (differ d c (and_parts (is_ascii_digit d) (list_all is_ascii_digit p) dp).0 nc (cc))
 seam (d ∷ p) (f ∷ q) x y b c dp dq nb nc e =
     let rest : p ++ b ∷ x ≡ q ++ c ∷ y = cc in
     let first : d ≡ f = cc in
-    let k = seam p q x y b c (both (is_ascii_digit d) (list_all is_ascii_digit p) dp).1 (both (is_ascii_digit f) (list_all is_ascii_digit q) dq).1 nb nc rest in
+    let k = seam p q x y b c (and_parts (is_ascii_digit d) (list_all is_ascii_digit p) dp).1 (and_parts (is_ascii_digit f) (list_all is_ascii_digit q) dq).1 nb nc rest in
     let same : p ≡ q = k.0 in
     (cc, k.1, k.2)
 
@@ -49,15 +38,15 @@ seam (d ∷ p) (f ∷ q) x y b c dp dq nb nc e =
 pub no_other : (p q y : List ℕ) (c : ℕ) → IsDigits p → is_ascii_digit c ≡ false → p ≡ q ++ c ∷ y → ⊥
 no_other [] [] y c d n e = cc
 no_other [] (f ∷ q) y c d n e = cc
-no_other (f ∷ p) [] y c d n e = differ f c (both (is_ascii_digit f) (list_all is_ascii_digit p) d).0 n (cc)
-no_other (f ∷ p) (g ∷ q) y c d n e = no_other p q y c (both (is_ascii_digit f) (list_all is_ascii_digit p) d).1 n (cc)
+no_other (f ∷ p) [] y c d n e = differ f c (and_parts (is_ascii_digit f) (list_all is_ascii_digit p) d).0 n (cc)
+no_other (f ∷ p) (g ∷ q) y c d n e = no_other p q y c (and_parts (is_ascii_digit f) (list_all is_ascii_digit p) d).1 n (cc)
 
 -- digits before another byte begin the digits before it
 front_of : (p q x y : List ℕ) (c : ℕ) → IsDigits p → is_ascii_digit c ≡ false → p ++ x ≡ q ++ c ∷ y → (mid : List ℕ) × (q ≡ p ++ mid)
 front_of [] q x y c d n e = (q, refl)
-front_of (f ∷ p) [] x y c d n e = absurd (differ f c (both (is_ascii_digit f) (list_all is_ascii_digit p) d).0 n (cc))
+front_of (f ∷ p) [] x y c d n e = absurd (differ f c (and_parts (is_ascii_digit f) (list_all is_ascii_digit p) d).0 n (cc))
 front_of (f ∷ p) (g ∷ q) x y c d n e =
-    let k = front_of p q x y c (both (is_ascii_digit f) (list_all is_ascii_digit p) d).1 n (cc) in
+    let k = front_of p q x y c (and_parts (is_ascii_digit f) (list_all is_ascii_digit p) d).1 n (cc) in
     let first : f ≡ g = cc in
     let rest : q ≡ p ++ k.0 = k.1 in
     (k.0, cc)

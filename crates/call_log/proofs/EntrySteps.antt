@@ -7,7 +7,7 @@ use Rattle.std.specs.Result.{IsErrAnd}
 use Rattle.std.proofs.KnownBytes.{Consumes-trans}
 use Rattle.call_log.proofs.HeaderLaws.{NoHead, bad_head, headed_append, headed_parts, headed_some, no_end, no_entry, no_head_first, no_head_length, no_head_moment, no_head_nil, no_number, not_backward, opens, short_entry}
 use Rattle.call_log.specs.Bytes.{MessageStops, TakesFewer}
-use Rattle.call_log.specs.Entry.{Entry, headed, last_moment, most_entries, most_message_length}
+use Rattle.call_log.specs.Entry.{Entry, headed, most_entries, most_message_length}
 use Rattle.call_log.specs.Fault.{IsGrammar, Knows}
 use Rattle.call_log.specs.Log.{NoEntry, Passed}
 use Rattle.call_log.specs.Number.{FailsInNumber, NoNumber, TakesNoNumber}
@@ -16,6 +16,7 @@ use Rattle.call_log.specs.declared.fault.LogFault.{LogFault}
 use Rattle.call_log.specs.declared.fault.LogFault.TheVariants.{Grammar, Backward, Many, Source}
 use Rattle.stir_outside.specs.declared.transfer.ReadFault.{ReadFault}
 use Rattle.stir_outside.specs.declared.transfer.ReadFault.TheVariants.{Source as ReadSource, Memory as ReadMemory}
+use Rattle.text_grammar.specs.Moment.{last_second}
 
 -- ---- one piece more
 
@@ -73,7 +74,7 @@ record Piece (most last : ℕ) (front : List ℕ) : Type 0 where
   moment : ℕ → ℕ
   said : ℕ → ℕ
   rest : List ℕ
-  moment_within : (n : ℕ) → n ≤ most → moment n ≤ last_moment
+  moment_within : (n : ℕ) → n ≤ most → moment n ≤ last_second
   said_within : (n : ℕ) → n ≤ most → said n ≤ most_message_length
   whole : (n : ℕ) → front ++ (decimal n ++ rest) ≡ headed (moment n) (said n) []
 
@@ -99,7 +100,7 @@ stops most last passed place front left now at piece room t = record {
 fails : (most last : ℕ) (passed : Passed) (front : List ℕ) (left now : Option (List ℕ)) → Piece most last front → FailsInNumber most left now → FindsFault passed front left now Source
 fails most last passed front left now piece t = record { taken = t.bytes; consumed = t.taken; known = no_entry passed (front ++ t.bytes) (piece.never t.bytes (no_number most last t.bytes piece.low piece.no_digit t.begun)) }
 
-in_moment : Piece last_moment 32 (64 ∷ [])
+in_moment : Piece last_second 32 (64 ∷ [])
 unfolding headed
 in_moment = record {
   low = omega arith;
@@ -114,7 +115,7 @@ in_moment = record {
   whole = λ n. refl;
 }
 
-in_length : (moment : ℕ) → moment ≤ last_moment → Piece most_message_length 10 (64 ∷ (decimal moment ++ 32 ∷ []))
+in_length : (moment : ℕ) → moment ≤ last_second → Piece most_message_length 10 (64 ∷ (decimal moment ++ 32 ∷ []))
 in_length moment within = record {
   low = omega arith;
   no_digit = refl;
@@ -128,22 +129,22 @@ in_length moment within = record {
   whole = λ n. headed_parts moment n [];
 }
 
-pub moment_stops : (passed : Passed) (place : ℕ) (left now : Option (List ℕ)) → place ≡ passed.place → passed.count < most_entries → TakesNoNumber last_moment 32 left now → FindsFault passed (64 ∷ []) left now (Grammar place)
-moment_stops passed place left now at room t = stops last_moment 32 passed place (64 ∷ []) left now at in_moment room t
+pub moment_stops : (passed : Passed) (place : ℕ) (left now : Option (List ℕ)) → place ≡ passed.place → passed.count < most_entries → TakesNoNumber last_second 32 left now → FindsFault passed (64 ∷ []) left now (Grammar place)
+moment_stops passed place left now at room t = stops last_second 32 passed place (64 ∷ []) left now at in_moment room t
 
-pub moment_fails : (passed : Passed) (left now : Option (List ℕ)) → FailsInNumber last_moment left now → FindsFault passed (64 ∷ []) left now Source
-moment_fails passed left now t = fails last_moment 32 passed (64 ∷ []) left now in_moment t
+pub moment_fails : (passed : Passed) (left now : Option (List ℕ)) → FailsInNumber last_second left now → FindsFault passed (64 ∷ []) left now Source
+moment_fails passed left now t = fails last_second 32 passed (64 ∷ []) left now in_moment t
 
-pub length_stops : (passed : Passed) (place moment : ℕ) (left now : Option (List ℕ)) → place ≡ passed.place → moment ≤ last_moment → passed.count < most_entries → TakesNoNumber most_message_length 10 left now
+pub length_stops : (passed : Passed) (place moment : ℕ) (left now : Option (List ℕ)) → place ≡ passed.place → moment ≤ last_second → passed.count < most_entries → TakesNoNumber most_message_length 10 left now
     → FindsFault passed (64 ∷ (decimal moment ++ 32 ∷ [])) left now (Grammar place)
 length_stops passed place moment left now at within room t = stops most_message_length 10 passed place (64 ∷ (decimal moment ++ 32 ∷ [])) left now at (in_length moment within) room t
 
-pub length_fails : (passed : Passed) (moment : ℕ) (left now : Option (List ℕ)) → moment ≤ last_moment → FailsInNumber most_message_length left now → FindsFault passed (64 ∷ (decimal moment ++ 32 ∷ [])) left now Source
+pub length_fails : (passed : Passed) (moment : ℕ) (left now : Option (List ℕ)) → moment ≤ last_second → FailsInNumber most_message_length left now → FindsFault passed (64 ∷ (decimal moment ++ 32 ∷ [])) left now Source
 length_fails passed moment left now within t = fails most_message_length 10 passed (64 ∷ (decimal moment ++ 32 ∷ [])) left now (in_length moment within) t
 
 -- ---- the whole header
 
-pub backward : (passed : Passed) (place moment said : ℕ) (left now : Option (List ℕ)) → place ≡ passed.place → passed.count < most_entries → moment ≤ last_moment → said ≤ most_message_length → moment < passed.moment
+pub backward : (passed : Passed) (place moment said : ℕ) (left now : Option (List ℕ)) → place ≡ passed.place → passed.count < most_entries → moment ≤ last_second → said ≤ most_message_length → moment < passed.moment
     → Consumes left now (decimal said ++ 10 ∷ []) → FindsFault passed (64 ∷ (decimal moment ++ 32 ∷ [])) left now (Backward place)
 backward passed place moment said left now at room m s below c =
     let front = 64 ∷ (decimal moment ++ 32 ∷ []) in
@@ -181,7 +182,7 @@ header_goes_on passed moment said left mid now r c f =
 whole_head : (moment said : ℕ) (bytes : List ℕ) → headed moment said [] ++ bytes ≡ headed moment said bytes
 whole_head moment said bytes = headed_append moment said [] bytes
 
-pub short : (passed : Passed) (place moment said : ℕ) (left now : Option (List ℕ)) → place ≡ passed.place → passed.count < most_entries → moment ≤ last_moment → said ≤ most_message_length → passed.moment ≤ moment
+pub short : (passed : Passed) (place moment said : ℕ) (left now : Option (List ℕ)) → place ≡ passed.place → passed.count < most_entries → moment ≤ last_second → said ≤ most_message_length → passed.moment ≤ moment
     → TakesFewer said left now → IsAtEnd now → FindsFault passed (headed moment said []) left now (Grammar place)
 short passed place moment said left now at room m s forward t end = record {
   taken = t.bytes;
@@ -198,13 +199,13 @@ short passed place moment said left now at room m s forward t end = record {
   });
 }
 
-pub message_fails : (passed : Passed) (moment said : ℕ) (left now : Option (List ℕ)) (fault : ReadFault) → moment ≤ last_moment → said ≤ most_message_length → MessageStops said left now fault
+pub message_fails : (passed : Passed) (moment said : ℕ) (left now : Option (List ℕ)) (fault : ReadFault) → moment ≤ last_second → said ≤ most_message_length → MessageStops said left now fault
     → FindsFault passed (headed moment said []) left now (fault_of_read fault)
 message_fails passed moment said left now ReadSource m s t = record { taken = t.bytes; consumed = t.taken; known = subst (NoEntry passed) (sym (whole_head moment said t.bytes)) (short_entry passed moment said t.bytes m s t.fewer) }
 message_fails passed moment said left now ReadMemory m s t = record { taken = t.bytes; consumed = t.taken; known = tt }
 
 pub found : (passed : Passed) (call : Entry) (moment said number : ℕ) (message : List ℕ) (left now : Option (List ℕ)) → call ≡ record { number = number + 1; moment = moment; message = message } → number ≡ passed.number → passed.count < most_entries
-    → moment ≤ last_moment → said ≤ most_message_length → passed.moment ≤ moment → length message ≡ said → Consumes left now message → FindsEntry passed (headed moment said []) left now call
+    → moment ≤ last_second → said ≤ most_message_length → passed.moment ≤ moment → length message ≡ said → Consumes left now message → FindsEntry passed (headed moment said []) left now call
 found passed call moment said number message left now e n room m s forward size c =
     let Found : Entry → Type 0 = λ x. FindsEntry passed (headed moment said []) left now x in
     subst Found (sym e) (record {

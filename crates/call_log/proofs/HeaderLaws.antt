@@ -6,15 +6,16 @@ use Rattle.std.proofs.lemmas.Bool.Decides.{nat_tests}
 use Rattle.std.proofs.lemmas.Fmt.{decimal_injective, length-decimal-le}
 use Rattle.std.proofs.lemmas.List.{length-replicate}
 use Rattle.call_log.proofs.DigitLaws.{decimal_digits, no_other, seam}
-use Rattle.call_log.specs.Entry.{Entry, entry_text, headed, last_moment, most_entries, most_message_length}
+use Rattle.call_log.specs.Entry.{Entry, entry_text, headed, most_entries, most_message_length}
 use Rattle.call_log.specs.Fault.{BeginsBackward, IsGrammar}
 use Rattle.call_log.specs.Log.{NoEntry, Passed}
 use Rattle.call_log.specs.Number.{BeginsNumber, IsNumber, NoNumber}
 use Rattle.call_log.specs.declared.digits.Digits.{Digits}
+use Rattle.text_grammar.specs.Moment.{last_second}
 
 -- the bytes don't begin with a header within its limits
 abbrev pub NoHead : List ℕ → Type 0
-NoHead bytes = (moment said : ℕ) (behind : List ℕ) → moment ≤ last_moment → said ≤ most_message_length → bytes ≡ headed moment said behind → ⊥
+NoHead bytes = (moment said : ℕ) (behind : List ℕ) → moment ≤ last_second → said ≤ most_message_length → bytes ≡ headed moment said behind → ⊥
 
 -- a header and what is behind it, in one piece
 pub headed_append : (moment said : ℕ) (behind more : List ℕ) → headed moment said behind ++ more ≡ headed moment said (behind ++ more)
@@ -27,7 +28,7 @@ unfolding headed
 headed_parts moment said more = ap (λ x. 64 ∷ x) (append_assoc (decimal moment) (32 ∷ []) (decimal said ++ 10 ∷ more))
 
 -- a header says one moment and one length
-pub one_head : (moment said moment' said' : ℕ) (behind behind' : List ℕ) → moment ≤ last_moment → said ≤ most_message_length → moment' ≤ last_moment → said' ≤ most_message_length
+pub one_head : (moment said moment' said' : ℕ) (behind behind' : List ℕ) → moment ≤ last_second → said ≤ most_message_length → moment' ≤ last_second → said' ≤ most_message_length
     → headed moment said behind ≡ headed moment' said' behind' → (moment ≡ moment') × (said ≡ said') × (behind ≡ behind')
 unfolding headed
 one_head moment said moment' said' behind behind' m s m' s' e =
@@ -46,11 +47,11 @@ pub no_head_first : (byte : ℕ) (more : List ℕ) → byte ≢ 64 → NoHead (b
 unfolding headed
 no_head_first byte more other = λ moment said behind m s e. other (cc)
 
-pub no_head_moment : (bytes : List ℕ) → NoNumber last_moment 32 bytes → NoHead (64 ∷ bytes)
+pub no_head_moment : (bytes : List ℕ) → NoNumber last_second 32 bytes → NoHead (64 ∷ bytes)
 unfolding headed
 no_head_moment bytes none = λ moment said behind m s e. none moment (decimal said ++ 10 ∷ behind) m (cc)
 
-pub no_head_length : (moment : ℕ) (bytes : List ℕ) → moment ≤ last_moment → NoNumber most_message_length 10 bytes → NoHead (64 ∷ ((decimal moment ++ 32 ∷ []) ++ bytes))
+pub no_head_length : (moment : ℕ) (bytes : List ℕ) → moment ≤ last_second → NoNumber most_message_length 10 bytes → NoHead (64 ∷ ((decimal moment ++ 32 ∷ []) ++ bytes))
 unfolding headed
 no_head_length moment bytes within none = λ moment' said behind m s e.
     let tail : (decimal moment ++ 32 ∷ []) ++ bytes ≡ decimal moment' ++ 32 ∷ (decimal said ++ 10 ∷ behind) = cc in
@@ -79,7 +80,7 @@ bad_head passed place bytes at room some none = record {
 abbrev zeros : ℕ → List ℕ
 zeros n = replicate n 0
 
-opens_by : (passed : Passed) (place moment said : ℕ) (bytes : List ℕ) (t : Bool) → nat_lt moment passed.moment ≡ t → moment ≤ last_moment → said ≤ most_message_length → bytes ≡ headed moment said (zeros said) → IsGrammar passed place bytes → ⊥
+opens_by : (passed : Passed) (place moment said : ℕ) (bytes : List ℕ) (t : Bool) → nat_lt moment passed.moment ≡ t → moment ≤ last_second → said ≤ most_message_length → bytes ≡ headed moment said (zeros said) → IsGrammar passed place bytes → ⊥
 opens_by passed place moment said bytes true e m s text g = g.not_backward (record { moment = moment; said = said; behind = zeros said; text = text; moment_within = m; length_within = s; below = grind (arith, nat_tests) })
 opens_by passed place moment said bytes false e m s text g =
     let size : length (zeros said) ≡ said = length-replicate said 0 in
@@ -91,7 +92,7 @@ opens_by passed place moment said bytes false e m s text g =
       length_within = omega (arith, size, s);
     }) (text ∙ ap (λ x. headed moment x (zeros said)) (sym size) ∙ sym (append-nil (headed moment (length (zeros said)) (zeros said))))
 
-pub opens : (passed : Passed) (place moment said : ℕ) (front more : List ℕ) → moment ≤ last_moment → said ≤ most_message_length → front ++ more ≡ headed moment said [] → ((rest : List ℕ) → IsGrammar passed place (front ++ rest)) → ⊥
+pub opens : (passed : Passed) (place moment said : ℕ) (front more : List ℕ) → moment ≤ last_second → said ≤ most_message_length → front ++ more ≡ headed moment said [] → ((rest : List ℕ) → IsGrammar passed place (front ++ rest)) → ⊥
 opens passed place moment said front more m s e all =
     opens_by passed place moment said (front ++ (more ++ zeros said)) (nat_lt moment passed.moment) refl m s (sym (append_assoc front more (zeros said)) ∙ ap (λ x. x ++ zeros said) e ∙ headed_append moment said [] (zeros said)) (all (more ++ zeros said))
 
@@ -100,12 +101,12 @@ opens passed place moment said front more m s e all =
 pub no_head_short : (said : ℕ) (message bytes behind : List ℕ) → length bytes < said → said ≡ length message → bytes ≡ message ++ behind → ⊥
 no_head_short said message bytes behind less same e = omega (arith, less, same, ap length e, length-append message behind)
 
-pub short_entry : (passed : Passed) (moment said : ℕ) (bytes : List ℕ) → moment ≤ last_moment → said ≤ most_message_length → length bytes < said → NoEntry passed (headed moment said bytes)
+pub short_entry : (passed : Passed) (moment said : ℕ) (bytes : List ℕ) → moment ≤ last_second → said ≤ most_message_length → length bytes < said → NoEntry passed (headed moment said bytes)
 short_entry passed moment said bytes m s less = λ call behind next e.
     let k = one_head moment said call.moment (length call.message) bytes (call.message ++ behind) m s next.moment_within next.length_within (e ∙ headed_append call.moment (length call.message) call.message behind) in
     no_head_short said call.message bytes behind less k.1 k.2
 
-pub not_backward : (passed : Passed) (moment said : ℕ) (bytes : List ℕ) → moment ≤ last_moment → said ≤ most_message_length → passed.moment ≤ moment → BeginsBackward passed (headed moment said bytes) → ⊥
+pub not_backward : (passed : Passed) (moment said : ℕ) (bytes : List ℕ) → moment ≤ last_second → said ≤ most_message_length → passed.moment ≤ moment → BeginsBackward passed (headed moment said bytes) → ⊥
 not_backward passed moment said bytes m s forward b =
     let k = one_head moment said b.moment b.said bytes b.behind m s b.moment_within b.length_within b.text in
     omega (arith, forward, b.below, k.0)
@@ -115,7 +116,7 @@ unfolding headed
 headed_some moment said bytes = λ e. cc
 
 -- a header without its LF is none yet
-pub no_end : (passed : Passed) (moment said : ℕ) → moment ≤ last_moment → said ≤ most_message_length → BeginsBackward passed (((64 ∷ (decimal moment ++ 32 ∷ [])) ++ decimal said) ++ []) → ⊥
+pub no_end : (passed : Passed) (moment said : ℕ) → moment ≤ last_second → said ≤ most_message_length → BeginsBackward passed (((64 ∷ (decimal moment ++ 32 ∷ [])) ++ decimal said) ++ []) → ⊥
 unfolding headed
 no_end passed moment said m s b =
     let whole : 64 ∷ ((decimal moment ++ 32 ∷ []) ++ decimal said) ≡ headed b.moment b.said b.behind = sym (append-nil ((64 ∷ (decimal moment ++ 32 ∷ [])) ++ decimal said)) ∙ b.text in
@@ -125,7 +126,7 @@ no_end passed moment said m s b =
 
 -- ---- how many bytes an entry has
 
-pub entry_size : (moment said : Digits) → IsNumber last_moment moment → IsNumber most_message_length said → (moment.count ≤ 12) × (said.count ≤ 6)
+pub entry_size : (moment said : Digits) → IsNumber last_second moment → IsNumber most_message_length said → (moment.count ≤ 12) × (said.count ≤ 6)
 entry_size moment said m s = (
   omega (arith, m.size, length-decimal-le 12 moment.value (omega arith) (omega (arith, m.within)) (omega (arith, m.within))),
   omega (arith, s.size, length-decimal-le 6 said.value (omega arith) (omega (arith, s.within)) (omega (arith, s.within))),

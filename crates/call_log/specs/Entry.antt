@@ -2,10 +2,6 @@
 use Rattle.std.specs.Prelude.{ℕ, List, ◌∷◌, ◌++◌, length}
 use Rattle.std.specs.Fmt.{decimal}
 
--- the last second of the year 9999, in Unix time
-abbrev pub last_moment : ℕ
-last_moment = 253402300799
-
 abbrev pub most_message_length : ℕ
 most_message_length = 131072
 

@@ -2,10 +2,11 @@
 -- moment falls, then any other.
 use Rattle.std.specs.Prelude.{◌≡◌, ◌≢◌, ℕ, ◌<◌, ◌≤◌, List, [], ◌∷◌, ◌++◌, ⊤, ◌⊎◌, Option}
 use Rattle.std.specs.Io.KnownBytes.{IsAtEnd}
-use Rattle.call_log.specs.Entry.{headed, last_moment, most_entries, most_message_length}
+use Rattle.call_log.specs.Entry.{headed, most_entries, most_message_length}
 use Rattle.call_log.specs.Log.{NoEntry, Passed}
 use Rattle.call_log.specs.declared.fault.LogFault.{LogFault}
 use Rattle.call_log.specs.declared.fault.LogFault.TheVariants.{Grammar, Backward, Many, Source, Memory}
+use Rattle.text_grammar.specs.Moment.{last_second}
 
 -- the bytes begin with a header within its limits whose moment is below the last
 pub record BeginsBackward (passed : Passed) (bytes : List ℕ) : Type 0 where
@@ -13,7 +14,7 @@ pub record BeginsBackward (passed : Passed) (bytes : List ℕ) : Type 0 where
   pub said : ℕ
   pub behind : List ℕ
   pub text : bytes ≡ headed moment said behind
-  pub moment_within : moment ≤ last_moment
+  pub moment_within : moment ≤ last_second
   pub length_within : said ≤ most_message_length
   pub below : moment < passed.moment
 

@@ -1,6 +1,7 @@
 -- The text of a call log: entries one behind the other, whose moments don't fall (this project's own format).
 use Rattle.std.specs.Prelude.{◌≡◌, ℕ, ◌+◌, ◌<◌, ◌≤◌, List, [], ◌∷◌, ◌++◌, length}
-use Rattle.call_log.specs.Entry.{Entry, entry_text, last_moment, most_entries, most_message_length}
+use Rattle.call_log.specs.Entry.{Entry, entry_text, most_entries, most_message_length}
+use Rattle.text_grammar.specs.Moment.{last_second}
 
 -- how far a log was read: the number and the moment of the last entry, how many entries, and the offset of the byte behind them
 pub record Passed : Type 0 where
@@ -22,7 +23,7 @@ pub record IsNext (passed : Passed) (call : Entry) : Type 0 where
   pub room : passed.count < most_entries
   pub numbered : call.number ≡ passed.number + 1
   pub not_backward : passed.moment ≤ call.moment
-  pub moment_within : call.moment ≤ last_moment
+  pub moment_within : call.moment ≤ last_second
   pub length_within : length call.message ≤ most_message_length
 
 -- the calls may stand next, one behind the other

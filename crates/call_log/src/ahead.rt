@@ -1,6 +1,6 @@
 ghost use Rattle.std.specs.Prelude.{◌≡◌, ◌≤◌, []};
 ghost use Rattle.std.specs.Io.KnownBytes.{prepend_known};
-ghost use Rattle.stir_base.specs.Count.{HasCause};
+ghost use Rattle.stir_outside.specs.Count.{HasCause};
 ghost use Rattle.call_log.specs.Bytes.{ByteFrom};
 
 use std::marker::Model;

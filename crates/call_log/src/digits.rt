@@ -1,7 +1,7 @@
 ghost use Rattle.std.specs.Prelude.{◌≡◌, ℕ, ◌+◌, ◌^◌, ◌<◌, ◌≤◌, ◌==◌, ◌&&◌, [], false};
 ghost use Rattle.std.specs.Char.{is_ascii_digit};
 ghost use Rattle.std.specs.Io.KnownBytes.{prepend_known};
-ghost use Rattle.stir_base.specs.Count.{HasCause};
+ghost use Rattle.stir_outside.specs.Count.{HasCause};
 ghost use Rattle.call_log.specs.Number.{GoesOn, NumberFrom};
 
 use crate::ahead::Ahead;

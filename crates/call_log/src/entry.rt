@@ -1,10 +1,11 @@
 ghost use Rattle.std.specs.Prelude.{◌≡◌, ◌^◌, ◌-◌, ◌+◌, ◌<◌, ◌≤◌, [], ◌∷◌, ◌++◌, Err};
 ghost use Rattle.std.specs.Fmt.{decimal};
 ghost use Rattle.std.specs.Io.KnownBytes.{prepend_known};
-ghost use Rattle.stir_base.specs.Count.{Rose};
-ghost use Rattle.call_log.specs.Entry.{headed, last_moment, most_entries, most_message_length};
+ghost use Rattle.stir_outside.specs.Count.{Rose};
+ghost use Rattle.call_log.specs.Entry.{headed, most_entries, most_message_length};
 ghost use Rattle.call_log.specs.Number.{IsNumber};
 ghost use Rattle.call_log.specs.Reading.{Finds};
+ghost use Rattle.text_grammar.specs.Moment.{last_second};
 
 use crate::ahead::Ahead;
 use crate::call::Call;
@@ -15,9 +16,7 @@ use crate::progress::Progress;
 use std::alloc::Global;
 use std::marker::Model;
 use stir_outside::Source;
-
-/// The last second of the year 9999, in Unix time.
-const LAST_MOMENT: u64 = 253_402_300_799;
+use text_grammar::LAST_SECOND;
 
 /// How long a message may be.
 const MOST_LENGTH: u64 = 131_072;
@@ -86,7 +85,7 @@ fn after_at<I: Source>(
     ensures used_up { ahead.old ≡ [] → ahead.new ≡ [] }
     ensures rose { result ≡ Err LogFault.Source → Rose (I.faults source.old) (I.faults source.new) }
 {
-    let Some(moment) = next_number(ahead, source, LAST_MOMENT, b' ')? else {
+    let Some(moment) = next_number(ahead, source, LAST_SECOND, b' ')? else {
         return Err(LogFault::Grammar {
             place: passed.place,
         });
@@ -104,7 +103,7 @@ fn after_moment<I: Source>(
 ) -> Result<Option<Found>, LogFault>
     requires count { passed.count < most_entries }
     requires number { passed.number < 2 ^ 32 - 1 }
-    requires moment { IsNumber last_moment moment }
+    requires moment { IsNumber last_second moment }
     ensures found { Finds passed (64 ∷ (decimal moment.value ++ 32 ∷ []))
         (prepend_known ahead.old (I.left source.old)) (prepend_known ahead.new (I.left source.new)) result }
     ensures never_falls { I.faults source.old ≤ I.faults source.new }
@@ -132,7 +131,7 @@ fn after_header<I: Source>(
 ) -> Result<Option<Found>, LogFault>
     requires count { passed.count < most_entries }
     requires number { passed.number < 2 ^ 32 - 1 }
-    requires moment { IsNumber last_moment moment }
+    requires moment { IsNumber last_second moment }
     requires length { IsNumber most_message_length length }
     requires forward { passed.moment ≤ moment.value }
     ensures found { Finds passed (headed moment.value length.value [])

@@ -1,6 +1,6 @@
 ghost use Rattle.std.specs.Prelude.{◌≡◌, ◌≤◌, [], Err};
 ghost use Rattle.std.specs.Io.KnownBytes.{prepend_known};
-ghost use Rattle.stir_base.specs.Count.{Rose};
+ghost use Rattle.stir_outside.specs.Count.{Rose};
 ghost use Rattle.call_log.specs.Bytes.{MessageFrom};
 
 use crate::ahead::Ahead;

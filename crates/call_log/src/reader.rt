@@ -1,5 +1,5 @@
 ghost use Rattle.std.specs.Prelude.{◌≡◌, ℕ, ◌≤◌, [], Err, Ok, IfSome, IfNone};
-ghost use Rattle.stir_base.specs.Count.{Rose};
+ghost use Rattle.stir_outside.specs.Count.{Rose};
 
 use crate::ahead::Ahead;
 use crate::call::Call;

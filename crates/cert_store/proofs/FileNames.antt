@@ -6,17 +6,12 @@ use Rattle.std.proofs.lemmas.Str.Ascii.{IsAscii-nil, IsAscii-cons}
 use Rattle.std.specs.List.{list_all}
 use Rattle.std.specs.Str.{IsAscii, IsUtf8}
 use Rattle.text_grammar.specs.Bytes.{is_visible}
-use Rattle.tn_values.proofs.Conjunction.{both}
 use Rattle.cert_store.specs.ChainMap.{is_file_name}
+use Rattle.std.proofs.lemmas.Bool.{and_parts}
+use Rattle.lists.proofs.Bytes.{all_ascii}
 
 below_128 : (byte : ℕ) → is_visible byte ≡ true → byte < 128
 below_128 byte h = grind (arith, nat_tests)
 
-bytes_ascii : (text : List ℕ) → list_all is_visible text ≡ true → IsAscii text
-bytes_ascii [] h = IsAscii-nil
-bytes_ascii (byte ∷ rest) h =
-    let each = both (is_visible byte) (list_all is_visible rest) h in
-    IsAscii-cons byte rest (below_128 byte each.0) (bytes_ascii rest each.1)
-
 pub name_utf8 : (name : List ℕ) → is_file_name name ≡ true → IsUtf8 name
-name_utf8 name h = IsUtf8-from_ascii name (bytes_ascii name (both (nat_le (length name) 255) (list_all is_visible name) h).1)
+name_utf8 name h = IsUtf8-from_ascii name (all_ascii is_visible below_128 name (and_parts (nat_le (length name) 255) (list_all is_visible name) h).1)

@@ -15,6 +15,7 @@ use Rattle.cert_store.specs.Files.{Files, files_in}
 use Rattle.cert_store.specs.MapReading.{HoldsRows, Adds, FirstRead, FirstFault}
 use Rattle.cert_store.specs.declared.map.MapFault.{MapFault}
 use Rattle.cert_store.specs.declared.map.MapFault.TheVariants.{Line, Memory}
+use Rattle.lists.proofs.Options.{or_none}
 
 -- ---- the entries of a map by their bytes
 
@@ -66,10 +67,6 @@ put_by key file old new x5u false e put =
 or_by : (t : Bool) (file : List ℕ) (rest more : Option (List ℕ)) → cond t (Some file) (option_or rest more) ≡ option_or (cond t (Some file) rest) more
 or_by true file rest more = refl
 or_by false file rest more = refl
-
-or_none : (found : Option (List ℕ)) → option_or found None ≡ found
-or_none None = refl
-or_none (Some file) = refl
 
 file_push : (rows : List Row) (row : Row) (x5u : List ℕ) → file_in (rows ++ row ∷ []) x5u ≡ option_or (file_in rows x5u) (cond (bytes_eq row.x5u x5u) (Some row.file) None)
 file_push [] row x5u = refl

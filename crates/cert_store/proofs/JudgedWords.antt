@@ -2,7 +2,7 @@
 use Rattle.std.proofs.Common.{◌≡◌, ◌≢◌, ◌↔◌, ℕ, zero, suc, ◌-◌, ◌*◌, ◌<◌, ◌≤◌, nat_le, Bool, true, false, cond, List, [], ◌∷◌, length, drop, length-append, inl, inr, Option, Some, None, Result, Ok, Err, IfOk, refl, sym, ◌∙◌, ap, subst, arith}
 use Rattle.std.specs.List.{slice_get}
 use Rattle.std.proofs.lemmas.Bool.Decides.{nat_tests}
-use Rattle.std.proofs.lemmas.Option.{slice_get_cases}
+use Rattle.std.proofs.lemmas.Option.{slice_get_cases, same_Some}
 use Rattle.der_reader.specs.Elem.{AllBytes}
 use Rattle.x509_profile.specs.View.{CertView}
 use Rattle.x509_profile.specs.Chain.{AreCerts, Chain, RefusedCertificate, certificates_in, joined}
@@ -13,14 +13,13 @@ use Rattle.delegation.specs.Path.{IsAnchor, Path, anchor_of, issuer_of, shape_of
 use Rattle.delegation.proofs.PathLaws.{path_again, path_found}
 use Rattle.cert_store.specs.declared.judged.Asked.{Asked}
 use Rattle.cert_store.specs.declared.judged.Asked.TheVariants.{NotAsked, Yes, No, Failed}
-use Rattle.stir_base.specs.Count.{Rose, last_count}
+use Rattle.stir_outside.specs.Count.{Rose, last_count}
 use Rattle.cert_store.specs.Asking.{FailedWithCause, SoFar, asked_by}
 use Rattle.cert_store.specs.Judged.{IsJudged, JudgedAs, JudgedView, QuietIs, asked_where, judged_of, out_of_date}
 use Rattle.cert_store.specs.Links.{by_number, chain_in, first_or, links_from, links_of, path_of, path_up_to, read_file, read_or_nothing}
 use Rattle.cert_store.specs.Rules.{Says, fault_place, first_out, first_unauthorized, first_unsigned, key_under, keys_of, periods_from, place_in, refused_place, rule_11, rule_12, rule_14, rule_15}
 use Rattle.cert_store.specs.Words.{AuthorityIs, DatesAre, IsAuthorized, IsFirstBroken, IsNumbered, IsSigned, IsValid, KeysAre, PathIs, PathOf, ProfileIs, ProfileOf, SignaturesAre, SignedAs, UnaskedIs}
 use Rattle.cert_store.proofs.PathFacts.{some_certificate}
-use Rattle.cert_store.proofs.WalkLaws.{inside}
 use Rattle.cert_store.proofs.WordLaws.{authority_worded, dates_worded, signatures_worded, the_issuer}
 
 -- ---- the fields
@@ -196,7 +195,7 @@ keys_count anchors number (c ∷ above) top = let more = keys_count anchors (suc
 key_at : (anchors : List CertView) (number : ℕ) (chain : List CertView) (top : CertView) (i : ℕ) (c : CertView) → slice_get chain i ≡ Some c
     → slice_get (keys_of anchors (links_from number chain top)) i ≡ Some (key_under anchors c (first_or (drop (suc i) chain) top))
 key_at anchors number [] top i c e = absurd (cc)
-key_at anchors number (x ∷ above) top zero c e = let same : x ≡ c = inside x c e in ap (λ (y : CertView). Some (key_under anchors y (first_or above top))) same
+key_at anchors number (x ∷ above) top zero c e = let same : x ≡ c = same_Some x c e in ap (λ (y : CertView). Some (key_under anchors y (first_or above top))) same
 key_at anchors number (x ∷ above) top (suc i) c e = key_at anchors (suc number) above top i c e
 
 key_of_number : (chain anchors : List CertView) (anchor : Option ℕ) (top : CertView) (number : ℕ) (c issuer : CertView) → anchor_of chain anchors anchor ≡ Some top → 1 ≤ number

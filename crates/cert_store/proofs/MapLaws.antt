@@ -6,59 +6,7 @@ use Rattle.text_file.specs.FileLines.{file_lines}
 use Rattle.text_file.specs.Reading.{go_on, read_lines}
 use Rattle.text_file.proofs.ReadingLaws.{refuses_found, refuses_again}
 use Rattle.cert_store.specs.ChainMap.{Row, row_of, is_repeated, add_row, first_lines, first_rows, within_limit, map_rows, ListsOnce, MapText, FirstBad}
-
--- ---- the rows
-
-abbrev said : List (ℕ × List ℕ) → List (Option Row)
-said lines = map (λ line. row_of line.1) lines
-
--- the lines say the rows behind the first ones
-record Says (lines : List (ℕ × List ℕ)) (before rows : List Row) : Type 0 where
-  new : List Row
-  all : rows ≡ before ++ new
-  say : said lines ≡ map Some new
-  once : ListsOnce before new
-
-abbrev taken : List Row → Bool → Row → Option (List Row)
-taken before t row = cond t None (Some (before ++ row ∷ []))
-
-said_more : (line : ℕ × List ℕ) (lines : List (ℕ × List ℕ)) (before rows : List Row) (row : Row) → row_of line.1 ≡ Some row → is_repeated before row ≡ false
-    → Says lines (before ++ row ∷ []) rows → Says (line ∷ lines) before rows
-said_more line lines before rows row e fresh s = record {
-  new = row ∷ s.new;
-  all = s.all ∙ append_assoc before (row ∷ []) s.new;
-  say = ap (λ (o : Option Row). o ∷ said lines) e ∙ ap (λ (os : List (Option Row)). Some row ∷ os) s.say;
-  once = (fresh, s.once);
-}
-
-found_by : (line : ℕ × List ℕ) (lines : List (ℕ × List ℕ)) (before rows : List Row) (k : Option Row) → row_of line.1 ≡ k
-    → ((t : Bool) (row : Row) → k ≡ Some row → is_repeated before row ≡ t → go_on (taken before t row) line.0 (λ next. read_lines add_row lines next) ≡ Ok rows → Says (line ∷ lines) before rows)
-    → go_on (option_and_then (λ row. taken before (is_repeated before row) row) k) line.0 (λ next. read_lines add_row lines next) ≡ Ok rows → Says (line ∷ lines) before rows
-found_by line lines before rows None e below h = absurd cc
-found_by line lines before rows (Some row) e below h = below (is_repeated before row) row refl refl h
-
-found_row : (line : ℕ × List ℕ) (lines : List (ℕ × List ℕ)) (before rows : List Row) → ((row : Row) → read_lines add_row lines (before ++ row ∷ []) ≡ Ok rows → Says lines (before ++ row ∷ []) rows)
-    → (t : Bool) (row : Row) → row_of line.1 ≡ Some row → is_repeated before row ≡ t
-    → go_on (taken before t row) line.0 (λ next. read_lines add_row lines next) ≡ Ok rows → Says (line ∷ lines) before rows
-found_row line lines before rows below false row e fresh h = said_more line lines before rows row e fresh (below row h)
-found_row line lines before rows below true row e fresh h = absurd cc
-
-rows_found : (lines : List (ℕ × List ℕ)) (before rows : List Row) → read_lines add_row lines before ≡ Ok rows → Says lines before rows
-rows_found [] before rows h = let same : before ≡ rows = cc in record { new = []; all = sym same ∙ sym (append-nil before); say = refl; once = tt }
-rows_found (line ∷ lines) before rows h =
-    found_by line lines before rows (row_of line.1) refl (found_row line lines before rows (λ row k. rows_found lines (before ++ row ∷ []) rows k)) h
-
-rows_again : (lines : List (ℕ × List ℕ)) (before new : List Row) → said lines ≡ map Some new → ListsOnce before new → read_lines add_row lines before ≡ Ok (before ++ new)
-rows_again [] before [] h once = ap (λ (rs : List Row). Ok rs) (sym (append-nil before))
-rows_again [] before (row ∷ new) h once = absurd cc
-rows_again (line ∷ lines) before [] h once = absurd cc
-rows_again (line ∷ lines) before (row ∷ new) h once =
-    let here : row_of line.1 ≡ Some row = cc in
-    let more : said lines ≡ map Some new = cc in
-    ap (λ (k : Option Row). go_on (option_and_then (λ r. taken before (is_repeated before r) r) k) line.0 (λ next. read_lines add_row lines next)) here
-    ∙ ap (λ t. go_on (taken before t row) line.0 (λ next. read_lines add_row lines next)) once.0
-    ∙ rows_again lines (before ++ row ∷ []) new more once.1
-    ∙ ap (λ (rs : List Row). Ok rs) (append_assoc before (row ∷ []) new)
+use Rattle.text_file.proofs.RowLaws.{rows_found, rows_again}
 
 -- ---- the limit
 
@@ -105,9 +53,9 @@ unfolding map_rows
 map_is text rows = (
   λ h.
       let k = few (length (file_lines text)) 50000 50001 (first_rows text) rows h in
-      let s = rows_found (first_lines text) [] rows k.0 in
+      let s = rows_found row_of is_repeated (first_lines text) [] rows k.0 in
       record { lines = s.say ∙ ap (map Some) (sym s.all); once = let P : List Row → Type 0 = λ rs. ListsOnce [] rs in subst P (sym s.all) s.once; count = k.1 },
-  λ t. ap (within_limit text) (rows_again (first_lines text) [] rows t.lines t.once) ∙ few_again (length (file_lines text)) 50000 50001 rows t.count,
+  λ t. ap (within_limit text) (rows_again row_of is_repeated (first_lines text) [] rows t.lines t.once) ∙ few_again (length (file_lines text)) 50000 50001 rows t.count,
 )
 
 bad_is : (text : List ℕ) (number : ℕ) → Bad (length (file_lines text)) 50000 50001 (first_rows text) number → FirstBad text number

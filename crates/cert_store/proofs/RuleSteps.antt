@@ -7,7 +7,7 @@ use Rattle.delegation.specs.Decided.{is_within}
 use Rattle.cert_store.specs.Links.{first_or, links_from}
 use Rattle.cert_store.specs.Rules.{first_outside, first_unauthorized, key_under, keys_of}
 use Rattle.cert_store.specs.Asking.{Keys}
-use Rattle.cert_store.proofs.WalkLaws.{inside}
+use Rattle.std.proofs.lemmas.Option.{same_Some}
 
 -- the certificate at an index lies within its issuer, so those behind it give what it and they give
 pub passes_on : (table : Table) (chain : List CertView) (top c issuer : CertView) (index : ℕ) (answer : Bool) (all : Option ℕ)
@@ -35,7 +35,7 @@ list_by table c leaf above top false t none same = absurd (cc)
 pub leaf_listed : (table : Table) (chain : List CertView) (top leaf : CertView) → first_unauthorized table (links_from 1 chain top) ≡ None
     → slice_get chain 0 ≡ Some leaf → IsSome leaf.list
 leaf_listed table [] top leaf none is = absurd (cc)
-leaf_listed table (c ∷ above) top leaf none is = list_by table c leaf above top (is_some c.list) refl none (inside c leaf is)
+leaf_listed table (c ∷ above) top leaf none is = list_by table c leaf above top (is_some c.list) refl none (same_Some c leaf is)
 
 -- the key of the certificate at an index is the next one
 pub keys_more : (anchors chain : List CertView) (top c issuer : CertView) (index : ℕ) (keys new all : Keys) (key : Option (List ℕ))

@@ -1,7 +1,7 @@
 -- Rules that go from certificate to certificate: where they end, and what holds of those that they pass.
 use Rattle.std.proofs.Common.{◌≡◌, ℕ, zero, suc, ◌+◌, ◌-◌, ◌<◌, ◌≤◌, Bool, true, false, cond, List, [], ◌∷◌, length, drop, inl, inr, Option, Some, None, refl, sym, ◌∙◌, subst, arith}
 use Rattle.std.specs.List.{slice_get}
-use Rattle.std.proofs.lemmas.Option.{slice_get_within, slice_get_cases}
+use Rattle.std.proofs.lemmas.Option.{slice_get_within, slice_get_cases, same_Some}
 use Rattle.x509_profile.specs.View.{CertView}
 use Rattle.cert_store.specs.Words.{IsFirstBroken}
 
@@ -18,9 +18,6 @@ walk passes number (c ∷ above) = cond (passes c above) (walk passes (suc numbe
 abbrev Passes : Test → List CertView → ℕ → Type 0
 Passes passes chain i = (c : CertView) → slice_get chain i ≡ Some c → passes c (drop (suc i) chain) ≡ true
 
-pub inside : {X : Type 0} (x y : X) → Some x ≡ Some y → x ≡ y
-inside x y e = cc
-
 -- what a walk ends with is right
 abbrev Right : Test → ℕ → List CertView → Option ℕ → Type 0
 Right passes number chain None = (i : ℕ) → Passes passes chain i
@@ -29,7 +26,7 @@ Right passes number chain (Some broken) =
     × ((i : ℕ) → i < k → Passes passes chain i)
 
 here : (passes : Test) (c : CertView) (above : List CertView) → passes c above ≡ true → Passes passes (c ∷ above) 0
-here passes c above t d is = let same : c ≡ d = inside c d is in subst (λ x. passes x above ≡ true) same t
+here passes c above t d is = let same : c ≡ d = same_Some c d is in subst (λ x. passes x above ≡ true) same t
 
 later : (passes : Test) (c : CertView) (above : List CertView) → passes c above ≡ true → ((i : ℕ) → Passes passes above i) → (i : ℕ) → Passes passes (c ∷ above) i
 later passes c above t all zero = here passes c above t

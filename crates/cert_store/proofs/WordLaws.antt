@@ -4,24 +4,24 @@ use Rattle.std.specs.Prelude.{int_le}
 use Rattle.std.specs.List.{slice_get}
 use Rattle.std.proofs.lemmas.Bool.Decides.{nat_tests}
 use Rattle.std.proofs.lemmas.Int.{ints}
-use Rattle.std.proofs.lemmas.Option.{slice_get_cases}
+use Rattle.std.proofs.lemmas.Option.{slice_get_cases, same_Some}
 use Rattle.x509_profile.specs.View.{CertView}
 use Rattle.delegation.specs.Coverage.{Table, Within}
 use Rattle.delegation.specs.Decided.{is_within}
 use Rattle.delegation.specs.Path.{anchor_of, is_listed, issuer_of}
 use Rattle.delegation.proofs.DecidedLaws.{decides}
-use Rattle.delegation.proofs.Lists.{both}
 use Rattle.cert_store.specs.declared.judged.Period.{Period}
 use Rattle.cert_store.specs.Links.{first_or, links_from}
 use Rattle.cert_store.specs.Rules.{Says, first_out, first_outside, first_unauthorized, first_unsigned, period_of, periods_from}
 use Rattle.cert_store.specs.Words.{IsAuthorized, IsFirstBroken, IsNumbered, IsSigned, IsValid}
-use Rattle.cert_store.proofs.WalkLaws.{Means, Test, inside, walk, worded}
+use Rattle.cert_store.proofs.WalkLaws.{Means, Test, walk, worded}
+use Rattle.std.proofs.lemmas.Bool.{and_parts}
 
 -- the certificate at an index is the one of the next number
 the_one : (chain : List CertView) (i : ℕ) (c d : CertView) → slice_get chain i ≡ Some c → IsNumbered chain (suc i) d → c ≡ d
 the_one chain i c d is numbered =
     let at : suc i - 1 ≡ i = omega arith in
-    inside c d (sym is ∙ ap (slice_get chain) (sym at) ∙ numbered)
+    same_Some c d (sym is ∙ ap (slice_get chain) (sym at) ∙ numbered)
 
 numbers : (chain : List CertView) (i : ℕ) (c : CertView) → slice_get chain i ≡ Some c → IsNumbered chain (suc i) c
 numbers chain i c is = let at : suc i - 1 ≡ i = omega arith in ap (slice_get chain) at ∙ is
@@ -55,7 +55,7 @@ passes true test h = refl
 passes false test h = h refl
 
 in_time : (a b m : ℤ) → (int_le a m && int_le m b) ≡ true → (a ≤ℤ m) × (m ≤ℤ b)
-in_time a b m h = let k = both (int_le a m) (int_le m b) h in (grind (arith, ints, k.0), grind (arith, ints, k.1))
+in_time a b m h = let k = and_parts (int_le a m) (int_le m b) h in (grind (arith, ints, k.0), grind (arith, ints, k.1))
 
 timely : (a b m : ℤ) → (a ≤ℤ m) × (m ≤ℤ b) → (int_le a m && int_le m b) ≡ true
 timely a b m (l, r) = let x : int_le a m ≡ true = grind (arith, ints) in let y : int_le m b ≡ true = grind (arith, ints) in rw (x, y) refl
@@ -78,7 +78,7 @@ dates_worded anchors moment chain =
 
 next_is : (chain : List CertView) (k : ℕ) (x top : CertView) → slice_get chain k ≡ Some x → first_or (drop k chain) top ≡ x
 next_is [] k x top e = absurd (cc)
-next_is (c ∷ above) zero x top e = inside c x e
+next_is (c ∷ above) zero x top e = same_Some c x e
 next_is (c ∷ above) (suc k) x top e = next_is above k x top e
 
 last_is : (chain : List CertView) (k : ℕ) (top : CertView) → length chain ≤ k → first_or (drop k chain) top ≡ top
@@ -103,7 +103,7 @@ issuer_is chain anchors anchor top i e = issuer_by chain anchors anchor top i (n
 
 pub the_issuer : (chain anchors : List CertView) (anchor : Option ℕ) (top issuer : CertView) (i : ℕ) → anchor_of chain anchors anchor ≡ Some top
     → issuer_of chain anchors anchor (suc i) ≡ Some issuer → first_or (drop (suc i) chain) top ≡ issuer
-the_issuer chain anchors anchor top issuer i e k = inside _ issuer (sym (issuer_is chain anchors anchor top i e) ∙ k)
+the_issuer chain anchors anchor top issuer i e k = same_Some _ issuer (sym (issuer_is chain anchors anchor top i e) ∙ k)
 
 -- ---- rule 14
 
@@ -139,7 +139,7 @@ authority_by anchors table leaf above anchor top true t e =
     let chain : List CertView = leaf ∷ above in
     let P : Option ℕ → Type 0 = IsFirstBroken (IsAuthorized table anchors anchor chain) (length chain) in
     let has : (c : CertView) → slice_get chain 0 ≡ Some c → IsSome c.list =
-    λ c is. let Q : CertView → Type 0 = λ x. IsSome x.list in subst Q (inside leaf c is) t in
+    λ c is. let Q : CertView → Type 0 = λ x. IsSome x.list in subst Q (same_Some leaf c is) t in
     subst P (sym (outside_walk table 1 chain top)) (worded (IsAuthorized table anchors anchor chain) (within_issuer table top) chain (within_means anchors table chain anchor top e has))
 authority_by anchors table leaf above anchor top false t e =
     (omega arith, omega arith, λ h. let listed : is_some leaf.list ≡ true = h.listed leaf refl refl in absurd (cc), λ number some less. absurd (omega (arith, some, less)))

@@ -11,6 +11,7 @@ use Rattle.text_grammar.specs.Bytes.{is_uri_byte, is_visible}
 use Rattle.cert_store.specs.Files.{Files}
 use Rattle.cert_store.specs.declared.map.MapFault.{MapFault}
 use Rattle.cert_store.specs.declared.map.MapFault.TheVariants.{Line, Memory}
+use Rattle.text_file.specs.Rows.{one_row, EachOnce}
 
 -- ---- a line
 
@@ -56,7 +57,7 @@ is_repeated rows row = is_some (file_in rows row.x5u)
 
 -- one row more; of two lines with one x5u the second is bad
 abbrev pub add_row : List Row → List ℕ → Option (List Row)
-add_row rows line = option_and_then (λ row. if is_repeated rows row then None else Some (rows ++ row ∷ [])) (row_of line)
+add_row = one_row row_of is_repeated
 
 -- those of the lines that are among the first 50,000
 abbrev pub up_to_limit : List (ℕ × List ℕ) → List (ℕ × List ℕ)
@@ -81,8 +82,7 @@ map_rows text = within_limit text (first_rows text)
 
 -- no row lists the x5u of one before it
 abbrev pub ListsOnce : List Row → List Row → Type 0
-ListsOnce before [] = Unit {0}
-ListsOnce before (row ∷ rows) = (is_repeated before row ≡ false) × ListsOnce (before ++ row ∷ []) rows
+ListsOnce = EachOnce is_repeated
 
 -- the text is a chain map with these rows
 pub record MapText (text : List ℕ) (rows : List Row) : Type 0 where

@@ -1,7 +1,7 @@
 -- A chain as the rules on it judge it.
 use Rattle.std.specs.Prelude.{◌≡◌, ◌≢◌, ℕ, ◌+◌, ◌≤◌, length, List, [], Option, Some, None, IsSome, Result, Ok, Err}
 use Rattle.std.specs.List.{slice_get}
-use Rattle.stir_base.specs.Count.{last_count}
+use Rattle.stir_outside.specs.Count.{last_count}
 use Rattle.x509_profile.specs.View.{CertView}
 use Rattle.delegation.specs.Coverage.{Table}
 use Rattle.delegation.specs.declared.fault.PathFault.{PathFault}

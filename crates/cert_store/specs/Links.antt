@@ -1,4 +1,4 @@
--- The certificates of a path, each with its number and its issuer (RFC 5280 section 6.1).
+-- The certificates of a path, each with its number and its issuer (RFC 5280, section 6.1).
 use Rattle.std.specs.Prelude.{ℕ, suc, nat_le, List, [], ◌∷◌, length, Option, Some, None, Result, Ok, Err, if◌then◌else◌}
 use Rattle.x509_profile.specs.View.{CertView}
 use Rattle.x509_profile.specs.Chain.{RefusedCertificate, certificates_in}

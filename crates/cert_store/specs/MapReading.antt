@@ -1,7 +1,7 @@
 -- How far a chain map was read.
 use Rattle.std.specs.Prelude.{◌≡◌, ℕ, Bool, true, false, List, [], ◌∷◌, ◌++◌, Some, None, Ok, Err}
-use Rattle.std.specs.Bool.{MatchBool}
 use Rattle.text_file.specs.Reading.{read_lines}
+use Rattle.text_file.specs.Rows as file
 use Rattle.cert_store.specs.ChainMap.{Row, add_row, file_in, first_rows, is_repeated, listed, up_to_limit}
 use Rattle.cert_store.specs.Files.{Files}
 use Rattle.cert_store.specs.declared.map.MapFault.{MapFault}
@@ -13,17 +13,11 @@ pub record HoldsRows (rows : List Row) (held : Files) : Type 0 where
 
 -- a row was added, or its x5u is listed already
 abbrev pub Adds : Files → Files → Row → Bool → Type 0
-Adds old new row added = (rows : List Row) → HoldsRows rows old → MatchBool added ((is_repeated rows row ≡ false) × HoldsRows (rows ++ row ∷ []) new) (is_repeated rows row ≡ true)
-
--- the row of a line more
-pub record HoldsMore (rows : List Row) (line : List ℕ) (held : Files) : Type 0 where
-  pub more : List Row
-  pub added : add_row rows line ≡ Some more
-  pub holds : HoldsRows more held
+Adds = file.Adds is_repeated HoldsRows
 
 -- a line was added, or it is bad
 abbrev pub AddsLine : Files → Files → List ℕ → Bool → Type 0
-AddsLine old new line added = (rows : List Row) → HoldsRows rows old → MatchBool added (HoldsMore rows line new) (add_row rows line ≡ None)
+AddsLine = file.AddsLine add_row HoldsRows
 
 -- the rows read so far are held, and the lines that are left lead on from them to what the first lines of the text give
 pub record Reached (text : List ℕ) (lines : List (ℕ × List ℕ)) (held : Files) : Type 0 where

@@ -18,7 +18,7 @@ refused_place (Err place) = Some place
 abbrev pub rule_11 : List ℕ → Option ℕ
 rule_11 bytes = refused_place (read_file bytes)
 
--- ---- rule 12: they are a path up to a trust anchor (RFC 5280 section 6.1)
+-- ---- rule 12: they are a path up to a trust anchor (RFC 5280, section 6.1)
 
 abbrev pub fault_place : Result (Option ℕ) PathFault → Option ℕ
 fault_place (Ok anchor) = None
@@ -31,7 +31,7 @@ place_in anchors (Err place) = None
 abbrev pub rule_12 : List CertView → List ℕ → Option ℕ
 rule_12 anchors bytes = place_in anchors (read_file bytes)
 
--- ---- rule 13: each that isn't itself an anchor is valid at the moment (RFC 5280 section 6.1.3 (a)(2))
+-- ---- rule 13: each that isn't itself an anchor is valid at the moment (RFC 5280, section 6.1.3 (a)(2))
 
 abbrev pub period_of : ℕ → CertView → Period
 period_of number c = record { number = number; not_before = c.not_before; not_after = c.not_after }
@@ -70,7 +70,7 @@ first_unauthorized table (leaf ∷ above) = if is_some leaf.certificate.list the
 abbrev pub rule_14 : List CertView → Table → List ℕ → Option ℕ
 rule_14 anchors table bytes = first_unauthorized table (links_of anchors (chain_in bytes))
 
--- ---- rule 15: each that isn't itself an anchor has a good signature under its issuer's key (RFC 5280 section 6.1.3 (a)(1))
+-- ---- rule 15: each that isn't itself an anchor has a good signature under its issuer's key (RFC 5280, section 6.1.3 (a)(1))
 
 -- of a key, a digest and a signature, whether the signature is good
 abbrev pub Says : Type 0

@@ -28,7 +28,7 @@ pub enum Asked {
     },
 }
 
-/// The seconds at which a certificate of a chain is valid, in Unix time (RFC 5280 section 4.1.2.5).
+/// The seconds at which a certificate of a chain is valid, in Unix time (RFC 5280, section 4.1.2.5).
 #[derive(Clone, Copy)]
 pub(crate) struct Period {
     /// The number of the certificate, the leaf's being 1.
@@ -82,7 +82,7 @@ impl Judged {
         self.profile
     }
 
-    /// Where rule 12 is broken: the place at which the certificates are no path up to a trust anchor (RFC 5280 section 6.1), 0
+    /// Where rule 12 is broken: the place at which the certificates are no path up to a trust anchor (RFC 5280, section 6.1), 0
     /// where there is none. None where they are one, or rule 11 is broken.
     pub fn shape(&self) -> Option<u8>
         ensures { result ≡ self.now.shape }
@@ -108,7 +108,7 @@ impl Judged {
     }
 
     /// Where rule 13 is broken at this moment, in Unix seconds: the first certificate that isn't a trust anchor and isn't valid
-    /// then (RFC 5280 section 6.1.3). None where there is none, or rule 11 or 12 is broken.
+    /// then (RFC 5280, section 6.1.3). None where there is none, or rule 11 or 12 is broken.
     pub fn out_of_date(&self, moment: u64) -> Option<u8>
         ensures { result ≡ out_of_date self.now moment }
     {

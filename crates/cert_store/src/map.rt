@@ -48,7 +48,7 @@ impl From<AllocError> for MapFault {
     }
 }
 
-/// Which file has the certificates of which x5u, the header parameter of RFC 7515 section 4.1.5.
+/// Which file has the certificates of which x5u, the header parameter of RFC 7515, section 4.1.5.
 ///
 /// A contract sees which file is listed for which x5u, in no order that it names.
 #[derive(Drop)]

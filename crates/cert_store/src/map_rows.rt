@@ -31,6 +31,7 @@ pub(crate) fn row_of(line: &[u8]) -> Option<Entry<'_>>
     }
 }
 
+/// What two words say, where they are an x5u and a file's name.
 fn row_of_two<'a>(x5u: &'a [u8], file: &'a [u8]) -> Option<Entry<'a>>
     ensures { option_map entry_row result ≡ row_of_two x5u.now file.now }
 {
@@ -46,18 +47,21 @@ fn row_of_two<'a>(x5u: &'a [u8], file: &'a [u8]) -> Option<Entry<'a>>
     })
 }
 
+/// Whether a word is an x5u: bytes of the uri alphabet.
 fn is_x5u(word: &[u8]) -> bool
     ensures { result ≡ is_x5u word.now }
 {
     word.iter().all(|byte| is_uri_byte(*byte))
 }
 
+/// Whether a word is a file's name: at most 255 bytes of visible ASCII.
 fn is_file_name(word: &[u8]) -> bool
     ensures { result ≡ is_file_name word.now }
 {
     word.len() <= LONGEST_NAME && are_visible(word)
 }
 
+/// Whether all bytes are visible ASCII.
 fn are_visible(word: &[u8]) -> bool
     ensures { result ≡ list_all bytes.is_visible word.now }
 {

@@ -10,7 +10,7 @@ use delegation::Anchors;
 use std::alloc::Global;
 use x509_profile::Certificate;
 
-/// The point of a key on P-256: the byte 04, and 32 bytes each of x and y (RFC 5480 section 2.2).
+/// The point of a key on P-256: the byte 04, and 32 bytes each of x and y (RFC 5480, section 2.2).
 pub(crate) type Key = [u8; 65];
 
 /// The issuer of the last certificate of a path: its anchor, or the certificate itself where it is one.

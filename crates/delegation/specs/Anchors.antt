@@ -1,4 +1,4 @@
--- Trust anchors, as a file of certificates one after another (RFC 5280 section 6.1.1 (d)).
+-- Trust anchors, as a file of certificates one after another (RFC 5280, section 6.1.1 (d)).
 use Rattle.std.specs.Prelude.{◌≡◌, ℕ, zero, suc, ◌-◌, ◌==◌, ◌≤◌, List, [], ◌∷◌, ◌++◌, length, true, Result, Ok, Err, ⊤, if◌then◌else◌}
 use Rattle.der_reader.specs.declared.fault.DerFault.{DerFault}
 use Rattle.der_reader.specs.Elem.{Element}

@@ -1,4 +1,4 @@
--- Which telephone numbers an authority covers (RFC 8226 section 9), and which authority lies within another (RFC 9060). What a
+-- Which telephone numbers an authority covers (RFC 8226, section 9), and which authority lies within another (RFC 9060). What a
 -- code stands for, and that a code lies within an authority only where this names the code, is this project's own rule.
 use Rattle.std.specs.Prelude.{◌≡◌, ℕ, true, List, Option, Some, None}
 use Rattle.tn_values.specs.Number.{is_number}

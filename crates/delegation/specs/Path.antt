@@ -1,4 +1,4 @@
--- Paths of certificates, from the leaf up to a trust anchor (RFC 5280 section 6.1). A chain is a list of
+-- Paths of certificates, from the leaf up to a trust anchor (RFC 5280, section 6.1). A chain is a list of
 -- certificates, the leaf first, and each next one is to be the issuer of the one before it.
 use Rattle.std.specs.Prelude.{◌≡◌, ℕ, suc, ◌+◌, ◌-◌, ◌<◌, nat_lt, Bool, true, false, List, [], ◌∷◌, length, Option, Some, None, Result, Ok, Err, if◌then◌else◌}
 use Rattle.std.specs.List.{list_any, slice_get}

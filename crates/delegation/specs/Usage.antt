@@ -1,4 +1,4 @@
--- What the key of a certificate may be used for (RFC 5280 sections 4.2.1.3 and 4.2.1.9).
+-- What the key of a certificate may be used for (RFC 5280, sections 4.2.1.3 and 4.2.1.9).
 use Rattle.std.specs.Prelude.{ℕ, ◌==◌, Bool, true, false, bit_and, Option, Some, None, if◌then◌else◌}
 use Rattle.x509_profile.specs.View.{CertView}
 

@@ -16,7 +16,7 @@ use x509_profile::{CertFault, Certificate};
 /// How many anchors there may be.
 const MOST: usize = 256;
 
-/// The certificates that are trusted without another one above them (RFC 5280 section 6.1.1 (d)): at
+/// The certificates that are trusted without another one above them (RFC 5280, section 6.1.1 (d)): at
 /// most 256.
 ///
 /// A contract sees the list of the certificates.

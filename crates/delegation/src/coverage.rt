@@ -7,7 +7,7 @@ ghost use Rattle.delegation.specs.Decided.{covers_number};
 use tn_auth_list::{AuthList, CodeTable, Entry, Grant};
 use tn_values::Number;
 
-/// Whether some entry of the list holds the number (RFC 8226 section 9).
+/// Whether some entry of the list holds the number (RFC 8226, section 9).
 ///
 /// A single holds the number that equals it, a range those of its start's length that it reaches, and a code those that
 /// the table has for it, or every number where the table says so. A code that the table doesn't name holds none.

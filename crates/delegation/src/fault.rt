@@ -53,15 +53,15 @@ pub struct PathFault {
 impl PathFault {
     /// There is no certificate.
     pub const EMPTY: u8 = 1;
-    /// The certificate's subject isn't the issuer of the one before it (RFC 5280 section 6.1.3 (a)(4)).
+    /// The certificate's subject isn't the issuer of the one before it (RFC 5280, section 6.1.3 (a)(4)).
     pub const NAMES: u8 = 2;
-    /// The certificate may not certify others (RFC 5280 section 6.1.4 (k) and (n)).
+    /// The certificate may not certify others (RFC 5280, section 6.1.4 (k) and (n)).
     pub const NOT_ISSUER: u8 = 3;
-    /// More certificates stand between this one and the leaf than it allows (RFC 5280 section 4.2.1.9).
+    /// More certificates stand between this one and the leaf than it allows (RFC 5280, section 4.2.1.9).
     pub const PATH_LENGTH: u8 = 4;
-    /// The last certificate isn't a trust anchor, and none has issued it (RFC 5280 section 6.1.1 (d)).
+    /// The last certificate isn't a trust anchor, and none has issued it (RFC 5280, section 6.1.1 (d)).
     pub const NO_ANCHOR: u8 = 5;
-    /// The leaf's key may not sign (RFC 5280 section 4.2.1.3).
+    /// The leaf's key may not sign (RFC 5280, section 4.2.1.3).
     pub const LEAF_USE: u8 = 6;
 
     pub(crate) fn new(kind: u8, place: u8) -> PathFault

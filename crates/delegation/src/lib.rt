@@ -1,5 +1,5 @@
 //! What stands between a certificate and the call that it vouches for: which telephone numbers its holder may speak for, which
-//! authority lies within another, and paths of certificates up to a trust anchor (RFC 5280 section 6, RFC 8226, RFC 9060).
+//! authority lies within another, and paths of certificates up to a trust anchor (RFC 5280, section 6, RFC 8226, RFC 9060).
 //!
 //! An [`Authority`] is all numbers or those of an authority list. [`covers`] says whether a list covers a number, and
 //! [`within`] whether an authority gives nothing that another doesn't have. [`Anchors`] are the certificates that are trusted, and

@@ -20,7 +20,7 @@ use x509_profile::Certificate;
 /// certificates between it and the leaf; `NO_ANCHOR` at the last certificate, where it isn't an anchor
 /// and no anchor fits. An anchor fits where its subject is the last certificate's issuer, its path length
 /// is at least the number of certificates below the last one, and its key identifier is the one of the
-/// issuer's key, where both are given (RFC 5280 sections 4.2.1.1, 4.2.1.9 and 6.1). The first that fits
+/// issuer's key, where both are given (RFC 5280, sections 4.2.1.1, 4.2.1.9 and 6.1). The first that fits
 /// is taken.
 pub fn shape(chain: &[Certificate], anchors: &Anchors) -> Result<Shape, PathFault>
     requires short { length chain.now ≤ 6 }
@@ -55,8 +55,8 @@ fn path_shape(chain: &[Certificate], anchors: &Anchors) -> Result<Shape, PathFau
     Ok(Shape { anchor })
 }
 
-#[tactic(auto, using(crate::proofs::WalkLaws::at_last, crate::proofs::WalkLaws::is_issuer, crate::proofs::WalkLaws::is_no_issuer))]
 /// The last certificate, where each above the leaf is the issuer of the one before it.
+#[tactic(auto, using(crate::proofs::WalkLaws::at_last, crate::proofs::WalkLaws::is_issuer, crate::proofs::WalkLaws::is_no_issuer))]
 fn last_of<'a>(
     leaf: &'a Certificate,
     above: &'a [Certificate],
@@ -94,7 +94,7 @@ fn link(place: u8, below: &Certificate, certificate: &Certificate) -> Result<(),
     Ok(())
 }
 
-/// Whether so many certificates may stand between this one and the leaf (RFC 5280 section 4.2.1.9).
+/// Whether so many certificates may stand between this one and the leaf (RFC 5280, section 4.2.1.9).
 fn is_long_enough(path_length: Option<u64>, between: u8) -> bool
     ensures { result ≡ is_long_enough path_length between }
 {

@@ -1,4 +1,4 @@
-//! What the key of a certificate may be used for (RFC 5280 sections 4.2.1.3 and 4.2.1.9).
+//! What the key of a certificate may be used for (RFC 5280, sections 4.2.1.3 and 4.2.1.9).
 
 ghost use Rattle.std.specs.Prelude.{◌≡◌};
 ghost use Rattle.delegation.specs.Usage.{allows, may_certify, may_sign};

@@ -8,6 +8,7 @@ use Rattle.der_reader.specs.declared.fault.DerFault.{DerFault}
 use Rattle.der_reader.specs.Fault.{bad_value}
 use Rattle.der_reader.specs.BitString.{BitText, FlagsText, string_bit, is_bit_text, flags_in}
 use Rattle.der_reader.specs.Elem.{AllBytes}
+use Rattle.lists.proofs.StepLaws.{taken}
 
 -- ---- `reverse_bits_onto`, bit for bit
 
@@ -98,11 +99,6 @@ flags_bits unused (x ∷ []) b l i s = two_bytes x 0 i (omega arith) s ∙ same 
 flags_bits unused (x ∷ y ∷ []) b l i s = two_bytes x y i (b 1) s
 flags_bits unused (x ∷ y ∷ z ∷ rest) b l i s = absurd (omega arith)
 
--- what an answer says of the test before it
-taken : (t : Bool) (v w : ℕ) → ◌≡◌ {A = Result ℕ DerFault} (cond t (Ok v) (Err bad_value)) (Ok w) → (t ≡ true) × (v ≡ w)
-taken true v w e = (refl, cc)
-taken false v w e = cc
-
 text_found : (unused : ℕ) (bytes : List ℕ) → length bytes ≤ 2 → is_bit_text (unused ∷ bytes) ≡ true → BitText (unused ∷ bytes) unused bytes
 text_found unused [] l t = record {
   text = refl;
@@ -134,7 +130,7 @@ pub flags_found : (content : List ℕ) (flags : ℕ) → AllBytes content → fl
 unfolding flags_in
 flags_found [] flags b e = absurd (grind (arith, nat_tests))
 flags_found (unused ∷ bytes) flags b e =
-    let t = taken (is_bit_text (unused ∷ bytes) && nat_le (length (unused ∷ bytes)) 3) _ flags e in
+    let t = taken (is_bit_text (unused ∷ bytes) && nat_le (length (unused ∷ bytes)) 3) _ flags _ e in
     let both = t.0 in
     let few : length bytes ≤ 2 = grind (arith, nat_tests) in
     let text : is_bit_text (unused ∷ bytes) ≡ true = grind (arith, nat_tests) in

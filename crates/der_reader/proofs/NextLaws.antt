@@ -10,6 +10,7 @@ use Rattle.der_reader.specs.declared.element.Header.{Header}
 use Rattle.der_reader.specs.declared.fault.DerFault.{DerFault}
 use Rattle.der_reader.specs.Elem.{AllBytes, Elem, Element, BeginsWith, element_of, length_text}
 use Rattle.der_reader.specs.Next.{header_at, content_at, next_behind, next_at, next_view}
+use Rattle.lists.proofs.StepLaws.{inside}
 
 -- the bytes begin with a tag and the one minimal length
 record HeaderText (bytes : List ℕ) (h : Header) : Type 0 where
@@ -18,10 +19,6 @@ record HeaderText (bytes : List ℕ) (h : Header) : Type 0 where
   fits : h.size ≤ length bytes
   some : 0 < h.size
   text : take h.size bytes ≡ h.tag ∷ length_text h.content_size
-
--- an equation of two answers that are Ok is one of what they hold
-inside : {X E : Type 0} (x y : X) → ◌≡◌ {A = Result X E} (Ok x) (Ok y) → x ≡ y
-inside x y e = cc
 
 short_text : (n : ℕ) → n < 128 → length_text n ≡ n ∷ []
 unfolding length_text

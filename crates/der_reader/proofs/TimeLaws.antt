@@ -7,25 +7,10 @@ use Rattle.der_reader.specs.declared.moment.Moment.{Moment}
 use Rattle.der_reader.specs.declared.fault.DerFault.{DerFault}
 use Rattle.der_reader.specs.Fault.{bad_value}
 use Rattle.der_reader.specs.Moment.{IsMoment, seconds_of}
-use Rattle.der_reader.specs.Time.{◌>>=◌, TimeText, UtcTimeText, GeneralizedTimeText, is_digit, two, text_after_year, two_front, moment_at, utc_moment, generalized_moment, moment_of, time_of}
+use Rattle.der_reader.specs.Time.{TimeText, UtcTimeText, GeneralizedTimeText, is_digit, two, text_after_year, two_front, moment_at, utc_moment, generalized_moment, moment_of, time_of}
+use Rattle.lists.specs.Steps.{◌>>=◌}
 use Rattle.der_reader.proofs.MomentLaws.{seconds_again, seconds_found}
-
--- ---- one step of a reader
-
--- an answer that comes after a step comes from what the step gave
-came : {A B : Type 0} (r : Result A DerFault) (f : A → Result B DerFault) (b : B) → r >>= f ≡ Ok b
-    → (a : A) × (r ≡ Ok a) × (f a ≡ Ok b)
-came (Ok a) f b e = (a, refl, e)
-came (Err x) f b e = cc
-
--- a step that gives something goes on with it
-after : {A B : Type 0} (r : Result A DerFault) (a : A) (f : A → Result B DerFault) (z : Result B DerFault) → r ≡ Ok a → f a ≡ z → r >>= f ≡ z
-after r a f z e k = ap (λ r. r >>= f) e ∙ k
-
--- an answer behind a test
-taken : {A : Type 0} (t : Bool) (v w : A) → ◌≡◌ {A = Result A DerFault} (cond t (Ok v) (Err bad_value)) (Ok w) → (t ≡ true) × (v ≡ w)
-taken true v w e = (refl, cc)
-taken false v w e = cc
+use Rattle.lists.proofs.StepLaws.{after, came, taken}
 
 -- ---- two digits
 
@@ -41,7 +26,7 @@ unfolding two_front
 two_found [] p e = absurd (grind (arith, nat_tests))
 two_found (a ∷ []) p e = absurd (grind (arith, nat_tests))
 two_found (a ∷ b ∷ rest) p e =
-    let t = taken _ _ p e in
+    let t = taken _ _ p _ e in
     let number : (a - 48) * 10 + (b - 48) ≡ p.0 = ap (λ (p : ℕ × List ℕ). p.0) t.1 in
     let behind : rest ≡ p.1 = ap (λ (p : ℕ × List ℕ). p.1) t.1 in
     let d = digits_are a b p.0 (passed a b _ t.0) number in
@@ -80,7 +65,7 @@ moment_found year text m e =
     let c = came (two_front b.0.1) _ m b.2 in
     let d = came (two_front c.0.1) _ m c.2 in
     let f = came (two_front d.0.1) _ m d.2 in
-    let t = taken _ _ m f.2 in
+    let t = taken _ _ m _ f.2 in
     let ta = (two_found text a.0 a.1).1 in
     let tb = (two_found a.0.1 b.0 b.1).1 in
     let tc = (two_found b.0.1 c.0 c.1).1 in

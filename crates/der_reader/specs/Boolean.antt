@@ -1,4 +1,4 @@
--- A DER BOOLEAN: X.690 sections 8.2 and 11.1.
+-- A DER BOOLEAN: X.690, sections 8.2 and 11.1.
 use Rattle.std.specs.Prelude.{ℕ, Bool, true, false, ◌&&◌, ◌||◌, ◌==◌, List, [], ◌∷◌, length, slice_index, Result, Ok, Err, if◌then◌else◌}
 use Rattle.der_reader.specs.declared.fault.DerFault.{DerFault}
 use Rattle.der_reader.specs.Fault.{bad_value}

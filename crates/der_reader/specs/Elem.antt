@@ -1,4 +1,4 @@
--- A DER element, in the profile of this project: X.690 sections 8.1.2, 8.1.3 and 10.1.
+-- A DER element, in the profile of this project: X.690, sections 8.1.2, 8.1.3 and 10.1.
 use Rattle.std.specs.Prelude.{◌≡◌, ◌≢◌, ℕ, ◌/◌, ◌%◌, ◌<◌, List, [], ◌∷◌, ◌++◌, length, slice_index, nat_lt, bit_and, if◌then◌else◌}
 use Rattle.der_reader.specs.declared.element.Der.{Der}
 

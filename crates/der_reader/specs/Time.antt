@@ -1,11 +1,12 @@
--- UTCTime and GeneralizedTime: X.680 sections 46 and 47, in the form of X.690 sections 11.7 and 11.8 and of
--- RFC 5280 section 4.1.2.5, which have seconds, no fraction and the zone Z.
+-- UTCTime and GeneralizedTime: X.680, sections 46 and 47, in the form of X.690, sections 11.7 and 11.8 and of
+-- RFC 5280, section 4.1.2.5, which have seconds, no fraction and the zone Z.
 use Rattle.std.specs.Prelude.{◌≡◌, ℕ, ◌+◌, ◌-◌, ◌*◌, ◌/◌, ◌%◌, ◌<◌, ◌≤◌, Bool, ◌&&◌, ◌==◌, List, [], ◌∷◌, ◌++◌, ◌⊎◌, length, drop, nat_lt, nat_le, slice_index, ℤ, Result, Ok, Err, if◌then◌else◌}
 use Rattle.std.specs.Borrow.{Bor}
 use Rattle.der_reader.specs.declared.moment.Moment.{Moment}
 use Rattle.der_reader.specs.declared.fault.DerFault.{DerFault}
 use Rattle.der_reader.specs.Fault.{bad_value}
 use Rattle.der_reader.specs.Moment.{IsMoment, unix_seconds, seconds_of}
+use Rattle.lists.specs.Steps.{◌>>=◌}
 
 -- a number below 100 as two decimal digits
 abbrev pub two : ℕ → List ℕ
@@ -16,13 +17,13 @@ abbrev pub text_after_year : Moment → List ℕ
 text_after_year m =
     two m.month ++ (two m.day ++ (two m.hour ++ (two m.minute ++ (two m.second ++ 90 ∷ []))))
 
--- `YYMMDDhhmmssZ`: a year of 50 and above is 19yy, otherwise 20yy (RFC 5280 section 4.1.2.5.1)
+-- `YYMMDDhhmmssZ`: a year of 50 and above is 19yy, otherwise 20yy (RFC 5280, section 4.1.2.5.1)
 pub record UtcTimeText (content : List ℕ) (m : Moment) : Type 0 where
   pub from_1950 : 1950 ≤ m.year
   pub to_2049 : m.year < 2050
   pub text : content ≡ two (m.year % 100) ++ text_after_year m
 
--- `YYYYMMDDhhmmssZ` (RFC 5280 section 4.1.2.5.2)
+-- `YYYYMMDDhhmmssZ` (RFC 5280, section 4.1.2.5.2)
 pub record GeneralizedTimeText (content : List ℕ) (m : Moment) : Type 0 where
   pub text : content ≡ two (m.year / 100) ++ (two (m.year % 100) ++ text_after_year m)
 
@@ -35,11 +36,6 @@ pub record TimeText (tag : ℕ) (content : List ℕ) (seconds : ℤ) : Type 0 wh
   pub value : seconds ≡ unix_seconds moment
 
 -- ---- what the readers compute
-
-infixl 10 ◌>>=◌
-abbrev pub ◌>>=◌ : {A B : Type 0} → Result A DerFault → (A → Result B DerFault) → Result B DerFault
-Ok x >>= f = f x
-Err fault >>= f = Err fault
 
 -- whether a byte is a decimal digit
 abbrev pub is_digit : ℕ → Bool

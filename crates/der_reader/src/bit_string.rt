@@ -1,4 +1,4 @@
-//! BIT STRINGs (X.690 sections 8.6 and 11.2.1).
+//! BIT STRINGs (X.690, sections 8.6 and 11.2.1).
 
 ghost use Rattle.std.specs.Prelude.{◌≡◌, ℕ, ◌+◌, ◌*◌, ◌%◌, ◌^◌, ◌<◌, ◌≤◌, ◌==◌, ◌&&◌, nat_lt, List, length, IfOk, IfErr, IsOkAnd, Ok};
 ghost use Rattle.std.specs.Int.{w16, reverse_bits};

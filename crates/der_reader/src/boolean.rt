@@ -1,4 +1,4 @@
-//! BOOLEANs (X.690 sections 8.2 and 11.1).
+//! BOOLEANs (X.690, sections 8.2 and 11.1).
 
 ghost use Rattle.std.specs.Prelude.{◌≡◌, Bool, IfOk, IfErr, Ok};
 ghost use Rattle.der_reader.specs.Fault.{bad_value};

@@ -1,4 +1,4 @@
-//! One DER element off the front of some bytes (X.690 sections 8.1.2, 8.1.3 and 10.1).
+//! One DER element off the front of some bytes (X.690, sections 8.1.2, 8.1.3 and 10.1).
 
 ghost use Rattle.std.specs.Prelude.{◌≡◌, ◌+◌, ◌<◌, ◌≤◌, length, IfOk, IfErr, IsOkAnd, List, ℕ};
 ghost use Rattle.der_reader.specs.Elem.{BeginsWith, Element, element_of};

@@ -18,13 +18,14 @@ pub struct DerFault {
 impl DerFault {
     /// The bytes end before the element does; the place is where they end.
     pub const SHORT: u8 = 1;
-    /// The tag has a number in further bytes (X.690 8.1.2.4), which no element here has.
+    /// The tag has a number in further bytes (X.690, section 8.1.2.4), which no element here has.
     pub const TAG: u8 = 2;
-    /// The length is indefinite, has more than two bytes, or isn't the shortest (X.690 10.1).
+    /// The length is indefinite, has more than two bytes, or isn't the shortest (X.690, section 10.1).
     pub const LENGTH: u8 = 3;
     /// The element isn't of the form that was asked for; the place is 0.
     pub const VALUE: u8 = 4;
 
+    /// The bytes end at this place.
     pub(crate) fn short(place: usize) -> DerFault
         requires { place < 2 ^ 32 }
         ensures { result ≡ short_at place }
@@ -35,6 +36,7 @@ impl DerFault {
         }
     }
 
+    /// The tag byte announces a tag number in further bytes.
     pub(crate) fn tag() -> DerFault
         ensures { result ≡ high_tag_at 0 }
     {
@@ -44,6 +46,7 @@ impl DerFault {
         }
     }
 
+    /// The length isn't one that the profile takes.
     pub(crate) fn length() -> DerFault
         ensures { result ≡ bad_length_at 1 }
     {
@@ -53,6 +56,7 @@ impl DerFault {
         }
     }
 
+    /// The element isn't of the form that was asked for.
     pub(crate) fn value() -> DerFault
         ensures { result ≡ bad_value }
     {

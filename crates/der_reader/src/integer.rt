@@ -1,4 +1,4 @@
-//! INTEGERs that aren't negative (X.690 section 8.3).
+//! INTEGERs that aren't negative (X.690, section 8.3).
 
 ghost use Rattle.std.specs.Prelude.{◌≡◌, ℕ, ◌+◌, ◌-◌, ◌*◌, ◌^◌, ◌<◌, ◌≤◌, List, ◌++◌, length, take, replicate, IfOk, IfErr, IsOkAnd, Ok, Err, Some, None, nat_lt, if◌then◌else◌};
 ghost use Rattle.der_reader.specs.Fault.{bad_value};

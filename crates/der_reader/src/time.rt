@@ -1,4 +1,4 @@
-//! UTCTime and GeneralizedTime (X.690 sections 11.7 and 11.8, RFC 5280 section 4.1.2.5).
+//! UTCTime and GeneralizedTime (X.690, sections 11.7 and 11.8, RFC 5280, section 4.1.2.5).
 
 ghost use Rattle.std.specs.Prelude.{◌≡◌, ℕ, ℤ, ◌+◌, ◌*◌, ◌<◌, ◌≤◌, IfOk, IfErr, Ok};
 ghost use Rattle.der_reader.specs.Fault.{bad_value};

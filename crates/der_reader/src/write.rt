@@ -1,4 +1,4 @@
-//! One DER element behind what was written before (X.690 sections 8.1.2, 8.1.3 and 10.1).
+//! One DER element behind what was written before (X.690, sections 8.1.2, 8.1.3 and 10.1).
 
 ghost use Rattle.std.specs.Prelude.{◌≡◌, ◌≢◌, ◌+◌, ◌≤◌, ◌<◌, ◌++◌, ◌∷◌, [], length, vec_len, vec_capacity, bit_and, OnOk, OnErr, IsOk};
 ghost use Rattle.std.specs.Vec.{VecUnchanged};

@@ -2,13 +2,13 @@
 use Rattle.std.proofs.Common.{◌≡◌, ℕ, ◌-◌, ◌≤◌, true, false, List, [], ◌∷◌, ◌++◌, length, None, Ok, Err, refl, sym, ◌∙◌, ap, arith, codes, map, length-append, subst}
 use Rattle.std.specs.Prelude.{◌==◌}
 use Rattle.std.proofs.lemmas.Bool.{eq-eqb}
-use Rattle.text_grammar.specs.Bytes.{is_blank, lower}
+use Rattle.text_grammar.specs.Bytes.{is_blank, lower, is_uri_byte}
 use Rattle.text_grammar.specs.Grammar.{Taking, ◌▹◌, Byte, Word, Blanks, Run}
-use Rattle.text_grammar.specs.Reading.{Read, ◌>>=◌, byte_at, word_at, skip, run_at}
+use Rattle.text_grammar.specs.Reading.{Read, byte_at, word_at, skip, run_at}
+use Rattle.lists.specs.Steps.{◌>>=◌}
 use Rattle.text_grammar.proofs.Laws.{Law, law_reads, law_same, place_of_stops, one_value}
 use Rattle.text_grammar.proofs.Pieces.{law_mark, law_word}
 use Rattle.text_grammar.proofs.Runs.{law_blanks, law_run}
-use Rattle.text_grammar.specs.Bytes.{is_uri_byte}
 use Rattle.identity_header.specs.Parts.{Parts, is_digest_byte}
 use Rattle.identity_header.specs.FieldText.{Params, InfoText, FieldText, FieldPlace}
 use Rattle.identity_header.specs.Read.{placed, read}

@@ -1,12 +1,9 @@
 -- With which byte a text of a piece begins.
 use Rattle.std.proofs.Common.{◌≡◌, ℕ, ◌≤◌, Bool, true, false, eqb, ◌⊎◌, inl, inr, List, [], ◌∷◌, ◌++◌, sym, ◌∙◌, ap, subst, arith}
 use Rattle.std.specs.List.{list_all}
-use Rattle.std.proofs.lemmas.Bool.{and_parts, or_cases, eqb-true, false_from_ne_true}
+use Rattle.std.proofs.lemmas.Bool.{and_parts, or_cases, eqb-true, false_from_ne_true, both_ways}
 use Rattle.text_grammar.specs.Bytes.{is_blank}
 use Rattle.text_grammar.specs.Grammar.{Taking, ◌▹◌, Byte, Blanks, Many}
-
-clash : (b : Bool) → b ≡ false → b ≡ true → ⊥
-clash b h k = cc
 
 pub byte_head : (c x : ℕ) (N : List ℕ → Type 0) (u : List ℕ) → (Byte c ▹ N) (x ∷ u) → x ≡ c
 byte_head c x N u m = let e : x ∷ u ≡ (c ∷ []) ++ m.rest = m.split ∙ ap (λ (a : List ℕ). a ++ m.rest) m.is_piece in cc
@@ -38,8 +35,8 @@ many_head p x N u m = by_piece m.piece m.is_piece m.split
 -- A class that has neither blank has no blank.
 pub no_blank : (p : ℕ → Bool) (x : ℕ) → p 32 ≡ false → p 9 ≡ false → p x ≡ true → is_blank x ≡ false
 no_blank p x h k e = false_from_ne_true (is_blank x) (λ b. elim (or_cases (eqb x 32) (eqb x 9) b) [
-  | inl q ↦ clash (p x) (ap p (eqb-true x 32 q) ∙ h) e
-  | inr q ↦ clash (p x) (ap p (eqb-true x 9 q) ∙ k) e
+  | inl q ↦ both_ways (p x) (ap p (eqb-true x 32 q) ∙ h) e
+  | inr q ↦ both_ways (p x) (ap p (eqb-true x 9 q) ∙ k) e
 ])
 
 -- A byte that is blank or this one isn't of a class that has none of them.

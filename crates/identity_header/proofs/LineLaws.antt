@@ -10,6 +10,7 @@ use Rattle.text_grammar.specs.Grammar.{Any}
 use Rattle.identity_header.specs.OneLine.{IsOneLine, begins_blank}
 use Rattle.identity_header.specs.Parts.{InRows, Parts, is_bare_byte, is_digest_byte, is_quoted_byte}
 use Rattle.identity_header.specs.Spelling.{is_bare, param_text, spelling, value_text}
+use Rattle.lists.proofs.Bytes.{each, all_append}
 
 -- ---- a test that every byte of every part passes
 
@@ -23,30 +24,23 @@ record Passes (p : ℕ → Bool) : Type 0 where
   alg : list_all p (codes ";alg=") ≡ true
   ppt : list_all p (codes ";ppt=") ≡ true
 
-each : (p q : ℕ → Bool) → ((b : ℕ) → p b ≡ true → q b ≡ true) → (text : List ℕ) → list_all p text ≡ true → list_all q text ≡ true
-each p q implies [] h = refl
-each p q implies (b ∷ bs) h = let t = and_parts (p b) (list_all p bs) h in rw (implies b t.0, each p q implies bs t.1) refl
-
-joined : (p : ℕ → Bool) (xs ys : List ℕ) → list_all p xs ≡ true → list_all p ys ≡ true → list_all p (xs ++ ys) ≡ true
-joined p xs ys h k = list_all-append p xs ys ∙ rw (h, k) refl
-
 value_by : (p : ℕ → Bool) (value : List ℕ) (t : Bool) → p 34 ≡ true → list_all p value ≡ true → list_all p (cond t value (34 ∷ (value ++ 34 ∷ []))) ≡ true
 value_by p value true quote h = h
-value_by p value false quote h = rw (quote, joined p value (34 ∷ []) h (rw quote refl)) refl
+value_by p value false quote h = rw (quote, all_append p value (34 ∷ []) h (rw quote refl)) refl
 
 param_passes : (p : ℕ → Bool) (name : List ℕ) (value : Option (List ℕ)) → Passes p → list_all p name ≡ true → IfSome value (Any is_quoted_byte) → list_all p (param_text name value) ≡ true
 param_passes p name None passes n h = refl
 param_passes p name (Some value) passes n h =
-    joined p name (value_text value) n (value_by p value (is_bare value) passes.quote (each is_quoted_byte p passes.quoted value h))
+    all_append p name (value_text value) n (value_by p value (is_bare value) passes.quote (each is_quoted_byte p passes.quoted value h))
 
 spelling_passes : (p : ℕ → Bool) (f : Parts) → Passes p → InRows f → list_all p (spelling f) ≡ true
 unfolding spelling
 spelling_passes p f passes r =
-    let one = joined p f.token (codes ";info=<") (each is_digest_byte p passes.digest f.token r.token.each) passes.info in
-    let two = joined p (f.token ++ codes ";info=<") f.info one (each is_uri_byte p passes.uri f.info r.info.each) in
-    let three = joined p (f.token ++ codes ";info=<" ++ f.info) (codes ">") two passes.close in
-    let four = joined p (f.token ++ codes ";info=<" ++ f.info ++ codes ">") (param_text (codes ";alg=") f.alg) three (param_passes p (codes ";alg=") f.alg passes passes.alg r.alg) in
-    joined p (f.token ++ codes ";info=<" ++ f.info ++ codes ">" ++ param_text (codes ";alg=") f.alg) (param_text (codes ";ppt=") f.ppt) four
+    let one = all_append p f.token (codes ";info=<") (each is_digest_byte p passes.digest f.token r.token.each) passes.info in
+    let two = all_append p (f.token ++ codes ";info=<") f.info one (each is_uri_byte p passes.uri f.info r.info.each) in
+    let three = all_append p (f.token ++ codes ";info=<" ++ f.info) (codes ">") two passes.close in
+    let four = all_append p (f.token ++ codes ";info=<" ++ f.info ++ codes ">") (param_text (codes ";alg=") f.alg) three (param_passes p (codes ";alg=") f.alg passes passes.alg r.alg) in
+    all_append p (f.token ++ codes ";info=<" ++ f.info ++ codes ">" ++ param_text (codes ";alg=") f.alg) (param_text (codes ";ppt=") f.ppt) four
     (param_passes p (codes ";ppt=") f.ppt passes passes.ppt r.ppt)
 
 no_return : Passes (λ b. not (b == 13))

@@ -8,7 +8,8 @@ use Rattle.std.proofs.lemmas.List.{append-nil, length_push}
 use Rattle.text_grammar.specs.Bytes.{is_blank, is_name_byte, is_word}
 use Rattle.text_grammar.specs.Grammar.{Taking, ◌▹◌, Byte, Blanks, Many, End}
 use Rattle.text_grammar.specs.Place.{Begins}
-use Rattle.text_grammar.specs.Reading.{Read, ◌>>=◌, byte_at, skip, many_at, end_at, either_at}
+use Rattle.text_grammar.specs.Reading.{Read, byte_at, skip, many_at, end_at, either_at}
+use Rattle.lists.specs.Steps.{◌>>=◌}
 use Rattle.text_grammar.proofs.Lists.{all_push, cut-prefix_len}
 use Rattle.text_grammar.proofs.Laws.{Stops, Law, stops_here, law_reads, law_same}
 use Rattle.text_grammar.proofs.Pieces.{law_byte, law_mark, law_end, law_either}

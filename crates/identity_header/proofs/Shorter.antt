@@ -4,13 +4,11 @@ use Rattle.std.specs.Prelude.{◌==◌}
 use Rattle.std.specs.List.{prefix_len}
 use Rattle.std.specs.Option.{is_some}
 use Rattle.text_grammar.specs.Bytes.{is_blank, is_name_byte, is_word}
-use Rattle.text_grammar.specs.Reading.{Read, ◌>>=◌, one_at, byte_at, skip, some_at, many_at}
+use Rattle.text_grammar.specs.Reading.{Read, one_at, byte_at, skip, some_at, many_at}
+use Rattle.lists.specs.Steps.{◌>>=◌}
 use Rattle.identity_header.specs.Parts.{Parts, is_bare_byte, is_quoted_byte}
 use Rattle.identity_header.specs.Reading.{quoted_at, value_at, equals_at, alg_at, ppt_at, optional_at, other_at, named_at, param_at}
-
-pub bind_ok : {A B : Type 0} (r : Read A) (f : A → Read B) (y : B) → (r >>= f) ≡ Ok y → (x : A) × (r ≡ Ok x) × (f x ≡ Ok y)
-bind_ok (Ok x) f y e = (x, refl, e)
-bind_ok (Err left) f y e = absurd (cc)
+use Rattle.lists.proofs.StepLaws.{came, inside}
 
 -- which way a test went
 pub chosen : {X : Type 0} (b : Bool) (x y z : X) → cond b x y ≡ z → ((b ≡ true) × (x ≡ z)) ⊎ ((b ≡ false) × (y ≡ z))
@@ -27,9 +25,6 @@ one-shorter p (b ∷ t) r e = elim (chosen (p b) _ _ _ e) [
   | inr w ↦ (let s : Err (b ∷ t) ≡ Ok r = w.1 in absurd (cc))
 ]
 
-pub inside : {A : Type 0} (x y : A) → ◌≡◌ {A = Read A} (Ok x) (Ok y) → x ≡ y
-inside x y e = cc
-
 -- of two pairs that are one, the second parts are as long
 pub same-rest : {A : Type 0} (x y : A × List ℕ) → ◌≡◌ {A = Read (A × List ℕ)} (Ok x) (Ok y) → length x.1 ≡ length y.1
 same-rest {A = A} x y e = ap (λ (p : A × List ℕ). length p.1) (inside x y e)
@@ -44,7 +39,7 @@ quoted-le : (t : List ℕ) (x : List ℕ × List ℕ) → quoted_at t ≡ Ok x �
 unfolding quoted_at
 quoted-le t x e =
     let g : List ℕ → Read (List ℕ × List ℕ) = λ r. Ok (take (prefix_len is_quoted_byte t) t, r) in
-    let w : (r : List ℕ) × (byte_at 34 (skip is_quoted_byte t) ≡ Ok r) × (g r ≡ Ok x) = bind_ok (byte_at 34 (skip is_quoted_byte t)) g x e in
+    let w : (r : List ℕ) × (byte_at 34 (skip is_quoted_byte t) ≡ Ok r) × (g r ≡ Ok x) = came (byte_at 34 (skip is_quoted_byte t)) g x e in
     omega (
       arith,
       one-shorter (λ b. b == 34) (skip is_quoted_byte t) w.0 w.1,
@@ -64,14 +59,14 @@ equals-le : (t : List ℕ) (x : List ℕ × List ℕ) → equals_at t ≡ Ok x �
 unfolding equals_at
 equals-le t x e =
     let w : (r : List ℕ) × (byte_at 61 (skip is_blank t) ≡ Ok r) × (value_at (skip is_blank r) ≡ Ok x) =
-    bind_ok (byte_at 61 (skip is_blank t)) (λ r. value_at (skip is_blank r)) x e in
+    came (byte_at 61 (skip is_blank t)) (λ r. value_at (skip is_blank r)) x e in
     omega (arith, one-shorter (λ b. b == 61) (skip is_blank t) w.0 w.1, skip-le is_blank t, skip-le is_blank w.0, value-le (skip is_blank w.0) x w.2)
 
 -- what is made of a value
 made-le : (t : List ℕ) (o : List ℕ → Parts) (g : List ℕ × List ℕ → Read (Parts × List ℕ)) (x : Parts × List ℕ)
     → ((v : List ℕ × List ℕ) → g v ≡ Ok (o v.0, v.1)) → (equals_at t >>= g) ≡ Ok x → length x.1 ≤ length t
 made-le t o g x h e =
-    let w : (v : List ℕ × List ℕ) × (equals_at t ≡ Ok v) × (g v ≡ Ok x) = bind_ok (equals_at t) g x e in
+    let w : (v : List ℕ × List ℕ) × (equals_at t ≡ Ok v) × (g v ≡ Ok x) = came (equals_at t) g x e in
     omega (arith, equals-le t w.0 w.1, same-rest (o w.0.0, w.0.1) x (sym (h w.0) ∙ w.2))
 
 alg-le : (s : Parts) (t : List ℕ) (x : Parts × List ℕ) → alg_at s t ≡ Ok x → length x.1 ≤ length t
@@ -99,7 +94,7 @@ optional-le (b ∷ t) r e = elim (chosen (b == 61) _ _ _ e) [
     valued : (value_at (skip is_blank t) >>= (λ x. Ok x.1)) ≡ Ok r → length r ≤ suc (length t)
     valued h =
         let w : (v : List ℕ × List ℕ) × (value_at (skip is_blank t) ≡ Ok v) × (◌≡◌ {A = Read (List ℕ)} (Ok v.1) (Ok r)) =
-        bind_ok (value_at (skip is_blank t)) (λ x. Ok x.1) r h in
+        came (value_at (skip is_blank t)) (λ x. Ok x.1) r h in
         let len : length w.0.1 ≡ length r = ap (λ (u : List ℕ). length u) (inside w.0.1 r w.2) in
         omega (arith, value-le (skip is_blank t) w.0 w.1, skip-le is_blank t)
 
@@ -123,16 +118,16 @@ named-le s name t x e = elim (chosen (is_word (codes "info") name) _ _ _ e) [
   where
     other : (g : List ℕ → Read (Parts × List ℕ)) → ((r : List ℕ) → g r ≡ Ok (s, r)) → (other_at t >>= g) ≡ Ok x → length x.1 ≤ length t
     other g k h =
-        let w : (r : List ℕ) × (other_at t ≡ Ok r) × (g r ≡ Ok x) = bind_ok (other_at t) g x h in
+        let w : (r : List ℕ) × (other_at t ≡ Ok r) × (g r ≡ Ok x) = came (other_at t) g x h in
         omega (arith, other-le t w.0 w.1, same-rest (s, w.0) x (sym (k w.0) ∙ w.2))
 
 pub param-shorter : (s : Parts) (t : List ℕ) (x : Parts × List ℕ) → param_at s t ≡ Ok x → length x.1 < length t
 unfolding param_at
 param-shorter s t x e =
     let w : (a : List ℕ) × (byte_at 59 (skip is_blank t) ≡ Ok a) × ((many_at is_name_byte (skip is_blank a) >>= (λ n. named_at s n.0 n.1)) ≡ Ok x) =
-    bind_ok (byte_at 59 (skip is_blank t)) (λ a. many_at is_name_byte (skip is_blank a) >>= (λ n. named_at s n.0 n.1)) x e in
+    came (byte_at 59 (skip is_blank t)) (λ a. many_at is_name_byte (skip is_blank a) >>= (λ n. named_at s n.0 n.1)) x e in
     let v : (n : List ℕ × List ℕ) × (many_at is_name_byte (skip is_blank w.0) ≡ Ok n) × (named_at s n.0 n.1 ≡ Ok x) =
-    bind_ok (many_at is_name_byte (skip is_blank w.0)) (λ n. named_at s n.0 n.1) x w.2 in
+    came (many_at is_name_byte (skip is_blank w.0)) (λ n. named_at s n.0 n.1) x w.2 in
     omega (
       arith,
       one-shorter (λ b. b == 59) (skip is_blank t) w.0 w.1,

@@ -1,6 +1,7 @@
 -- One turn of the loop over the parameters.
 use Rattle.std.proofs.Common.{◌≡◌, ℕ, zero, suc, ◌≤◌, ◌<◌, List, [], ◌∷◌, length, Ok, Err, refl, arith}
-use Rattle.text_grammar.specs.Reading.{Read, ◌>>=◌}
+use Rattle.text_grammar.specs.Reading.{Read}
+use Rattle.lists.specs.Steps.{◌>>=◌}
 use Rattle.identity_header.specs.Parts.{Parts}
 use Rattle.identity_header.specs.Reading.{param_at, params_up_to, params_at}
 use Rattle.identity_header.proofs.Shorter.{param-shorter}

@@ -2,9 +2,10 @@
 use Rattle.std.proofs.Common.{◌≡◌, ℕ, Bool, true, false, ◌⊎◌, inl, inr, List, [], ◌∷◌, ◌++◌, take, drop, Ok, Err, refl, sym, ◌∙◌, ap, append_assoc}
 use Rattle.std.specs.Prelude.{◌==◌}
 use Rattle.std.specs.List.{prefix_len}
-use Rattle.std.proofs.lemmas.Bool.{cases_Bool, ne_eqb, eq-eqb}
+use Rattle.std.proofs.lemmas.Bool.{cases_Bool, ne_eqb, eq-eqb, both_ways}
 use Rattle.text_grammar.specs.Grammar.{Taking, ◌▹◌, Byte, Any, Many}
-use Rattle.text_grammar.specs.Reading.{Read, ◌>>=◌, byte_at, skip, many_at, either_at}
+use Rattle.text_grammar.specs.Reading.{Read, byte_at, skip, many_at, either_at}
+use Rattle.lists.specs.Steps.{◌>>=◌}
 use Rattle.text_grammar.proofs.Laws.{Law, law_reads}
 use Rattle.text_grammar.proofs.Pieces.{law_mark, law_either}
 use Rattle.text_grammar.proofs.Runs.{law_any, law_some}
@@ -86,9 +87,6 @@ same_reader F r (b ∷ t) = elim (cases_Bool (b == 34)) [ inl k ↦ rw k (closin
     closing (Ok x) = refl
     closing (Err left) = refl
 
-clash : (b : Bool) → b ≡ false → b ≡ true → ⊥
-clash b h k = cc
-
 pub law_value : (F : Type 0) (n : ℕ) (r : List ℕ → List ℕ → Read F) (N : List ℕ → F → List ℕ → Type 0)
     → ((a : List ℕ) (f : F) (x : ℕ) (u : List ℕ) → N a f (x ∷ u) → is_bare_byte x ≡ false)
     → ((v : List ℕ) → Law F n (r v) (N v))
@@ -100,7 +98,7 @@ law_value F n r N heads l =
     (λ f. Byte 34 ▹ Taking (Any is_quoted_byte) (λ v. Byte 34 ▹ N v f)) (λ f. Taking (Many is_bare_byte) (λ v. N v f))
     (λ f m. byte_none 34 _ m)
     (λ f x u m. eq-eqb x 34 (byte_head 34 x _ u m))
-    (λ f x u m. ne_eqb x 34 (λ e. clash (is_bare_byte x) (ap is_bare_byte e) (many_head is_bare_byte x _ u m)))
+    (λ f x u m. ne_eqb x 34 (λ e. both_ways (is_bare_byte x) (ap is_bare_byte e) (many_head is_bare_byte x _ u m)))
     (law_mark F n 34 _ _ (law_any F n is_quoted_byte (λ v u. byte_at 34 u >>= r v) (λ v f. Byte 34 ▹ N v f)
     (λ a f x u m. ap is_quoted_byte (byte_head 34 x _ u m)) (λ a h. law_mark F n 34 (r a) (N a) (l a))))
     (law_some F n is_bare_byte 97 r N refl heads (λ a h. l a)))

@@ -14,45 +14,42 @@ pub(crate) const DIGEST_MOST: usize = 8192;
 /// The most bytes of a uri.
 pub(crate) const URI_MOST: usize = 2048;
 
-// A byte of the token: letters, digits, `-`, `_`, `.`.
+/// A byte of the token: letters, digits, `-`, `_`, `.`.
 pub(crate) fn is_digest_byte(byte: u8) -> bool
     ensures { result ≡ parts.is_digest_byte byte }
 {
     byte.is_ascii_alphanumeric() || matches!(byte, b'-' | b'_' | b'.')
 }
 
-// A byte of a value that stands without quotes.
+/// A byte of a value that stands without quotes.
 pub(crate) fn is_bare_byte(byte: u8) -> bool
     ensures { result ≡ parts.is_bare_byte byte }
 {
     byte.is_ascii_graphic() && !matches!(byte, b';' | b',' | b'"' | b'<' | b'>' | b'\\')
 }
 
-// A byte of a value between quotes.
+/// A byte of a value between quotes.
 pub(crate) fn is_quoted_byte(byte: u8) -> bool
     ensures { result ≡ parts.is_quoted_byte byte }
 {
     byte >= b' ' && !matches!(byte, b'"' | b'\\' | 0x7f)
 }
 
+/// Whether all bytes are those of a token.
 fn all_digest(text: &[u8]) -> bool
     ensures { result ≡ list_all parts.is_digest_byte text.now }
 {
     text.iter().all(|byte| is_digest_byte(*byte))
 }
 
-fn all_uri(text: &[u8]) -> bool
-    ensures { result ≡ list_all bytes.is_uri_byte text.now }
-{
-    text.iter().all(|byte| is_uri_byte(*byte))
-}
-
+/// Whether all bytes may stand without quotes.
 fn all_bare(text: &[u8]) -> bool
     ensures { result ≡ list_all parts.is_bare_byte text.now }
 {
     text.iter().all(|byte| is_bare_byte(*byte))
 }
 
+/// Whether all bytes may stand between quotes.
 fn all_quoted(text: &[u8]) -> bool
     ensures { result ≡ list_all parts.is_quoted_byte text.now }
 {
@@ -65,16 +62,6 @@ pub(crate) fn is_digest(text: &[u8]) -> bool
 {
     match text.len() {
         1..=DIGEST_MOST => all_digest(text),
-        _ => false,
-    }
-}
-
-/// Whether a text is a uri: 1 to 2048 uri bytes.
-pub(crate) fn is_uri(text: &[u8]) -> bool
-    ensures { IsTrue result ↔ Run bytes.is_uri_byte 2048 text.now }
-{
-    match text.len() {
-        1..=URI_MOST => all_uri(text),
         _ => false,
     }
 }
@@ -96,7 +83,7 @@ pub(crate) fn is_bare(text: &[u8]) -> bool
     !text.is_empty() && all_bare(text)
 }
 
-// How many digest bytes a text begins with.
+/// How many digest bytes a text begins with.
 pub(crate) fn digest_len(text: &[u8]) -> usize
     ensures count { result ≡ prefix_len parts.is_digest_byte text.now }
     ensures within { result ≤ length text.now }
@@ -109,7 +96,7 @@ pub(crate) fn digest_len(text: &[u8]) -> usize
     text.len()
 }
 
-// How many uri bytes a text begins with.
+/// How many uri bytes a text begins with.
 pub(crate) fn uri_len(text: &[u8]) -> usize
     ensures count { result ≡ prefix_len bytes.is_uri_byte text.now }
     ensures within { result ≤ length text.now }
@@ -122,7 +109,7 @@ pub(crate) fn uri_len(text: &[u8]) -> usize
     text.len()
 }
 
-// How many bare bytes a text begins with.
+/// How many bare bytes a text begins with.
 pub(crate) fn bare_len(text: &[u8]) -> usize
     ensures count { result ≡ prefix_len parts.is_bare_byte text.now }
     ensures within { result ≤ length text.now }
@@ -135,7 +122,7 @@ pub(crate) fn bare_len(text: &[u8]) -> usize
     text.len()
 }
 
-// How many bytes a text begins with that may stand between quotes.
+/// How many bytes a text begins with that may stand between quotes.
 pub(crate) fn quoted_len(text: &[u8]) -> usize
     ensures count { result ≡ prefix_len parts.is_quoted_byte text.now }
     ensures within { result ≤ length text.now }

@@ -8,10 +8,11 @@ ghost use Rattle.identity_header.specs.OneLine.{IsOneLine};
 ghost use Rattle.identity_header.specs.Spelling.{spelling, param_text};
 
 use crate::Memory;
-use crate::bytes::{is_bare, is_digest, is_uri, may_be_quoted};
+use crate::bytes::{is_bare, is_digest, may_be_quoted};
 use crate::params::field_at;
 use std::alloc::Global;
 use std::marker::Model;
+use text_grammar::is_uri;
 
 /// Where a value stops being the beginning of an Identity value.
 #[derive(Clone, Copy, Debug, PartialEq, Eq)]
@@ -156,7 +157,7 @@ impl<'a> Field<'a> {
     }
 }
 
-// The text of these parts.
+/// The text of these parts.
 #[tactic(auto, unfolding(crate::specs::Spelling::spelling))]
 fn spell(
     alloc: Global,
@@ -178,7 +179,7 @@ fn spell(
     Ok(text)
 }
 
-// Appends a parameter, where there is one.
+/// Appends a parameter, where there is one.
 fn write_param(text: &mut Vec<u8>, name: &[u8], value: Option<&[u8]>) -> Result<(), Memory>
     ensures { OnOk result (text.new.items ≡ text.old.items ++ param_text name.now (option_copied value.entry)) }
 {

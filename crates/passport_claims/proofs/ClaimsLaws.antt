@@ -5,14 +5,16 @@ use Rattle.std.proofs.lemmas.Bool.Decides.{nat_tests}
 use Rattle.std.proofs.lemmas.Option.{option_and_then_some}
 use Rattle.serde_json.specs.Data.{Num, unsigned, negative, float, Data, null, boolean, number, string, array, object}
 use Rattle.serde_json.specs.Find.{as_number, as_u64, get}
-use Rattle.passport_json.specs.IssuedAt.{IsIssuedAt, issued_at, last_second, not_past}
+use Rattle.passport_json.specs.IssuedAt.{IsIssuedAt, issued_at, not_past}
+use Rattle.text_grammar.specs.Moment.{last_second}
 use Rattle.passport_claims.specs.Claims.{Claims, HasKind, IsKnown}
 use Rattle.passport_claims.specs.Kind.{attest_of, attest_text, ppt_of}
 use Rattle.passport_claims.specs.Members.{HasText, called_in, number_in, text_in}
 use Rattle.passport_claims.specs.Origid.{IsOrigid, is_origid}
 use Rattle.passport_claims.specs.Passport.{ClaimsView, IsKind, IsPassport, most_called}
 use Rattle.passport_claims.specs.Read.{checked_header, checked_kind, has_text, has_text_where, origid_of, read_claims, shaken_in, div_in}
-use Rattle.passport_claims.specs.Reading.{◌>>=◌, Gives, IsOkUnlessMemory, or_fault}
+use Rattle.passport_claims.specs.Reading.{Gives, IsOkUnlessMemory, or_fault}
+use Rattle.lists.specs.Steps.{◌>>=◌}
 use Rattle.passport_claims.specs.declared.fault.ClaimFault.{ClaimFault}
 use Rattle.passport_claims.specs.declared.fault.ClaimFault.TheVariants as faults
 use Rattle.passport_claims.specs.declared.kind.Attest.{Attest}
@@ -20,12 +22,9 @@ use Rattle.passport_claims.specs.declared.kind.Kind.{Kind}
 use Rattle.passport_claims.specs.declared.kind.Kind.TheVariants as kinds
 use Rattle.passport_claims.proofs.MemberLaws.{attest_again, attest_only, called_again, called_only, found_text, number_again, number_only, text_again, text_found, where_again, where_found}
 use Rattle.passport_claims.proofs.OrigidLaws.{origid_again, origid_tells}
+use Rattle.lists.proofs.StepLaws.{came}
 
 -- ---- steps
-
-came : {A B : Type 0} (r : Result A ClaimFault) (step : A → Result B ClaimFault) (b : B) → (r >>= step) ≡ Ok b → (a : A) × ((r ≡ Ok a) × (step a ≡ Ok b))
-came (Ok a) step b h = (a, (refl, h))
-came (Err broken) step b h = absurd cc
 
 there : {A : Type 0} (broken : ClaimFault) (found : Option A) (a : A) → or_fault broken found ≡ Ok a → found ≡ Some a
 there broken None a h = absurd cc
@@ -101,18 +100,18 @@ record IsOfType (payload : Data) (ppt : Option (List ℕ)) (kind : Kind) : Type 
 shaken_only : (payload : Data) (kind : Kind) → shaken_in payload ≡ Ok kind → IsOfType payload (Some (codes "shaken")) kind
 shaken_only payload kind h =
     let first = came (or_fault faults.Attest (option_and_then attest_of (text_in (codes "attest") payload))) (λ level. or_fault faults.Origid (option_and_then origid_of (text_in (codes "origid") payload)) >>= (λ origid. Ok (kinds.Shaken level origid))) kind h in
-    let second = came (or_fault faults.Origid (option_and_then origid_of (text_in (codes "origid") payload))) (λ origid. Ok (kinds.Shaken first.0 origid)) kind first.1.1 in
-    let is : kinds.Shaken first.0 second.0 ≡ kind = let e = second.1.1 in cc in
-    let level = attest_found payload first.0 (there faults.Attest (option_and_then attest_of (text_in (codes "attest") payload)) first.0 first.1.0) in
-    let origid = origid_found payload second.0 (there faults.Origid (option_and_then origid_of (text_in (codes "origid") payload)) second.0 second.1.0) in
+    let second = came (or_fault faults.Origid (option_and_then origid_of (text_in (codes "origid") payload))) (λ origid. Ok (kinds.Shaken first.0 origid)) kind first.2 in
+    let is : kinds.Shaken first.0 second.0 ≡ kind = let e = second.2 in cc in
+    let level = attest_found payload first.0 (there faults.Attest (option_and_then attest_of (text_in (codes "attest") payload)) first.0 first.1) in
+    let origid = origid_found payload second.0 (there faults.Origid (option_and_then origid_of (text_in (codes "origid") payload)) second.0 second.1) in
     let here : IsOfType payload (Some (codes "shaken")) (kinds.Shaken first.0 second.0) = record { has = (level, origid.0, origid.1); type_is = refl } in
     subst (IsOfType payload (Some (codes "shaken"))) is here
 
 div_only : (payload : Data) (kind : Kind) → div_in payload ≡ Ok kind → IsOfType payload (Some (codes "div")) kind
 div_only payload kind h =
     let first = came (or_fault faults.Div (number_in (codes "div") payload)) (λ div. Ok (kinds.Div div)) kind h in
-    let is : kinds.Div first.0 ≡ kind = let e = first.1.1 in cc in
-    let div = number_only (codes "div") payload first.0 (there faults.Div (number_in (codes "div") payload) first.0 first.1.0) in
+    let is : kinds.Div first.0 ≡ kind = let e = first.2 in cc in
+    let div = number_only (codes "div") payload first.0 (there faults.Div (number_in (codes "div") payload) first.0 first.1) in
     let here : IsOfType payload (Some (codes "div")) (kinds.Div first.0) = record { has = div; type_is = refl } in
     subst (IsOfType payload (Some (codes "div"))) is here
 
@@ -177,17 +176,17 @@ pub claims_only : (header payload : Data) (ppt : Option (List ℕ)) (info : List
 unfolding read_claims
 claims_only header payload ppt info claims known h =
     let first = came (checked_header header ppt info) _ claims h in
-    let second = came (or_fault faults.Iat (issued_at payload)) _ claims first.1.1 in
-    let third = came (or_fault faults.Orig (number_in (codes "orig") payload)) _ claims second.1.1 in
-    let fourth = came (or_fault faults.Dest (called_in (most_called ppt) payload)) _ claims third.1.1 in
-    let fifth = came (checked_kind ppt payload) _ claims fourth.1.1 in
-    let head = header_only header ppt info first.0 first.1.0 in
-    let iat = issued_only payload second.0 (there faults.Iat (issued_at payload) second.0 second.1.0) in
-    let orig = number_only (codes "orig") payload third.0 (there faults.Orig (number_in (codes "orig") payload) third.0 third.1.0) in
-    let dest = called_only (most_called ppt) payload fourth.0 (there faults.Dest (called_in (most_called ppt) payload) fourth.0 fourth.1.0) in
-    let kind = kind_only payload ppt fifth.0 known fifth.1.0 in
+    let second = came (or_fault faults.Iat (issued_at payload)) _ claims first.2 in
+    let third = came (or_fault faults.Orig (number_in (codes "orig") payload)) _ claims second.2 in
+    let fourth = came (or_fault faults.Dest (called_in (most_called ppt) payload)) _ claims third.2 in
+    let fifth = came (checked_kind ppt payload) _ claims fourth.2 in
+    let head = header_only header ppt info first.0 first.1 in
+    let iat = issued_only payload second.0 (there faults.Iat (issued_at payload) second.0 second.1) in
+    let orig = number_only (codes "orig") payload third.0 (there faults.Orig (number_in (codes "orig") payload) third.0 third.1) in
+    let dest = called_only (most_called ppt) payload fourth.0 (there faults.Dest (called_in (most_called ppt) payload) fourth.0 fourth.1) in
+    let kind = kind_only payload ppt fifth.0 known fifth.1 in
     let made : ClaimsView = record { kind = fifth.0; x5u = first.0; iat = second.0; orig = third.0; dest = fourth.0 } in
-    let is : made ≡ claims = let e = fifth.1.1 in cc in
+    let is : made ≡ claims = let e = fifth.2 in cc in
     let here : Claims header payload ppt info made = record {
       typ = text_found (codes "typ") (codes "passport") header head.typ;
       alg = text_found (codes "alg") (codes "ES256") header head.alg;

@@ -181,8 +181,5 @@ none_more test count link is only = first_isnt test (link + 1) (count - link) (�
 
 -- ---- numbers
 
-pub same_bytes : (a b : List ℕ) → bytes_eq a b ≡ true → a ≡ b
-same_bytes a b e = (bytes_eq-Decides a b).0 e
-
 pub equal_bytes : (a b : List ℕ) → a ≡ b → bytes_eq a b ≡ true
 equal_bytes a b e = (bytes_eq-Decides a b).1 e

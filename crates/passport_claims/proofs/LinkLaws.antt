@@ -3,17 +3,14 @@ use Rattle.std.proofs.Common.{◌≡◌, ℕ, zero, suc, ◌-◌, ◌<◌, Bool,
 use Rattle.std.specs.Prelude.{Contains, is_some}
 use Rattle.std.specs.Bool.{Decides}
 use Rattle.std.specs.Str.{bytes_eq}
-use Rattle.std.proofs.lemmas.Bool.{cases_order, or_cases}
+use Rattle.std.proofs.lemmas.Bool.{cases_order, or_cases, or_left, or_right}
 use Rattle.passport_claims.specs.Passport.{ClaimsView}
 use Rattle.passport_claims.specs.Links.{IsOneOf, dest_at, div_at}
 use Rattle.passport_claims.specs.Order.{IsCalled}
 use Rattle.passport_claims.specs.OrderFault.{MayStart, OfNone, Repeats}
 use Rattle.passport_claims.specs.OrderReading.{calls, calls_one_of, first_from, is_one_of, is_twin, leads_to, may_start, repeats}
-use Rattle.passport_claims.proofs.FirstLaws.{Says, equal_bytes, first_means, none_means, same_bytes}
-use Rattle.passport_claims.proofs.TurnLaws.{or_true}
-
-or_left : (t u : Bool) → t ≡ true → (t || u) ≡ true
-or_left t u e = ap (λ s. s || u) e
+use Rattle.passport_claims.proofs.FirstLaws.{Says, equal_bytes, first_means, none_means}
+use Rattle.lists.proofs.Bytes.{bytes_same}
 
 -- ---- that it repeats a number
 
@@ -25,12 +22,12 @@ unfolding is_twin Twin
 twin_says links link count = record {
   tells = λ other is. (
     λ e. elim (or_cases (bytes_eq (div_at links other) (div_at links link)) (bytes_eq (dest_at links other) (dest_at links link)) e) [
-      | inl same ↦ inl (same_bytes (div_at links other) (div_at links link) same)
-      | inr same ↦ inr (same_bytes (dest_at links other) (dest_at links link) same)
+      | inl same ↦ inl (bytes_same (div_at links other) (div_at links link) same)
+      | inr same ↦ inr (bytes_same (dest_at links other) (dest_at links link) same)
     ],
     λ h. elim h [
       | inl same ↦ or_left (bytes_eq (div_at links other) (div_at links link)) (bytes_eq (dest_at links other) (dest_at links link)) (equal_bytes (div_at links other) (div_at links link) same)
-      | inr same ↦ or_true (bytes_eq (div_at links other) (div_at links link)) (bytes_eq (dest_at links other) (dest_at links link)) (equal_bytes (dest_at links other) (dest_at links link) same)
+      | inr same ↦ or_right (bytes_eq (div_at links other) (div_at links link)) (bytes_eq (dest_at links other) (dest_at links link)) (equal_bytes (dest_at links other) (dest_at links link) same)
     ],
   );
 }
@@ -51,12 +48,12 @@ repeats_says links count = record {
       let own = bytes_eq (div_at links link) (dest_at links link) in
       let twin = is_some (first_from (is_twin links link) 1 (link - 1)) in (
         λ e. elim (or_cases own twin e) [
-          | inl same ↦ inl (same_bytes (div_at links link) (dest_at links link) same)
+          | inl same ↦ inl (bytes_same (div_at links link) (dest_at links link) same)
           | inr t ↦ inr ((repeats_by links link).0 t)
         ],
         λ h. elim h [
           | inl same ↦ or_left own twin (equal_bytes (div_at links link) (dest_at links link) same)
-          | inr t ↦ or_true own twin ((repeats_by links link).1 t)
+          | inr t ↦ or_right own twin ((repeats_by links link).1 t)
         ],
       );
 }
@@ -65,7 +62,7 @@ repeats_says links count = record {
 
 leads_says : (links : List ClaimsView) (number : List ℕ) (count : ℕ) → Says (λ other. dest_at links other ≡ number) (leads_to links number) count
 unfolding leads_to
-leads_says links number count = record { tells = λ other is. (same_bytes (dest_at links other) number, equal_bytes (dest_at links other) number) }
+leads_says links number count = record { tells = λ other is. (bytes_same (dest_at links other) number, equal_bytes (dest_at links other) number) }
 
 none_says : (Holds : ℕ → Type 0) (test : ℕ → Bool) (count : ℕ) (found : Option ℕ) → Says Holds test count → first_from test 1 count ≡ found
     → Decides (not (is_some found)) (OfNone Holds count)
@@ -128,7 +125,7 @@ first_of_them number other numbers same = (0, omega arith, same)
 pub one_means : (numbers : List (List ℕ)) (number : List ℕ) → is_one_of numbers number ≡ true → Contains numbers number
 one_means [] number e = absurd cc
 one_means (other ∷ numbers) number e = elim (or_cases (bytes_eq other number) (is_one_of numbers number) e) [
-  | inl same ↦ first_of_them number other numbers (same_bytes other number same)
+  | inl same ↦ first_of_them number other numbers (bytes_same other number same)
   | inr later ↦ let c = one_means numbers number later in let inside = c.1 in (suc c.0, omega (arith, inside), c.2)
 ]
 
@@ -136,7 +133,7 @@ one_at : (numbers : List (List ℕ)) (number : List ℕ) (place : ℕ) → place
 one_at [] number place inside is = absurd (omega (arith, inside))
 one_at (other ∷ numbers) number zero inside is = or_left (bytes_eq other number) (is_one_of numbers number) (equal_bytes other number is)
 one_at (other ∷ numbers) number (suc place) inside is =
-    or_true (bytes_eq other number) (is_one_of numbers number) (one_at numbers number place (omega (arith, inside)) is)
+    or_right (bytes_eq other number) (is_one_of numbers number) (one_at numbers number place (omega (arith, inside)) is)
 
 pub means_one : (numbers : List (List ℕ)) (number : List ℕ) → Contains numbers number → is_one_of numbers number ≡ true
 means_one numbers number c = one_at numbers number c.0 c.1 c.2
@@ -144,7 +141,7 @@ means_one numbers number c = one_at numbers number c.0 c.1 c.2
 pub calls_means : (called : Option (List ℕ)) (number : List ℕ) → Decides (calls called number) (called ≡ Some number)
 calls_means None number = (λ e. absurd cc, λ e. absurd cc)
 calls_means (Some called) number = (
-  λ e. ap (λ n. Some n) (same_bytes called number e),
+  λ e. ap (λ n. Some n) (bytes_same called number e),
   λ e. let same : called ≡ number = cc in equal_bytes called number same,
 )
 

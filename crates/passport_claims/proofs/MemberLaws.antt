@@ -11,7 +11,6 @@ use Rattle.serde_json.specs.Find.{get, as_array, as_str}
 use Rattle.serde_json.specs.View.{items_view}
 use Rattle.serde_json.specs.declared.value.Value.{Value}
 use Rattle.tn_values.specs.Number.{is_number}
-use Rattle.passport_json.proofs.PlainLaws.{both}
 use Rattle.passport_json.specs.Passport.{text_where, texts}
 use Rattle.passport_claims.specs.Kind.{attest_of, attest_text}
 use Rattle.passport_claims.specs.Members.{HasText, HasNumber, HasNumbers, called_in, items_length, number_in, number_of, numbers_after, numbers_of, tn_in}
@@ -19,6 +18,8 @@ use Rattle.passport_claims.specs.Passport.{is_text}
 use Rattle.passport_claims.specs.Read.{has_text, has_text_where, is_absent}
 use Rattle.passport_claims.specs.declared.kind.Attest.{Attest}
 use Rattle.passport_claims.specs.declared.kind.Attest.TheVariants as levels
+use Rattle.lists.proofs.Bytes.{same_bytes}
+use Rattle.std.proofs.lemmas.Bool.{and_parts}
 
 pub items_counted : (values : List Value) → items_length (items_view values) ≡ length values
 items_counted [] = refl
@@ -26,11 +27,8 @@ items_counted (value ∷ others) = ap suc (items_counted others)
 
 -- ---- texts
 
-same : (text : List ℕ) → bytes_eq text text ≡ true
-same text = (bytes_eq-Decides text text).1 refl
-
 pub text_again : (name text : List ℕ) (value : Data) → HasText name text value → has_text name text value ≡ true
-text_again name text value h = rw h (same text)
+text_again name text value h = rw h (same_bytes text)
 
 text_by : (found : Option Data) (text : List ℕ) → is_text text (option_and_then as_str found) ≡ true → found ≡ Some (string text)
 text_by None text h = absurd cc
@@ -101,7 +99,7 @@ texts_counted (n ∷ others) = ap suc (texts_counted others)
 after_again : (found numbers : List (List ℕ)) → list_all is_number numbers ≡ true → numbers_after found (texts numbers) ≡ Some (found ++ numbers)
 after_again found [] h = ap (λ x. Some x) (sym (append-nil found))
 after_again found (n ∷ others) h =
-    let k = both (is_number n) (list_all is_number others) h in
+    let k = and_parts (is_number n) (list_all is_number others) h in
     rw k.0 (after_again (found ++ n ∷ []) others k.1 ∙ ap (λ x. Some x) (append_assoc found (n ∷ []) others))
 
 record AreThese (found : List (List ℕ)) (items : Items) (numbers : List (List ℕ)) : Type 0 where
@@ -156,7 +154,7 @@ called_of : (most : ℕ) (value holder tn : Data) (items : Items) (numbers : Lis
     → as_array tn ≡ Some items → numbers_of most items ≡ Some numbers → AreCalled most value numbers
 called_of most value holder tn items numbers eh et ea h =
     let k = counted_by (nat_le 1 (items_length items) && nat_le (items_length items) most) (numbers_after [] items) numbers h in
-    let l = both (nat_le 1 (items_length items)) (nat_le (items_length items) most) k.0 in
+    let l = and_parts (nat_le 1 (items_length items)) (nat_le (items_length items) most) k.0 in
     let a = after_only [] items numbers k.1 in
     let is : items ≡ texts numbers = a.texts_of ∙ ap texts (sym a.behind) in
     let count : items_length items ≡ length numbers = ap items_length is ∙ texts_counted numbers in

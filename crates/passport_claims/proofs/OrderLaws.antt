@@ -8,11 +8,12 @@ use Rattle.passport_claims.specs.Order.{AreApart, Follow, IsCalled, IsOrder, IsW
 use Rattle.passport_claims.specs.OrderFault.{IsStart, MayStart, OfNone, Repeats}
 use Rattle.passport_claims.specs.OrderReading.{behind, calls, calls_one_of, first_from, is_left, leads_from, order_of, repeats, start_of, undiverted, walk, way_from}
 use Rattle.passport_claims.specs.declared.order.ChainFault.{ChainFault}
-use Rattle.passport_claims.proofs.FirstLaws.{equal_bytes, first_isnt, first_none, is_left_is, leads_from_is, means_none, only_one, same_bytes}
+use Rattle.passport_claims.proofs.FirstLaws.{equal_bytes, first_isnt, first_none, is_left_is, leads_from_is, means_none, only_one}
 use Rattle.passport_claims.proofs.LinkLaws.{Distinct, called_means, calls_means, distinct, not_repeated, repeats_says}
 use Rattle.passport_claims.proofs.StartLaws.{start_again}
 use Rattle.passport_claims.proofs.TurnLaws.{Next, among_cases, next_differs, next_first, next_of, next_unique, no_fewer, within_among}
 use Rattle.passport_claims.proofs.WayLaws.{behind_follow, behind_short, behind_within, walk_on}
+use Rattle.lists.proofs.Bytes.{bytes_same}
 
 -- ---- a way whose links follow one another
 
@@ -179,7 +180,7 @@ walked links first (second ∷ later) d within follow =
     let from : leads_from links (dest_at links first) second ≡ true = leads_from_is links (dest_at links first) second ∙ equal_bytes (div_at links second) (dest_at links first) follow.0 in
     let found : first_from (leads_from links (dest_at links first)) 1 (length links) ≡ Some second =
     only_one (leads_from links (dest_at links first)) (length links) second within.0 from (λ other is t.
-    d.divs other second is within.0 (same_bytes (div_at links other) (dest_at links first) (sym (leads_from_is links (dest_at links first) other) ∙ t) ∙ sym follow.0)) in
+    d.divs other second is within.0 (bytes_same (div_at links other) (dest_at links first) (sym (leads_from_is links (dest_at links first) other) ∙ t) ∙ sym follow.0)) in
     walk_on links (length later) (dest_at links first) second found ∙ ap (λ xs. second ∷ xs) (walked links second later d within.1 follow.1)
 
 pub each_found : (turn : List ℕ) (count : ℕ) → ((link : ℕ) → IsOneOf count link → is_among link turn ≡ true) → first_from (is_left turn) 1 count ≡ None

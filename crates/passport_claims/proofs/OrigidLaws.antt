@@ -6,6 +6,7 @@ use Rattle.std.proofs.lemmas.Bool.Decides.{nat_tests}
 use Rattle.std.proofs.lemmas.Str.{IsUtf8-from_is_utf8, is_utf8-from_IsUtf8}
 use Rattle.uuid.specs.Text.{parsed}
 use Rattle.passport_claims.specs.Origid.{IsOrigid, is_origid}
+use Rattle.std.proofs.lemmas.Bool.{and_parts}
 
 some_of : {A : Type 0} (found : Option A) (x : A) → found ≡ Some x → is_some found ≡ true
 some_of None x e = absurd cc
@@ -35,24 +36,20 @@ not_by text false e no_text = e
 pub text_not : (text : List ℕ) → (IsUtf8 text → ⊥) → is_utf8 text ≡ false
 text_not text no_text = not_by text (is_utf8 text) refl no_text
 
-both : (a b : Bool) → (a && b) ≡ true → (a ≡ true) × (b ≡ true)
-both true b h = (refl, h)
-both false b h = absurd cc
-
 -- an identifier has 36 bytes
 pub origid_size : (text : List ℕ) → is_origid text ≡ true → length text ≡ 36
 unfolding is_origid
 origid_size text h =
-    let k = both ((length text == 36) && is_utf8 text) (is_some (parsed text)) h in
-    let l = both (length text == 36) (is_utf8 text) k.0 in
+    let k = and_parts ((length text == 36) && is_utf8 text) (is_some (parsed text)) h in
+    let l = and_parts (length text == 36) (is_utf8 text) k.0 in
     grind (arith, nat_tests, l.0)
 
 -- the test says what the relation says
 pub origid_tells : (text : List ℕ) → is_origid text ≡ true → IsOrigid text
 unfolding is_origid
 origid_tells text h =
-    let k = both ((length text == 36) && is_utf8 text) (is_some (parsed text)) h in
-    let l = both (length text == 36) (is_utf8 text) k.0 in
+    let k = and_parts ((length text == 36) && is_utf8 text) (is_some (parsed text)) h in
+    let l = and_parts (length text == 36) (is_utf8 text) k.0 in
     let found = read_by (parsed text) k.1 in
     record { uuid = found.0; size = grind (arith, nat_tests, l.0); utf8 = IsUtf8-from_is_utf8 text l.1; read_as = found.1 }
 

@@ -1,13 +1,13 @@
 -- A PASSporT of its parts: what each PASSporT meets, and that its header and payload are read back.
 use Rattle.std.proofs.Common.{◌≡◌, ◌≤◌, ℕ, true, nat_le, List, length, arith}
 use Rattle.std.proofs.lemmas.Bool.Decides.{nat_tests}
-use Rattle.passport_json.proofs.PlainLaws.{both}
 use Rattle.passport_claims.specs.Kind.{ppt_of}
 use Rattle.passport_claims.specs.Made.{has_origid, is_called_count}
 use Rattle.passport_claims.specs.Passport.{IsKind, IsPassport, most_called}
 use Rattle.passport_claims.specs.declared.kind.Kind.{Kind}
 use Rattle.passport_claims.specs.declared.kind.Kind.TheVariants as kinds
 use Rattle.passport_claims.proofs.OrigidLaws.{origid_tells}
+use Rattle.std.proofs.lemmas.Bool.{and_parts}
 
 kind_made : (kind : Kind) → has_origid kind ≡ true → IsKind kind
 kind_made kinds.Base h = tt
@@ -17,7 +17,7 @@ kind_made (kinds.Div number) h = tt
 pub made_meets : (kind : Kind) (x5u : List ℕ) (iat : ℕ) (orig : List ℕ) (dest given : List (List ℕ)) → iat ≤ 253402300799 → is_called_count kind (length given) ≡ true
     → has_origid kind ≡ true → dest ≡ given → IsPassport (record { kind = kind; x5u = x5u; iat = iat; orig = orig; dest = dest })
 made_meets kind x5u iat orig dest given within count origid copied =
-    let k = both (nat_le 1 (length given)) (nat_le (length given) (most_called (ppt_of kind))) count in
+    let k = and_parts (nat_le 1 (length given)) (nat_le (length given) (most_called (ppt_of kind))) count in
     rw copied (record {
       iat_within = within;
       some_called = let l = k.0 in grind (arith, nat_tests);

@@ -1,7 +1,7 @@
 -- Lists of links without a link twice: how long they are, what follows what in them, and which is the last.
 use Rattle.std.proofs.Common.{◌≡◌, ℕ, zero, suc, ◌==◌, ◌+◌, ◌<◌, ◌≤◌, Bool, true, false, ◌||◌, cond, ◌⊎◌, inl, inr, List, [], ◌∷◌, length, refl, sym, ap, ◌∙◌, subst, arith}
 use Rattle.std.specs.List.{range_with_len}
-use Rattle.std.proofs.lemmas.Bool.{both_ways, cases_Bool, cases_eq, cases_lt, eq-eqb, eqb-true, ne_eqb, or_cases}
+use Rattle.std.proofs.lemmas.Bool.{both_ways, cases_Bool, cases_eq, cases_lt, eq-eqb, eqb-true, ne_eqb, or_cases, or_right}
 use Rattle.std.proofs.lemmas.List.FromFn.{length-range_with_len}
 use Rattle.passport_claims.specs.Links.{AreWithin, IsOneOf}
 use Rattle.passport_claims.specs.Order.{NoneTwice, is_among, last_of}
@@ -11,12 +11,8 @@ use Rattle.passport_claims.specs.Order.{NoneTwice, is_among, last_of}
 pub among_first : (link other : ℕ) (turn : List ℕ) → other ≡ link → is_among link (other ∷ turn) ≡ true
 among_first link other turn e = ap (λ t. t || is_among link turn) (eq-eqb other link e)
 
-pub or_true : (t u : Bool) → u ≡ true → (t || u) ≡ true
-or_true true u e = refl
-or_true false u e = e
-
 pub among_later : (link other : ℕ) (turn : List ℕ) → is_among link turn ≡ true → is_among link (other ∷ turn) ≡ true
-among_later link other turn e = or_true (other == link) (is_among link turn) e
+among_later link other turn e = or_right (other == link) (is_among link turn) e
 
 pub among_cases : (link other : ℕ) (turn : List ℕ) → is_among link (other ∷ turn) ≡ true → (other ≡ link) ⊎ (is_among link turn ≡ true)
 among_cases link other turn e = elim (or_cases (other == link) (is_among link turn) e) [

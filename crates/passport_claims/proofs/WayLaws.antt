@@ -6,8 +6,9 @@ use Rattle.passport_claims.specs.Passport.{ClaimsView}
 use Rattle.passport_claims.specs.Links.{AreWithin, IsOneOf, dest_at, div_at}
 use Rattle.passport_claims.specs.Order.{Follow, last_of}
 use Rattle.passport_claims.specs.OrderReading.{behind, fault_at, first_from, is_one_of, leads_from, may_start, start_of, walk}
-use Rattle.passport_claims.proofs.FirstLaws.{first_some, leads_from_is, same_bytes}
+use Rattle.passport_claims.proofs.FirstLaws.{first_some, leads_from_is}
 use Rattle.passport_claims.proofs.TurnLaws.{last_among, within_among}
+use Rattle.lists.proofs.Bytes.{bytes_same}
 
 -- ---- the walk
 
@@ -77,7 +78,7 @@ found_within links number link e =
 found_div : (links : List ClaimsView) (number : List ℕ) (link : ℕ) → first_from (leads_from links number) 1 (length links) ≡ Some link → div_at links link ≡ number
 found_div links number link e =
     let f = first_some (leads_from links number) 1 (length links) link e in
-    same_bytes (div_at links link) number (sym (leads_from_is links number link) ∙ f.here)
+    bytes_same (div_at links link) number (sym (leads_from_is links number link) ∙ f.here)
 
 -- where the first link is given and what stands behind it
 record IsWalk (links : List ClaimsView) (room : ℕ) (number : List ℕ) (way : List ℕ) : Type 0 where

@@ -1,7 +1,7 @@
 -- What a PASSporT is made of, and when it is refused (the limits are this project's own).
 use Rattle.std.specs.Prelude.{ℕ, Bool, true, ◌&&◌, not, nat_le, nat_lt, List, length, Result, Ok, Err, if◌then◌else◌}
-use Rattle.passport_json.specs.IssuedAt.{last_second}
-use Rattle.passport_json.specs.Uri.{is_uri}
+use Rattle.text_grammar.specs.Moment.{last_second}
+use Rattle.text_grammar.specs.Uri.{is_uri}
 use Rattle.passport_claims.specs.Kind.{ppt_of}
 use Rattle.passport_claims.specs.Origid.{is_origid}
 use Rattle.passport_claims.specs.Passport.{ClaimsView, most_called}

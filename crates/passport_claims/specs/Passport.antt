@@ -3,7 +3,7 @@ use Rattle.std.specs.Prelude.{◌≡◌, ℕ, ◌≤◌, Bool, true, false, List
 use Rattle.std.specs.List.{list_all}
 use Rattle.std.specs.Str.{bytes_eq}
 use Rattle.tn_values.specs.Number.{is_number}
-use Rattle.passport_json.specs.IssuedAt.{last_second}
+use Rattle.text_grammar.specs.Moment.{last_second}
 use Rattle.passport_json.specs.Passport.{PassportView}
 use Rattle.passport_claims.specs.Kind.{attest_text, ppt_of}
 use Rattle.passport_claims.specs.Origid.{IsOrigid}

@@ -7,7 +7,8 @@ use Rattle.passport_claims.specs.Kind.{attest_of}
 use Rattle.passport_claims.specs.Members.{called_in, number_in, text_in}
 use Rattle.passport_claims.specs.Origid.{is_origid}
 use Rattle.passport_claims.specs.Passport.{ClaimsView, is_text, most_called}
-use Rattle.passport_claims.specs.Reading.{◌>>=◌, or_fault}
+use Rattle.passport_claims.specs.Reading.{or_fault}
+use Rattle.lists.specs.Steps.{◌>>=◌}
 use Rattle.passport_claims.specs.declared.fault.ClaimFault.{ClaimFault}
 use Rattle.passport_claims.specs.declared.fault.ClaimFault.TheVariants as faults
 use Rattle.passport_claims.specs.declared.kind.Kind.{Kind}

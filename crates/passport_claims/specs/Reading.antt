@@ -3,12 +3,6 @@ use Rattle.std.specs.Prelude.{◌≡◌, Option, Some, None, Result, Ok, Err}
 use Rattle.passport_claims.specs.declared.fault.ClaimFault.{ClaimFault}
 use Rattle.passport_claims.specs.declared.fault.ClaimFault.TheVariants as faults
 
--- the next step, where this one gave a value; else its fault
-infixl 10 ◌>>=◌
-abbrev pub ◌>>=◌ : {A B : Type 0} → Result A ClaimFault → (A → Result B ClaimFault) → Result B ClaimFault
-Ok value >>= step = step value
-Err broken >>= step = Err broken
-
 -- what is there, or that it is broken
 abbrev pub or_fault : {A : Type 0} → ClaimFault → Option A → Result A ClaimFault
 or_fault broken None = Err broken

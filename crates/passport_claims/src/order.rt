@@ -40,6 +40,7 @@ impl ChainFault {
     /// PASSporT doesn't call that number, and the link is 0.
     pub const CALLED: u8 = 5;
 
+    /// The fault of this kind at this link.
     pub(crate) fn new(kind: u8, link: u8) -> ChainFault
         ensures { result ≡ fault_at kind link }
     {

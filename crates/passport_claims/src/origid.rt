@@ -38,6 +38,7 @@ pub(crate) fn is_origid(text: &[u8]) -> bool
     }
 }
 
+/// Whether a text is a UUID (RFC 9562, section 4).
 #[tactic(auto, using(crate::proofs::OrigidLaws::uuid_read))]
 fn is_uuid(text: &str) -> bool
     ensures { result ≡ is_some (parsed text.now) }

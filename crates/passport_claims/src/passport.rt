@@ -1,7 +1,7 @@
 //! A PASSporT.
 ghost use Rattle.std.specs.Prelude.{◌≡◌, ◌≤◌, Some, None, IfOk, if◌then◌else◌};
 ghost use Rattle.std.specs.Option.{option_copied};
-ghost use Rattle.passport_json.specs.Uri.{is_uri};
+ghost use Rattle.text_grammar.specs.Uri.{is_uri};
 ghost use Rattle.passport_claims.specs.Claims.{Claims, IsKnown};
 ghost use Rattle.passport_claims.specs.Made.{is_called_count, has_origid, made};
 ghost use Rattle.passport_claims.specs.Passport.{ClaimsView, IsPassport};
@@ -13,14 +13,12 @@ use crate::kind::Kind;
 use crate::members::{called_in, number_in};
 use crate::origid::is_origid;
 use crate::rows::{checked_header, checked_kind, most_called};
-use passport_json::{Token, is_uri};
+use passport_json::Token;
 use std::alloc::Global;
 use std::marker::Model;
 use std::str;
+use text_grammar::{LAST_SECOND, is_uri};
 use tn_values::Number;
-
-/// The last second of the year 9999, in Unix time.
-const LAST_SECOND: u64 = 253_402_300_799;
 
 /// What a PASSporT says: its type with the claims of that type, the certificate's URI, when it was issued, the calling number
 /// and the called ones. In contracts it is the record of these five.
@@ -117,6 +115,7 @@ impl Passport {
         self.x5u.as_bytes()
     }
 
+    /// The certificate's URI, as text.
     pub(crate) fn uri(&self) -> &str
         ensures { result.now ≡ self.now.x5u }
     {
@@ -147,6 +146,7 @@ impl Passport {
     }
 }
 
+/// What header and payload of a token say.
 #[tactic(auto, using(crate::proofs::ClaimsLaws::read_meets), unfolding(crate::specs::Read::read_claims))]
 fn claims_of(
     alloc: Global,
@@ -175,7 +175,7 @@ fn claims_of(
     })
 }
 
-// The URI as text, where it is one: it is ASCII.
+/// The URI as text, where it is one: it is ASCII.
 fn uri_text(uri: &[u8]) -> Option<&str>
     ensures { option_copied result ≡ (if is_uri uri.now then Some uri.now else None) }
 {
@@ -188,12 +188,14 @@ fn uri_text(uri: &[u8]) -> Option<&str>
     }
 }
 
+/// Whether a PASSporT of this type may have so many called numbers.
 fn is_called_count(kind: &Kind, count: usize) -> bool
     ensures { result ≡ is_called_count kind.now count }
 {
     1 <= count && count <= most_called(kind.ppt().map(str::as_bytes))
 }
 
+/// Whether the identifier of the call, where the type has one, is of its form.
 fn has_origid(kind: &Kind) -> bool
     ensures { result ≡ has_origid kind.now }
 {

@@ -15,7 +15,7 @@ use serde_json::Value;
 /// How many numbers a PASSporT may call, unless it is one of type `div`.
 const MOST_CALLED: usize = 32;
 
-// The four members of the header. What comes is its `x5u`, which is the field's URI.
+/// The four members of the header. What comes is its `x5u`, which is the field's URI.
 pub(crate) fn checked_header<'a>(
     header: &'a Value,
     ppt: Option<&[u8]>,
@@ -45,7 +45,7 @@ pub(crate) fn most_called(ppt: Option<&[u8]>) -> usize
     if is_text(ppt, b"div") { 1 } else { MOST_CALLED }
 }
 
-// What the field's type adds.
+/// What the field's type adds.
 pub(crate) fn checked_kind(payload: &Value, ppt: Option<&[u8]>) -> Result<Kind, ClaimFault>
     ensures { result ≡ checked_kind (option_copied ppt.entry) (view payload.now) }
 {
@@ -58,6 +58,7 @@ pub(crate) fn checked_kind(payload: &Value, ppt: Option<&[u8]>) -> Result<Kind, 
     }
 }
 
+/// The type `shaken` with its two claims (RFC 8588, section 4).
 fn shaken_in(payload: &Value) -> Result<Kind, ClaimFault>
     ensures { result ≡ shaken_in (view payload.now) }
 {
@@ -76,6 +77,7 @@ fn shaken_in(payload: &Value) -> Result<Kind, ClaimFault>
     }
 }
 
+/// The type `div` with its claim (RFC 8946, section 4.1).
 fn div_in(payload: &Value) -> Result<Kind, ClaimFault>
     ensures { result ≡ div_in (view payload.now) }
 {
@@ -85,6 +87,7 @@ fn div_in(payload: &Value) -> Result<Kind, ClaimFault>
     }
 }
 
+/// Whether a text is given and is this one.
 fn is_text(given: Option<&[u8]>, text: &[u8]) -> bool
     ensures { result ≡ is_text text.now (option_copied given.entry) }
 {

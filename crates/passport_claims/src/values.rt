@@ -34,6 +34,7 @@ impl Passport {
         Ok((header, payload))
     }
 
+    /// The header as JSON.
     fn header(&self, alloc: Global) -> Result<Value, AllocError>
         ensures { IfOk result (λ value. view value ≡ Header (members_of self.now)) }
     {
@@ -45,6 +46,7 @@ impl Passport {
         }
     }
 
+    /// The payload as JSON.
     fn payload(&self, alloc: Global) -> Result<Value, AllocError>
         ensures exact { IfOk result (λ value. view value ≡ Payload (members_of self.now)) }
         ensures numbers { IfOk result (λ value. AreNumbers self.now) }
@@ -64,6 +66,7 @@ impl Passport {
     }
 }
 
+/// The payload of a PASSporT without a type.
 fn base_payload(alloc: Global, called: Value, iat: u64, orig: &str) -> Result<Value, AllocError>
     ensures { IfOk result (λ value. view value ≡ object (member (codes "dest") (with_tn (view called))
         (member (codes "iat") (number (unsigned iat)) (member (codes "orig") (number_object orig.now) no_members)))) }
@@ -71,6 +74,7 @@ fn base_payload(alloc: Global, called: Value, iat: u64, orig: &str) -> Result<Va
     json!(in alloc; {"dest": {"tn": called}, "iat": iat, "orig": {"tn": orig}})
 }
 
+/// The payload of the type `shaken`.
 fn shaken_payload(
     alloc: Global,
     attest: &str,
@@ -86,6 +90,7 @@ fn shaken_payload(
     json!(in alloc; {"attest": attest, "dest": {"tn": called}, "iat": iat, "orig": {"tn": orig}, "origid": origid})
 }
 
+/// The payload of the type `div`.
 fn div_payload(
     alloc: Global,
     called: Value,
@@ -100,7 +105,7 @@ fn div_payload(
     json!(in alloc; {"dest": {"tn": called}, "div": {"tn": div}, "iat": iat, "orig": {"tn": orig}})
 }
 
-// The array of the called numbers, as texts.
+/// The array of the called numbers, as texts.
 #[tactic(auto, using(crate::proofs::ValueLaws::numbers_all))]
 fn called_value(alloc: Global, called: &[Number]) -> Result<Value, AllocError>
     ensures value { IfOk result (λ value. view value ≡ array (texts called.now)) }
@@ -114,7 +119,7 @@ fn called_value(alloc: Global, called: &[Number]) -> Result<Value, AllocError>
     Ok(Value::Array(items))
 }
 
-// An identifier of a call is text.
+/// An identifier of a call is text.
 fn origid_text(origid: &[u8]) -> &str
     requires { IsOrigid origid.now }
     ensures { result.now ≡ origid.now }

@@ -4,7 +4,7 @@ use Rattle.std.specs.Bool.{nat_eq}
 use Rattle.std.specs.List.{starts_with}
 use Rattle.std.proofs.lemmas.Bool.Decides.{nat_tests}
 use Rattle.serde_json.specs.Data.{Data}
-use Rattle.stir_base.specs.Cut.{lacks}
+use Rattle.text_grammar.specs.Cut.{lacks}
 use Rattle.passport_json.specs.declared.fault.TokenFault.{TokenFault}
 use Rattle.passport_json.specs.Base64.{IsBase64}
 use Rattle.passport_json.specs.Compact.{CallView, CompactText, base, base_of, or_compact_fault, checked_base, rebuilt}
@@ -14,7 +14,7 @@ use Rattle.passport_json.specs.Passport.{PassportView, Header, Payload}
 use Rattle.passport_json.specs.Reading.{Gives, IsOkUnlessMemory}
 use Rattle.passport_json.specs.Token.{FullText, TokenText, read_compact, read_full, read_token}
 use Rattle.passport_json.specs.View.{TokenView}
-use Rattle.passport_json.proofs.PlainLaws.{both}
+use Rattle.std.proofs.lemmas.Bool.{and_parts}
 use Rattle.passport_json.proofs.TokenLaws.{token_again, checked_again, base64_again, signature_again, only_of}
 
 pub header_writable : (value : Data) (iat : ℕ) (orig dest info : List ℕ) → value ≡ Header (base iat orig dest info) → IsWritable value
@@ -27,10 +27,10 @@ payload_writable value iat orig dest info e = rw e (record { no_float = refl; sh
 
 two_dots : (text : List ℕ) → starts_with nat_eq text (codes "..") ≡ true → text ≡ dot ∷ dot ∷ drop 2 text
 two_dots [] h = absurd cc
-two_dots (x ∷ []) h = let k = both (nat_eq dot x) false h in absurd cc
+two_dots (x ∷ []) h = let k = and_parts (nat_eq dot x) false h in absurd cc
 two_dots (x ∷ y ∷ rest) h =
-    let k = both (nat_eq dot x) (nat_eq dot y && true) h in
-    let l = both (nat_eq dot y) true k.1 in
+    let k = and_parts (nat_eq dot x) (nat_eq dot y && true) h in
+    let l = and_parts (nat_eq dot y) true k.1 in
     let first : x ≡ dot = grind (arith, nat_tests, k.0) in
     let second : y ≡ dot = grind (arith, nat_tests, l.0) in
     rw (first, second) refl
@@ -64,7 +64,7 @@ begins_compact text signature are = rw are.joined refl
 
 begins_full_by : (x : ℕ) (xs rest : List ℕ) → lacks dot (x ∷ xs) ≡ true → starts_with nat_eq (x ∷ rest) (codes "..") ≡ false
 begins_full_by x xs rest h =
-    let k = both (not (x == dot)) (lacks dot xs) h in
+    let k = and_parts (not (x == dot)) (lacks dot xs) h in
     let other : nat_eq dot x ≡ false = grind (arith, nat_tests, k.0) in
     rw other refl
 

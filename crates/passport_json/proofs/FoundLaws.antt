@@ -6,7 +6,7 @@ use Rattle.std.specs.Option.{option_map}
 use Rattle.std.specs.Prelude.{option_and_then}
 use Rattle.std.specs.Str.{is_utf8}
 use Rattle.std.proofs.lemmas.Bool.{eqb-true}
-use Rattle.std.proofs.lemmas.Option.{option_and_then_some}
+use Rattle.std.proofs.lemmas.Option.{option_and_then_some, same_Some}
 use Rattle.std.proofs.lemmas.Str.{IsUtf8-from_is_utf8}
 use Rattle.base64.proofs.EngineFacts.{front_bytes}
 use Rattle.base64.specs.Engines.{url_safe_no_pad}
@@ -14,26 +14,23 @@ use Rattle.base64.specs.GeneralPurpose.{IsBytes, decode_of}
 use Rattle.base64.specs.declared.decode.DecodeError.{DecodeError}
 use Rattle.serde_json.specs.Data.{Data, null, boolean, number, string, array, object}
 use Rattle.serde_json.specs.Read.{read}
-use Rattle.stir_base.specs.Cut.{cut, lacks}
-use Rattle.stir_base.proofs.CutLaws.{cut_first, cut_split}
+use Rattle.text_grammar.specs.Cut.{cut, lacks}
+use Rattle.text_grammar.proofs.CutLaws.{cut_first, cut_split}
 use Rattle.passport_json.specs.declared.fault.TokenFault.{TokenFault}
 use Rattle.passport_json.specs.declared.fault.TokenFault.TheVariants.{Parts, SignatureLength}
 use Rattle.passport_json.specs.Base64.{IsBase64}
 use Rattle.passport_json.specs.Compact.{CallView, CompactText, checked_base, rebuilt}
 use Rattle.passport_json.specs.Object.{IsObjectText, object_of, only_object}
 use Rattle.passport_json.specs.Parts.{PartTexts, AreParts, dot, one_is_empty, parts_of}
-use Rattle.passport_json.specs.Reading.{◌>>=◌}
+use Rattle.lists.specs.Steps.{◌>>=◌}
 use Rattle.passport_json.specs.Token.{FullText, TokenText, checked_base64, checked_json, checked_parts, checked_signature, or_base64_fault, or_json_fault, read_compact, read_full, read_token, whole_parts}
 use Rattle.passport_json.specs.View.{TokenView}
 use Rattle.passport_json.proofs.CompactLaws.{compact_text}
 use Rattle.passport_json.proofs.DecodedLaws.{base64_found}
 use Rattle.passport_json.proofs.TokenLaws.{token_text}
+use Rattle.lists.proofs.StepLaws.{came, inside}
 
 -- ---- steps
-
-came : {A B : Type 0} (r : Result A TokenFault) (step : A → Result B TokenFault) (b : B) → (r >>= step) ≡ Ok b → (a : A) × ((r ≡ Ok a) × (step a ≡ Ok b))
-came (Ok a) step b h = (a, (refl, h))
-came (Err fault) step b h = absurd cc
 
 -- ---- the parts
 
@@ -52,13 +49,10 @@ cut_at_dot text parts h = cut_by text parts _ refl h
 abbrev whole_of : List ℕ × List ℕ → List ℕ × List ℕ → Option PartTexts
 whole_of first second = cond (lacks dot second.1) (Some (record { header = first.0; payload = second.0; signature = second.1 })) None
 
-some_inside : (x y : PartTexts) → Some x ≡ Some y → x ≡ y
-some_inside x y h = cc
-
 whole_by : (first second : List ℕ × List ℕ) (parts : PartTexts) (t : Bool) → lacks dot second.1 ≡ t
     → cond t (Some (record { header = first.0; payload = second.0; signature = second.1 })) None ≡ Some parts
     → (lacks dot second.1 ≡ true) × (◌≡◌ {A = PartTexts} (record { header = first.0; payload = second.0; signature = second.1 }) parts)
-whole_by first second parts true e h = (e, some_inside _ parts h)
+whole_by first second parts true e h = (e, same_Some _ parts h)
 whole_by first second parts false e h = absurd cc
 
 parts_found : (text : List ℕ) (parts : PartTexts) → parts_of text ≡ Some parts → AreParts text parts
@@ -150,43 +144,40 @@ object_found part bytes value h = object_by bytes value _ refl (json_by part val
 
 -- ---- the two forms
 
-inside : (x y : TokenView) → ◌≡◌ {A = Result TokenView TokenFault} (Ok x) (Ok y) → x ≡ y
-inside x y h = cc
-
 full_found : (text : List ℕ) (token : TokenView) → IsBytes text → read_full text ≡ Ok token → FullText text token
 unfolding read_full
 full_found text token bytes h =
     let parts = came (checked_parts text) _ token h in
-    let header_bytes = came (checked_base64 1 parts.0.header) _ token parts.1.1 in
-    let payload_bytes = came (checked_base64 2 parts.0.payload) _ token header_bytes.1.1 in
-    let signature_bytes = came (checked_base64 3 parts.0.signature) _ token payload_bytes.1.1 in
-    let signature = came (checked_signature signature_bytes.0) _ token signature_bytes.1.1 in
-    let header = came (checked_json 1 header_bytes.0) _ token signature.1.1 in
-    let payload = came (checked_json 2 payload_bytes.0) _ token header.1.1 in
-    let are = checked_found text parts.0 parts.1.0 in
+    let header_bytes = came (checked_base64 1 parts.0.header) _ token parts.2 in
+    let payload_bytes = came (checked_base64 2 parts.0.payload) _ token header_bytes.2 in
+    let signature_bytes = came (checked_base64 3 parts.0.signature) _ token payload_bytes.2 in
+    let signature = came (checked_signature signature_bytes.0) _ token signature_bytes.2 in
+    let header = came (checked_json 1 header_bytes.0) _ token signature.2 in
+    let payload = came (checked_json 2 payload_bytes.0) _ token header.2 in
+    let are = checked_found text parts.0 parts.1 in
     let each = typed text parts.0 bytes are in
     let made = token_text text parts.0 header_bytes.0 payload_bytes.0 signature_bytes.0 _ _ signature.0 header.0 payload.0 are
-    (encoded 1 parts.0.header header_bytes.0 each.header header_bytes.1.0)
-    (encoded 2 parts.0.payload payload_bytes.0 each.payload payload_bytes.1.0)
-    (encoded 3 parts.0.signature signature_bytes.0 each.signature signature_bytes.1.0)
-    (signed signature_bytes.0 signature.0 signature.1.0)
-    (object_found 1 header_bytes.0 header.0 header.1.0)
-    (object_found 2 payload_bytes.0 payload.0 payload.1.0) refl refl in
-    subst (FullText text) (inside _ token payload.1.1) made
+    (encoded 1 parts.0.header header_bytes.0 each.header header_bytes.1)
+    (encoded 2 parts.0.payload payload_bytes.0 each.payload payload_bytes.1)
+    (encoded 3 parts.0.signature signature_bytes.0 each.signature signature_bytes.1)
+    (signed signature_bytes.0 signature.0 signature.1)
+    (object_found 1 header_bytes.0 header.0 header.1)
+    (object_found 2 payload_bytes.0 payload.0 payload.1) refl refl in
+    subst (FullText text) (inside _ token payload.2) made
 
 compact_found : (text : List ℕ) (call : CallView) (token : TokenView) → IsBytes text → starts_with nat_eq text (codes "..") ≡ true → read_compact call text ≡ Ok token
     → CompactText text call token
 unfolding read_compact
 compact_found text call token bytes dots h =
     let parts = came (checked_parts text) _ token h in
-    let signature_bytes = came (checked_base64 3 parts.0.signature) _ token parts.1.1 in
-    let signature = came (checked_signature signature_bytes.0) _ token signature_bytes.1.1 in
-    let passport = came (checked_base call) _ token signature.1.1 in
-    let are = checked_found text parts.0 parts.1.0 in
+    let signature_bytes = came (checked_base64 3 parts.0.signature) _ token parts.2 in
+    let signature = came (checked_signature signature_bytes.0) _ token signature_bytes.2 in
+    let passport = came (checked_base call) _ token signature.2 in
+    let are = checked_found text parts.0 parts.1 in
     let each = typed text parts.0 bytes are in
     compact_text text parts.0 signature_bytes.0 signature.0 call passport.0 token dots are
-    (encoded 3 parts.0.signature signature_bytes.0 each.signature signature_bytes.1.0)
-    (signed signature_bytes.0 signature.0 signature.1.0) passport.1.0 (sym (inside (rebuilt passport.0 signature.0) token passport.1.1))
+    (encoded 3 parts.0.signature signature_bytes.0 each.signature signature_bytes.1)
+    (signed signature_bytes.0 signature.0 signature.1) passport.1 (sym (inside (rebuilt passport.0 signature.0) token passport.2))
 
 token_by : (text : List ℕ) (call : CallView) (token : TokenView) (t : Bool) → IsBytes text → starts_with nat_eq text (codes "..") ≡ t
     → cond t (read_compact call text) (read_full text) ≡ Ok token → TokenText text call token

@@ -8,4 +8,3 @@ pub mod PlainLaws
 pub mod SignedLaws
 pub mod SpelledLaws
 pub mod TokenLaws
-pub mod UriLaws

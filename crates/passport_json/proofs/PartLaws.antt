@@ -2,34 +2,13 @@
 use Rattle.std.proofs.Common.{◌≡◌, ℕ, suc, ◌+◌, ◌≤◌, Bool, true, false, ◌==◌, nat_lt, List, [], ◌∷◌, ◌++◌, length, take, drop, Some, refl, arith, ap, length-append}
 use Rattle.std.specs.List.{position_or_len}
 use Rattle.std.proofs.lemmas.Bool.Decides.{nat_tests}
-use Rattle.stir_base.specs.Cut.{cut, lacks}
+use Rattle.text_grammar.specs.Cut.{cut, lacks}
 use Rattle.passport_json.specs.Parts.{PartTexts, AreParts, parts_of, dot, signing_of}
-
-abbrev is_byte : ℕ → ℕ → Bool
-is_byte byte b = b == byte
-
-place_by : (byte x : ℕ) (xs b : List ℕ) (t : Bool) → (x == byte) ≡ t → lacks byte (x ∷ xs) ≡ true
-    → (lacks byte xs ≡ true → position_or_len (is_byte byte) (xs ++ byte ∷ b) ≡ length xs)
-    → position_or_len (is_byte byte) ((x ∷ xs) ++ byte ∷ b) ≡ length (x ∷ xs)
-place_by byte x xs b true e h below = let k = rw e at h in absurd cc
-place_by byte x xs b false e h below = let k = rw e at h in rw (e, below k) (omega arith)
-
-place : (byte : ℕ) (a b : List ℕ) → lacks byte a ≡ true → position_or_len (is_byte byte) (a ++ byte ∷ b) ≡ length a
-place byte [] b h = let e : (byte == byte) ≡ true = grind (arith, nat_tests) in rw e refl
-place byte (x ∷ xs) b h = place_by byte x xs b (x == byte) refl h (place byte xs b)
+use Rattle.text_grammar.proofs.CutLaws.{cut_again}
 
 take_front : (a b : List ℕ) → take (length a) (a ++ b) ≡ a
 take_front [] b = refl
 take_front (x ∷ xs) b = rw (take_front xs b) refl
-
-drop_front : (byte : ℕ) (a b : List ℕ) → drop (length a + 1) (a ++ byte ∷ b) ≡ b
-drop_front byte [] b = refl
-drop_front byte (x ∷ xs) b = let e : suc (length xs) + 1 ≡ suc (length xs + 1) = omega arith in rw e (drop_front byte xs b)
-
-pub cut_again : (byte : ℕ) (a b : List ℕ) → lacks byte a ≡ true → cut byte (a ++ byte ∷ b) ≡ Some (a, b)
-cut_again byte a b h =
-    let within : nat_lt (length a) (length (a ++ byte ∷ b)) ≡ true = grind (arith, nat_tests, length-append a (byte ∷ b)) in
-    rw (place byte a b h, within, take_front a (byte ∷ b), drop_front byte a b) refl
 
 pub parts_again : (text : List ℕ) (parts : PartTexts) → AreParts text parts → parts_of text ≡ Some parts
 parts_again text parts are =

@@ -5,15 +5,7 @@ use Rattle.serde_json.specs.Data.{Data, null, boolean, number, string, array, ob
 use Rattle.serde_json.specs.Find.{is_float}
 use Rattle.serde_json.specs.Written.{has_float, items_have_float, members_have_float}
 use Rattle.passport_json.specs.Deterministic.{IsWritable, most_deep, is_plain, are_plain_items, are_plain_members}
-
-pub both : (a b : Bool) → a && b ≡ true → (a ≡ true) × (b ≡ true)
-both true true h = (refl, refl)
-both true false h = absurd cc
-both false b h = absurd cc
-
-neither : (a b : Bool) → a || b ≡ false → (a ≡ false) × (b ≡ false)
-neither true b h = absurd cc
-neither false b h = (refl, h)
+use Rattle.std.proofs.lemmas.Bool.{and_parts, or_parts}
 
 number_found : (n : Num) → not (is_float n) ≡ true → is_float n ≡ false
 number_found (unsigned n) h = refl
@@ -27,18 +19,18 @@ mutual
   plain_found most (number n) h = (number_found n h, omega arith)
   plain_found most (string s) h = (refl, omega arith)
   plain_found most (array items) h =
-      let k = both (nat_lt 0 most) (are_plain_items (most - 1) items) h in
+      let k = and_parts (nat_lt 0 most) (are_plain_items (most - 1) items) h in
       let rest = items_found (most - 1) items k.1 in
       (rest.0, grind (arith, nat_tests, k.0, rest.1))
   plain_found most (object members) h =
-      let k = both (nat_lt 0 most) (are_plain_members (most - 1) members) h in
+      let k = and_parts (nat_lt 0 most) (are_plain_members (most - 1) members) h in
       let rest = members_found (most - 1) members k.1 in
       (rest.0, grind (arith, nat_tests, k.0, rest.1))
 
   items_found : (most : ℕ) (items : Items) → are_plain_items most items ≡ true → (items_have_float items ≡ false) × (items_depth items ≤ most)
   items_found most no_items h = (refl, omega arith)
   items_found most (item value items) h =
-      let k = both (is_plain most value) (are_plain_items most items) h in
+      let k = and_parts (is_plain most value) (are_plain_items most items) h in
       let one = plain_found most value k.0 in
       let rest = items_found most items k.1 in
       (rw (one.0, rest.0) refl, omega (arith, one.1, rest.1))
@@ -46,7 +38,7 @@ mutual
   members_found : (most : ℕ) (members : Members) → are_plain_members most members ≡ true → (members_have_float members ≡ false) × (members_depth members ≤ most)
   members_found most no_members h = (refl, omega arith)
   members_found most (member name value members) h =
-      let k = both (is_plain most value) (are_plain_members most members) h in
+      let k = and_parts (is_plain most value) (are_plain_members most members) h in
       let one = plain_found most value k.0 in
       let rest = members_found most members k.1 in
       (rw (one.0, rest.0) refl, omega (arith, one.1, rest.1))
@@ -67,13 +59,13 @@ mutual
   items_again : (most : ℕ) (items : Items) → items_have_float items ≡ false → items_depth items ≤ most → are_plain_items most items ≡ true
   items_again most no_items f d = refl
   items_again most (item value items) f d =
-      let k = neither (has_float value) (items_have_float items) f in
+      let k = or_parts (has_float value) (items_have_float items) f in
       rw (plain_again most value k.0 (omega (arith, d)), items_again most items k.1 (omega (arith, d))) refl
 
   members_again : (most : ℕ) (members : Members) → members_have_float members ≡ false → members_depth members ≤ most → are_plain_members most members ≡ true
   members_again most no_members f d = refl
   members_again most (member name value members) f d =
-      let k = neither (has_float value) (members_have_float members) f in
+      let k = or_parts (has_float value) (members_have_float members) f in
       rw (plain_again most value k.0 (omega (arith, d)), members_again most members k.1 (omega (arith, d))) refl
 
 pub plain_writable : (value : Data) → IsTrue (is_plain most_deep value) ↔ IsWritable value

@@ -8,7 +8,7 @@ use Rattle.base64.specs.GeneralPurpose.{encode_of, IsBytes}
 use Rattle.base64.specs.Rfc4648.{encode_symbols}
 use Rattle.serde_json.specs.Data.{Data, Members, object}
 use Rattle.serde_json.specs.Read.{read}
-use Rattle.stir_base.specs.Cut.{lacks}
+use Rattle.text_grammar.specs.Cut.{lacks}
 use Rattle.passport_json.specs.Base64.{IsBase64}
 use Rattle.passport_json.specs.Object.{IsObjectText}
 use Rattle.passport_json.specs.Parts.{dot}
@@ -17,15 +17,15 @@ use Rattle.passport_json.specs.Signing.{Signing}
 use Rattle.passport_json.specs.Token.{FullText}
 use Rattle.passport_json.specs.View.{TokenView}
 use Rattle.passport_json.proofs.ObjectLaws.{object_again}
-use Rattle.passport_json.proofs.PartLaws.{cut_again}
-use Rattle.passport_json.proofs.PlainLaws.{both}
+use Rattle.std.proofs.lemmas.Bool.{and_parts}
+use Rattle.text_grammar.proofs.CutLaws.{cut_again}
 
 -- ---- no symbol of base64url is the dot
 
 no_dot_at : (symbols : List ℕ) (i : ℕ) → lacks dot symbols ≡ true → not (slice_index symbols i == dot) ≡ true
 no_dot_at [] i h = refl
-no_dot_at (x ∷ xs) zero h = (both (not (x == dot)) (lacks dot xs) h).0
-no_dot_at (x ∷ xs) (suc i) h = no_dot_at xs i (both (not (x == dot)) (lacks dot xs) h).1
+no_dot_at (x ∷ xs) zero h = (and_parts (not (x == dot)) (lacks dot xs) h).0
+no_dot_at (x ∷ xs) (suc i) h = no_dot_at xs i (and_parts (not (x == dot)) (lacks dot xs) h).1
 
 symbols_lack : (t bytes : List ℕ) → lacks dot t ≡ true → lacks dot (encode_symbols t bytes) ≡ true
 unfolding encode_symbols

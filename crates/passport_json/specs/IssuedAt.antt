@@ -2,10 +2,7 @@
 use Rattle.std.specs.Prelude.{◌≡◌, ℕ, ◌≤◌, nat_le, codes, Option, Some, None, option_and_then, if◌then◌else◌}
 use Rattle.serde_json.specs.Data.{Data, number, unsigned}
 use Rattle.serde_json.specs.Find.{get, as_number, as_u64}
-
--- the last second of the year 9999 (this project's own limit)
-abbrev pub last_second : ℕ
-last_second = 253402300799
+use Rattle.text_grammar.specs.Moment.{last_second}
 
 -- the payload's `iat` is this integer, which 64 bits hold, and not past the limit
 pub record IsIssuedAt (payload : Data) (seconds : ℕ) : Type 0 where

@@ -13,5 +13,4 @@ pub mod Signed
 pub mod Signing
 pub mod Spelled
 pub mod Token
-pub mod Uri
 pub mod View

@@ -1,8 +1,13 @@
 -- The JSON object that bytes are, by `serde_json` (RFC 7515, section 5.2: header and payload are UTF-8 texts of objects).
-use Rattle.std.specs.Prelude.{◌≡◌, ℕ, List, Option, Some, None, option_and_then, IsUtf8, if◌then◌else◌}
+use Rattle.std.specs.Prelude.{◌≡◌, ℕ, Bool, List, Option, Some, None, is_some, option_and_then, IsUtf8, if◌then◌else◌}
 use Rattle.std.specs.Str.{is_utf8}
 use Rattle.serde_json.specs.Data.{Data, null, boolean, number, string, array, object, Members}
+use Rattle.serde_json.specs.Find.{as_object}
 use Rattle.serde_json.specs.Read.{read}
+
+-- the value is an object
+abbrev pub is_object : Data → Bool
+is_object value = is_some (as_object value)
 
 -- the bytes are UTF-8, `serde_json` reads this value from them, and it is an object
 pub record IsObjectText (bytes : List ℕ) (value : Data) : Type 0 where

@@ -3,12 +3,6 @@ use Rattle.std.specs.Prelude.{◌≡◌, Result, Ok, Err}
 use Rattle.passport_json.specs.declared.fault.TokenFault.{TokenFault}
 use Rattle.passport_json.specs.declared.fault.TokenFault.TheVariants.{Parts, Base64, Json, SignatureLength, Compact, Memory}
 
--- the next step, where this one gave a value; else its fault
-infixl 10 ◌>>=◌
-abbrev pub ◌>>=◌ : {A B : Type 0} → Result A TokenFault → (A → Result B TokenFault) → Result B TokenFault
-Ok value >>= step = step value
-Err fault >>= step = Err fault
-
 -- a fault other than want of memory is the one that the definition gives
 abbrev pub IsFaultOf : {A : Type 0} → TokenFault → Result A TokenFault → Type 0
 IsFaultOf Parts read = read ≡ Err Parts

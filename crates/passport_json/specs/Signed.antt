@@ -4,7 +4,7 @@ use Rattle.std.specs.Result.{result_ok}
 use Rattle.base64.specs.Engines.{url_safe_no_pad}
 use Rattle.base64.specs.GeneralPurpose.{decode_of}
 use Rattle.serde_json.specs.Data.{Data}
-use Rattle.stir_base.specs.Cut.{cut}
+use Rattle.text_grammar.specs.Cut.{cut}
 use Rattle.passport_json.specs.Object.{object_of}
 use Rattle.passport_json.specs.Parts.{dot}
 

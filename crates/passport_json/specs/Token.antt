@@ -13,7 +13,7 @@ use Rattle.passport_json.specs.Base64.{IsBase64}
 use Rattle.passport_json.specs.Compact.{CallView, CompactText, checked_base, rebuilt}
 use Rattle.passport_json.specs.Object.{IsObjectText, object_of}
 use Rattle.passport_json.specs.Parts.{PartTexts, AreParts, parts_of, one_is_empty, signing_of}
-use Rattle.passport_json.specs.Reading.{◌>>=◌}
+use Rattle.lists.specs.Steps.{◌>>=◌}
 use Rattle.passport_json.specs.View.{TokenView}
 
 -- the text is a token in its full form, and this is what it holds

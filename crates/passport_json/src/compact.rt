@@ -5,13 +5,13 @@ ghost use Rattle.passport_json.specs.Deterministic.{IsWritable};
 ghost use Rattle.passport_json.specs.Passport.{Header, Payload};
 ghost use Rattle.passport_json.specs.Reading.{Gives};
 ghost use Rattle.passport_json.specs.Seen.{call_of, passport_of};
-ghost use Rattle.passport_json.specs.Uri.{is_uri};
+ghost use Rattle.text_grammar.specs.Uri.{is_uri};
 
 use crate::fault::TokenFault;
-use crate::uri::uri_text;
 use crate::view::View;
 use serde_json::{Value, json};
 use std::alloc::{AllocError, Global};
+use text_grammar::uri_text;
 use tn_values::Number;
 
 /// A PASSporT without a type, as a message and its Identity header field give it.
@@ -23,6 +23,7 @@ pub(crate) struct Base<'a> {
     pub(crate) info: &'a [u8],
 }
 
+/// What a compact token is built from, where the message has it all and the field has no type.
 pub(crate) fn checked_base<'a>(view: &View<'a>) -> Result<Base<'a>, TokenFault>
     ensures exact { Gives passport_of result (checked_base (call_of view.now)) }
 {
@@ -37,6 +38,7 @@ pub(crate) fn checked_base<'a>(view: &View<'a>) -> Result<Base<'a>, TokenFault>
     }
 }
 
+/// The header that is built.
 #[tactic(auto, using(crate::proofs::CompactLaws::header_writable))]
 pub(crate) fn header_of(alloc: Global, base: &Base<'_>) -> Result<Value, AllocError>
     requires { IsTrue (is_uri base.now.info.now) }
@@ -48,6 +50,7 @@ pub(crate) fn header_of(alloc: Global, base: &Base<'_>) -> Result<Value, AllocEr
     Ok(header)
 }
 
+/// The payload that is built.
 #[tactic(auto, using(crate::proofs::CompactLaws::payload_writable))]
 pub(crate) fn payload_of(alloc: Global, base: &Base<'_>) -> Result<Value, AllocError>
     ensures exact { IfOk result (λ value. view value ≡ Payload (passport_of base.now)) }

@@ -1,20 +1,17 @@
 //! Laws: a function here does nothing, and its clause is the law.
 ghost use Rattle.std.specs.List.{list_all};
-ghost use Rattle.std.specs.Prelude.{◌≡◌, ◌+◌, ◌*◌, ◌/◌, ℕ, ◌↔◌, true, List, length, Ok, Some, IsTrue};
+ghost use Rattle.std.specs.Prelude.{◌≡◌, ◌+◌, ◌*◌, ◌/◌, ℕ, true, List, length, Ok, Some};
 ghost use Rattle.base64.specs.Engines.{url_safe_no_pad};
 ghost use Rattle.base64.specs.GeneralPurpose.{IsBytes, encode_of};
 ghost use Rattle.serde_json.specs.Data.{Data};
-ghost use Rattle.stir_base.specs.Cut.{lacks};
+ghost use Rattle.text_grammar.specs.Cut.{lacks};
 ghost use Rattle.passport_json.specs.Compact.{CallView, CompactText, base_of, rebuilt};
 ghost use Rattle.passport_json.specs.Parts.{dot};
 ghost use Rattle.passport_json.specs.Passport.{PassportView};
 ghost use Rattle.passport_json.specs.Signing.{Signing};
 ghost use Rattle.passport_json.specs.Spelled.{IsSignature, IsSpelled, compact_text, full_text, full_token, is_symbol};
 ghost use Rattle.passport_json.specs.Token.{FullText, TokenText, read_token};
-ghost use Rattle.passport_json.specs.Uri.{is_uri};
 ghost use Rattle.passport_json.specs.View.{TokenView};
-ghost use Rattle.text_grammar.specs.Bytes.{is_uri_byte};
-ghost use Rattle.text_grammar.specs.Grammar.{Run};
 
 /// What a text holds as a token for a call is read of it (RFC 8225, sections 3 and 7).
 pub fn token_law()
@@ -24,12 +21,6 @@ pub fn token_law()
 /// What is read of bytes as a token for a call is what they hold.
 pub fn token_found_law()
     ensures { (text : List ℕ) (call : CallView) (token : TokenView) → IsBytes text → read_token call text ≡ Ok token → TokenText text call token }
-{}
-
-/// What may stand between the angle brackets of `info` in an Identity header field (RFC 8224, section 4) can be the URI of
-/// a certificate, and nothing else can.
-pub fn uri_law()
-    ensures { (text : List ℕ) → Run is_uri_byte 2048 text ↔ IsTrue (is_uri text) }
 {}
 
 /// Header, payload and signature written as a full token hold these (RFC 7515, section 7.1), whatever the signature.

@@ -12,15 +12,13 @@ mod parts;
 mod read;
 mod signing;
 mod token;
-mod uri;
 mod view;
 mod writing;
 
 pub use fault::TokenFault;
-pub use laws::{base64_law, compact_text_law, full_text_law, token_found_law, token_law, uri_law};
+pub use laws::{base64_law, compact_text_law, full_text_law, token_found_law, token_law};
 pub use signing::{signing_input, ticket};
 pub use std::alloc::AllocError as Memory;
 pub use token::Token;
-pub use uri::is_uri;
 pub use view::View;
 pub use writing::{deterministic, is_writable};

@@ -1,10 +1,10 @@
 ghost use Rattle.std.specs.Prelude.{◌≡◌, IfSome};
 ghost use Rattle.std.specs.Option.{option_map};
-ghost use Rattle.stir_base.specs.Cut.{lacks};
+ghost use Rattle.text_grammar.specs.Cut.{lacks};
 ghost use Rattle.passport_json.specs.Parts.{AreParts, parts_of, one_is_empty, signing_of, dot};
 ghost use Rattle.passport_json.specs.Seen.{texts_of};
 
-use stir_base::cut;
+use text_grammar::cut;
 
 /// The three texts of a token, as they were received.
 #[derive(Clone, Copy)]
@@ -35,6 +35,7 @@ pub(crate) fn parts_of(text: &[u8]) -> Option<Parts<'_>>
     })
 }
 
+/// Whether no byte is a dot.
 fn lacks_dot(text: &[u8]) -> bool
     ensures { result ≡ lacks dot text.now }
 {

@@ -1,7 +1,7 @@
-ghost use Rattle.std.specs.Prelude.{◌≡◌, false, length, IfOk};
+ghost use Rattle.std.specs.Prelude.{◌≡◌, false, length, IfOk, IsTrue};
 ghost use Rattle.serde_json.specs.View.{view};
 ghost use Rattle.passport_json.specs.Base64.{IsBase64};
-ghost use Rattle.passport_json.specs.Object.{IsObjectText};
+ghost use Rattle.passport_json.specs.Object.{IsObjectText, is_object};
 ghost use Rattle.passport_json.specs.Parts.{AreParts, one_is_empty};
 ghost use Rattle.passport_json.specs.Reading.{Gives};
 ghost use Rattle.passport_json.specs.Seen.{texts_of};
@@ -14,6 +14,7 @@ use base64::engine::general_purpose::URL_SAFE_NO_PAD;
 use serde_json::Value;
 use std::alloc::Global;
 
+/// The three texts around exactly two dots, of which not exactly one of the first two is empty.
 pub(crate) fn checked_parts(text: &[u8]) -> Result<Parts<'_>, TokenFault>
     ensures exact { Gives texts_of result (checked_parts text.now) }
     ensures parts { IfOk result (λ parts. AreParts text.now (texts_of parts)) }
@@ -28,6 +29,7 @@ pub(crate) fn checked_parts(text: &[u8]) -> Result<Parts<'_>, TokenFault>
     Ok(parts)
 }
 
+/// The bytes of a part in base64url, counted from 1.
 pub(crate) fn checked_base64(alloc: Global, text: &[u8], part: u8) -> Result<Vec<u8>, TokenFault>
     ensures exact { Gives (λ bytes. bytes.items) result (checked_base64 part text.now) }
     ensures encoded { IfOk result (λ bytes. IsBase64 text.now bytes.items) }
@@ -39,6 +41,7 @@ pub(crate) fn checked_base64(alloc: Global, text: &[u8], part: u8) -> Result<Vec
     }
 }
 
+/// A signature of 64 bytes.
 pub(crate) fn checked_signature(bytes: Vec<u8>) -> Result<[u8; 64], TokenFault>
     ensures exact { result ≡ checked_signature bytes.items }
     ensures whole { IfOk result (λ signature. (signature ≡ bytes.items) × (length bytes.items ≡ 64)) }
@@ -49,10 +52,12 @@ pub(crate) fn checked_signature(bytes: Vec<u8>) -> Result<[u8; 64], TokenFault>
     }
 }
 
+/// The JSON object that the bytes of a part are.
 #[tactic(auto, using(crate::proofs::ObjectLaws::json_object, crate::proofs::ObjectLaws::json_other, crate::proofs::ObjectLaws::json_text, crate::proofs::ObjectLaws::json_unread))]
 pub(crate) fn checked_json(alloc: Global, bytes: Vec<u8>, part: u8) -> Result<Value, TokenFault>
     ensures exact { Gives view result (checked_json part bytes.items) }
     ensures object { IfOk result (λ value. IsObjectText bytes.items (view value)) }
+    ensures members { IfOk result (λ value. IsTrue (is_object (view value))) }
 {
     let value = match Value::from_slice(alloc, &bytes) {
         Ok(value) => value,

@@ -3,11 +3,12 @@ ghost use Rattle.std.specs.Bool.{nat_eq};
 ghost use Rattle.std.specs.List.{starts_with};
 ghost use Rattle.passport_json.specs.Compact.{CompactText, rebuilt};
 ghost use Rattle.passport_json.specs.IssuedAt.{issued_at, IsIssuedAt};
+ghost use Rattle.passport_json.specs.Object.{is_object};
 ghost use Rattle.passport_json.specs.Reading.{Gives, IsOkUnlessMemory};
 ghost use Rattle.passport_json.specs.Seen.{call_of, passport_of};
 ghost use Rattle.passport_json.specs.Signed.{payload_in};
 ghost use Rattle.passport_json.specs.Token.{FullText, TokenText, read_compact, read_full, read_token};
-ghost use Rattle.passport_json.specs.Uri.{is_uri};
+ghost use Rattle.text_grammar.specs.Uri.{is_uri};
 ghost use Rattle.passport_json.specs.View.{TokenView};
 ghost use Rattle.serde_json.specs.View.{view};
 
@@ -21,12 +22,11 @@ use crate::writing::deterministic;
 use serde_json::Value;
 use std::alloc::{AllocError, Global};
 use std::marker::Model;
-
-/// The last second of the year 9999, in Unix time.
-const LAST_SECOND: u64 = 253_402_300_799;
+use text_grammar::LAST_SECOND;
 
 /// A PASSporT (RFC 8225, section 3): header and payload as JSON objects, the text that was signed, the 64 bytes of the
-/// signature, and whether it came in its compact form (section 7). In contracts it is the record of these five.
+/// signature, and whether it came in its compact form (section 7). In contracts it is the record of these five, of which
+/// header and payload are objects.
 #[derive(Debug, Drop)]
 pub struct Token {
     header: Value,
@@ -37,7 +37,9 @@ pub struct Token {
 }
 
 impl Model for Token {
+    ghost use Rattle.std.specs.Prelude.{IsTrue};
     ghost use Rattle.serde_json.specs.View.{view as data_view};
+    ghost use Rattle.passport_json.specs.Object.{is_object};
     ghost use Rattle.passport_json.specs.View.{TokenView, token_code};
 
     ghost Value = { TokenView };
@@ -51,6 +53,8 @@ impl Model for Token {
       signature = t.signature;
       compact = t.compact;
     } };
+
+    ghost invariant = { λ t. IsTrue (is_object (data_view t.header)) × IsTrue (is_object (data_view t.payload)) };
 }
 
 impl Token {
@@ -60,7 +64,7 @@ impl Token {
     ///
     /// The checks are made in this order, and the first that is broken is the fault: `Parts`, `Base64` of part 1, 2
     /// and 3, `SignatureLength`; then `Compact` in the compact form, and `Json` of part 1 and 2 in the full form.
-    /// `Memory` may come for any text. The view's `info` is a URI ([`is_uri`](crate::is_uri) tells).
+    /// `Memory` may come for any text. The view's `info` is a URI ([`is_uri`](text_grammar::is_uri) tells).
     #[tactic(auto, unfolding(crate::specs::Token::read_token))]
     pub fn read(alloc: Global, text: &[u8], view: &View<'_>) -> Result<Token, TokenFault>
         requires { IsTrue (is_uri view.now.info.now) }
@@ -83,14 +87,16 @@ impl Token {
 
     /// The header, a JSON object (RFC 8225, section 4).
     pub fn header(&self) -> &Value
-        ensures { view result.now ≡ self.now.header }
+        ensures value { view result.now ≡ self.now.header }
+        ensures object { IsTrue (is_object self.now.header) }
     {
         &self.header
     }
 
     /// The payload, a JSON object (RFC 8225, section 5).
     pub fn payload(&self) -> &Value
-        ensures { view result.now ≡ self.now.payload }
+        ensures value { view result.now ≡ self.now.payload }
+        ensures object { IsTrue (is_object self.now.payload) }
     {
         &self.payload
     }
@@ -129,8 +135,8 @@ impl Token {
     }
 }
 
-// A text in the full form: three texts with a dot between each two, all in base64url, of which the first two are JSON
-// objects and the third is 64 bytes. Each part is decoded once.
+/// A text in the full form: three texts with a dot between each two, all in base64url, of which the first two are JSON
+/// objects and the third is 64 bytes. Each part is decoded once.
 #[tactic(auto, unfolding(crate::specs::Token::read_full))]
 fn read_full(alloc: Global, text: &[u8]) -> Result<Token, TokenFault>
     ensures exact { Gives (λ token. token) result (read_full text.now) }
@@ -154,7 +160,7 @@ fn read_full(alloc: Global, text: &[u8]) -> Result<Token, TokenFault>
     })
 }
 
-// A text whose first two parts are empty. They are the encoding of no bytes, so that the third is decoded first.
+/// A text whose first two parts are empty. They are the encoding of no bytes, so that the third is decoded first.
 #[tactic(auto, unfolding(crate::specs::Token::read_compact))]
 fn checked_compact(alloc: Global, text: &[u8], view: &View<'_>) -> Result<Token, TokenFault>
     requires uri { IsTrue (is_uri view.now.info.now) }
@@ -172,7 +178,7 @@ fn checked_compact(alloc: Global, text: &[u8], view: &View<'_>) -> Result<Token,
     }
 }
 
-// The token of a PASSporT without a type.
+/// The token of a PASSporT without a type.
 fn rebuilt(alloc: Global, base: &Base<'_>, signature: [u8; 64]) -> Result<Token, AllocError>
     requires { IsTrue (is_uri base.now.info.now) }
     ensures exact { IfOk result (λ token. token ≡ rebuilt (passport_of base.now) signature) }

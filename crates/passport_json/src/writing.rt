@@ -26,7 +26,7 @@ pub fn deterministic(alloc: Global, value: &Value) -> Result<Vec<u8>, AllocError
     Ok(text)
 }
 
-// Does nothing: that what a slice holds are bytes is known of a parameter alone.
+/// Does nothing: that what a slice holds are bytes is known of a parameter alone.
 fn tell_bytes(text: &[u8])
     ensures { IsBytes text.now }
 {}
@@ -40,6 +40,7 @@ pub fn is_writable(value: &Value) -> bool
     is_plain(value, MOST_DEEP)
 }
 
+/// Whether a value has no floating-point number and is at most so deep.
 #[cycle(plain)]
 fn is_plain(value: &Value, most: u8) -> bool
     ensures { result ≡ is_plain most (view value.now) }
@@ -52,6 +53,7 @@ fn is_plain(value: &Value, most: u8) -> bool
     }
 }
 
+/// The same of each item of an array.
 #[cycle(plain)]
 fn are_plain_items(items: &Vec<Value>, most: u8) -> bool
     ensures { result ≡ are_plain_items most (items_view items.now.items) }
@@ -64,6 +66,7 @@ fn are_plain_items(items: &Vec<Value>, most: u8) -> bool
     true
 }
 
+/// The same of each member of an object.
 #[cycle(plain)]
 fn are_plain_members(members: &Map<String, Value>, most: u8) -> bool
     ensures { result ≡ are_plain_members most (members_view members.now.entries) }

@@ -8,11 +8,7 @@ use Rattle.sip_message.specs.declared.address.Quoting.TheVariants.{Outside, Insi
 use Rattle.sip_message.specs.Address.{address, before, behind_bracket}
 use Rattle.sip_message.specs.Quoted.{IsAddress, IsBracketed, Piece, Quote, bare, escaped, in_brackets, is_piece, is_quote, pieces_text, plain, quoted, quotes_text, without}
 use Rattle.sip_message.specs.Quoting.{after, bracket_from}
-
-split : (a b : Bool) → (a && b) ≡ true → (a ≡ true) × (b ≡ true)
-split true true h = (refl, refl)
-split true false h = absurd cc
-split false b h = absurd cc
+use Rattle.std.proofs.lemmas.Bool.{and_parts}
 
 -- ---- what is in the form is found
 
@@ -25,7 +21,7 @@ bare_byte b h =
 quotes_pass : (quotes : List Quote) (more : List ℕ) → list_all is_quote quotes ≡ true → bracket_from Inside (quotes_text quotes ++ 34 ∷ more) ≡ bracket_from Outside more
 quotes_pass [] more h = refl
 quotes_pass (bare b ∷ others) more h =
-    let t = split (not (b == 34 || b == 92)) (list_all is_quote others) h in
+    let t = and_parts (not (b == 34 || b == 92)) (list_all is_quote others) h in
     ap (λ (q : Quoting). bracket_from q (quotes_text others ++ 34 ∷ more)) (bare_byte b t.0) ∙ quotes_pass others more t.1
 quotes_pass (escaped b ∷ others) more h = quotes_pass others more h
 
@@ -38,10 +34,10 @@ plain_byte b more h =
 pieces_pass : (pieces : List Piece) (rest : List ℕ) → list_all is_piece pieces ≡ true → bracket_from Outside (pieces_text pieces ++ 60 ∷ rest) ≡ Some rest
 pieces_pass [] rest h = refl
 pieces_pass (plain b ∷ others) rest h =
-    let t = split (not (b == 34 || b == 60)) (list_all is_piece others) h in
+    let t = and_parts (not (b == 34 || b == 60)) (list_all is_piece others) h in
     plain_byte b (pieces_text others ++ 60 ∷ rest) t.0 ∙ pieces_pass others rest t.1
 pieces_pass (quoted quotes ∷ others) rest h =
-    let t = split (list_all is_quote quotes) (list_all is_piece others) h in
+    let t = and_parts (list_all is_quote quotes) (list_all is_piece others) h in
     ap (bracket_from Inside) (append_assoc (quotes_text quotes) (34 ∷ pieces_text others) (60 ∷ rest))
     ∙ quotes_pass quotes (pieces_text others ++ 60 ∷ rest) t.0
     ∙ pieces_pass others rest t.1

@@ -1,8 +1,8 @@
 -- Lines begin with a continuation just where their bytes begin with a blank.
 use Rattle.std.proofs.Common.{◌≡◌, ℕ, Bool, true, false, ◌==◌, cond, List, [], ◌∷◌, refl, ◌∙◌, subst, arith}
 use Rattle.std.proofs.lemmas.Bool.Decides.{nat_tests}
-use Rattle.stir_base.specs.Line.{pieces, onto_first}
-use Rattle.sip_message.specs.HeadAlphabet.{is_blank}
+use Rattle.text_grammar.specs.Line.{pieces, onto_first}
+use Rattle.text_grammar.specs.Bytes.{is_blank}
 use Rattle.sip_message.specs.Lines.{LineView, behind_continuations, continuations, is_continuation, lines_from}
 use Rattle.sip_message.proofs.LineSteps.{stripped_first}
 

@@ -3,13 +3,16 @@ use Rattle.std.proofs.Common.{◌≡◌, ℕ, Bool, true, false, not, ◌==◌, 
 use Rattle.std.specs.List.{list_all}
 use Rattle.std.proofs.lemmas.List.{reverse-append, reverse-reverse}
 use Rattle.std.proofs.lemmas.Option.{cond_some, option_and_then_some}
-use Rattle.stir_base.specs.Cut.{cut, lacks}
-use Rattle.stir_base.proofs.CutLaws.{cut_again, cut_found}
+use Rattle.text_grammar.specs.Cut.{cut, lacks}
+use Rattle.text_grammar.proofs.CutLaws.{cut_again, cut_found}
 use Rattle.sip_message.specs.FieldLine.{IsFieldLine, field_line, name_before, named}
-use Rattle.sip_message.specs.HeadAlphabet.{is_blank, is_empty, is_name, is_name_byte}
+use Rattle.sip_message.specs.HeadAlphabet.{is_name}
+use Rattle.text_grammar.specs.Bytes.{is_blank, is_empty, is_name_byte}
 use Rattle.sip_message.specs.Lines.{is_continuation}
 use Rattle.sip_message.specs.Value.{trimmed_end, trimmed_front}
-use Rattle.sip_message.proofs.Bytes.{all_append, all_reverse, blank_no_colon, both, each, name_no_blank, name_no_colon}
+use Rattle.sip_message.proofs.Bytes.{blank_no_colon, name_no_blank, name_no_colon}
+use Rattle.lists.proofs.Bytes.{all_append, all_reverse, each}
+use Rattle.std.proofs.lemmas.Bool.{and_parts}
 
 -- ---- the blanks at the end
 
@@ -43,7 +46,7 @@ at_end text =
 
 skip_by : (b : ℕ) (bs rest : List ℕ) → (list_all is_blank bs ≡ true → trimmed_front (bs ++ rest) ≡ trimmed_front rest) → list_all is_blank (b ∷ bs) ≡ true
     → trimmed_front (b ∷ (bs ++ rest)) ≡ trimmed_front rest
-skip_by b bs rest below h = let t = both (is_blank b) (list_all is_blank bs) h in rw t.0 (below t.1)
+skip_by b bs rest below h = let t = and_parts (is_blank b) (list_all is_blank bs) h in rw t.0 (below t.1)
 
 skips : (blanks rest : List ℕ) → list_all is_blank blanks ≡ true → trimmed_front (blanks ++ rest) ≡ trimmed_front rest
 skips [] rest h = refl
@@ -51,7 +54,7 @@ skips (b ∷ bs) rest h = skip_by b bs rest (skips bs rest) h
 
 stays : (name : List ℕ) → list_all is_name_byte name ≡ true → trimmed_front name ≡ name
 stays [] h = refl
-stays (b ∷ bs) h = let n = name_no_blank b (both (is_name_byte b) (list_all is_name_byte bs) h).0 in rw n refl
+stays (b ∷ bs) h = let n = name_no_blank b (and_parts (is_name_byte b) (list_all is_name_byte bs) h).0 in rw n refl
 
 trims : (name blanks : List ℕ) → list_all is_name_byte name ≡ true → list_all is_blank blanks ≡ true → trimmed_end (name ++ blanks) ≡ name
 trims name blanks n b =
@@ -74,7 +77,7 @@ field_found line parts h =
     option_and_then_some name_before (cut 58 line) parts h (λ at e1 h1. form line at.0 at.1 parts (cut_found 58 line at e1) h1)
 
 bytes_of_name : (name : List ℕ) → is_name name ≡ true → list_all is_name_byte name ≡ true
-bytes_of_name name h = (both (not (is_empty name)) (list_all is_name_byte name) h).1
+bytes_of_name name h = (and_parts (not (is_empty name)) (list_all is_name_byte name) h).1
 
 pub field_only : (line name rest : List ℕ) → IsFieldLine line name rest → field_line line ≡ Some (name, rest)
 field_only line name rest i =
@@ -92,7 +95,7 @@ field_only line name rest i =
 
 first_of_name : (name more : List ℕ) → is_name name ≡ true → (is_empty (name ++ more) ≡ false) × (is_continuation (name ++ more) ≡ false)
 first_of_name [] more h = absurd cc
-first_of_name (b ∷ bs) more h = (refl, name_no_blank b (both (is_name_byte b) (list_all is_name_byte bs) h).0)
+first_of_name (b ∷ bs) more h = (refl, name_no_blank b (and_parts (is_name_byte b) (list_all is_name_byte bs) h).0)
 
 pub field_first : (line name rest : List ℕ) → IsFieldLine line name rest → (is_empty line ≡ false) × (is_continuation line ≡ false)
 field_first line name rest i =

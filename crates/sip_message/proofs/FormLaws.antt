@@ -7,16 +7,16 @@ use Rattle.sip_message.specs.FieldLine.{IsFieldLine, field_line}
 use Rattle.sip_message.specs.Form.{FormOf, IsBadLine, IsSurplusAt, place_of_surplus, size, start_line as no_start, header_line, no_line, no_end, from, to}
 use Rattle.sip_message.specs.Group.{AreGroups, Begins, Group, field_of, lines_of_groups}
 use Rattle.sip_message.specs.Head.{HasOne, Head}
-use Rattle.sip_message.specs.HeadAlphabet.{is_empty}
+use Rattle.text_grammar.specs.Bytes.{is_empty}
 use Rattle.sip_message.specs.Lines.{LineView, is_continuation, lines_of}
 use Rattle.sip_message.specs.Message.{MessageView}
 use Rattle.sip_message.specs.Names.{is_from, is_to}
 use Rattle.sip_message.specs.Reading.{checked, fault, read, surplus}
 use Rattle.sip_message.specs.StartLine.{IsStartLine, start_line}
-use Rattle.sip_message.proofs.Bytes.{both}
 use Rattle.sip_message.proofs.FieldLineLaws.{field_first, field_found, field_only}
 use Rattle.sip_message.proofs.HeadLaws.{Behind, Ends, NoneInFront, Parsed, begun, ended, head_read, headed, one_none, one_or_not, parse, placed_of, surplus_is}
 use Rattle.sip_message.proofs.StartLaws.{start_found, start_only}
+use Rattle.std.proofs.lemmas.Bool.{and_parts}
 
 -- ---- each fault is read
 
@@ -149,7 +149,7 @@ by_front : (bytes method uri : List ℕ) (start : LineView) (others front : List
 by_front bytes method uri start others [] groups left short l s split c g n e =
     by_end bytes method uri groups left (record { start = start; short = short; lines = l ∙ ap (λ (x : List LineView). start ∷ x) split; start_ok = s; groups_ok = g }) n e
 by_front bytes method uri start others (line ∷ front) groups left short l s split c g n e =
-    let first : is_continuation line.text ≡ true = (both (is_continuation line.text) (list_all (λ (x : LineView). is_continuation x.text) front) c).0 in
+    let first : is_continuation line.text ≡ true = (and_parts (is_continuation line.text) (list_all (λ (x : LineView). is_continuation x.text) front) c).0 in
     let bad : IsBadLine [] line.text = record {
       some = λ empty. true_or_false (is_continuation line.text) first (ap is_continuation empty);
       no_field = λ name rest i. true_or_false (is_continuation line.text) first (field_first line.text name rest i).1;

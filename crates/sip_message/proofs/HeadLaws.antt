@@ -8,16 +8,16 @@ use Rattle.sip_message.specs.FieldLine.{field_line}
 use Rattle.sip_message.specs.Form.{place_of_surplus}
 use Rattle.sip_message.specs.Group.{AreGroups, Begins, Group, IsGroup, field_of, lines_of_groups}
 use Rattle.sip_message.specs.Head.{Head}
-use Rattle.sip_message.specs.HeadAlphabet.{is_empty}
+use Rattle.text_grammar.specs.Bytes.{is_empty}
 use Rattle.sip_message.specs.Lines.{LineView, behind_continuations, continuations, is_continuation}
 use Rattle.sip_message.specs.Message.{FieldView, MessageView}
 use Rattle.sip_message.specs.Names.{is_from, is_to}
 use Rattle.sip_message.specs.Reading.{HeadView, PlacedField, checked, fault, field_at, fields_after, placed_named, read, surplus, surplus_of}
 use Rattle.sip_message.specs.StartLine.{start_line}
-use Rattle.sip_message.proofs.Bytes.{both}
 use Rattle.sip_message.proofs.FieldLineLaws.{field_first, field_found, field_only}
 use Rattle.sip_message.proofs.HeadSteps.{skipped}
 use Rattle.sip_message.proofs.StartLaws.{start_only}
+use Rattle.std.proofs.lemmas.Bool.{and_parts}
 
 abbrev text_of : LineView → List ℕ
 text_of line = line.text
@@ -47,7 +47,7 @@ ended all fields (line ∷ others) = if is_empty line.text then Ok (record { fie
 continued_by : (line : LineView) (lines rest : List LineView) → (list_all continues lines ≡ true → (continuations (lines ++ rest) ≡ map text_of lines) × (behind_continuations (lines ++ rest) ≡ rest))
     → list_all continues (line ∷ lines) ≡ true → (continuations (line ∷ (lines ++ rest)) ≡ map text_of (line ∷ lines)) × (behind_continuations (line ∷ (lines ++ rest)) ≡ rest)
 continued_by line lines rest below h =
-    let t = both (continues line) (list_all continues lines) h in
+    let t = and_parts (continues line) (list_all continues lines) h in
     let b = below t.1 in
     (rw t.0 (ap (λ x. line.text ∷ x) b.0), rw t.0 b.1)
 

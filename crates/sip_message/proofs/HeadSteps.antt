@@ -4,7 +4,7 @@ use Rattle.std.proofs.lemmas.Bool.Decides.{nat_tests}
 use Rattle.std.proofs.lemmas.List.{map-append}
 use Rattle.sip_message.specs.declared.field.Field.{Field}
 use Rattle.sip_message.specs.declared.fault.FormFault.{FormFault}
-use Rattle.sip_message.specs.HeadAlphabet.{is_empty}
+use Rattle.text_grammar.specs.Bytes.{is_empty}
 use Rattle.sip_message.specs.Lines.{LineView, behind_continuations, continuations, is_continuation}
 use Rattle.sip_message.specs.Names.{is_from, is_to}
 use Rattle.sip_message.specs.Message.{FieldView, MessageView}

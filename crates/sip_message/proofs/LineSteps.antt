@@ -3,9 +3,9 @@ use Rattle.std.proofs.Common.{◌≡◌, ℕ, suc, ◌+◌, ◌-◌, Bool, true,
 use Rattle.std.specs.Str.Lines.{strip_carriage_return}
 use Rattle.std.proofs.lemmas.Bool.Decides.{nat_tests}
 use Rattle.std.proofs.lemmas.List.{length-append}
-use Rattle.stir_base.specs.Cut.{lacks}
-use Rattle.stir_base.specs.Line.{pieces}
-use Rattle.sip_message.specs.HeadAlphabet.{is_blank}
+use Rattle.text_grammar.specs.Cut.{lacks}
+use Rattle.text_grammar.specs.Line.{pieces}
+use Rattle.text_grammar.specs.Bytes.{is_blank}
 use Rattle.sip_message.specs.Lines.{is_continuation, lines_from}
 
 none_by : (b : ℕ) (bs : List ℕ) (t : Bool) → (b == 10) ≡ t → (lacks 10 bs ≡ true → pieces bs ≡ []) → lacks 10 (b ∷ bs) ≡ true → pieces (b ∷ bs) ≡ []

@@ -3,12 +3,13 @@ use Rattle.std.proofs.Common.{◌≡◌, ℕ, ◌+◌, ◌≤◌, ◌==◌, nat_
 use Rattle.std.specs.List.{list_all}
 use Rattle.std.proofs.lemmas.Bool.Decides.{nat_tests}
 use Rattle.std.proofs.lemmas.List.Folds.{list_all-append}
-use Rattle.stir_base.specs.Line.{onto_first, pieces}
+use Rattle.text_grammar.specs.Line.{onto_first, pieces}
 use Rattle.sip_message.specs.declared.fault.FormFault.{FormFault}
 use Rattle.sip_message.specs.Form.{FormOf, place_of_surplus, size, start_line, header_line, no_line, no_end, from, to}
 use Rattle.sip_message.specs.Group.{Begins, Group, lines_of_groups}
 use Rattle.sip_message.specs.Lines.{LineView, lines_from, lines_of}
-use Rattle.sip_message.proofs.Bytes.{both}
+use Rattle.std.proofs.lemmas.Bool.{and_parts}
+use Rattle.std.proofs.lemmas.Option.{same_Some}
 
 -- ---- the places of lines
 
@@ -51,12 +52,12 @@ abbrev groups_within : ℕ → List Group → Bool
 groups_within most groups = list_all (λ (group : Group). nat_le group.first.place most) groups
 
 parted : (most : ℕ) (xs ys : List LineView) → are_within most (xs ++ ys) ≡ true → (are_within most xs ≡ true) × (are_within most ys ≡ true)
-parted most xs ys h = both (are_within most xs) (are_within most ys) (sym (list_all-append (λ (line : LineView). nat_le line.place most) xs ys) ∙ h)
+parted most xs ys h = and_parts (are_within most xs) (are_within most ys) (sym (list_all-append (λ (line : LineView). nat_le line.place most) xs ys) ∙ h)
 
 groups_by : (most : ℕ) (group : Group) (others : List Group) → (are_within most (lines_of_groups others) ≡ true → groups_within most others ≡ true)
     → are_within most (group.first ∷ (group.continued ++ lines_of_groups others)) ≡ true → groups_within most (group ∷ others) ≡ true
 groups_by most group others below h =
-    let t = both (nat_le group.first.place most) (are_within most (group.continued ++ lines_of_groups others)) h in
+    let t = and_parts (nat_le group.first.place most) (are_within most (group.continued ++ lines_of_groups others)) h in
     rw (t.0, below (parted most group.continued (lines_of_groups others) t.1).1) refl
 
 from_lines : (most : ℕ) (groups : List Group) → are_within most (lines_of_groups groups) ≡ true → groups_within most groups ≡ true
@@ -65,23 +66,20 @@ from_lines most (group ∷ others) h = groups_by most group others (from_lines m
 
 filtered_by : (most : ℕ) (test : Group → Bool) (group : Group) (others : List Group) (t : Bool) → test group ≡ t
     → (groups_within most others ≡ true → groups_within most (filter test others) ≡ true) → groups_within most (group ∷ others) ≡ true → groups_within most (filter test (group ∷ others)) ≡ true
-filtered_by most test group others true e below h = let b = both (nat_le group.first.place most) (groups_within most others) h in rw (e, b.0) (below b.1)
-filtered_by most test group others false e below h = rw e (below (both (nat_le group.first.place most) (groups_within most others) h).1)
+filtered_by most test group others true e below h = let b = and_parts (nat_le group.first.place most) (groups_within most others) h in rw (e, b.0) (below b.1)
+filtered_by most test group others false e below h = rw e (below (and_parts (nat_le group.first.place most) (groups_within most others) h).1)
 
 filtered : (most : ℕ) (test : Group → Bool) (groups : List Group) → groups_within most groups ≡ true → groups_within most (filter test groups) ≡ true
 filtered most test [] h = refl
 filtered most test (group ∷ others) h = filtered_by most test group others (test group) refl (filtered most test others) h
 
-inside : (x y : ℕ) → Some x ≡ Some y → x ≡ y
-inside x y e = cc
-
 surplus_within : (most end place : ℕ) (groups : List Group) → end ≤ most → groups_within most groups ≡ true → place_of_surplus end groups ≡ Some place → place ≤ most
-surplus_within most end place [] h g e = let s = inside end place e in omega arith
+surplus_within most end place [] h g e = let s = same_Some end place e in omega arith
 surplus_within most end place (one ∷ []) h g e = absurd cc
 surplus_within most end place (one ∷ second ∷ others) h g e =
-    let s = inside second.first.place place e in
-    let t = both (nat_le one.first.place most) (nat_le second.first.place most && groups_within most others) g in
-    let u : nat_le second.first.place most ≡ true = (both (nat_le second.first.place most) (groups_within most others) t.1).0 in
+    let s = same_Some second.first.place place e in
+    let t = and_parts (nat_le one.first.place most) (nat_le second.first.place most && groups_within most others) g in
+    let u : nat_le second.first.place most ≡ true = (and_parts (nat_le second.first.place most) (groups_within most others) t.1).0 in
     let v : second.first.place ≤ most = grind (arith, nat_tests) in
     omega arith
 
@@ -94,9 +92,9 @@ record Within (bytes : List ℕ) (groups : List Group) (line : LineView) : Type 
 begun : (bytes method uri : List ℕ) (groups : List Group) (line : LineView) (others : List LineView) → Begins bytes method uri groups (line ∷ others) → Within bytes groups line
 begun bytes method uri groups line others b =
     let all : are_within (length bytes) (b.start ∷ (lines_of_groups groups ++ line ∷ others)) ≡ true = ap (are_within (length bytes)) (sym b.lines) ∙ within bytes in
-    let t = both (nat_le b.start.place (length bytes)) (are_within (length bytes) (lines_of_groups groups ++ line ∷ others)) all in
+    let t = and_parts (nat_le b.start.place (length bytes)) (are_within (length bytes) (lines_of_groups groups ++ line ∷ others)) all in
     let p = parted (length bytes) (lines_of_groups groups) (line ∷ others) t.1 in
-    let u : nat_le line.place (length bytes) ≡ true = (both (nat_le line.place (length bytes)) (are_within (length bytes) others) p.1).0 in
+    let u : nat_le line.place (length bytes) ≡ true = (and_parts (nat_le line.place (length bytes)) (are_within (length bytes) others) p.1).0 in
     record { line_ok = grind (arith, nat_tests); groups_ok = from_lines (length bytes) groups p.0 }
 
 placed : (found made : FormFault) (most : ℕ) → found ≡ made → made.place ≤ most → found.place ≤ most

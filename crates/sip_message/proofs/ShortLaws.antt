@@ -3,13 +3,13 @@ use Rattle.std.proofs.Common.{◌≡◌, ℕ, zero, suc, ◌+◌, ◌-◌, ◌�
 use Rattle.std.specs.Str.Lines.{strip_carriage_return}
 use Rattle.std.proofs.lemmas.Grind.{common_steps}
 use Rattle.std.proofs.lemmas.List.{length-append, length-reverse}
-use Rattle.stir_base.specs.Line.{pieces}
+use Rattle.text_grammar.specs.Line.{pieces}
 use Rattle.sip_message.specs.declared.fault.MessageFault.{MessageFault}
 use Rattle.sip_message.specs.Accessors.{identities, values}
 use Rattle.sip_message.specs.FieldLine.{IsFieldLine}
 use Rattle.sip_message.specs.Group.{AreGroups, Begins, Group, field_of, lines_of_groups}
 use Rattle.sip_message.specs.Head.{Head}
-use Rattle.sip_message.specs.HeadAlphabet.{is_blank, is_empty}
+use Rattle.text_grammar.specs.Bytes.{is_blank, is_empty}
 use Rattle.sip_message.specs.Lines.{LineView, lines_from, lines_of}
 use Rattle.sip_message.specs.Message.{FieldView, MessageView}
 use Rattle.sip_message.specs.Names.{is_identity}

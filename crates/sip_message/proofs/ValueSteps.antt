@@ -1,6 +1,6 @@
 -- A value put together part by part is its parts joined.
 use Rattle.std.proofs.Common.{◌≡◌, ℕ, not, List, [], ◌∷◌, ◌++◌, map, filter, refl, ◌∙◌, append_assoc}
-use Rattle.sip_message.specs.HeadAlphabet.{is_empty}
+use Rattle.text_grammar.specs.Bytes.{is_empty}
 use Rattle.sip_message.specs.Value.{extended, joined, trimmed, value_after, value_of}
 
 abbrev some_of : List (List ℕ) → List (List ℕ)

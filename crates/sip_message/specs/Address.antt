@@ -3,7 +3,7 @@
 use Rattle.std.specs.Prelude.{ℕ, ◌&&◌, nat_le, List, length, take, drop, Option, Some, None, codes, option_and_then, if◌then◌else◌}
 use Rattle.std.specs.Option.{option_map_or}
 use Rattle.std.specs.Str.{str_eq_ignore_ascii_case}
-use Rattle.stir_base.specs.Cut.{cut}
+use Rattle.text_grammar.specs.Cut.{cut}
 use Rattle.tn_values.specs.Canon.{Canon}
 use Rattle.tn_values.specs.Local.{LocalView}
 use Rattle.sip_message.specs.declared.address.Quoting.TheVariants.{Outside}

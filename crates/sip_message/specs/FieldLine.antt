@@ -1,8 +1,9 @@
 -- The line with which a header field begins (RFC 3261, section 7.3.1).
 use Rattle.std.specs.Prelude.{◌≡◌, ℕ, true, List, ◌∷◌, ◌++◌, Option, Some, None, option_and_then, if◌then◌else◌}
 use Rattle.std.specs.List.{list_all}
-use Rattle.stir_base.specs.Cut.{cut}
-use Rattle.sip_message.specs.HeadAlphabet.{is_blank, is_name}
+use Rattle.text_grammar.specs.Cut.{cut}
+use Rattle.sip_message.specs.HeadAlphabet.{is_name}
+use Rattle.text_grammar.specs.Bytes.{is_blank}
 use Rattle.sip_message.specs.Value.{trimmed_end}
 
 -- the line is a name, any blanks, a colon and the rest

@@ -1,21 +1,7 @@
 -- Which bytes stand in the parts of a message head (RFC 3261, section 25.1; what a URI may hold is this project's own leniency).
-use Rattle.std.specs.Prelude.{ℕ, Bool, true, false, ◌==◌, nat_lt, ◌&&◌, ◌||◌, not, List, [], ◌∷◌}
-use Rattle.std.specs.Char.{is_ascii_alphanumeric}
+use Rattle.std.specs.Prelude.{ℕ, Bool, ◌==◌, nat_lt, ◌&&◌, not, List}
 use Rattle.std.specs.List.{list_all}
-
--- white space: space and tab
-abbrev pub is_blank : ℕ → Bool
-is_blank byte = byte == 32 || byte == 9
-
--- a byte of a name, `token` of the standard: a letter, a digit or one of - . ! % * _ + ` ' ~
-abbrev pub is_name_byte : ℕ → Bool
-is_name_byte byte =
-    is_ascii_alphanumeric byte
-    || (byte == 45 || byte == 46 || byte == 33 || byte == 37 || byte == 42 || byte == 95 || byte == 43 || byte == 96 || byte == 39 || byte == 126)
-
-abbrev pub is_empty : List ℕ → Bool
-is_empty [] = true
-is_empty (first ∷ more) = false
+use Rattle.text_grammar.specs.Bytes.{is_empty, is_name_byte}
 
 -- a name of a method or of a header field: 1 or more name bytes
 abbrev pub is_name : List ℕ → Bool

@@ -2,8 +2,8 @@
 -- too is this project's own leniency).
 use Rattle.std.specs.Prelude.{◌≡◌, ℕ, ◌+◌, ◌<◌, Bool, false, List, [], ◌∷◌, length, Option, Some, None, if◌then◌else◌}
 use Rattle.std.specs.Str.Lines.{strip_carriage_return}
-use Rattle.stir_base.specs.Line.{pieces}
-use Rattle.sip_message.specs.HeadAlphabet.{is_blank}
+use Rattle.text_grammar.specs.Line.{pieces}
+use Rattle.text_grammar.specs.Bytes.{is_blank}
 
 -- a line without its LF and one CR directly before that, and the offset of its first byte
 pub record LineView : Type 0 where

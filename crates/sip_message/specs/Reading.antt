@@ -3,7 +3,7 @@ use Rattle.std.specs.Prelude.{ℕ, Bool, true, false, ◌&&◌, nat_le, List, []
 use Rattle.std.specs.Option.{option_map}
 use Rattle.sip_message.specs.declared.fault.FormFault.{FormFault}
 use Rattle.sip_message.specs.FieldLine.{field_line}
-use Rattle.sip_message.specs.HeadAlphabet.{is_empty}
+use Rattle.text_grammar.specs.Bytes.{is_empty}
 use Rattle.sip_message.specs.Lines.{LineView, continuations, is_continuation, lines_of}
 use Rattle.sip_message.specs.Message.{FieldView, MessageView}
 use Rattle.sip_message.specs.Names.{is_from, is_to}

@@ -1,7 +1,7 @@
 -- The start line of a request (RFC 3261, section 7.1; that the version is compared without case is this project's own leniency).
 use Rattle.std.specs.Prelude.{◌≡◌, ℕ, Bool, true, ◌&&◌, List, ◌∷◌, ◌++◌, Option, Some, None, codes, option_and_then, if◌then◌else◌}
 use Rattle.std.specs.Str.{str_eq_ignore_ascii_case}
-use Rattle.stir_base.specs.Cut.{cut}
+use Rattle.text_grammar.specs.Cut.{cut}
 use Rattle.sip_message.specs.HeadAlphabet.{is_name, is_target}
 
 abbrev pub is_version : List ℕ → Bool

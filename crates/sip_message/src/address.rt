@@ -2,12 +2,11 @@
 ghost use Rattle.std.specs.Prelude.{◌≡◌, ℕ, List};
 ghost use Rattle.sip_message.specs.Quoted.{IsAddress};
 ghost use Rattle.std.specs.Option.{option_copied};
-ghost use Rattle.sip_message.specs.Address.{address, address_number, before, uri_number};
-ghost use Rattle.sip_message.specs.Address.{behind_bracket, behind_scheme, user_number};
+ghost use Rattle.sip_message.specs.Address.{address, address_number, before, uri_number, behind_bracket, behind_scheme, user_number};
 ghost use Rattle.sip_message.specs.Quoting.{after, bracket_from};
 ghost use Rattle.sip_message.specs.declared.address.Quoting.TheVariants.{Outside};
 
-use stir_base::cut;
+use text_grammar::cut;
 use tn_values::{Local, Number};
 
 /// Where a byte stands in a value with quoted strings (RFC 3261, section 25.1, `quoted-string`).
@@ -19,7 +18,7 @@ enum Quoting {
 }
 
 impl Quoting {
-    // Where the next byte stands.
+    /// Where the next byte stands.
     fn after(self, byte: u8) -> Quoting
         ensures { result ≡ after self byte }
     {
@@ -58,7 +57,7 @@ pub(crate) fn uri_number(uri: &[u8], local: &Local) -> Option<Number>
     }
 }
 
-// The number of the user part in front of the first `@`.
+/// The number of the user part in front of the first `@`.
 fn user_number(text: &[u8], local: &Local) -> Option<Number>
     ensures { result ≡ user_number local.now text.now }
 {
@@ -68,7 +67,7 @@ fn user_number(text: &[u8], local: &Local) -> Option<Number>
     }
 }
 
-// What stands behind the scheme, which is compared without case.
+/// What stands behind the scheme, which is compared without case.
 fn behind_scheme<'a>(uri: &'a [u8], scheme: &[u8]) -> Option<&'a [u8]>
     ensures { option_copied result ≡ behind_scheme scheme.now uri.now }
 {
@@ -83,7 +82,7 @@ fn behind_scheme<'a>(uri: &'a [u8], scheme: &[u8]) -> Option<&'a [u8]>
     }
 }
 
-// The URI of the first address of a value.
+/// The URI of the first address of a value.
 fn address(value: &[u8]) -> &[u8]
     ensures exact { result.now ≡ address value.now }
     ensures meaning { IsAddress value.now result.now }
@@ -92,6 +91,7 @@ fn address(value: &[u8]) -> &[u8]
     first_uri(value)
 }
 
+/// The URI of the first address of a value.
 fn first_uri(value: &[u8]) -> &[u8]
     ensures { result.now ≡ address value.now }
 {
@@ -101,7 +101,7 @@ fn first_uri(value: &[u8]) -> &[u8]
     }
 }
 
-// What stands behind the first `<` outside of quoted strings.
+/// What stands behind the first `<` outside of quoted strings.
 fn behind_bracket(value: &[u8]) -> Option<&[u8]>
     ensures { option_copied result ≡ behind_bracket value.now }
 {
@@ -117,7 +117,7 @@ fn behind_bracket(value: &[u8]) -> Option<&[u8]>
     None
 }
 
-// The text up to the first such byte, all of it where it has none.
+/// The text up to the first such byte, all of it where it has none.
 fn before(text: &[u8], byte: u8) -> &[u8]
     ensures { result.now ≡ before byte text.now }
 {

@@ -1,24 +1,12 @@
 //! Which bytes stand in the parts of a message head (RFC 3261, section 25.1).
 ghost use Rattle.std.specs.Prelude.{◌≡◌};
 ghost use Rattle.std.specs.List.{list_all};
-ghost use Rattle.sip_message.specs.HeadAlphabet.{is_blank, is_name, is_name_byte, is_target, is_target_byte};
+ghost use Rattle.sip_message.specs.HeadAlphabet.{is_name, is_target, is_target_byte};
+ghost use Rattle.text_grammar.specs.Bytes.{is_name_byte};
 
-pub(crate) fn is_blank(byte: u8) -> bool
-    ensures { result ≡ is_blank byte }
-{
-    matches!(byte, b' ' | b'\t')
-}
+use text_grammar::is_name_byte;
 
-fn is_name_byte(byte: u8) -> bool
-    ensures { result ≡ is_name_byte byte }
-{
-    byte.is_ascii_alphanumeric()
-        || matches!(
-            byte,
-            b'-' | b'.' | b'!' | b'%' | b'*' | b'_' | b'+' | b'`' | b'\'' | b'~'
-        )
-}
-
+/// Whether a byte may stand in the URI of a start line.
 fn is_target_byte(byte: u8) -> bool
     ensures { result ≡ is_target_byte byte }
 {
@@ -35,6 +23,7 @@ pub(crate) fn is_name(text: &[u8]) -> bool
     }
 }
 
+/// Whether all bytes may stand in a name.
 fn are_name_bytes(text: &[u8]) -> bool
     ensures { result ≡ list_all is_name_byte text.now }
 {
@@ -51,6 +40,7 @@ pub(crate) fn is_target(text: &[u8]) -> bool
     }
 }
 
+/// Whether all bytes may stand in the URI of a start line.
 fn are_target_bytes(text: &[u8]) -> bool
     ensures { result ≡ list_all is_target_byte text.now }
 {

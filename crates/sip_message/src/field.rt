@@ -41,6 +41,7 @@ pub(crate) fn time_of(fields: &[Field<'_>], known: Known) -> Option<u64>
     }
 }
 
+/// The seconds in Unix time that a Date says.
 fn seconds_of(text: &[u8]) -> Option<u64>
     ensures { result ≡ parse_secs text.now }
 {
@@ -50,7 +51,7 @@ fn seconds_of(text: &[u8]) -> Option<u64>
     }
 }
 
-// The value of the first such field.
+/// The value of the first such field.
 #[tactic(auto, using(crate::proofs::FieldSteps::values_step, crate::proofs::FieldSteps::values_end))]
 fn first_value<'b>(fields: &'b [Field<'_>], known: Known) -> Option<&'b [u8]>
     ensures { option_copied result ≡ first (values (is_named known) (map field_seen fields.now)) }

@@ -5,7 +5,7 @@ ghost use Rattle.sip_message.specs.FieldLine.{field_line};
 
 use crate::alphabet::is_name;
 use crate::value::trimmed_end;
-use stir_base::cut;
+use text_grammar::cut;
 
 /// The name and the rest of a field line (RFC 3261, section 7.3.1), None where the line is none.
 pub(crate) fn field_line(line: &[u8]) -> Option<(&[u8], &[u8])>

@@ -24,8 +24,8 @@ pub(crate) struct HeadFields<'a> {
     pub end: u32,
 }
 
-#[tactic(auto, using(crate::proofs::HeadSteps::field_read, crate::proofs::HeadSteps::field_missing, crate::proofs::HeadSteps::head_ended, crate::proofs::HeadSteps::shorter))]
 /// Reads the fields up to the first empty line of bytes of this size.
+#[tactic(auto, using(crate::proofs::HeadSteps::field_read, crate::proofs::HeadSteps::field_missing, crate::proofs::HeadSteps::head_ended, crate::proofs::HeadSteps::shorter))]
 pub(crate) fn read_head<'a>(
     alloc: Global,
     size: u32,
@@ -50,7 +50,7 @@ pub(crate) fn read_head<'a>(
     }))
 }
 
-// Reads the field that begins with the line and goes on over the continuations in front of the lines.
+/// Reads the field that begins with the line and goes on over the continuations in front of the lines.
 fn read_field<'a>(
     alloc: Global,
     line: Line<'a>,
@@ -74,8 +74,8 @@ fn read_field<'a>(
 }
 
 impl HeadFields<'_> {
-    #[tactic(auto, using(crate::proofs::FieldSteps::placed_step, crate::proofs::FieldSteps::placed_end))]
     /// None where exactly one field is such a one; else the offset of the second, or of the empty line where there is none.
+    #[tactic(auto, using(crate::proofs::FieldSteps::placed_step, crate::proofs::FieldSteps::placed_end))]
     pub(crate) fn surplus(&self, known: Known) -> Option<u32>
         ensures { result ≡ surplus (is_named known) (head_seen self.now) }
     {

@@ -28,6 +28,7 @@ impl Known {
     }
 }
 
+/// Whether a name is one of two, in letters of either case.
 fn is_either(name: &[u8], long: &[u8], short: &[u8]) -> bool
     ensures { result ≡ is_either name.now long.now short.now }
 {

@@ -6,7 +6,7 @@ ghost use Rattle.sip_message.specs.Lines.{LineView, NextLine, NextContinuation, 
 ghost use Rattle.sip_message.specs.Seen.{line_seen};
 
 use std::marker::Model;
-use stir_base::cut;
+use text_grammar::cut;
 
 /// A physical line without its LF and one CR directly before that, and the offset of its first byte.
 #[derive(Clone, Copy, Debug)]
@@ -25,7 +25,7 @@ pub(crate) struct Lines<'a> {
 impl<'a> Model for Lines<'a> {
     ghost use Rattle.std.specs.Prelude.{List, ◌≤◌, ◌+◌, length};
     ghost use Rattle.sip_message.specs.Lines.{LineView, lines_from};
-    ghost use Rattle.stir_base.specs.Line.{pieces};
+    ghost use Rattle.text_grammar.specs.Line.{pieces};
 
     ghost Value = { List LineView };
 
@@ -46,9 +46,8 @@ impl<'a> Lines<'a> {
         }
     }
 
-    #[tactic(auto, using(crate::proofs::LineSteps::line_taken, crate::proofs::LineSteps::none_left, crate::proofs::LineSteps::line_size))]
     /// Takes the next line, where one is left; a last piece without LF is none.
-
+    #[tactic(auto, using(crate::proofs::LineSteps::line_taken, crate::proofs::LineSteps::none_left, crate::proofs::LineSteps::line_size))]
     pub(crate) fn next(&mut self) -> Option<Line<'a>>
         ensures { NextLine (option_map line_seen result) self.old self.new }
     {
@@ -64,8 +63,8 @@ impl<'a> Lines<'a> {
         })
     }
 
-    #[tactic(auto, using(crate::proofs::ContinuationSteps::stops_here, crate::proofs::ContinuationSteps::begins_here))]
     /// Takes the next line and gives its text, where it begins with space or tab.
+    #[tactic(auto, using(crate::proofs::ContinuationSteps::stops_here, crate::proofs::ContinuationSteps::begins_here))]
     pub(crate) fn next_continuation(&mut self) -> Option<&'a [u8]>
         ensures { NextContinuation (option_copied result) self.old self.new }
     {
@@ -79,6 +78,7 @@ impl<'a> Lines<'a> {
     }
 }
 
+/// A line without one CR at its end.
 fn without_return(line: &[u8]) -> &[u8]
     ensures { result.now ≡ strip_carriage_return line.now }
 {

@@ -155,7 +155,7 @@ impl<'a> Message<'a> {
     }
 }
 
-// Of what is read no value is longer than all bytes.
+/// Of what is read no value is longer than all bytes.
 fn read_message<'a>(alloc: Global, bytes: &'a [u8]) -> Result<Message<'a>, MessageFault>
     ensures { Gives (λ message. message) result (read bytes.now) }
 {
@@ -171,6 +171,7 @@ fn read_message<'a>(alloc: Global, bytes: &'a [u8]) -> Result<Message<'a>, Messa
     })
 }
 
+/// The parts of the message that the bytes are.
 #[tactic(auto, unfolding(crate::specs::Reading::read))]
 fn read_parts<'a>(alloc: Global, bytes: &'a [u8]) -> Result<Parts<'a>, MessageFault>
     ensures { Gives parts_seen result (read bytes.now) }
@@ -190,13 +191,14 @@ fn read_parts<'a>(alloc: Global, bytes: &'a [u8]) -> Result<Parts<'a>, MessageFa
     checked(method, uri, head)
 }
 
+/// A refusal of this kind at this place.
 fn fault<T>(kind: u8, place: u32) -> Result<T, MessageFault>
     ensures { result ≡ Err (MessageFault.Form (fault kind place)) }
 {
     Err(MessageFault::Form(FormFault { kind, place }))
 }
 
-// The parts of a message, where exactly one field is From and exactly one is To.
+/// The parts of a message, where exactly one field is From and exactly one is To.
 fn checked<'a>(
     method: &'a [u8],
     uri: &'a [u8],

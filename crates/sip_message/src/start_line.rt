@@ -4,7 +4,7 @@ ghost use Rattle.std.specs.Option.{option_map};
 ghost use Rattle.sip_message.specs.StartLine.{start_line};
 
 use crate::alphabet::{is_name, is_target};
-use stir_base::cut;
+use text_grammar::cut;
 
 /// The method and the URI of a start line (RFC 3261, section 7.1), None where the line is none.
 pub(crate) fn start_line(line: &[u8]) -> Option<(&[u8], &[u8])>

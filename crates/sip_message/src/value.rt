@@ -15,6 +15,7 @@ pub(crate) enum Value<'a> {
 }
 
 impl<'a> Value<'a> {
+    /// The bytes of the value.
     pub(crate) fn bytes(&self) -> &[u8]
         ensures { result.now ≡ value_seen self.now }
     {
@@ -24,7 +25,7 @@ impl<'a> Value<'a> {
         }
     }
 
-    // The value with one more part.
+    /// The value with one more part.
     fn extended(self, alloc: Global, part: &'a [u8]) -> Result<Value<'a>, AllocError>
         ensures { IfOk result (λ value. value_seen value ≡ extended (value_seen self.entry) part.now) }
     {
@@ -41,6 +42,7 @@ impl<'a> Value<'a> {
     }
 }
 
+/// The value with a space and one more part behind it.
 fn joined<'a>(mut bytes: Vec<u8>, part: &[u8]) -> Result<Value<'a>, AllocError>
     ensures { IfOk result (λ value. value_seen value ≡ bytes.items ++ 32 ∷ part.now) }
 {
@@ -49,8 +51,8 @@ fn joined<'a>(mut bytes: Vec<u8>, part: &[u8]) -> Result<Value<'a>, AllocError>
     Ok(Value::Joined(bytes))
 }
 
-#[tactic(auto, using(crate::proofs::ValueSteps::value_joined))]
 /// Reads the value that begins with `rest` and goes on over the continuations in front of the lines.
+#[tactic(auto, using(crate::proofs::ValueSteps::value_joined))]
 pub(crate) fn read_value<'a>(
     alloc: Global,
     rest: &'a [u8],
@@ -66,12 +68,14 @@ pub(crate) fn read_value<'a>(
     Ok(value)
 }
 
+/// A text without the blanks at its ends.
 pub(crate) fn trimmed(text: &[u8]) -> &[u8]
     ensures { result.now ≡ trimmed text.now }
 {
     trimmed_end(trimmed_front(text))
 }
 
+/// A text without the blanks in front.
 fn trimmed_front(text: &[u8]) -> &[u8]
     ensures { result.now ≡ trimmed_front text.now }
 {
@@ -82,6 +86,7 @@ fn trimmed_front(text: &[u8]) -> &[u8]
     left
 }
 
+/// A text without the blanks at its end.
 pub(crate) fn trimmed_end(text: &[u8]) -> &[u8]
     ensures { result.now ≡ trimmed_end text.now }
 {

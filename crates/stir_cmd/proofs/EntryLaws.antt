@@ -4,10 +4,10 @@ use Rattle.std.specs.Fmt.{decimal}
 use Rattle.std.proofs.lemmas.Bool.Decides.{nat_tests}
 use Rattle.std.proofs.lemmas.Fmt.{length-decimal-le}
 use Rattle.std.proofs.lemmas.Option.{cond_some, option_and_then_some}
-use Rattle.stir_base.specs.Cut.{behind, cut}
-use Rattle.stir_base.specs.Decimal.{number_up_to}
-use Rattle.stir_base.proofs.CutLaws.{behind_again, behind_found, cut_again, cut_found}
-use Rattle.stir_base.proofs.DecimalLaws.{decimal_lacks, number_only, number_within, number_written}
+use Rattle.text_grammar.specs.Cut.{behind, cut}
+use Rattle.text_grammar.specs.Decimal.{number_up_to}
+use Rattle.text_grammar.proofs.CutLaws.{behind_again, behind_found, cut_again, cut_found}
+use Rattle.text_grammar.proofs.DecimalLaws.{decimal_lacks, number_only, number_within, number_written}
 use Rattle.stir_cmd.specs.Entry.{Entry, IsEntry, entry, with_length, with_message, with_moment}
 
 -- the parts of a text that was read, put together

@@ -3,7 +3,7 @@ use Rattle.std.proofs.Common.{◌≡◌, ℕ, ◌<◌, ◌≤◌, List, [], ◌+
 use Rattle.std.specs.Io.KnownBytes.{IsAtEnd}
 use Rattle.std.proofs.KnownBytes.{Consumes-nil}
 use Rattle.std.proofs.lemmas.Bool.Decides.{nat_tests}
-use Rattle.stir_base.specs.Told.{Takes}
+use Rattle.stir_outside.specs.Told.{Takes}
 use Rattle.stir_cmd.specs.Answer.{Reply, answer, judged_reply, long_input, shown, shown_reply}
 use Rattle.stir_cmd.specs.Causes.{IsAnswerTo, Shows, TakesAtMost}
 use Rattle.x509_profile.specs.Chain.{certificates_in}

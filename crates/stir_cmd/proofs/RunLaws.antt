@@ -2,7 +2,7 @@
 use Rattle.std.proofs.Common.{◌≡◌, ℕ, ◌≤◌, ◌⊎◌, inl, inr, Bool, true, false, nat_lt, List, length, Option, Some, None, Result, Ok, Err, IfOk, IfSome, refl, sym, ◌∙◌, ap, subst, arith}
 use Rattle.std.specs.Io.KnownBytes.{Appends, IsAtEnd}
 use Rattle.std.proofs.lemmas.Bool.Decides.{nat_tests}
-use Rattle.stir_base.specs.Count.{Rose}
+use Rattle.stir_outside.specs.Count.{Rose}
 use Rattle.x509_profile.specs.View.{CertView}
 use Rattle.stir_cmd.specs.Answer.{Reply, answer, fault_status, judged, judged_reply, outcome_status, shown, shown_reply, status_of, text_of}
 use Rattle.stir_cmd.specs.Causes.{EndsAs, HasCauses, HasReason, IsAnswered, IsAnswerTo, IsRefused, Ran, Shows, WroteShow}

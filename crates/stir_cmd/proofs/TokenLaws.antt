@@ -6,7 +6,7 @@ use Rattle.std.proofs.lemmas.Slice.Eq.{bytes_eq-Decides}
 use Rattle.text_grammar.specs.Bytes.{is_uri_byte}
 use Rattle.text_grammar.specs.Grammar.{Run}
 use Rattle.passport_claims.specs.Claims.{IsKnown}
-use Rattle.passport_json.specs.Uri.{is_uri}
+use Rattle.text_grammar.specs.Uri.{is_uri}
 use Rattle.stir_cmd.specs.Call.{IdentityField, has_ppt, is_absent, is_text, lacks_ppt}
 
 -- ---- the URI

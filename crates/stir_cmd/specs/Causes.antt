@@ -1,8 +1,8 @@
 -- Why a run ended as it did. Want of memory alone is free.
 use Rattle.std.specs.Prelude.{◌≡◌, ⊤, ℕ, ◌≤◌, ◌<◌, ◌⊎◌, List, length, Option, Some, None, Result, Ok, Err, IfSome}
 use Rattle.std.specs.Io.KnownBytes.{Appends, Consumes}
-use Rattle.stir_base.specs.Count.{Rose}
-use Rattle.stir_base.specs.Told.{AppendsFront}
+use Rattle.stir_outside.specs.Count.{Rose}
+use Rattle.stir_outside.specs.Told.{AppendsFront}
 use Rattle.x509_profile.specs.View.{CertView}
 use Rattle.stir_cmd.specs.Answer.{Reply, answer, status_of, text_of}
 use Rattle.x509_profile.specs.Chain.{Chain}

@@ -1,8 +1,8 @@
 -- An entry of the call log: `@MOMENT LENGTH`, one LF, and LENGTH bytes of a message (this project's own format).
 use Rattle.std.specs.Prelude.{◌≡◌, ℕ, ◌≤◌, ◌==◌, List, ◌∷◌, ◌++◌, length, codes, Option, Some, None, option_and_then, if◌then◌else◌}
 use Rattle.std.specs.Fmt.{decimal}
-use Rattle.stir_base.specs.Cut.{behind, cut}
-use Rattle.stir_base.specs.Decimal.{number_up_to}
+use Rattle.text_grammar.specs.Cut.{behind, cut}
+use Rattle.text_grammar.specs.Decimal.{number_up_to}
 
 -- the last second of the year 9999, in Unix time
 abbrev pub last_moment : ℕ

@@ -36,7 +36,7 @@ impl Answer {
         Answer { text, status }
     }
 
-    // The answer to an input that is outside its grammar from this offset on.
+    /// The answer to an input that is outside its grammar from this offset on.
     pub(crate) fn refused_input(alloc: Global, place: usize) -> Result<Answer, AllocError>
         ensures { IfOk result (λ reply. reply ≡ refused_input place) }
     {
@@ -44,7 +44,7 @@ impl Answer {
         Ok(Answer::new(text, INPUT_REFUSED))
     }
 
-    // The answer to an input that is too long.
+    /// The answer to an input that is too long.
     pub(crate) fn long_input(alloc: Global) -> Result<Answer, AllocError>
         ensures { IfOk result (λ reply. reply ≡ long_input) }
     {
@@ -65,7 +65,7 @@ impl Answer {
     }
 }
 
-// The answer of a command to an input.
+/// The answer of a command to an input.
 pub(crate) fn answer_to(alloc: Global, command: Command, input: &[u8]) -> Result<Answer, AllocError>
     ensures exact { IfOk result (λ reply. reply ≡ answer command input.now) }
     ensures shows { IfOk result (λ reply. command ≡ Show → reply.status ≡ 0 → Shows (Some input.now) reply.text) }

@@ -11,7 +11,7 @@ pub enum Command {
 }
 
 impl Command {
-    // The command that the words after the program's name are, none of which has options.
+    /// The command that the words after the program's name are, none of which has options.
     pub(crate) fn of(words: &[&str]) -> Option<Command>
         ensures { result ≡ command_of (map (λ word. word.now) words.now) }
     {
@@ -33,7 +33,7 @@ impl Command {
         }
     }
 
-    // The most bytes that are read: those of the longest input and one more.
+    /// The most bytes that are read: those of the longest input and one more.
     pub(crate) fn most_input(self) -> usize
         ensures { result ≡ most_input self }
     {

@@ -3,21 +3,21 @@ ghost use Rattle.std.specs.Option.{option_map};
 ghost use Rattle.stir_cmd.specs.Entry.{Entry, IsEntry, entry};
 ghost use Rattle.stir_cmd.specs.Seen.{entry_of};
 
-use stir_base::{behind, cut, read_number};
+use text_grammar::{behind, cut, read_number};
 
 /// The last second of the year 9999, in Unix time.
 const LAST_MOMENT: u64 = 253_402_300_799;
 
 const MOST_MESSAGE_LENGTH: u64 = 131_072;
 
-// One call of the log: when it came, in Unix seconds, and its message.
+/// One call of the log: when it came, in Unix seconds, and its message.
 #[derive(Clone, Copy)]
 pub(crate) struct LogEntry<'a> {
     pub(crate) moment: u64,
     pub(crate) message: &'a [u8],
 }
 
-// The call of bytes that are exactly one entry, `@MOMENT LENGTH`, one LF, and LENGTH bytes.
+/// The call of bytes that are exactly one entry, `@MOMENT LENGTH`, one LF, and LENGTH bytes.
 #[tactic(auto, using(crate::proofs::EntryLaws::entry_found, crate::proofs::EntryLaws::entry_only, crate::proofs::EntryLaws::entry_short))]
 pub(crate) fn read_entry(bytes: &[u8]) -> Option<LogEntry<'_>>
     ensures exact { option_map entry_of result ≡ entry bytes.now }

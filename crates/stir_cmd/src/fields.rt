@@ -17,14 +17,14 @@ use std::alloc::{AllocFailed, Global};
 /// How many Identity fields a message may have.
 const MOST_FIELDS: usize = 16;
 
-// An Identity field with its number, counted from 1 in message order.
+/// An Identity field with its number, counted from 1 in message order.
 #[derive(Drop)]
 pub(crate) struct NumberedField<'a> {
     pub(crate) number: u32,
     pub(crate) parts: Field<'a>,
 }
 
-// Why the fields of a message can't be used.
+/// Why the fields of a message can't be used.
 #[derive(Clone, Copy)]
 pub(crate) enum FieldsFault {
     // A field is outside the grammar, or there are too many.
@@ -43,7 +43,7 @@ impl<T: Drop> From<AllocFailed<T>> for FieldsFault {
     }
 }
 
-// The Identity fields of a message, in message order.
+/// The Identity fields of a message, in message order.
 #[tactic(auto, using(crate::proofs::FieldSteps::fields_more, crate::proofs::FieldSteps::fields_bad, crate::proofs::FieldSteps::fields_many, crate::proofs::FieldSteps::fields_done))]
 pub(crate) fn read_fields<'a>(
     alloc: Global,
@@ -65,7 +65,7 @@ pub(crate) fn read_fields<'a>(
     Ok(fields)
 }
 
-// The field with this value and this number, or where it stops being readable.
+/// The field with this value and this number, or where it stops being readable.
 fn read_field(value: &[u8], number: u32) -> Result<NumberedField<'_>, Place>
     requires { length value.now ≤ 65535 }
     ensures { one_seen result ≡ one_field number (read value.now) }
@@ -79,7 +79,7 @@ fn read_field(value: &[u8], number: u32) -> Result<NumberedField<'_>, Place>
     }
 }
 
-// The field of the PASSporT that the originating side signed.
+/// The field of the PASSporT that the originating side signed.
 #[tactic(auto, using(crate::proofs::TokenLaws::known_with, crate::proofs::TokenLaws::known_without))]
 pub(crate) fn originating<'f, 'a>(fields: &'f [NumberedField<'a>]) -> Option<&'f NumberedField<'a>>
     ensures field { option_map (λ field. field_seen field.now) result ≡ originating (map field_seen fields.now) }
@@ -115,7 +115,7 @@ fn first_without<'f, 'a>(fields: &'f [NumberedField<'a>]) -> Option<&'f Numbered
     None
 }
 
-// Whether a link, the field of a diverted call, stands among the fields.
+/// Whether a link, the field of a diverted call, stands among the fields.
 pub(crate) fn has_link(fields: &[NumberedField<'_>]) -> bool
     ensures { result ≡ not (is_empty (links (map field_seen fields.now))) }
 {
@@ -127,7 +127,7 @@ pub(crate) fn has_link(fields: &[NumberedField<'_>]) -> bool
     false
 }
 
-// Where the first link with another algorithm stands.
+/// Where the first link with another algorithm stands.
 pub(crate) fn foreign_link(fields: &[NumberedField<'_>]) -> Option<Place>
     ensures { result ≡ foreign_alg (links (map field_seen fields.now)) }
 {
@@ -148,7 +148,7 @@ fn has_ppt(field: &NumberedField<'_>, ppt: &[u8]) -> bool
     is_text(field.parts.ppt(), ppt)
 }
 
-// Whether the field's algorithm is ES256, which it is where none is given.
+/// Whether the field's algorithm is ES256, which it is where none is given.
 pub(crate) fn is_es256(field: &NumberedField<'_>) -> bool
     ensures { result ≡ is_es256 field.now.parts.alg }
 {

@@ -20,8 +20,8 @@ use std::alloc::{AllocError, Global};
 /// How many seconds the moment of a call and the `iat` of its PASSporT may differ.
 const WINDOW: u64 = 60;
 
-// What is said of one call: the rules are tried in their order, on its bytes, its message, its Identity
-// fields and its originating PASSporT.
+/// What is said of one call: the rules are tried in their order, on its bytes, its message, its Identity
+/// fields and its originating PASSporT.
 #[tactic(auto, using(crate::proofs::OutcomeLaws::unread_message))]
 pub(crate) fn judge(alloc: Global, call: &LogEntry<'_>) -> Result<Outcome, AllocError>
     ensures { IfOk result (λ outcome. outcome ≡ judged (entry_of call.now)) }
@@ -33,7 +33,7 @@ pub(crate) fn judge(alloc: Global, call: &LogEntry<'_>) -> Result<Outcome, Alloc
     }
 }
 
-// Rules 1 to 3 on a message that was read, and what comes of its fields.
+/// Rules 1 to 3 on a message that was read, and what comes of its fields.
 #[tactic(auto, using(crate::proofs::OutcomeLaws::other_method, crate::proofs::OutcomeLaws::no_field, crate::proofs::OutcomeLaws::bad_fields, crate::proofs::OutcomeLaws::read_fields))]
 fn judge_message(alloc: Global, message: &Message<'_>, moment: u64) -> Result<Outcome, AllocError>
     requires { AreShort message.now.fields }
@@ -54,7 +54,7 @@ fn judge_message(alloc: Global, message: &Message<'_>, moment: u64) -> Result<Ou
     }
 }
 
-// Rules 4 and 5 on the Identity fields, and what comes of the originating one.
+/// Rules 4 and 5 on the Identity fields, and what comes of the originating one.
 fn judge_fields(
     alloc: Global,
     message: &Message<'_>,
@@ -78,7 +78,7 @@ fn judge_fields(
     judge_token(alloc, message, origin, moment)
 }
 
-// Rules 6, 7 and 9 on the originating PASSporT.
+/// Rules 6, 7 and 9 on the originating PASSporT.
 fn judge_token(
     alloc: Global,
     message: &Message<'_>,
@@ -113,7 +113,7 @@ fn refused(rule: u8, field: u32, part: u32) -> Outcome
     })
 }
 
-// The response code of a rule (RFC 3261, section 21.4.1; RFC 8224, section 6.2.2).
+/// The response code of a rule (RFC 3261, section 21.4.1; RFC 8224, section 6.2.2).
 pub(crate) fn code(rule: u8) -> u16
     ensures { result ≡ code rule }
 {

@@ -87,7 +87,7 @@ pub fn run<R: Threads + Sync, S: Shelf, I: Source, O: Sink>(
     carry_out(alloc, words, input, sink)
 }
 
-// Reads the input and writes the answer to it, or why there is none.
+/// Reads the input and writes the answer to it, or why there is none.
 #[tactic(auto, using(crate::proofs::RunLaws::wrote_show, crate::proofs::RunLaws::ended_run, crate::proofs::RunLaws::fault_ends))]
 fn carry_out<I: Source, O: Sink>(alloc: Global, words: &[&str], input: &mut I, sink: &mut O) -> u8
     ensures outcome { Ran (command_of (map (λ word. word.now) words.now)) (I.left input.old) (I.faults input.old) (I.faults input.new)
@@ -104,7 +104,7 @@ fn carry_out<I: Source, O: Sink>(alloc: Global, words: &[&str], input: &mut I, s
     }
 }
 
-// What the program comes to: the answer to the input, or why there is none.
+/// What the program comes to: the answer to the input, or why there is none.
 fn reply_to<I: Source>(alloc: Global, words: &[&str], input: &mut I) -> Result<Answer, Fault>
     ensures reason { HasReason (command_of (map (λ word. word.now) words.now)) (I.left input.old) (I.faults input.old) (I.faults input.new) result }
     ensures ended { IfOk result (λ answer. answer.status ≤ 1 → IsAtEnd (I.left input.new)) }
@@ -119,7 +119,7 @@ fn reply_to<I: Source>(alloc: Global, words: &[&str], input: &mut I) -> Result<A
     }
 }
 
-// The answer of a command to the input.
+/// The answer of a command to the input.
 #[tactic(auto, using(crate::proofs::Reply::answer_to_all, crate::proofs::Reply::ended_below, crate::proofs::Reply::takes_at_most, crate::proofs::Reply::takes_nothing))]
 fn answer_input<I: Source>(alloc: Global, command: Command, input: &mut I) -> Result<Answer, Fault>
     ensures reason { HasReason (Some command) (I.left input.old) (I.faults input.old) (I.faults input.new) result }
@@ -133,7 +133,7 @@ fn answer_input<I: Source>(alloc: Global, command: Command, input: &mut I) -> Re
     Ok(answer)
 }
 
-// Writes the line and gives its status, or that of a sink that failed.
+/// Writes the line and gives its status, or that of a sink that failed.
 fn finish<O: Sink>(sink: &mut O, line: &str, status: u8) -> u8
     ensures { EndsAs (O.written sink.old) (O.written sink.new) (O.faults sink.old) (O.faults sink.new) result line.now status }
 {
@@ -144,7 +144,7 @@ fn finish<O: Sink>(sink: &mut O, line: &str, status: u8) -> u8
 }
 
 impl Fault {
-    // The line that says the fault, with its LF.
+    /// The line that says the fault, with its LF.
     fn line(self) -> &'static str
         ensures { result.now ≡ fault_line self }
     {
@@ -155,7 +155,7 @@ impl Fault {
         }
     }
 
-    // The status that says the fault.
+    /// The status that says the fault.
     fn status(self) -> u8
         ensures { result ≡ fault_status self }
     {

@@ -12,7 +12,7 @@ use x509_profile::{Certificate, ChainFault, read_chain};
 /// The most bytes of a chain.
 const MOST_CHAIN: usize = 49_152;
 
-// The answer to an input, which is to be a chain of certificates.
+/// The answer to an input, which is to be a chain of certificates.
 pub(crate) fn shown(alloc: Global, input: &[u8]) -> Result<Answer, AllocError>
     ensures exact { IfOk result (λ reply. reply ≡ shown input.now) }
     ensures shows { IfOk result (λ reply. reply.status ≡ 0 → Shows (Some input.now) reply.text) }
@@ -27,7 +27,7 @@ pub(crate) fn shown(alloc: Global, input: &[u8]) -> Result<Answer, AllocError>
     }
 }
 
-// The lines of the certificates, numbered from 1.
+/// The lines of the certificates, numbered from 1.
 #[tactic(auto, using(crate::proofs::ShowSteps::lines_more, crate::proofs::ShowSteps::lines_done))]
 fn show(alloc: Global, certificates: &[Certificate]) -> Result<String, AllocError>
     requires { length certificates.now ≤ 6 }
@@ -41,7 +41,7 @@ fn show(alloc: Global, certificates: &[Certificate]) -> Result<String, AllocErro
     Ok(text)
 }
 
-// The lines of one certificate.
+/// The lines of one certificate.
 fn certificate_lines(
     alloc: Global,
     number: usize,
@@ -55,7 +55,7 @@ fn certificate_lines(
     format!(in alloc; "{validity}{key}{authority}")
 }
 
-// The number of the certificate, and the seconds at which it is valid.
+/// The number of the certificate, and the seconds at which it is valid.
 fn validity_lines(
     alloc: Global,
     number: usize,
@@ -68,7 +68,7 @@ fn validity_lines(
     format!(in alloc; "certificate {number}\nnot-before {not_before}\nnot-after {not_after}\n")
 }
 
-// The key, and what it may be used for.
+/// The key, and what it may be used for.
 fn key_lines(alloc: Global, certificate: &Certificate) -> Result<String, AllocError>
     ensures { IfOk result (λ text. string_bytes text ≡ key_lines certificate.now) }
 {
@@ -94,7 +94,7 @@ fn number_or_none(alloc: Global, number: Option<u64>) -> Result<String, AllocErr
     }
 }
 
-// The flags as four hex digits.
+/// The flags as four hex digits.
 fn usage_or_none(alloc: Global, usage: Option<u16>) -> Result<String, AllocError>
     ensures { IfOk result (λ text. string_bytes text ≡ usage_or_none usage) }
 {
@@ -104,7 +104,7 @@ fn usage_or_none(alloc: Global, usage: Option<u16>) -> Result<String, AllocError
     }
 }
 
-// Whom the holder may speak for: all, or a line for each entry of the list.
+/// Whom the holder may speak for: all, or a line for each entry of the list.
 fn authority_lines(alloc: Global, certificate: &Certificate) -> Result<String, AllocError>
     ensures { IfOk result (λ text. string_bytes text ≡ authority_lines certificate.now.list) }
 {

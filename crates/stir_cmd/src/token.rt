@@ -2,7 +2,7 @@
 ghost use Rattle.std.specs.Prelude.{◌≡◌, IsTrue};
 ghost use Rattle.passport_claims.specs.Claims.{IsKnown};
 ghost use Rattle.passport_json.specs.Seen.{call_of};
-ghost use Rattle.passport_json.specs.Uri.{is_uri};
+ghost use Rattle.text_grammar.specs.Uri.{is_uri};
 ghost use Rattle.stir_cmd.specs.Call.{facts_of, home, is_text, left_out, passport};
 ghost use Rattle.stir_cmd.specs.Seen.{GivesPassport};
 
@@ -16,7 +16,7 @@ use tn_values::Local;
 /// The number of a broken claim is this and its own.
 const CLAIMS: u32 = 10;
 
-// Why a PASSporT can't be used.
+/// Why a PASSporT can't be used.
 #[derive(Clone, Copy)]
 pub(crate) enum PassportFault {
     // The number of the first check of its token, or of its claims, that it breaks.
@@ -25,7 +25,7 @@ pub(crate) enum PassportFault {
     Memory,
 }
 
-// What the PASSporT of a field says: its token is read in either form, and then its claims.
+/// What the PASSporT of a field says: its token is read in either form, and then its claims.
 #[tactic(auto, unfolding(crate::specs::Call::passport))]
 pub(crate) fn read_passport(
     alloc: Global,
@@ -52,7 +52,7 @@ pub(crate) fn read_passport(
     }
 }
 
-// What a token in its compact form leaves to the message and to its field.
+/// What a token in its compact form leaves to the message and to its field.
 #[tactic(auto, using(crate::proofs::TokenLaws::uri_of_field))]
 fn left_out<'a>(message: &Message<'_>, field: &Field<'a>) -> View<'a>
     ensures exact { call_of result ≡ left_out (facts_of message.now) field.now }
@@ -68,7 +68,7 @@ fn left_out<'a>(message: &Message<'_>, field: &Field<'a>) -> View<'a>
     }
 }
 
-// Whether the PASSporT was issued for the number that the message says is calling.
+/// Whether the PASSporT was issued for the number that the message says is calling.
 pub(crate) fn is_calling(message: &Message<'_>, passport: &Passport) -> bool
     ensures { result ≡ is_text passport.now.orig (facts_of message.now).calling }
 {
@@ -78,7 +78,7 @@ pub(crate) fn is_calling(message: &Message<'_>, passport: &Passport) -> bool
     }
 }
 
-// The numbering in which numbers are read: country 1, and national numbers of ten digits.
+/// The numbering in which numbers are read: country 1, and national numbers of ten digits.
 #[tactic(auto, unfolding(tn_values::specs::Local::is_local))]
 fn home() -> Local
     ensures { result ≡ home }

@@ -8,7 +8,7 @@ use crate::judge::{code, judge};
 use crate::verdict::Outcome;
 use std::alloc::{AllocError, Global};
 
-// The answer to an input, which is to be one entry of a call log.
+/// The answer to an input, which is to be one entry of a call log.
 pub(crate) fn verified(alloc: Global, input: &[u8]) -> Result<Answer, AllocError>
     ensures { IfOk result (λ reply. reply ≡ verified input.now) }
 {
@@ -22,7 +22,7 @@ pub(crate) fn verified(alloc: Global, input: &[u8]) -> Result<Answer, AllocError
     }
 }
 
-// The status that says the outcome.
+/// The status that says the outcome.
 fn outcome_status(outcome: &Outcome) -> u8
     ensures { result ≡ outcome_status outcome.now }
 {
@@ -32,7 +32,7 @@ fn outcome_status(outcome: &Outcome) -> u8
     }
 }
 
-// The line that says the outcome, with its LF.
+/// The line that says the outcome, with its LF.
 fn outcome_line(alloc: Global, outcome: &Outcome) -> Result<String, AllocError>
     ensures { IfOk result (λ line. string_bytes line ≡ outcome_line outcome.now) }
 {

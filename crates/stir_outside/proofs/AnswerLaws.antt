@@ -12,65 +12,13 @@ use Rattle.stir_outside.specs.KeyName.{is_name}
 use Rattle.stir_outside.specs.AnswersText.{bytes_of, confirm_of, sign_of, row_of_words, row_of, signature_in, signs, is_repeated, add_row, answer_rows, SignsOnce, AnswersText, FirstBad}
 use Rattle.stir_outside.specs.declared.answers.rows.Row.{Row}
 use Rattle.stir_outside.specs.declared.answers.rows.Row.TheVariants.{Sign}
-
--- ---- the rows
-
-abbrev said : List (ℕ × List ℕ) → List (Option Row)
-said lines = map (λ line. row_of line.1) lines
-
--- the lines say the rows behind the first ones
-record Says (lines : List (ℕ × List ℕ)) (before rows : List Row) : Type 0 where
-  new : List Row
-  all : rows ≡ before ++ new
-  say : said lines ≡ map Some new
-  once : SignsOnce before new
-
-abbrev taken : List Row → Bool → Row → Option (List Row)
-taken before t row = cond t None (Some (before ++ row ∷ []))
-
-said_more : (line : ℕ × List ℕ) (lines : List (ℕ × List ℕ)) (before rows : List Row) (row : Row) → row_of line.1 ≡ Some row → is_repeated before row ≡ false
-    → Says lines (before ++ row ∷ []) rows → Says (line ∷ lines) before rows
-said_more line lines before rows row e fresh s = record {
-  new = row ∷ s.new;
-  all = s.all ∙ append_assoc before (row ∷ []) s.new;
-  say = ap (λ (o : Option Row). o ∷ said lines) e ∙ ap (λ (os : List (Option Row)). Some row ∷ os) s.say;
-  once = (fresh, s.once);
-}
-
-found_by : (line : ℕ × List ℕ) (lines : List (ℕ × List ℕ)) (before rows : List Row) (k : Option Row) → row_of line.1 ≡ k
-    → ((t : Bool) (row : Row) → k ≡ Some row → is_repeated before row ≡ t → go_on (taken before t row) line.0 (λ next. read_lines add_row lines next) ≡ Ok rows → Says (line ∷ lines) before rows)
-    → go_on (option_and_then (λ row. taken before (is_repeated before row) row) k) line.0 (λ next. read_lines add_row lines next) ≡ Ok rows → Says (line ∷ lines) before rows
-found_by line lines before rows None e below h = absurd cc
-found_by line lines before rows (Some row) e below h = below (is_repeated before row) row refl refl h
-
-found_row : (line : ℕ × List ℕ) (lines : List (ℕ × List ℕ)) (before rows : List Row) → ((row : Row) → read_lines add_row lines (before ++ row ∷ []) ≡ Ok rows → Says lines (before ++ row ∷ []) rows)
-    → (t : Bool) (row : Row) → row_of line.1 ≡ Some row → is_repeated before row ≡ t
-    → go_on (taken before t row) line.0 (λ next. read_lines add_row lines next) ≡ Ok rows → Says (line ∷ lines) before rows
-found_row line lines before rows below false row e fresh h = said_more line lines before rows row e fresh (below row h)
-found_row line lines before rows below true row e fresh h = absurd cc
-
-rows_found : (lines : List (ℕ × List ℕ)) (before rows : List Row) → read_lines add_row lines before ≡ Ok rows → Says lines before rows
-rows_found [] before rows h = let same : before ≡ rows = cc in record { new = []; all = sym same ∙ sym (append-nil before); say = refl; once = tt }
-rows_found (line ∷ lines) before rows h =
-    found_by line lines before rows (row_of line.1) refl (found_row line lines before rows (λ row k. rows_found lines (before ++ row ∷ []) rows k)) h
-
-rows_again : (lines : List (ℕ × List ℕ)) (before new : List Row) → said lines ≡ map Some new → SignsOnce before new → read_lines add_row lines before ≡ Ok (before ++ new)
-rows_again [] before [] h once = ap (λ (rs : List Row). Ok rs) (sym (append-nil before))
-rows_again [] before (row ∷ new) h once = absurd cc
-rows_again (line ∷ lines) before [] h once = absurd cc
-rows_again (line ∷ lines) before (row ∷ new) h once =
-    let here : row_of line.1 ≡ Some row = cc in
-    let more : said lines ≡ map Some new = cc in
-    ap (λ (k : Option Row). go_on (option_and_then (λ r. taken before (is_repeated before r) r) k) line.0 (λ next. read_lines add_row lines next)) here
-    ∙ ap (λ t. go_on (taken before t row) line.0 (λ next. read_lines add_row lines next)) once.0
-    ∙ rows_again lines (before ++ row ∷ []) new more once.1
-    ∙ ap (λ (rs : List Row). Ok rs) (append_assoc before (row ∷ []) new)
+use Rattle.text_file.proofs.RowLaws.{rows_found, rows_again}
 
 pub answers_are : (text : List ℕ) (rows : List Row) → (answer_rows text ≡ Ok rows) ↔ AnswersText text rows
 unfolding answer_rows
 answers_are text rows = (
-  λ h. let s = rows_found (text_lines text) [] rows h in record { lines = s.say ∙ ap (map Some) (sym s.all); once = let P : List Row → Type 0 = λ rs. SignsOnce [] rs in subst P (sym s.all) s.once },
-  λ t. rows_again (text_lines text) [] rows t.lines t.once,
+  λ h. let s = rows_found row_of is_repeated (text_lines text) [] rows h in record { lines = s.say ∙ ap (map Some) (sym s.all); once = let P : List Row → Type 0 = λ rs. SignsOnce [] rs in subst P (sym s.all) s.once },
+  λ t. rows_again row_of is_repeated (text_lines text) [] rows t.lines t.once,
 )
 
 pub first_bad_is : (text : List ℕ) (number : ℕ) → (answer_rows text ≡ Err number) ↔ FirstBad text number
@@ -133,12 +81,12 @@ here_without : (name : List ℕ) (o : Option Row) (row : Row) → o ≡ Some row
 here_without name None row e w = absurd (cc)
 here_without name (Some own) row e w = let same : own ≡ row = cc in let P : Row → Type 0 = Without name in subst P same w
 
-rows_without : (lines : List (ℕ × List ℕ)) (rows : List Row) (name digest : List ℕ) → is_name name ≡ false → said lines ≡ map Some rows → signs rows name digest ≡ None
+rows_without : (lines : List (ℕ × List ℕ)) (rows : List Row) (name digest : List ℕ) → is_name name ≡ false → map (λ line. row_of line.1) lines ≡ map Some rows → signs rows name digest ≡ None
 rows_without lines [] name digest other h = refl
 rows_without [] (row ∷ rows) name digest other h = absurd cc
 rows_without (line ∷ lines) (row ∷ rows) name digest other h =
     let here : row_of line.1 ≡ Some row = cc in
-    let more : said lines ≡ map Some rows = cc in
+    let more : map (λ line. row_of line.1) lines ≡ map Some rows = cc in
     rw (here_without name (row_of line.1) row here (line_without line.1 name other) digest) (rows_without lines rows name digest other more)
 
 pub none_for_other : (text : List ℕ) (rows : List Row) (name digest : List ℕ) → answer_rows text ≡ Ok rows → is_name name ≡ false → signs rows name digest ≡ None

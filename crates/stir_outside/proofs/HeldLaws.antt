@@ -18,6 +18,8 @@ use Rattle.stir_outside.specs.declared.answers.rows.Triple.{Triple}
 use Rattle.stir_outside.specs.declared.answers.rows.Order.{Order}
 use Rattle.stir_outside.specs.declared.answers.rows.Row.{Row}
 use Rattle.stir_outside.specs.declared.answers.rows.Row.TheVariants.{Confirm, Sign}
+use Rattle.lists.proofs.Options.{or_none}
+use Rattle.std.proofs.lemmas.Bool.{and_parts}
 
 abbrev triple_of : List ℕ → List ℕ → List ℕ → Triple
 triple_of key digest signature = record { key = key; digest = digest; signature = signature }
@@ -43,10 +45,6 @@ signs_append (row ∷ rows) more name digest = ap (option_or (signature_in name 
     option_or_assoc None b c = refl
     option_or_assoc (Some x) b c = refl
 
-option_or_none : (a : Option (List ℕ)) → option_or a None ≡ a
-option_or_none None = refl
-option_or_none (Some x) = refl
-
 pub holds_triple : (rows : List Row) (triple : Triple) (old new : Held)
     → ((q : Triple) → list_any (same_triple q) new.triples ≡ cond (same_triple triple q) true (list_any (same_triple q) old.triples))
     → new.signatures ≡ old.signatures → HoldsRows rows old → HoldsRows (rows ++ Confirm triple ∷ []) new
@@ -56,18 +54,14 @@ holds_triple rows triple old new put kept holds = record {
       put q ∙ ap (cond (same_triple triple q) true) (holds.says key digest signature) ∙ says_more (says rows key digest signature) (same_triple triple q) ∙ sym (says_push rows triple key digest signature);
   signs = λ name digest.
       ap (λ (es : List (Order × List ℕ)). lookup (same_order (order_of name digest)) es) kept ∙ holds.signs name digest
-      ∙ sym (signs_append rows (Confirm triple ∷ []) name digest ∙ option_or_none (signs rows name digest));
+      ∙ sym (signs_append rows (Confirm triple ∷ []) name digest ∙ or_none (signs rows name digest));
 }
 
 -- ---- a signature more
 
-both : (x y : Bool) → (x && y) ≡ true → (x ≡ true) × (y ≡ true)
-both true y h = (refl, h)
-both false y h = cc
-
 same_is : (order : Order) (name digest : List ℕ) → same_order order (order_of name digest) ≡ true → (order.name ≡ name) × (order.digest ≡ digest)
 same_is order name digest h =
-    let k = both (bytes_eq order.name name) (bytes_eq order.digest digest) h in
+    let k = and_parts (bytes_eq order.name name) (bytes_eq order.digest digest) h in
     ((bytes_decides order.name name).0 k.0, (bytes_decides order.digest digest).0 k.1)
 
 signs_push : (rows : List Row) (order : Order) (made name digest : List ℕ)
@@ -81,7 +75,7 @@ pushed_by rows order made name digest true e none =
     let absent : signs rows name digest ≡ None = sym (ap (λ n. signs rows n digest) same.0) ∙ sym (ap (λ d. signs rows order.name d) same.1) ∙ none in
     sym (signs_push rows order made name digest ∙ rw (absent, e) refl)
 pushed_by rows order made name digest false e none =
-    sym (signs_push rows order made name digest ∙ rw e (option_or_none (signs rows name digest)))
+    sym (signs_push rows order made name digest ∙ rw e (or_none (signs rows name digest)))
 
 says_same : (rows : List Row) (order : Order) (made key digest signature : List ℕ) → says (rows ++ Sign order made ∷ []) key digest signature ≡ says rows key digest signature
 says_same rows order made key digest signature = list_any-append (confirms key digest signature) rows (Sign order made ∷ []) ∙ or-false (says rows key digest signature)

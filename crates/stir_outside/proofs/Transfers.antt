@@ -3,7 +3,7 @@ use Rattle.std.proofs.Common.{◌≡◌, ◌+◌, ◌<◌, min, length, arith, �
 use Rattle.std.proofs.lemmas.List.{drop-drop, drop_all, drop_more, length-drop}
 use Rattle.std.specs.Io.KnownBytes.{Appends, Consumes, Keeps}
 use Rattle.std.proofs.KnownBytes.{Appends-nil, Appends-trans, Consumes-nil, Consumes-trans}
-use Rattle.stir_base.specs.Told.{Takes, AppendsFront}
+use Rattle.stir_outside.specs.Told.{Takes, AppendsFront}
 
 pub takes_none : (left : Option (List ℕ)) (held : List ℕ) → Takes left left held held
 takes_none left held = record { taken = []; behind = sym (append-nil held); from_front = Consumes-nil left }

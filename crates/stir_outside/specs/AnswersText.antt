@@ -13,6 +13,7 @@ use Rattle.text_file.specs.Reading.{read_lines, Refuses}
 use Rattle.stir_outside.specs.KeyName.{name_of}
 use Rattle.stir_outside.specs.declared.answers.rows.Row.{Row}
 use Rattle.stir_outside.specs.declared.answers.rows.Row.TheVariants.{Confirm, Sign}
+use Rattle.text_file.specs.Rows.{one_row, EachOnce}
 
 -- ---- a line
 
@@ -81,7 +82,7 @@ is_repeated rows (Sign order made) = is_some (signs rows order.name order.digest
 
 -- one row more; of two `sign` lines with one name and digest the second is bad
 abbrev pub add_row : List Row → List ℕ → Option (List Row)
-add_row rows line = option_and_then (λ row. if is_repeated rows row then None else Some (rows ++ row ∷ [])) (row_of line)
+add_row = one_row row_of is_repeated
 
 -- the rows of the file in order, or the number of its first bad line
 unfoldable pub answer_rows : List ℕ → Result (List Row) ℕ
@@ -89,8 +90,7 @@ answer_rows text = read_lines add_row (text_lines text) []
 
 -- no row signs what one before it signs
 abbrev pub SignsOnce : List Row → List Row → Type 0
-SignsOnce before [] = Unit {0}
-SignsOnce before (row ∷ rows) = (is_repeated before row ≡ false) × SignsOnce (before ++ row ∷ []) rows
+SignsOnce = EachOnce is_repeated
 
 -- the text is an answers file with these rows
 pub record AnswersText (text : List ℕ) (rows : List Row) : Type 0 where

@@ -1,7 +1,7 @@
 -- What a shelf holds and counts.
 use Rattle.std.specs.Prelude.{ℕ, ◌<◌, ⊤, List, [], ◌∷◌, length, Option, Some, None, if◌then◌else◌}
 use Rattle.std.specs.Str.{bytes_eq}
-use Rattle.stir_base.specs.Count.{GoesOn}
+use Rattle.stir_outside.specs.Count.{GoesOn}
 
 -- a finite map from names to contents, as a list of pairs of which the first of a name counts
 abbrev pub Files : Type 0

@@ -1,6 +1,5 @@
 -- What an answers file says, as it is kept: its triples, and its signatures by what they sign, in no order that a contract names.
 use Rattle.std.specs.Prelude.{◌≡◌, ℕ, Bool, true, false, ◌&&◌, List, [], ◌∷◌, ◌++◌, Option, Some, None, Ok, Err, if◌then◌else◌}
-use Rattle.std.specs.Bool.{MatchBool}
 use Rattle.std.specs.List.{list_any}
 use Rattle.std.specs.Map.{lookup}
 use Rattle.std.specs.Str.{bytes_eq}
@@ -9,6 +8,7 @@ use Rattle.stir_outside.specs.KeyName.{is_name}
 use Rattle.stir_outside.specs.declared.answers.held.AnswerFault.{AnswerFault}
 use Rattle.stir_outside.specs.declared.answers.held.AnswerFault.TheVariants.{Line, Memory}
 use Rattle.text_file.specs.Reading.{read_lines}
+use Rattle.text_file.specs.Rows as file
 use Rattle.stir_outside.specs.declared.answers.rows.Triple.{Triple}
 use Rattle.stir_outside.specs.declared.answers.rows.Order.{Order}
 use Rattle.stir_outside.specs.declared.answers.rows.Row.{Row}
@@ -53,20 +53,14 @@ pub record HoldsRows (rows : List Row) (held : Held) : Type 0 where
 
 -- a row was added, or it repeats one
 abbrev pub Adds : Held → Held → Row → Bool → Type 0
-Adds old new row added = (rows : List Row) → HoldsRows rows old → MatchBool added ((is_repeated rows row ≡ false) × HoldsRows (rows ++ row ∷ []) new) (is_repeated rows row ≡ true)
+Adds = file.Adds is_repeated HoldsRows
+
+-- a line was added, or it is bad
+abbrev pub AddsLine : Held → Held → List ℕ → Bool → Type 0
+AddsLine = file.AddsLine add_row HoldsRows
 
 -- the rows read so far are held, and the lines that are left lead on from them to what the whole text gives
 pub record Reached (text : List ℕ) (lines : List (ℕ × List ℕ)) (held : Held) : Type 0 where
   pub rows : List Row
   pub holds : HoldsRows rows held
   pub reads : read_lines add_row lines rows ≡ answer_rows text
-
--- the rows of a line more
-pub record HoldsMore (rows : List Row) (line : List ℕ) (held : Held) : Type 0 where
-  pub more : List Row
-  pub added : add_row rows line ≡ Some more
-  pub holds : HoldsRows more held
-
--- a line was added, or it is bad
-abbrev pub AddsLine : Held → Held → List ℕ → Bool → Type 0
-AddsLine old new line added = (rows : List Row) → HoldsRows rows old → MatchBool added (HoldsMore rows line new) (add_row rows line ≡ None)

@@ -1,8 +1,10 @@
 pub mod Adapters
 pub mod AnswersText
+pub mod Count
 pub mod Files
 pub mod Held
 pub mod KeyName
 pub mod Memory
 pub mod Provided
 pub mod Shelf
+pub mod Told

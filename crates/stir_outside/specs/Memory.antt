@@ -1,7 +1,7 @@
 -- What the memory forms of a shelf, a source and a sink are seen as.
 use Rattle.std.specs.Prelude.{ℕ, ◌==◌, Bool, List}
 use Rattle.std.specs.List.{list_any}
-use Rattle.stir_base.specs.Count.{one_more}
+use Rattle.stir_outside.specs.Count.{one_more}
 use Rattle.stir_outside.specs.Files.{Files, Counts}
 
 -- the next call, counted from 1, is one of those that are to fail

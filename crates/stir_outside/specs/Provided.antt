@@ -1,6 +1,6 @@
 -- What a provider over an answers file is seen as.
 use Rattle.std.specs.Prelude.{◌≡◌, ℕ, ◌≤◌, List, Result, is_err}
-use Rattle.stir_base.specs.Count.{HasCause, faults_after, one_more}
+use Rattle.stir_outside.specs.Count.{HasCause, faults_after, one_more}
 use Rattle.stir_outside.specs.Held.{Held}
 use Rattle.stir_outside.specs.Memory.{is_failing}
 

@@ -1,6 +1,6 @@
 -- Which answer of a shelf is which, and what each does to its counts.
 use Rattle.std.specs.Prelude.{Bool, true, false, Result, Ok, Err}
-use Rattle.stir_base.specs.Count.{one_more}
+use Rattle.stir_outside.specs.Count.{one_more}
 use Rattle.stir_outside.specs.Files.{Counts}
 use Rattle.stir_outside.specs.declared.shelf.ShelfFault.{ShelfFault}
 use Rattle.stir_outside.specs.declared.shelf.ShelfFault.TheVariants.{Missing, Long, Failed, Memory}

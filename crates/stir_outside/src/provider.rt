@@ -1,5 +1,5 @@
 ghost use Rattle.std.specs.Prelude.{◌≡◌, ℕ, ◌≤◌, Bool, List, Option, IfOk};
-ghost use Rattle.stir_base.specs.Count.{HasCause, one_more};
+ghost use Rattle.stir_outside.specs.Count.{HasCause, one_more};
 
 use crate::source::Failed;
 

@@ -1,5 +1,5 @@
 ghost use Rattle.std.specs.Prelude.{◌≡◌, ℕ, ◌≤◌, Option, Some, None, Err, IfOk, is_ok, vec_len, if◌then◌else◌};
-ghost use Rattle.stir_base.specs.Count.{Rose, one_more};
+ghost use Rattle.stir_outside.specs.Count.{Rose, one_more};
 ghost use Rattle.stir_outside.specs.Files.{Files, Counts, CountsGoOn, OfFile, IsLonger};
 
 use std::alloc::Global;

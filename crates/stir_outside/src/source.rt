@@ -1,6 +1,6 @@
 ghost use Rattle.std.specs.Prelude.{◌≡◌, ℕ, ◌<◌, ◌≤◌, List, Option, length, IfOk};
 ghost use Rattle.std.specs.Io.KnownBytes.{ReadConsumes};
-ghost use Rattle.stir_base.specs.Count.{HasCause};
+ghost use Rattle.stir_outside.specs.Count.{HasCause};
 
 /// The one fault of a source, a sink and a provider.
 #[derive(Clone, Copy, Debug, PartialEq, Eq)]

@@ -1,7 +1,7 @@
 ghost use Rattle.std.specs.Prelude.{◌≡◌, ℕ, ◌<◌, ◌≤◌, Err, OnOk, OnErr, vec_len};
 ghost use Rattle.std.specs.Io.KnownBytes.{Appends, IsAtEnd};
-ghost use Rattle.stir_base.specs.Count.{GoesOn, HasCause, Rose};
-ghost use Rattle.stir_base.specs.Told.{Takes, AppendsFront};
+ghost use Rattle.stir_outside.specs.Count.{GoesOn, HasCause, Rose};
+ghost use Rattle.stir_outside.specs.Told.{Takes, AppendsFront};
 
 use crate::sink::Sink;
 use crate::source::{Failed, Source};

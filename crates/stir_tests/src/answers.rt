@@ -7,14 +7,14 @@ const DIGEST: [u8; 32] = [0x0C; 32];
 
 const SIGNATURE: [u8; 64] = [0xF1; 64];
 
-// The point in its uncompressed form whose other bytes are all this one.
+/// The point in its uncompressed form whose other bytes are all this one.
 fn key(byte: u8) -> [u8; 65] {
     let mut key = [byte; 65];
     key[0] = 4;
     key
 }
 
-// A provider that confirms everything and signs nothing, while it isn't broken.
+/// A provider that confirms everything and signs nothing, while it isn't broken.
 #[derive(Drop)]
 struct Breakable {
     is_broken: bool,
@@ -57,7 +57,7 @@ impl Provider for Breakable {
     }
 }
 
-// Which of three calls, a question, an order and a question again, are answered.
+/// Which of three calls, a question, an order and a question again, are answered.
 fn answered<P: Provider + Send>(provider: &mut P) -> [bool; 3] {
     let first = provider.confirm(&key(0xAB), &DIGEST, &SIGNATURE).is_ok();
     let second = provider.sign(b"a", &DIGEST).is_ok();

@@ -2,7 +2,7 @@
 
 use stir_outside::{Gate, NoGate};
 
-// A gate that keeps who passed last.
+/// A gate that keeps who passed last.
 #[derive(Drop)]
 struct Last {
     worker: u8,
@@ -16,7 +16,7 @@ impl Gate for Last {
     }
 }
 
-// Passes a gate with a call.
+/// Passes a gate with a call.
 fn pass<G: Gate + Send>(gate: &mut G, call: u32) {
     gate.at(1, call);
 }

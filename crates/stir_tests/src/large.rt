@@ -7,7 +7,7 @@ use std::test::Fail;
 use stir_outside::{Answers, Provider};
 use tn_auth_list::{CodeTable, TableFault};
 
-// A text of that many lines, `front`, the line's number and `back`.
+/// A text of that many lines, `front`, the line's number and `back`.
 fn lines(alloc: Global, count: u32, front: &str, back: &str) -> Result<String, AllocError> {
     let mut text = String::new(alloc);
     for number in 0..count {
@@ -16,7 +16,7 @@ fn lines(alloc: Global, count: u32, front: &str, back: &str) -> Result<String, A
     Ok(text)
 }
 
-// The first bad line of a code table, or 0 where it is one.
+/// The first bad line of a code table, or 0 where it is one.
 fn bad_line_of_table(alloc: Global, text: &str) -> u32 {
     if text.len() >= 4_000_000_000 {
         return u32::MAX;
@@ -28,7 +28,7 @@ fn bad_line_of_table(alloc: Global, text: &str) -> u32 {
     }
 }
 
-// The chain map that the text is.
+/// The chain map that the text is.
 fn map_of(alloc: Global, text: &str) -> Result<ChainMap, MapFault> {
     if text.len() >= 4_000_000_000 {
         return Err(MapFault::Memory);
@@ -36,7 +36,7 @@ fn map_of(alloc: Global, text: &str) -> Result<ChainMap, MapFault> {
     ChainMap::read(alloc, text.as_bytes())
 }
 
-// The first bad line of a chain map, or 0 where it is one.
+/// The first bad line of a chain map, or 0 where it is one.
 fn bad_line_of_map(alloc: Global, text: &str) -> u32 {
     match map_of(alloc, text) {
         Ok(_) => 0,
@@ -64,7 +64,7 @@ fn a_code_table_has_two_hundred_thousand_numbers(rt: HostRuntime) -> Result<(), 
     Ok(())
 }
 
-// How many lines a chain map may have.
+/// How many lines a chain map may have.
 const MAP_LINES: u32 = 50_000;
 
 #[test]
@@ -99,19 +99,19 @@ fn a_chain_map_counts_lines_that_are_passed_over(rt: HostRuntime) -> Result<(), 
     Ok(())
 }
 
-// How many lines of answers are read: together some 67 million bytes, as many as the program takes.
+/// How many lines of answers are read: together some 67 million bytes, as many as the program takes.
 const ANSWER_LINES: u32 = 200_000;
 
 const SIGNATURE: [u8; 64] = [0xF1; 64];
 
-// A point in its uncompressed form.
+/// A point in its uncompressed form.
 fn key() -> [u8; 65] {
     let mut key = [0xAB; 65];
     key[0] = 4;
     key
 }
 
-// Lines that confirm a signature by the key for digests that are numbers.
+/// Lines that confirm a signature by the key for digests that are numbers.
 fn answer_lines(alloc: Global) -> Result<String, AllocError> {
     let mut front = String::from_str(alloc, "confirm 04")?;
     front.push_str(repeated(alloc, "ab", 64)?.as_str())?;

@@ -1,4 +1,5 @@
 pub mod LineLaws
 pub mod Parts
 pub mod ReadingLaws
+pub mod RowLaws
 pub mod WordLaws

@@ -4,7 +4,7 @@ use Rattle.std.specs.Str.Lines.{lines_of_parts, strip_carriage_return}
 use Rattle.std.proofs.lemmas.List.Splits.{length-slice_split}
 use Rattle.std.proofs.lemmas.Bool.Decides.{nat_tests}
 use Rattle.std.proofs.Math.Seq.{take-length, drop-length}
-use Rattle.stir_base.specs.Cut.{lacks}
+use Rattle.text_grammar.specs.Cut.{lacks}
 use Rattle.text_file.proofs.Parts.{split_at_byte, split_none, split_first_of}
 use Rattle.text_file.specs.FileLines.{file_lines}
 

@@ -2,7 +2,8 @@
 use Rattle.std.proofs.Common.{◌≡◌, ℕ, Bool, true, false, ◌==◌, List, [], ◌∷◌, ◌++◌, refl, ap, ◌∙◌, arith}
 use Rattle.std.specs.List.{slice_split}
 use Rattle.std.proofs.lemmas.Bool.Decides.{nat_tests}
-use Rattle.stir_base.specs.Cut.{lacks}
+use Rattle.text_grammar.specs.Cut.{lacks}
+use Rattle.lists.proofs.Bytes.{same_byte}
 
 abbrev pub split_at_byte : ℕ → List ℕ → List (List ℕ)
 split_at_byte byte text = slice_split (λ b. b == byte) text
@@ -16,9 +17,6 @@ none_by byte b bs false e below h = let k = rw e at h in let none = below k in r
 pub split_none : (byte : ℕ) (text : List ℕ) → lacks byte text ≡ true → slice_split (λ b. b == byte) text ≡ text ∷ []
 split_none byte [] h = refl
 split_none byte (b ∷ bs) h = none_by byte b bs (b == byte) refl (split_none byte bs) h
-
-same_byte : (b : ℕ) → (b == b) ≡ true
-same_byte b = grind (arith, nat_tests)
 
 first_by : (byte b : ℕ) (bs rest : List ℕ) (t : Bool) → (b == byte) ≡ t → (lacks byte bs ≡ true → split_at_byte byte (bs ++ byte ∷ rest) ≡ bs ∷ split_at_byte byte rest)
     → lacks byte (b ∷ bs) ≡ true → split_at_byte byte (b ∷ (bs ++ byte ∷ rest)) ≡ (b ∷ bs) ∷ split_at_byte byte rest

@@ -2,7 +2,7 @@
 use Rattle.std.proofs.Common.{◌≡◌, ℕ, ◌≤◌, Bool, true, false, ◌&&◌, nat_le, ◌==◌, cond, List, [], ◌∷◌, ◌++◌, length, Option, None, refl, sym, ap, ◌∙◌, arith}
 use Rattle.std.proofs.lemmas.List.Splits.{length-slice_split}
 use Rattle.std.proofs.lemmas.Bool.Decides.{nat_tests}
-use Rattle.stir_base.specs.Cut.{lacks}
+use Rattle.text_grammar.specs.Cut.{lacks}
 use Rattle.text_file.specs.LineWords.{parts, none_empty, line_words}
 use Rattle.text_file.proofs.Parts.{split_none, split_first_of}
 

@@ -1,3 +1,4 @@
 pub mod FileLines
 pub mod LineWords
 pub mod Reading
+pub mod Rows

@@ -4,7 +4,7 @@ ghost use Rattle.std.specs.Str.Lines.{strip_carriage_return};
 ghost use Rattle.text_file.specs.FileLines.{file_lines, is_passed_over, numbered_from, text_lines};
 
 use std::marker::Model;
-use stir_base::cut;
+use text_grammar::cut;
 
 /// A line of a text file, without its end.
 #[derive(Clone, Copy, Debug)]
@@ -94,6 +94,7 @@ pub fn line_count(text: &[u8]) -> usize
     count
 }
 
+/// A line without one CR at its end.
 fn without_return(line: &[u8]) -> &[u8]
     ensures { result.now ≡ strip_carriage_return line.now }
 {
@@ -103,6 +104,7 @@ fn without_return(line: &[u8]) -> &[u8]
     }
 }
 
+/// Whether a line says nothing.
 fn is_passed_over(line: &[u8]) -> bool
     ensures { result ≡ is_passed_over line.now }
 {

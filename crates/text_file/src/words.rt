@@ -3,7 +3,7 @@ ghost use Rattle.std.specs.Prelude.{◌≡◌};
 ghost use Rattle.std.specs.Option.{option_map};
 ghost use Rattle.text_file.specs.LineWords.{line_words, none_empty, word_list};
 
-use stir_base::cut;
+use text_grammar::cut;
 
 /// The words of a line that has two to four of them.
 #[derive(Clone, Copy, Debug)]
@@ -36,6 +36,7 @@ pub fn words_of(line: &[u8]) -> Option<Words<'_>>
     }
 }
 
+/// The words, where none is empty.
 fn with_none_empty(words: Words<'_>) -> Option<Words<'_>>
     ensures { option_map word_list result ≡ none_empty (word_list words.entry) }
 {

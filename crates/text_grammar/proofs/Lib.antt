@@ -1,4 +1,7 @@
-pub mod Lists
+pub mod CutLaws
+pub mod DecimalLaws
 pub mod Laws
+pub mod Lists
 pub mod Pieces
 pub mod Runs
+pub mod UriLaws

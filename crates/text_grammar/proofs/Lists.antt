@@ -1,7 +1,7 @@
 -- Facts about lists that the laws of the pieces rest on.
 use Rattle.std.proofs.Common.{◌≡◌, ℕ, zero, suc, ◌+◌, ◌≤◌, Bool, true, false, ◌⊎◌, inl, inr, List, [], ◌∷◌, ◌++◌, length, take, drop, refl, sym, arith}
 use Rattle.std.specs.List.{list_all, prefix_len}
-use Rattle.std.proofs.lemmas.Bool.{cases_Bool, and_parts, and_from}
+use Rattle.std.proofs.lemmas.Bool.{cases_Bool, and_parts, and_from, both_ways}
 
 pub all_of_tail : (p : ℕ → Bool) (x : ℕ) (a : List ℕ) → list_all p (x ∷ a) ≡ true → list_all p a ≡ true
 all_of_tail p x a h = (and_parts (p x) (list_all p a) h).1
@@ -19,9 +19,6 @@ pub record Cut (p : ℕ → Bool) (lim : ℕ → Type 0) (a rest : List ℕ) : T
   pub fits : lim (length a)
   pub stop : (x : ℕ) (u : List ℕ) → rest ≡ x ∷ u → (p x ≡ false) ⊎ (lim (suc (length a)) → ⊥)
 
-no_both : (t : Bool) → t ≡ false → t ≡ true → ⊥
-no_both t h k = cc
-
 -- Two ways to split one text into a run and what stands behind it are one.
 pub same_run : (p : ℕ → Bool) (lim : ℕ → Type 0) (a s b t : List ℕ)
     → ((j k : ℕ) → j ≤ k → lim k → lim j)
@@ -31,11 +28,11 @@ pub same_run : (p : ℕ → Bool) (lim : ℕ → Type 0) (a s b t : List ℕ)
 same_run p lim [] s [] t down e c all fits stop = (refl, e)
 same_run p lim [] s (y ∷ b) t down e c all fits stop =
     elim (c.stop y (b ++ t) e) [
-      | inl k ↦ absurd (no_both (p y) k (all_of_head p y b all))
+      | inl k ↦ absurd (both_ways (p y) k (all_of_head p y b all))
       | inr k ↦ absurd (k (down 1 (suc (length b)) (omega arith) fits))
     ]
 same_run p lim (x ∷ a) s [] t down e c all fits stop =
-    absurd (no_both (p x) (stop x (a ++ s) (sym e)) (all_of_head p x a c.each))
+    absurd (both_ways (p x) (stop x (a ++ s) (sym e)) (all_of_head p x a c.each))
 same_run p lim (x ∷ a) s (y ∷ b) t down e c all fits stop =
     let r : (a ≡ b) × (s ≡ t) =
     same_run p (λ n. lim (suc n)) a s b t (λ j k h. down (suc j) (suc k) (omega arith)) (cc)

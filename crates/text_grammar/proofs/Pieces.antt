@@ -6,7 +6,8 @@ use Rattle.std.proofs.lemmas.List.{map-append}
 use Rattle.text_grammar.specs.Bytes.{lower}
 use Rattle.text_grammar.specs.Grammar.{◌▹◌, Byte, Word, End}
 use Rattle.text_grammar.specs.Place.{Begins}
-use Rattle.text_grammar.specs.Reading.{Read, ◌>>=◌, one_at, byte_at, letter_at, word_at, end_at, either_at}
+use Rattle.text_grammar.specs.Reading.{Read, one_at, byte_at, letter_at, word_at, end_at, either_at}
+use Rattle.lists.specs.Steps.{◌>>=◌}
 use Rattle.text_grammar.proofs.Laws.{Stops, Law, stops_after, stops_here, law_less, law_reads, law_same}
 
 -- a piece of one byte of a class

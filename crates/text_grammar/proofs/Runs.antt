@@ -7,7 +7,8 @@ use Rattle.std.proofs.lemmas.List.Sums.{prefix_len-le-length}
 use Rattle.text_grammar.specs.Bytes.{is_blank}
 use Rattle.text_grammar.specs.Grammar.{Taking, ◌▹◌, Any, Blanks, Many, Run}
 use Rattle.text_grammar.specs.Place.{Begins}
-use Rattle.text_grammar.specs.Reading.{Read, ◌>>=◌, skip, some_at, many_at, run_at}
+use Rattle.text_grammar.specs.Reading.{Read, skip, some_at, many_at, run_at}
+use Rattle.lists.specs.Steps.{◌>>=◌}
 use Rattle.text_grammar.proofs.Lists.{Cut, same_run, cut-prefix_len, cut-limited}
 use Rattle.text_grammar.proofs.Laws.{Stops, Law, stops_after, stops_here}
 

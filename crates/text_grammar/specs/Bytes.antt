@@ -1,7 +1,11 @@
 -- Classes of bytes that several text formats share.
-use Rattle.std.specs.Prelude.{ℕ, Bool, not, ◌||◌, ◌&&◌, ◌==◌, nat_le, List, map}
+use Rattle.std.specs.Prelude.{ℕ, Bool, true, false, not, ◌||◌, ◌&&◌, ◌==◌, nat_le, List, [], ◌∷◌, map}
 use Rattle.std.specs.Char.{to_ascii_lowercase}
 use Rattle.std.specs.Str.{bytes_eq}
+
+abbrev pub is_empty : List ℕ → Bool
+is_empty [] = true
+is_empty (first ∷ more) = false
 
 -- space or tab
 abbrev pub is_blank : ℕ → Bool

@@ -1,5 +1,10 @@
 pub mod Bytes
+pub mod Cut
+pub mod Decimal
+pub mod Gives
 pub mod Grammar
+pub mod Line
+pub mod Moment
 pub mod Place
 pub mod Reading
-pub mod Gives
+pub mod Uri

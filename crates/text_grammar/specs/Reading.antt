@@ -2,14 +2,10 @@
 use Rattle.std.specs.Prelude.{ℕ, Bool, List, [], ◌∷◌, take, drop, Result, Ok, Err, ◌==◌, if◌then◌else◌}
 use Rattle.std.specs.List.{prefix_len}
 use Rattle.text_grammar.specs.Bytes.{lower}
+use Rattle.lists.specs.Steps.{◌>>=◌}
 
 abbrev pub Read : Type 0 → Type 0
 Read X = Result X (List ℕ)
-
-infixl 10 ◌>>=◌
-abbrev pub ◌>>=◌ : {A B : Type 0} → Read A → (A → Read B) → Read B
-(Ok x) >>= f = f x
-(Err left) >>= f = Err left
 
 -- one byte of this class: what stands behind it
 abbrev pub one_at : (ℕ → Bool) → List ℕ → Read (List ℕ)

@@ -1,12 +1,24 @@
-//! What the readers of text formats share: byte classes, and in `specs/` and `proofs/` grammars, readers on lists, and the
-//! laws that join them.
+//! What the readers of text formats share: byte classes, URIs, numbers in decimal digits, a text cut in two, and in `specs/` and
+//! `proofs/` grammars, readers on lists, the laws that join them, and the pieces of a text that end at LF.
 #![tactic(auto)]
+
+mod decimal;
+mod split;
+mod uri;
+
+pub use decimal::read_number;
+pub use split::{behind, cut};
+pub use uri::{is_uri, uri_law, uri_text};
 
 ghost use Rattle.std.specs.Prelude.{◌≡◌, ◌≤◌, length, map, take};
 ghost use Rattle.std.specs.List.{prefix_len};
 ghost use Rattle.text_grammar.specs.Bytes as bytes;
 ghost use Rattle.text_grammar.specs.Reading as reading;
 ghost use Rattle.text_grammar.specs.Gives.{Gives, slice_view, split_view};
+
+/// The last second of the year 9999, in Unix time: the latest moment that a text of this program names (this project's own
+/// limit).
+pub const LAST_SECOND: u64 = 253_402_300_799;
 
 /// Where a reader can't go on: the rest of the text from there.
 #[derive(Clone, Copy, Debug)]

@@ -4,7 +4,7 @@ use Rattle.std.specs.Prelude.{◌≡◌, ℕ, ◌-◌, ◌^◌, ◌⊎◌, Bool,
 use Rattle.std.specs.Option.{option_map}
 use Rattle.std.specs.Set.{distinct_count}
 use Rattle.std.specs.Str.{bytes_eq}
-use Rattle.stir_base.specs.Decimal.{number_up_to}
+use Rattle.text_grammar.specs.Decimal.{number_up_to}
 use Rattle.text_file.specs.FileLines.{text_lines}
 use Rattle.text_file.specs.LineWords.{line_words}
 use Rattle.text_file.specs.Reading.{read_lines, Refuses}

@@ -9,7 +9,7 @@ use tn_values::{Number, Span};
 /// The most entries of a list.
 pub(crate) const MOST: usize = 1_000;
 
-/// What an authority list names (`TNEntry` of RFC 8226 section 9).
+/// What an authority list names (`TNEntry` of RFC 8226, section 9).
 #[derive(Clone, Copy, Debug, PartialEq, Eq, Hash)]
 pub enum Entry {
     /// The numbers of a service provider, by its code.

@@ -1,4 +1,4 @@
-//! The `TNAuthList` of a certificate: which telephone numbers its holder may speak for (RFC 8226 section 9).
+//! The `TNAuthList` of a certificate: which telephone numbers its holder may speak for (RFC 8226, section 9).
 //!
 //! A [`Code`] is a service provider code, an [`Entry`] a code, a range of numbers or a number, and an [`AuthList`] 1 to
 //! 1,000 entries, which are read from DER and written to it. A [`CodeTable`] says which numbers a code stands for.

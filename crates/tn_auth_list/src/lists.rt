@@ -16,7 +16,7 @@ use crate::writing::list_text;
 use std::alloc::Global;
 use std::marker::Model;
 
-/// Which telephone numbers a certificate's holder may speak for: `TNAuthorizationList` of RFC 8226 section 9.
+/// Which telephone numbers a certificate's holder may speak for: `TNAuthorizationList` of RFC 8226, section 9.
 ///
 /// It has 1 to 1,000 entries, and none of them is a range of a single number. That is this project's own rule. A contract
 /// sees the list of the entries.

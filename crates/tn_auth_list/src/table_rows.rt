@@ -3,8 +3,8 @@ ghost use Rattle.std.specs.Prelude.{◌≡◌};
 ghost use Rattle.tn_auth_list.specs.CodeTable.{given_of, is_all, range_of, row_of, with_code};
 
 use crate::codes::Code;
-use stir_base::read_number;
 use text_file::{Words, words_of};
+use text_grammar::read_number;
 use tn_values::{Number, Span};
 
 /// What a line of the table gives its code.

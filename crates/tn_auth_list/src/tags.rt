@@ -1,4 +1,4 @@
-//! The tag bytes of a list's elements (X.690 section 8.1.2).
+//! The tag bytes of a list's elements (X.690, section 8.1.2).
 
 /// An INTEGER.
 pub(crate) const INTEGER: u8 = 0x02;

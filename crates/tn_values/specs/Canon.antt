@@ -1,4 +1,4 @@
--- The canonical number that a text stands for, after RFC 8224 section 8.3: visual separators (RFC 3966 section 5.1.1) are dropped,
+-- The canonical number that a text stands for, after RFC 8224, section 8.3: visual separators (RFC 3966, section 5.1.1) are dropped,
 -- and a national number gets the country's digits. That space is a separator too, which texts are national, and that any other
 -- number stands as it is, are this project's own rules.
 use Rattle.std.specs.Prelude.{◌≡◌, ℕ, Bool, true, false, not, ◌&&◌, ◌||◌, ◌==◌, List, [], ◌∷◌, ◌++◌, length, filter, Option, None, if◌then◌else◌}

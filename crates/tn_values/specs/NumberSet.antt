@@ -1,4 +1,4 @@
--- Sets of telephone numbers: what the entries of a `TNAuthList` (RFC 8226 section 9) hold together.
+-- Sets of telephone numbers: what the entries of a `TNAuthList` (RFC 8226, section 9) hold together.
 use Rattle.std.specs.Prelude.{◌≡◌, ℕ, ◌+◌, true, ◌⊎◌, List, length, Any, Contains}
 use Rattle.tn_values.specs.Number.{is_number}
 use Rattle.tn_values.specs.Span.{SpanView, SpanHolds}

@@ -19,10 +19,10 @@ use std::hash::{Hash, Hasher};
 use std::marker::Model;
 use std::{fmt, str};
 
-/// The most bytes of a number (RFC 8226 section 9, ITU-T E.164).
+/// The most bytes of a number (RFC 8226, section 9, ITU-T E.164).
 const LONGEST: usize = 15;
 
-/// A telephone number: 1 to 15 bytes of `0-9 * #` (`TelephoneNumber` of RFC 8226 section 9).
+/// A telephone number: 1 to 15 bytes of `0-9 * #` (`TelephoneNumber` of RFC 8226, section 9).
 ///
 /// A contract sees it as the list of its bytes, and equality, order, hash and `{}` are those of this list.
 #[derive(Clone, Copy)]

@@ -9,7 +9,7 @@ use crate::numbers::Number;
 use crate::places::{Place, numbers_of, value_of};
 use std::marker::Model;
 
-/// The numbers of digits alone that are as long as a first one and follow it, `TelephoneNumberRange` of RFC 8226 section 9.
+/// The numbers of digits alone that are as long as a first one and follow it, `TelephoneNumberRange` of RFC 8226, section 9.
 ///
 /// A span of size s holds the numbers of start's length from start to start + s - 1. Where that end passes the last number
 /// of start's length, the span ends at that last number, and its size stays as given. A contract sees `start`, a list of

@@ -5,8 +5,9 @@ use crate::numbers::number_of;
 use crate::table::{Unread, number, text};
 use crate::tokens::put_value;
 use passport_claims::{Attest, ClaimFault, Kind, Passport};
-use passport_json::{Token, View, is_uri, signing_input};
+use passport_json::{Token, View, signing_input};
 use std::alloc::Global;
+use text_grammar::is_uri;
 use tn_values::Number;
 
 /// What a call answers.

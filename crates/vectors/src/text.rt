@@ -1,10 +1,10 @@
-//! Lines, words and decimal digits: the calls of `text_file` and `stir_base`.
+//! Lines, words and decimal digits: the calls of `text_file` and `text_grammar`.
 
 use crate::answer::{Answer, or_none, word};
 use crate::table::{Unread, number};
 use std::alloc::Global;
-use stir_base::{behind, cut, read_number};
 use text_file::{Line, Lines, Words, line_count, words_of};
+use text_grammar::{behind, cut, read_number};
 
 /// What a call answers.
 pub fn answer(alloc: Global, call: &str, words: &[Vec<u8>]) -> Result<String, Unread> {

@@ -3,11 +3,10 @@
 use crate::answer::{Answer, word};
 use crate::table::{Unread, number, text};
 use crate::words::{given, joined, seconds, telephone};
-use passport_json::{
-    Token, TokenFault, View, deterministic, is_uri, is_writable, signing_input, ticket,
-};
+use passport_json::{Token, TokenFault, View, deterministic, is_writable, signing_input, ticket};
 use serde_json::Value;
 use std::alloc::Global;
+use text_grammar::is_uri;
 
 /// What a call answers.
 pub fn answer(alloc: Global, call: &str, words: &[Vec<u8>]) -> Result<String, Unread> {

@@ -17,8 +17,8 @@ use Rattle.passport_json.specs.Compact.{CallView}
 use Rattle.passport_json.specs.Token.{TokenText, read_token}
 use Rattle.passport_json.specs.View.{TokenView}
 use Rattle.passport_json.specs.declared.fault.TokenFault.{TokenFault}
-use Rattle.verify_rules.specs.Call.{IdentityField, Reading, has_ppt, judged_fields, lacks_ppt, left_out, links, mark_of, marked_or_part, numbered, originating, read_field, reading, reading_by, readings_of, with_field}
-use Rattle.verify_rules.specs.Rules.{each, unread}
+use Rattle.verify_rules.specs.Call.{IdentityField, Reading, has_ppt, judged_fields, lacks_ppt, given_to_compact, links, mark_of, marked_or_part, numbered, originating, read_field, reading, reading_by, readings_of, with_field}
+use Rattle.verify_rules.specs.Rules.{each, unreadable}
 use Rattle.verify_rules.specs.Words.{AreRead, CanBeRead, Each, IsRead}
 use Rattle.verify_rules.specs.declared.facts.Facts.{Facts}
 use Rattle.verify_rules.proofs.FreshLaws.{read_there}
@@ -115,7 +115,7 @@ are_judged law number values =
 
 -- ---- what is read is what the text says
 
-claims_by : (said : Facts) (field : IdentityField) (token : TokenView) (one : Reading) (r : Result ClaimsView ClaimFault) → TokenText field.parts.token (left_out said field.parts) token
+claims_by : (said : Facts) (field : IdentityField) (token : TokenView) (one : Reading) (r : Result ClaimsView ClaimFault) → TokenText field.parts.token (given_to_compact said field.parts) token
     → ((claims : ClaimsView) → r ≡ Ok claims → Claims token.header token.payload field.parts.ppt field.parts.info claims) → marked_or_part (mark_of field.number token) r ≡ Ok one → IsRead said field one
 claims_by said field token one (Ok claims) text law h =
     let same : reading claims (mark_of field.number token) ≡ one = cc in
@@ -123,7 +123,7 @@ claims_by said field token one (Ok claims) text law h =
 claims_by said field token one (Err fault) text law h = absurd cc
 
 token_by : ClaimsLaw → (said : Facts) (field : IdentityField) (one : Reading) (r : Result TokenView TokenFault) → IsKnown field.parts.ppt
-    → ((token : TokenView) → r ≡ Ok token → TokenText field.parts.token (left_out said field.parts) token) → reading_by field r ≡ Ok one → IsRead said field one
+    → ((token : TokenView) → r ≡ Ok token → TokenText field.parts.token (given_to_compact said field.parts) token) → reading_by field r ≡ Ok one → IsRead said field one
 token_by claims said field one (Ok token) known law h =
     claims_by said field token one (read_claims token.header token.payload field.parts.ppt field.parts.info) (law token refl)
     (λ x e. (claims token.header token.payload field.parts.ppt field.parts.info x known).0 e) h
@@ -132,27 +132,27 @@ token_by claims said field one (Err fault) known law h = absurd cc
 is_read : TokenFoundLaw → ClaimsLaw → (said : Facts) (field : IdentityField) (one : Reading) → IsJudged field → read_field said field ≡ Ok one → IsRead said field one
 unfolding read_field
 is_read found claims said field one judged h =
-    token_by claims said field one (read_token (left_out said field.parts) field.parts.token) judged.0 (λ token e. found field.parts.token (left_out said field.parts) token judged.1 e) h
+    token_by claims said field one (read_token (given_to_compact said field.parts) field.parts.token) judged.0 (λ token e. found field.parts.token (given_to_compact said field.parts) token judged.1 e) h
 
 read_again : TokenLaw → ClaimsLaw → (said : Facts) (field : IdentityField) (one : Reading) → IsJudged field → IsRead said field one → read_field said field ≡ Ok one
 unfolding read_field
 read_again tokens claims said field one judged h =
-    ap (reading_by field) (tokens field.parts.token (left_out said field.parts) h.token h.text)
+    ap (reading_by field) (tokens field.parts.token (given_to_compact said field.parts) h.token h.text)
     ∙ ap (marked_or_part (mark_of field.number h.token)) ((claims h.token.header h.token.payload field.parts.ppt field.parts.info one.passport judged.0).1 h.claims)
     ∙ ap (λ x. Ok (reading one.passport x)) (sym h.mark)
 
 -- ---- the rule
 
-unread_means : TokenLaw → TokenFoundLaw → ClaimsLaw → (said : Facts) (field : IdentityField) → IsJudged field → (unread said field ≡ None) ↔ CanBeRead said field
+unread_means : TokenLaw → TokenFoundLaw → ClaimsLaw → (said : Facts) (field : IdentityField) → IsJudged field → (unreadable said field ≡ None) ↔ CanBeRead said field
 unread_means tokens found claims said field judged = (
   (λ h. let r = read_there said field h in (r.0, is_read found claims said field r.0 judged r.1)),
   (λ (h : CanBeRead said field). read_one said field h.0 (read_again tokens claims said field h.0 judged h.1)),
 )
 
 pub tokens_mean : FieldLaw → TokenLaw → TokenFoundLaw → ClaimsLaw → (said : Facts) (values : List (List ℕ))
-    → (each (unread said) (judged_fields (numbered 1 values)) ≡ None) ↔ Each (CanBeRead said) (judged_fields (numbered 1 values))
+    → (each (unreadable said) (judged_fields (numbered 1 values)) ≡ None) ↔ Each (CanBeRead said) (judged_fields (numbered 1 values))
 tokens_mean fields tokens found claims said values =
-    each_means_of (unread said) IsJudged (CanBeRead said) (unread_means tokens found claims said) (judged_fields (numbered 1 values)) (are_judged fields 1 values)
+    each_means_of (unreadable said) IsJudged (CanBeRead said) (unread_means tokens found claims said) (judged_fields (numbered 1 values)) (are_judged fields 1 values)
 
 all_read : TokenLaw → ClaimsLaw → (said : Facts) (fields : List IdentityField) → Each IsJudged fields → Each (CanBeRead said) fields → AreRead said fields (readings_of said fields)
 all_read tokens claims said [] judged h = tt

@@ -11,7 +11,7 @@ use Rattle.passport_claims.specs.Passport.{ClaimsView}
 use Rattle.passport_claims.specs.declared.order.ChainFault.{ChainFault}
 use Rattle.passport_claims.specs.declared.order.Order.{Order}
 use Rattle.verify_rules.specs.Call.{Reading, called_by, passport_in, passports_of, turn_of}
-use Rattle.verify_rules.specs.Rules.{each, field_at, foreign_orig, no_order, place, stale}
+use Rattle.verify_rules.specs.Rules.{each, field_at, other_calling, no_order, place, stale}
 use Rattle.verify_rules.specs.Screened.{IsTurned}
 use Rattle.verify_rules.specs.Seen.{AreLinks, IsChainable}
 use Rattle.verify_rules.specs.declared.facts.Facts.{Facts}
@@ -40,16 +40,16 @@ here broken items i one bad all e is left =
 done : {A : Type 0} (broken : A → Option Place) (items : List A) (i : ℕ) (all : Option Place) → length items ≤ i → each broken (drop i items) ≡ all → None ≡ all
 done broken items i all end left = sym (ap (each broken) (drop_all i items end)) ∙ left
 
-pub orig_more : (calling : Option (List ℕ)) (items : List Reading) (i : ℕ) (one : Reading) (o all : Option Place) → slice_get items i ≡ Some one → o ≡ foreign_orig calling one → o ≡ None
-    → each (foreign_orig calling) (drop i items) ≡ all → each (foreign_orig calling) (drop (i + 1) items) ≡ all
-orig_more calling items i one o all e is none left = more (foreign_orig calling) items i one all e (sym is ∙ none) left
+pub orig_more : (calling : Option (List ℕ)) (items : List Reading) (i : ℕ) (one : Reading) (o all : Option Place) → slice_get items i ≡ Some one → o ≡ other_calling calling one → o ≡ None
+    → each (other_calling calling) (drop i items) ≡ all → each (other_calling calling) (drop (i + 1) items) ≡ all
+orig_more calling items i one o all e is none left = more (other_calling calling) items i one all e (sym is ∙ none) left
 
-pub orig_here : (calling : Option (List ℕ)) (items : List Reading) (i : ℕ) (one : Reading) (bad : Place) (o all : Option Place) → slice_get items i ≡ Some one → o ≡ foreign_orig calling one
-    → o ≡ Some bad → each (foreign_orig calling) (drop i items) ≡ all → Some bad ≡ all
-orig_here calling items i one bad o all e is found left = here (foreign_orig calling) items i one bad all e (sym is ∙ found) left
+pub orig_here : (calling : Option (List ℕ)) (items : List Reading) (i : ℕ) (one : Reading) (bad : Place) (o all : Option Place) → slice_get items i ≡ Some one → o ≡ other_calling calling one
+    → o ≡ Some bad → each (other_calling calling) (drop i items) ≡ all → Some bad ≡ all
+orig_here calling items i one bad o all e is found left = here (other_calling calling) items i one bad all e (sym is ∙ found) left
 
-pub orig_done : (calling : Option (List ℕ)) (items : List Reading) (i : ℕ) (all : Option Place) → length items ≤ i → each (foreign_orig calling) (drop i items) ≡ all → None ≡ all
-orig_done calling items i all end left = done (foreign_orig calling) items i all end left
+pub orig_done : (calling : Option (List ℕ)) (items : List Reading) (i : ℕ) (all : Option Place) → length items ≤ i → each (other_calling calling) (drop i items) ≡ all → None ≡ all
+orig_done calling items i all end left = done (other_calling calling) items i all end left
 
 pub stale_more : (window moment : ℕ) (items : List Reading) (i : ℕ) (one : Reading) (o all : Option Place) → slice_get items i ≡ Some one → o ≡ stale window moment one → o ≡ None
     → each (stale window moment) (drop i items) ≡ all → each (stale window moment) (drop (i + 1) items) ≡ all

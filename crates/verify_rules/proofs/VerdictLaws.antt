@@ -2,7 +2,7 @@
 use Rattle.std.proofs.Common.{◌≡◌, ◌≢◌, ℕ, ◌<◌, Bool, true, false, List, [], ◌∷◌, Option, Some, None, inl, inr, refl, sym, ◌∙◌, ap, subst, arith}
 use Rattle.std.specs.List.{slice_get}
 use Rattle.std.specs.Option.{option_or}
-use Rattle.stir_base.specs.Count.{Rose, last_count}
+use Rattle.stir_outside.specs.Count.{Rose, last_count}
 use Rattle.delegation.specs.Coverage.{Table}
 use Rattle.cert_store.specs.Judged.{JudgedView, out_of_date}
 use Rattle.cert_store.specs.Rules.{Says}

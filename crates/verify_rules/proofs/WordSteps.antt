@@ -14,7 +14,7 @@ use Rattle.sip_message.specs.Message.{MessageView}
 use Rattle.sip_message.specs.Reading.{read}
 use Rattle.sip_message.specs.declared.fault.FormFault.{FormFault}
 use Rattle.verify_rules.specs.Call.{IdentityField, Reading, has_ppt, is_absent, is_text, lacks_ppt, originating}
-use Rattle.verify_rules.specs.Rules.{bad_field, bad_or_later, foreign_alg, foreign_orig, is_es256, no_identity, no_invite, no_originating, place, stale}
+use Rattle.verify_rules.specs.Rules.{bad_field, bad_or_later, foreign_alg, other_calling, is_es256, no_identity, no_invite, no_originating, place, stale}
 use Rattle.verify_rules.specs.Words.{AreFewFields, Each, IsEs256, IsFieldText, IsFresh, IsFrom, IsInvite, MayOriginate, OfOne}
 use Rattle.verify_rules.specs.declared.refusal.Place.{Place}
 use Rattle.verify_rules.proofs.Known.{absent_by, text_by}
@@ -154,8 +154,8 @@ alg_means field = (
 
 -- ---- rule 7
 
-pub orig_means : (calling : Option (List ℕ)) (one : Reading) → (foreign_orig calling one ≡ None) ↔ IsFrom calling one
-unfolding foreign_orig
+pub orig_means : (calling : Option (List ℕ)) (one : Reading) → (other_calling calling one ≡ None) ↔ IsFrom calling one
+unfolding other_calling
 orig_means calling one = (
   (λ h. text_by one.passport.orig calling (none_if (place one.mark.field 0) (is_text one.passport.orig calling) h)),
   (λ h. let is : is_text one.passport.orig calling ≡ true = text_is one.passport.orig calling h in rw is refl),

@@ -1,6 +1,6 @@
 -- What a provider answers for the signatures of a call's PASSporTs, as far as it answers.
 use Rattle.std.specs.Prelude.{◌≡◌, ℕ, List, Option, Result, Ok, Err}
-use Rattle.stir_base.specs.Count.{Rose}
+use Rattle.stir_outside.specs.Count.{Rose}
 use Rattle.cert_store.specs.Rules.{Says}
 use Rattle.verify_rules.specs.Call.{Reading}
 use Rattle.verify_rules.specs.Late.{asking}

@@ -116,8 +116,8 @@ abbrev pub facts : Call → Facts
 facts call = facts_in call.settings.local call.message
 
 -- what a PASSporT in its compact form leaves to the message and to its field (RFC 8225, section 7)
-abbrev pub left_out : Facts → Parts → CallView
-left_out said parts = record { iat = said.date; orig = said.calling; dest = said.to; info = parts.info; ppt = parts.ppt }
+abbrev pub given_to_compact : Facts → Parts → CallView
+given_to_compact said parts = record { iat = said.date; orig = said.calling; dest = said.to; info = parts.info; ppt = parts.ppt }
 
 -- a PASSporT as it is read: what it says, and its mark, which is the number of its field, its ticket and its signature
 pub record Reading : Type 0 where
@@ -141,7 +141,7 @@ reading_by field (Err fault) = Err (unwrap_or (token_number fault) 0)
 
 -- the PASSporT of a field, or the number of the first check of its token or its claims that it breaks
 unfoldable pub read_field : Facts → IdentityField → Result Reading ℕ
-read_field said field = reading_by field (read_token (left_out said field.parts) field.parts.token)
+read_field said field = reading_by field (read_token (given_to_compact said field.parts) field.parts.token)
 
 abbrev pub is_read : Facts → IdentityField → Option Reading
 is_read said field = result_ok (read_field said field)

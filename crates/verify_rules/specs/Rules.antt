@@ -85,13 +85,13 @@ abbrev pub unread_at : ℕ → Result Reading ℕ → Option Place
 unread_at number (Err part) = Some (place number part)
 unread_at number (Ok one) = None
 
-unfoldable pub unread : Facts → IdentityField → Option Place
-unread said field = unread_at field.number (read_field said field)
+unfoldable pub unreadable : Facts → IdentityField → Option Place
+unreadable said field = unread_at field.number (read_field said field)
 
 -- ---- rule 7, a PASSporT for another calling number (RFC 8224, section 6.2; ATIS-1000074, section 5.3.1)
 
-unfoldable pub foreign_orig : Option (List ℕ) → Reading → Option Place
-foreign_orig calling one = if is_text one.passport.orig calling then None else Some (place one.mark.field 0)
+unfoldable pub other_calling : Option (List ℕ) → Reading → Option Place
+other_calling calling one = if is_text one.passport.orig calling then None else Some (place one.mark.field 0)
 
 -- ---- rule 8, links that stand in no order (RFC 8946, section 4.2)
 
@@ -126,10 +126,10 @@ abbrev pub rule_5 : Rule
 rule_5 = record { number = 5; broken = λ call. each foreign_alg (judged_fields (fields_of call)) }
 
 abbrev pub rule_6 : Rule
-rule_6 = record { number = 6; broken = λ call. each (unread (facts call)) (judged_fields (fields_of call)) }
+rule_6 = record { number = 6; broken = λ call. each (unreadable (facts call)) (judged_fields (fields_of call)) }
 
 abbrev pub rule_7 : Rule
-rule_7 = record { number = 7; broken = λ call. each (foreign_orig (facts call).calling) (in_message call) }
+rule_7 = record { number = 7; broken = λ call. each (other_calling (facts call).calling) (in_message call) }
 
 abbrev pub rule_8 : Rule
 rule_8 = record { number = 8; broken = λ call. no_order (in_message call) (turn_of (facts call) (in_message call)) }

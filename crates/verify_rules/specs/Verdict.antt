@@ -1,7 +1,7 @@
 -- What rules 10 to 17 come to over the chains that were handed in.
 use Rattle.std.specs.Prelude.{◌≡◌, ◌≢◌, ⊤, ◌⊎◌, ℕ, List, take, Some, None, IsSome}
 use Rattle.std.specs.List.{slice_get}
-use Rattle.stir_base.specs.Count.{Rose, last_count}
+use Rattle.stir_outside.specs.Count.{Rose, last_count}
 use Rattle.cert_store.specs.Judged.{JudgedView}
 use Rattle.cert_store.specs.Rules.{Says}
 use Rattle.cert_store.specs.declared.judged.Asked.TheVariants.{Failed}

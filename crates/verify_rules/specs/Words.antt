@@ -9,7 +9,7 @@ use Rattle.passport_json.specs.Token.{TokenText}
 use Rattle.passport_json.specs.View.{TokenView}
 use Rattle.sip_message.specs.Head.{Head}
 use Rattle.sip_message.specs.Message.{MessageView}
-use Rattle.verify_rules.specs.Call.{Call, IdentityField, Reading, called_by, facts, fields_of, in_chain, in_message, judged_fields, left_out, mark_of, passports_of, values_of}
+use Rattle.verify_rules.specs.Call.{Call, IdentityField, Reading, called_by, facts, fields_of, in_chain, in_message, judged_fields, given_to_compact, mark_of, passports_of, values_of}
 use Rattle.verify_rules.specs.Screened.{ScreenedView}
 use Rattle.verify_rules.specs.declared.facts.Facts.{Facts}
 use Rattle.verify_rules.specs.declared.refusal.ScreenFault.{ScreenFault}
@@ -53,7 +53,7 @@ IsEs256 field = (field.parts.alg ≡ None) ⊎ (field.parts.alg ≡ Some (codes 
 -- and payload say this; the mark is the field's number, the digest of what was signed, and the signature
 pub record IsRead (said : Facts) (field : IdentityField) (one : Reading) : Type 0 where
   pub token : TokenView
-  pub text : TokenText field.parts.token (left_out said field.parts) token
+  pub text : TokenText field.parts.token (given_to_compact said field.parts) token
   pub claims : Claims token.header token.payload field.parts.ppt field.parts.info one.passport
   pub mark : one.mark ≡ mark_of field.number token
 

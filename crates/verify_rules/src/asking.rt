@@ -1,7 +1,7 @@
 //! Rule 16: the signatures of the PASSporTs, as the provider answers for them.
 ghost use Rattle.std.specs.Prelude.{◌≡◌, ◌+◌, ◌≤◌, length, IfOk, IsSome, OnErr};
 ghost use Rattle.std.specs.Option.{option_copied};
-ghost use Rattle.stir_base.specs.Count.{HasCause};
+ghost use Rattle.stir_outside.specs.Count.{HasCause};
 ghost use Rattle.verify_rules.specs.Asking.{IsAsked};
 ghost use Rattle.verify_rules.specs.Late.{at_asking, is_signed_by, unless_signed};
 ghost use Rattle.verify_rules.specs.Seen.{taken_seen};

@@ -12,7 +12,7 @@ use crate::passports::read_all;
 use crate::refusal::{Place, ScreenFault, Stop};
 use crate::screened::{Screened, stale};
 use crate::settings::Settings;
-use crate::turns::{foreign_orig, order_of};
+use crate::turns::{other_calling, order_of};
 use identity_header::field_law;
 use passport_claims::claims_law;
 use passport_json::{token_found_law, token_law};
@@ -130,7 +130,7 @@ fn screen_fields(
             Stop::Memory => return Err(ScreenFault::Memory),
         },
     };
-    if let Some(place) = foreign_orig(&readings, &facts) {
+    if let Some(place) = other_calling(&readings, &facts) {
         return Err(ScreenFault::broken(7, place));
     }
     let order = match order_of(&readings, &facts) {

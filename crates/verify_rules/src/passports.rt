@@ -3,8 +3,8 @@ ghost use Rattle.std.specs.Prelude.{◌≡◌, ◌≤◌, ◌∷◌, length, map
 ghost use Rattle.passport_claims.specs.Claims.{IsKnown};
 ghost use Rattle.passport_claims.specs.Kind.{ppt_of};
 ghost use Rattle.passport_json.specs.Seen.{call_of};
-ghost use Rattle.passport_json.specs.Uri.{is_uri};
-ghost use Rattle.verify_rules.specs.Call.{left_out, links, read_field};
+ghost use Rattle.text_grammar.specs.Uri.{is_uri};
+ghost use Rattle.verify_rules.specs.Call.{given_to_compact, links, read_field};
 ghost use Rattle.verify_rules.specs.Seen.{AreReadings, GivesReading, IsChainable, field_seen};
 
 use crate::facts::Facts;
@@ -13,8 +13,9 @@ use crate::readings::{Mark, Readings};
 use crate::refusal::{Place, Stop};
 use identity_header::Field;
 use passport_claims::Passport;
-use passport_json::{Token, View, ticket, uri_law};
+use passport_json::{Token, View, ticket};
 use std::alloc::Global;
+use text_grammar::uri_law;
 
 /// The number of a broken claim is this and its own.
 const CLAIMS: u32 = 10;
@@ -70,7 +71,7 @@ fn read_passport(alloc: Global, facts: &Facts, field: &NumberedField<'_>) -> Res
     ensures exact { GivesReading field.now.number result (read_field facts.now (field_seen field.now)) }
     ensures kind { IfOk result (λ one. ppt_of one.passport.kind ≡ field.now.parts.ppt) }
 {
-    let view = left_out(facts, &field.parts);
+    let view = given_to_compact(facts, &field.parts);
     let token = match Token::read(alloc, field.parts.token(), &view) {
         Ok(token) => token,
         Err(fault) => match fault.number() {
@@ -93,8 +94,8 @@ fn read_passport(alloc: Global, facts: &Facts, field: &NumberedField<'_>) -> Res
 }
 
 /// What a token in its compact form leaves to the message and to its field.
-fn left_out<'a>(facts: &Facts, field: &Field<'a>) -> View<'a>
-    ensures exact { call_of result ≡ left_out facts.now field.now }
+fn given_to_compact<'a>(facts: &Facts, field: &Field<'a>) -> View<'a>
+    ensures exact { call_of result ≡ given_to_compact facts.now field.now }
     ensures uri { IsTrue (is_uri result.info.now) }
 {
     uri_law();

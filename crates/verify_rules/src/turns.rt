@@ -1,7 +1,7 @@
 //! Rules 7 and 8: the calling number, and the order in which the call went.
 ghost use Rattle.std.specs.Prelude.{◌≡◌, ◌≤◌, length, if◌then◌else◌};
 ghost use Rattle.verify_rules.specs.Call.{is_text};
-ghost use Rattle.verify_rules.specs.Rules.{each, field_at, foreign_orig};
+ghost use Rattle.verify_rules.specs.Rules.{each, field_at, other_calling};
 ghost use Rattle.verify_rules.specs.Seen.{GivesOrder, IsChainable, SaysOrder, taken_seen};
 
 use crate::facts::Facts;
@@ -12,8 +12,8 @@ use tn_values::Number;
 
 /// Where the first PASSporT for another calling number stands, in message order.
 #[tactic(auto, using(crate::proofs::TurnSteps::orig_more, crate::proofs::TurnSteps::orig_here, crate::proofs::TurnSteps::orig_done))]
-pub(crate) fn foreign_orig(readings: &Readings, facts: &Facts) -> Option<Place>
-    ensures { result ≡ each (foreign_orig facts.now.calling) readings.now }
+pub(crate) fn other_calling(readings: &Readings, facts: &Facts) -> Option<Place>
+    ensures { result ≡ each (other_calling facts.now.calling) readings.now }
 {
     'readings: for i in 0..readings.len() {
         if let Some(bad) = foreign_orig_at(&readings.taken(i), facts) {
@@ -24,9 +24,9 @@ pub(crate) fn foreign_orig(readings: &Readings, facts: &Facts) -> Option<Place>
 }
 
 /// Where this PASSporT stands, if it is for another calling number.
-#[tactic(auto, unfolding(crate::specs::Rules::foreign_orig))]
+#[tactic(auto, unfolding(crate::specs::Rules::other_calling))]
 fn foreign_orig_at(one: &Taken<'_>, facts: &Facts) -> Option<Place>
-    ensures { result ≡ foreign_orig facts.now.calling (taken_seen one.now) }
+    ensures { result ≡ other_calling facts.now.calling (taken_seen one.now) }
 {
     if is_calling(facts.calling, one.passport.orig()) {
         return None;

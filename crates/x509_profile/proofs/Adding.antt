@@ -2,14 +2,14 @@
 use Rattle.std.proofs.Common.{◌≡◌, ◌≢◌, ◌⊎◌, inl, inr, ℕ, ◌==◌, true, false, List, [], ◌∷◌, ◌++◌, Option, Some, None, refl, sym, ap, subst, ◌∙◌}
 use Rattle.tn_auth_list.specs.declared.entries.Entry.{Entry}
 use Rattle.tn_auth_list.specs.ListText.{ListText}
-use Rattle.x509_profile.specs.declared.contents.Basic.{Basic}
-use Rattle.x509_profile.specs.declared.name.Name.{Name}
-use Rattle.x509_profile.specs.declared.name.Name.TheVariants.{BasicConstraints, KeyUsage, SubjectKey, AuthorityKey, AuthorityList, ClaimConstraints, Unknown}
-use Rattle.x509_profile.specs.Name.{name_of}
+use Rattle.x509_profile.specs.declared.contents.BasicConstraintsValue.{BasicConstraintsValue}
+use Rattle.x509_profile.specs.declared.extension_id.ExtensionId.{ExtensionId}
+use Rattle.x509_profile.specs.declared.extension_id.ExtensionId.TheVariants.{BasicConstraints, KeyUsage, SubjectKey, AuthorityKey, AuthorityList, ClaimConstraints, Unknown}
+use Rattle.x509_profile.specs.ExtensionId.{name_of}
 use Rattle.x509_profile.specs.Extended.{AreAllowed, AuthorityText, BasicText, ExtensionText, ExtensionView, NoneNamed, Once, OneAfterAnother, SayTogether, SubjectKeyText, UsageText, Values, no_values}
 
 pub record AddsBasic (before : Values) (value : List ℕ) (after : Values) : Type 0 where
-  pub basic : Basic
+  pub basic : BasicConstraintsValue
   pub text : BasicText value basic
   pub once : before.basic ≡ None
   pub adds : after ≡ record before { basic = Some basic }
@@ -40,7 +40,7 @@ pub record AddsList (before : Values) (value : List ℕ) (after : Values) : Type
 
 -- What an extension of this name adds to what those before it say: one of the profile may stand once,
 -- constraints on claims may not stand, and any other adds nothing and isn't critical.
-abbrev pub Adds : Name → Values → ExtensionView → Values → Type 0
+abbrev pub Adds : ExtensionId → Values → ExtensionView → Values → Type 0
 Adds BasicConstraints before extension after = AddsBasic before extension.value after
 Adds KeyUsage before extension after = AddsUsage before extension.value after
 Adds SubjectKey before extension after = AddsSubjectKey before extension.value after
@@ -60,25 +60,25 @@ Extended (extension ∷ more) text before after =
 -- ---- one value
 
 -- how one value goes on behind what was said before
-abbrev Goes : {A : Type 0} → Name → (List ℕ → A → Type 0) → List ExtensionView → Option A → Option A → Type 0
+abbrev Goes : {A : Type 0} → ExtensionId → (List ℕ → A → Type 0) → List ExtensionView → Option A → Option A → Type 0
 Goes name Text [] before after = after ≡ before
 Goes {A} name Text (extension ∷ more) before after =
     ((x : A) × (name_of extension.oid ≡ name) × (before ≡ None) × Text extension.value x × Goes name Text more (Some x) after)
     ⊎ ((name_of extension.oid ≢ name) × Goes name Text more before after)
 
 -- once said, it isn't said again
-goes_none : {A : Type 0} (name : Name) (Text : List ℕ → A → Type 0) (es : List ExtensionView) (x : A) (after : Option A)
+goes_none : {A : Type 0} (name : ExtensionId) (Text : List ℕ → A → Type 0) (es : List ExtensionView) (x : A) (after : Option A)
     → Goes name Text es (Some x) after → NoneNamed name es × (after ≡ Some x)
 goes_none name Text [] x after g = (tt, g)
 goes_none name Text (e ∷ es) x after (inl s) = let k : Some x ≡ None = s.2 in cc
 goes_none name Text (e ∷ es) x after (inr k) = let r = goes_none name Text es x after k.1 in ((k.0, r.0), r.1)
 
-none_goes : {A : Type 0} (name : Name) (Text : List ℕ → A → Type 0) (es : List ExtensionView) (x : A) (after : Option A)
+none_goes : {A : Type 0} (name : ExtensionId) (Text : List ℕ → A → Type 0) (es : List ExtensionView) (x : A) (after : Option A)
     → NoneNamed name es → after ≡ Some x → Goes name Text es (Some x) after
 none_goes name Text [] x after n e = e
 none_goes name Text (e ∷ es) x after n is = inr (n.0, none_goes name Text es x after n.1 is)
 
-goes_once : {A : Type 0} (name : Name) (Text : List ℕ → A → Type 0) (es : List ExtensionView) (after : Option A)
+goes_once : {A : Type 0} (name : ExtensionId) (Text : List ℕ → A → Type 0) (es : List ExtensionView) (after : Option A)
     → Goes name Text es None after → Once name Text es after
 goes_once name Text [] after g = g
 goes_once name Text (e ∷ es) after (inl s) =
@@ -86,27 +86,27 @@ goes_once name Text (e ∷ es) after (inl s) =
     inl (record { named = s.1; value = s.0; text = s.3; is = r.1; none = r.0 })
 goes_once name Text (e ∷ es) after (inr k) = inr (k.0, goes_once name Text es after k.1)
 
-once_goes : {A : Type 0} (name : Name) (Text : List ℕ → A → Type 0) (es : List ExtensionView) (after : Option A)
+once_goes : {A : Type 0} (name : ExtensionId) (Text : List ℕ → A → Type 0) (es : List ExtensionView) (after : Option A)
     → Once name Text es after → Goes name Text es None after
 once_goes name Text [] after o = o
 once_goes name Text (e ∷ es) after (inl o) = inl (o.value, o.named, refl, o.text, none_goes name Text es o.value after o.none o.is)
 once_goes name Text (e ∷ es) after (inr k) = inr (k.0, once_goes name Text es after k.1)
 
 -- an extension of this name says it, and another keeps what was said
-must : {A : Type 0} (name : Name) (Text : List ℕ → A → Type 0) (e : ExtensionView) (es : List ExtensionView) (before after : Option A)
+must : {A : Type 0} (name : ExtensionId) (Text : List ℕ → A → Type 0) (e : ExtensionView) (es : List ExtensionView) (before after : Option A)
     → name_of e.oid ≡ name → Goes name Text (e ∷ es) before after
     → (x : A) × (before ≡ None) × Text e.value x × Goes name Text es (Some x) after
 must name Text e es before after n (inl s) = (s.0, s.2, s.3, s.4)
 must name Text e es before after n (inr k) = absurd (k.0 n)
 
-keeps : {A : Type 0} (name : Name) (Text : List ℕ → A → Type 0) (e : ExtensionView) (es : List ExtensionView) (before after : Option A)
+keeps : {A : Type 0} (name : ExtensionId) (Text : List ℕ → A → Type 0) (e : ExtensionView) (es : List ExtensionView) (before after : Option A)
     → name_of e.oid ≢ name → Goes name Text (e ∷ es) before after → Goes name Text es before after
 keeps name Text e es before after n (inl s) = absurd (n s.1)
 keeps name Text e es before after n (inr k) = k.1
 
 -- ---- names
 
-rank : Name → ℕ
+rank : ExtensionId → ℕ
 rank BasicConstraints = 0
 rank KeyUsage = 1
 rank SubjectKey = 2
@@ -116,14 +116,14 @@ rank ClaimConstraints = 5
 rank Unknown = 6
 
 -- an extension of one name doesn't have another
-apart : (e : ExtensionView) (a b : Name) → (rank a == rank b) ≡ false → name_of e.oid ≡ a → name_of e.oid ≢ b
+apart : (e : ExtensionView) (a b : ExtensionId) → (rank a == rank b) ≡ false → name_of e.oid ≡ a → name_of e.oid ≢ b
 unfolding rank
 apart e a b differ is other =
     let same : a ≡ b = sym is ∙ other in
     let k : (rank a == rank a) ≡ false = ap (λ n. rank a == rank n) same ∙ differ in
     never a k
   where
-    never : (a : Name) → (rank a == rank a) ≡ false → ⊥
+    never : (a : ExtensionId) → (rank a == rank a) ≡ false → ⊥
     never BasicConstraints k = let h : true ≡ false = k in cc
     never KeyUsage k = let h : true ≡ false = k in cc
     never SubjectKey k = let h : true ≡ false = k in cc
@@ -144,7 +144,7 @@ record Each (es : List ExtensionView) (before after : Values) : Type 0 where
   allowed : AreAllowed es
 
 -- what one extension adds, value by value
-adds_each : (name : Name) (e : ExtensionView) (es : List ExtensionView) (before between after : Values) → name_of e.oid ≡ name
+adds_each : (name : ExtensionId) (e : ExtensionView) (es : List ExtensionView) (before between after : Values) → name_of e.oid ≡ name
     → Adds name before e between → Each es between after → Each (e ∷ es) before after
 unfolding rank
 adds_each BasicConstraints e es before between after n a each =
@@ -210,7 +210,7 @@ adds_each Unknown e es before between after n a each =
     }
 
 -- the step of one extension, out of what each value does
-each_adds : (name : Name) (e : ExtensionView) (es : List ExtensionView) (before after : Values) → name_of e.oid ≡ name
+each_adds : (name : ExtensionId) (e : ExtensionView) (es : List ExtensionView) (before after : Values) → name_of e.oid ≡ name
     → Each (e ∷ es) before after → (between : Values) × Adds name before e between × Each es between after
 unfolding rank
 each_adds ClaimConstraints e es before after n f = absurd (f.allowed.0.unconstrained n)

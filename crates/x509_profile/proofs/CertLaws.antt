@@ -9,7 +9,7 @@ use Rattle.x509_profile.specs.declared.fault.CertFault.{CertFault}
 use Rattle.x509_profile.specs.declared.fault.CertFault.TheVariants.{At, Memory}
 use Rattle.x509_profile.specs.declared.span.Span.{Span}
 use Rattle.x509_profile.specs.declared.validity.Validity.{Validity}
-use Rattle.x509_profile.specs.declared.contents.Authority.{Authority}
+use Rattle.x509_profile.specs.declared.contents.AuthorityKeyIdentifier.{AuthorityKeyIdentifier}
 use Rattle.x509_profile.specs.declared.fields.Fields.{Fields}
 use Rattle.x509_profile.specs.Fault.{Gives, fault_at}
 use Rattle.x509_profile.specs.Span.{IsInside, behind_text, bytes_of, ended, tagged_in}
@@ -22,13 +22,13 @@ use Rattle.x509_profile.specs.View.{CertView, identifier_of, path_length_of, say
 use Rattle.x509_profile.specs.Parts.{SignatureText}
 use Rattle.x509_profile.specs.Read.{everything, fields_in, outer_in, read_certificate}
 use Rattle.x509_profile.specs.Cert.{Cert, Says, SignedText, identifier_in_values}
-use Rattle.x509_profile.proofs.Steps.{after, came, inside}
 use Rattle.x509_profile.proofs.SpanTexts.{ended_read, ended_there, tagged_reads, tagged_stands, text_reads, text_stands}
 use Rattle.x509_profile.proofs.SignedTexts.{algorithm_elem, signed_read, signed_there}
 use Rattle.x509_profile.proofs.SignatureTexts.{signature_read, signature_there}
 use Rattle.x509_profile.proofs.ContentTexts.{key_at}
 use Rattle.x509_profile.proofs.ExtensionTexts.{authority_at, values_of}
 use Rattle.x509_profile.proofs.WalkTexts.{extensions_read, extensions_there}
+use Rattle.lists.proofs.StepLaws.{after, came, inside}
 
 -- ---- all bytes
 
@@ -60,7 +60,7 @@ same_key : (all : List ℕ) (o : Option Span) → option_map (bytes_of all) o �
 same_key all (Some key) = refl
 same_key all None = refl
 
-same_authority : (all : List ℕ) (o : Option Authority) → option_map (bytes_of all) (identifier_of o) ≡ identifier_in_values (authority_at all o)
+same_authority : (all : List ℕ) (o : Option AuthorityKeyIdentifier) → option_map (bytes_of all) (identifier_of o) ≡ identifier_in_values (authority_at all o)
 same_authority all (Some authority) = same_key all authority.key
 same_authority all None = refl
 

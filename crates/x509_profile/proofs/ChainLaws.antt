@@ -12,6 +12,7 @@ use Rattle.x509_profile.specs.ChainSeen.{EndsWhereRefused, GivesChain}
 use Rattle.x509_profile.specs.declared.chain.ChainFault.{ChainFault}
 use Rattle.x509_profile.specs.declared.chain.ChainFault.TheVariants.{At, Memory}
 use Rattle.x509_profile.specs.Chain.{AreCerts, BeginsWithCerts, Chain, EndsAt, HasNoFront, RefusedCertificate, Whole, behind, behind_front, certificates_in, certificates_up_to, front, joined, read_element, read_or_none, refused_at, with_rest}
+use Rattle.std.proofs.lemmas.Option.{same_Some}
 
 -- ---- one certificate
 
@@ -30,9 +31,6 @@ was_read : {X E : Type 0} (r : Result X E) (x : X) → read_or_none r ≡ Some x
 was_read (Ok y) x h = cc
 was_read (Err fault) x h = absurd cc
 
-same_inside : {X : Type 0} (x y : X) → Some x ≡ Some y → x ≡ y
-same_inside x y h = cc
-
 read_by : (bytes : List ℕ) (found : Element × List ℕ) (k : Option CertView) (certificate : CertView) (rest : List ℕ) → AllBytes bytes → next_at bytes ≡ Ok found
     → read_or_none (read_certificate found.0.whole) ≡ k → with_rest found.1 k ≡ Some (certificate, rest) → Fronts bytes certificate rest
 read_by bytes found (Some c) certificate rest typed e k h =
@@ -41,7 +39,7 @@ read_by bytes found (Some c) certificate rest typed e k h =
     let cert : Cert found.0.whole c = cert_found found.0.whole c whole (was_read (read_certificate found.0.whole) c k) in
     let there : CertView × List ℕ = (c, found.1) in
     let wanted : CertView × List ℕ = (certificate, rest) in
-    let same : there ≡ wanted = same_inside there wanted h in
+    let same : there ≡ wanted = same_Some there wanted h in
     let same_certificate : c ≡ certificate = ap (λ (x : CertView × List ℕ). x.0) same in
     let same_rest : found.1 ≡ rest = ap (λ (x : CertView × List ℕ). x.1) same in
     let of_whole : c.whole ≡ found.0.whole = cert.whole in
@@ -205,7 +203,7 @@ no_more (b ∷ before) (c ∷ others) left behind (bc, bs) (oc, os) e none =
     let two : front bytes ≡ Some (c, joined others ++ behind) = front_again bytes c (joined others ++ behind) oc (e ∙ append_assoc c.whole (joined others) behind) in
     let there : CertView × List ℕ = (b, joined before ++ left) in
     let wanted : CertView × List ℕ = (c, joined others ++ behind) in
-    let same : there ≡ wanted = same_inside there wanted (sym one ∙ two) in
+    let same : there ≡ wanted = same_Some there wanted (sym one ∙ two) in
     let fewer = no_more before others left behind bs os (ap (λ (x : CertView × List ℕ). x.1) same) none in
     omega (arith, fewer)
 

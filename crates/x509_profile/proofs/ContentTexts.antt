@@ -9,16 +9,17 @@ use Rattle.der_reader.proofs.IntegerLaws.{unsigned_found, unsigned_again}
 use Rattle.x509_profile.specs.declared.fault.Fault.{Fault}
 use Rattle.x509_profile.specs.declared.span.Span.{Span}
 use Rattle.x509_profile.specs.declared.part.Part.{Part}
-use Rattle.x509_profile.specs.declared.contents.Basic.{Basic}
-use Rattle.x509_profile.specs.declared.contents.Authority.{Authority}
+use Rattle.x509_profile.specs.declared.contents.BasicConstraintsValue.{BasicConstraintsValue}
+use Rattle.x509_profile.specs.declared.contents.AuthorityKeyIdentifier.{AuthorityKeyIdentifier}
 use Rattle.x509_profile.specs.Fault.{or_broken}
 use Rattle.x509_profile.specs.Span.{IsInside, bytes_of, is_empty}
 use Rattle.x509_profile.specs.Within.{first_in, sole_in}
 use Rattle.x509_profile.specs.Extension.{authority_in, basic_in, boolean_at, flag_at, flag_in, identifier_at, identifier_in, number_at, number_in, subject_key_in, usage_in}
 use Rattle.x509_profile.specs.Extended.{AuthorityText, BasicText, BooleanText, FirstIdentifier, FlagText, LimitText, UsageText}
-use Rattle.x509_profile.proofs.Steps.{after, came, inside, kept, number_test, other_number, same_number, unbroken}
+use Rattle.x509_profile.proofs.Steps.{kept, number_test, other_number, same_number, unbroken}
 use Rattle.x509_profile.proofs.SpanTexts.{Again, Front, Reads, Stands, nothing_read, nothing_there}
 use Rattle.x509_profile.proofs.WithinTexts.{first_reads, first_stands, sole_reads, sole_stands}
+use Rattle.lists.proofs.StepLaws.{after, came, inside}
 
 -- where an element stands, something stands
 pub some_there : (all : List ℕ) (span : Span) (text : List ℕ) (tag : ℕ) (content more : List ℕ) → Elem text tag content
@@ -167,7 +168,7 @@ limit_is_no_flag text (Some number) t = inr (record {
 
 -- ---- basicConstraints
 
-pub basic_there : (all : List ℕ) (span : Span) (broken : Fault) (basic : Basic) → AllBytes all → IsInside span all
+pub basic_there : (all : List ℕ) (span : Span) (broken : Fault) (basic : BasicConstraintsValue) → AllBytes all → IsInside span all
     → basic_in all span broken ≡ Ok basic → BasicText (bytes_of all span) basic
 unfolding basic_in
 basic_there all span broken basic b i e =
@@ -177,7 +178,7 @@ basic_there all span broken basic b i e =
     let t = flag_there all a.0.content broken f.0 b s.within.1 f.1 in
     let n = came (number_in all f.0.1 broken) _ basic f.2 in
     let limit = number_there all f.0.1 broken n.0 b t.inside n.1 in
-    let made : Basic = record { is_ca = f.0.0; path_length = n.0 } in
+    let made : BasicConstraintsValue = record { is_ca = f.0.0; path_length = n.0 } in
     let same : made ≡ basic = inside _ _ n.2 in
     subst (BasicText (bytes_of all span)) same (record {
       flag = t.text;
@@ -187,7 +188,7 @@ basic_there all span broken basic b i e =
       path_length = limit;
     })
 
-pub basic_read : (all : List ℕ) (span : Span) (broken : Fault) (basic : Basic) → IsInside span all
+pub basic_read : (all : List ℕ) (span : Span) (broken : Fault) (basic : BasicConstraintsValue) → IsInside span all
     → BasicText (bytes_of all span) basic → basic_in all span broken ≡ Ok basic
 unfolding basic_in
 basic_read all span broken basic i t =
@@ -198,7 +199,7 @@ basic_read all span broken basic i t =
     after (sole_in all span 0x30 broken) x.part _ _ x.reads
     (after (flag_in all x.part.content broken) f.out _ _ f.reads
     (after (number_in all f.out.1 broken) basic.path_length _ (Ok basic) n
-    (ap (λ c. let r : Result Basic Fault = Ok (record { is_ca = c; path_length = basic.path_length }) in r) f.is)))
+    (ap (λ c. let r : Result BasicConstraintsValue Fault = Ok (record { is_ca = c; path_length = basic.path_length }) in r) f.is)))
 
 -- ---- keyUsage
 
@@ -325,16 +326,16 @@ identifier_read all span broken key i t = elim t [
           o.2,
         )
 
-pub authority_there : (all : List ℕ) (span : Span) (broken : Fault) (authority : Authority) → AllBytes all → IsInside span all
+pub authority_there : (all : List ℕ) (span : Span) (broken : Fault) (authority : AuthorityKeyIdentifier) → AllBytes all → IsInside span all
     → authority_in all span broken ≡ Ok authority → AuthorityText (bytes_of all span) (key_at all authority.key)
 unfolding authority_in
 authority_there all span broken authority b i e =
     let a = came (sole_in all span 0x30 broken) _ authority e in
     let s = sole_stands all span 0x30 broken a.0 b i a.1 in
     let k = came (identifier_in all a.0.content broken) _ authority a.2 in
-    let made : Authority = record { key = k.0 } in
+    let made : AuthorityKeyIdentifier = record { key = k.0 } in
     let same : made ≡ authority = inside _ _ k.2 in
-    subst (λ (x : Authority). AuthorityText (bytes_of all span) (key_at all x.key)) same (record {
+    subst (λ (x : AuthorityKeyIdentifier). AuthorityText (bytes_of all span) (key_at all x.key)) same (record {
       content = bytes_of all a.0.content;
       elem = s.elem;
       first = identifier_there all a.0.content broken k.0 b s.within.1 k.1;
@@ -342,7 +343,7 @@ authority_there all span broken authority b i e =
 
 pub authority_read : (all : List ℕ) (span : Span) (broken : Fault) (key : Option (List ℕ)) → IsInside span all
     → AuthorityText (bytes_of all span) key
-    → (authority : Authority) × (authority_in all span broken ≡ Ok authority) × (key_at all authority.key ≡ key)
+    → (authority : AuthorityKeyIdentifier) × (authority_in all span broken ≡ Ok authority) × (key_at all authority.key ≡ key)
 unfolding authority_in
 authority_read all span broken key i t =
     let x = sole_reads all span broken 0x30 t.content i t.elem in

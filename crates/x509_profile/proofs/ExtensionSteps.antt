@@ -11,13 +11,11 @@ use Rattle.x509_profile.specs.declared.fault.CertFault.TheVariants.{At, Memory}
 use Rattle.x509_profile.specs.declared.span.Span.{Span}
 use Rattle.x509_profile.specs.declared.part.Part.{Part}
 use Rattle.x509_profile.specs.declared.extensions.Extensions.{Extensions}
-use Rattle.x509_profile.specs.Fault.{◌>>=◌, Gives}
+use Rattle.x509_profile.specs.Fault.{Gives}
+use Rattle.lists.specs.Steps.{◌>>=◌}
 use Rattle.x509_profile.specs.Span.{behind, bytes_of, is_empty, next_in, part_at, placed}
 use Rattle.x509_profile.specs.Extensions.{extensions_at, extensions_in, with_extension}
-
--- an equation of two answers that are Ok is one of what they hold
-inside : {X E : Type 0} (x y : X) → ◌≡◌ {A = Result X E} (Ok x) (Ok y) → x ≡ y
-inside x y e = cc
+use Rattle.lists.proofs.StepLaws.{inside}
 
 size_behind : (span : Span) (found : Element × List ℕ) → length found.1 < span.end - span.start
     → (behind span found).end - (behind span found).start < span.end - span.start

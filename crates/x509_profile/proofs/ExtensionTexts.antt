@@ -7,10 +7,10 @@ use Rattle.tn_auth_list.proofs.ListLaws.{list_found, list_again}
 use Rattle.x509_profile.specs.declared.fault.Fault.{Fault}
 use Rattle.x509_profile.specs.declared.span.Span.{Span}
 use Rattle.x509_profile.specs.declared.part.Part.{Part}
-use Rattle.x509_profile.specs.declared.contents.Authority.{Authority}
-use Rattle.x509_profile.specs.declared.name.Name.{Name}
-use Rattle.x509_profile.specs.declared.name.Name.TheVariants.{BasicConstraints, KeyUsage, SubjectKey, AuthorityKey, AuthorityList, ClaimConstraints, Unknown}
-use Rattle.x509_profile.specs.declared.known.Known.{Known}
+use Rattle.x509_profile.specs.declared.contents.AuthorityKeyIdentifier.{AuthorityKeyIdentifier}
+use Rattle.x509_profile.specs.declared.extension_id.ExtensionId.{ExtensionId}
+use Rattle.x509_profile.specs.declared.extension_id.ExtensionId.TheVariants.{BasicConstraints, KeyUsage, SubjectKey, AuthorityKey, AuthorityList, ClaimConstraints, Unknown}
+use Rattle.x509_profile.specs.declared.known.KnownExtensions.{KnownExtensions}
 use Rattle.x509_profile.specs.declared.extension.Extension.{Extension}
 use Rattle.x509_profile.specs.declared.extensions.Extensions.{Extensions}
 use Rattle.x509_profile.specs.Fault.{fault_at}
@@ -21,10 +21,11 @@ use Rattle.x509_profile.specs.Known.{known_with, with_authority, with_basic, wit
 use Rattle.x509_profile.specs.Extensions.{list_in, with_known, with_list, with_named}
 use Rattle.x509_profile.specs.Extended.{ExtensionText, ExtensionView, Values}
 use Rattle.x509_profile.proofs.Adding.{Adds}
-use Rattle.x509_profile.proofs.Steps.{after, came, inside, kept, number_test, same_number, through, unbroken, which}
+use Rattle.x509_profile.proofs.Steps.{kept, number_test, same_number, through, unbroken, which}
 use Rattle.x509_profile.proofs.SpanTexts.{all_bytes}
 use Rattle.x509_profile.proofs.WithinTexts.{first_tagged_reads, first_tagged_stands, sole_reads, sole_stands}
 use Rattle.x509_profile.proofs.ContentTexts.{NoFlag, authority_read, authority_there, basic_read, basic_there, flag_read, flag_there, key_at, subject_key_read, subject_key_there, usage_read, usage_there}
+use Rattle.lists.proofs.StepLaws.{after, came, inside}
 
 -- ---- the members of an extension
 
@@ -116,7 +117,7 @@ extension_read all text part broken view i t tag content =
 -- ---- what it adds
 
 -- the identifier in an authority key identifier, as it stands there
-abbrev pub authority_at : List ℕ → Option Authority → Option (Option (List ℕ))
+abbrev pub authority_at : List ℕ → Option AuthorityKeyIdentifier → Option (Option (List ℕ))
 authority_at all (Some authority) = Some (key_at all authority.key)
 authority_at all None = None
 
@@ -141,18 +142,18 @@ no_key : (all : List ℕ) (o : Option Span) → key_at all o ≡ None → o ≡ 
 no_key all None e = refl
 no_key all (Some x) e = cc
 
-no_authority : (all : List ℕ) (o : Option Authority) → authority_at all o ≡ None → o ≡ None
+no_authority : (all : List ℕ) (o : Option AuthorityKeyIdentifier) → authority_at all o ≡ None → o ≡ None
 no_authority all None e = refl
 no_authority all (Some x) e = cc
 
-known_there : (all : List ℕ) (found : Extensions) (name : Name) (value : Span) (broken : Fault) (more : Extensions)
+known_there : (all : List ℕ) (found : Extensions) (name : ExtensionId) (value : Span) (broken : Fault) (more : Extensions)
     → with_known all found name value broken ≡ Ok more
-    → (known : Known) × (known_with all found.known name value broken ≡ Ok known) × (record found { known = known } ≡ more)
+    → (known : KnownExtensions) × (known_with all found.known name value broken ≡ Ok known) × (record found { known = known } ≡ more)
 known_there all found name value broken more e =
     let a = came (known_with all found.known name value broken) _ more e in
     (a.0, a.1, inside _ _ a.2)
 
-pub added_there : (all : List ℕ) (found : Extensions) (name : Name) (extension : Extension) (place : ℕ) (more : Extensions)
+pub added_there : (all : List ℕ) (found : Extensions) (name : ExtensionId) (extension : Extension) (place : ℕ) (more : Extensions)
     → AllBytes all → IsPartInside extension.value all → with_named all found name extension place ≡ Ok more
     → Adds name (values_of all found) (extension_at all extension) (values_of all more)
 unfolding with_named known_with list_in
@@ -179,7 +180,7 @@ added_there all found BasicConstraints extension place more b i e =
       basic = c.0;
       text = basic_there all extension.value.content (fault_at 1 place) c.0 b i.1 c.1;
       once = none_there found.known.basic w.0;
-      adds = sym (ap (λ (x : Known). values_of all (record found { known = x })) same ∙ ap (values_of all) k.2);
+      adds = sym (ap (λ (x : KnownExtensions). values_of all (record found { known = x })) same ∙ ap (values_of all) k.2);
     }
 added_there all found KeyUsage extension place more b i e =
     let k = known_there all found KeyUsage extension.value.content (fault_at 1 place) more e in
@@ -190,7 +191,7 @@ added_there all found KeyUsage extension place more b i e =
       usage = c.0;
       text = usage_there all extension.value.content (fault_at 1 place) c.0 b i.1 c.1;
       once = none_there found.known.usage w.0;
-      adds = sym (ap (λ (x : Known). values_of all (record found { known = x })) same ∙ ap (values_of all) k.2);
+      adds = sym (ap (λ (x : KnownExtensions). values_of all (record found { known = x })) same ∙ ap (values_of all) k.2);
     }
 added_there all found SubjectKey extension place more b i e =
     let k = known_there all found SubjectKey extension.value.content (fault_at 1 place) more e in
@@ -201,7 +202,7 @@ added_there all found SubjectKey extension place more b i e =
       key = bytes_of all c.0;
       text = record { elem = subject_key_there all extension.value.content (fault_at 1 place) c.0 b i.1 c.1 };
       once = ap (key_at all) (none_there found.known.subject_key w.0);
-      adds = sym (ap (λ (x : Known). values_of all (record found { known = x })) same ∙ ap (values_of all) k.2);
+      adds = sym (ap (λ (x : KnownExtensions). values_of all (record found { known = x })) same ∙ ap (values_of all) k.2);
     }
 added_there all found AuthorityKey extension place more b i e =
     let k = known_there all found AuthorityKey extension.value.content (fault_at 1 place) more e in
@@ -212,7 +213,7 @@ added_there all found AuthorityKey extension place more b i e =
       key = key_at all c.0.key;
       text = authority_there all extension.value.content (fault_at 1 place) c.0 b i.1 c.1;
       once = ap (authority_at all) (none_there found.known.authority w.0);
-      adds = sym (ap (λ (x : Known). values_of all (record found { known = x })) same ∙ ap (values_of all) k.2);
+      adds = sym (ap (λ (x : KnownExtensions). values_of all (record found { known = x })) same ∙ ap (values_of all) k.2);
     }
 
 -- The reading gives extensions that say this.
@@ -220,13 +221,13 @@ abbrev pub Says : Result Extensions Fault → List ℕ → Values → Type 0
 Says r all values = (more : Extensions) × (r ≡ Ok more) × (values_of all more ≡ values)
 
 -- with an extension of fixed size
-with_fixed : (all : List ℕ) (found : Extensions) (name : Name) (value : Span) (broken : Fault) (known : Known) (values : Values)
+with_fixed : (all : List ℕ) (found : Extensions) (name : ExtensionId) (value : Span) (broken : Fault) (known : KnownExtensions) (values : Values)
     → known_with all found.known name value broken ≡ Ok known → values_of all (record found { known = known }) ≡ values
     → Says (with_known all found name value broken) all values
 with_fixed all found name value broken known values e v =
     (record found { known = known }, after (known_with all found.known name value broken) known _ _ e refl, v)
 
-pub added_read : (all : List ℕ) (found : Extensions) (name : Name) (extension : Extension) (place : ℕ) (values : Values)
+pub added_read : (all : List ℕ) (found : Extensions) (name : ExtensionId) (extension : Extension) (place : ℕ) (values : Values)
     → IsPartInside extension.value all → Adds name (values_of all found) (extension_at all extension) values
     → Says (with_named all found name extension place) all values
 unfolding with_named known_with list_in
@@ -241,7 +242,7 @@ added_read all found AuthorityList extension place values i a =
 added_read all found BasicConstraints extension place values i a =
     let broken : Fault = fault_at 1 place in
     let value : Span = extension.value.content in
-    let known : Known = record found.known { basic = Some a.basic } in
+    let known : KnownExtensions = record found.known { basic = Some a.basic } in
     let read : with_basic all found.known value broken ≡ Ok known =
     after (basic_in all value broken) a.basic _ _ (basic_read all value broken a.basic i.1 a.text) refl in
     with_fixed all found BasicConstraints value broken known values
@@ -249,7 +250,7 @@ added_read all found BasicConstraints extension place values i a =
 added_read all found KeyUsage extension place values i a =
     let broken : Fault = fault_at 1 place in
     let value : Span = extension.value.content in
-    let known : Known = record found.known { usage = Some a.usage } in
+    let known : KnownExtensions = record found.known { usage = Some a.usage } in
     let read : with_usage all found.known value broken ≡ Ok known =
     after (usage_in all value broken) a.usage _ _ (usage_read all value broken a.usage i.1 a.text) refl in
     with_fixed all found KeyUsage value broken known values
@@ -258,7 +259,7 @@ added_read all found SubjectKey extension place values i a =
     let broken : Fault = fault_at 1 place in
     let value : Span = extension.value.content in
     let k = subject_key_read all value broken a.key i.1 a.text.elem in
-    let known : Known = record found.known { subject_key = Some k.0 } in
+    let known : KnownExtensions = record found.known { subject_key = Some k.0 } in
     let read : with_subject_key all found.known value broken ≡ Ok known = after (subject_key_in all value broken) k.0 _ _ k.1 refl in
     let said : values_of all (record found { known = known }) ≡ values =
     ap (λ key. let v : Values = record (values_of all found) { subject_key = Some key } in v) k.2 ∙ sym a.adds in
@@ -269,7 +270,7 @@ added_read all found AuthorityKey extension place values i a =
     let broken : Fault = fault_at 1 place in
     let value : Span = extension.value.content in
     let k = authority_read all value broken a.key i.1 a.text in
-    let known : Known = record found.known { authority = Some k.0 } in
+    let known : KnownExtensions = record found.known { authority = Some k.0 } in
     let read : with_authority all found.known value broken ≡ Ok known = after (authority_in all value broken) k.0 _ _ k.1 refl in
     let said : values_of all (record found { known = known }) ≡ values =
     ap (λ key. let v : Values = record (values_of all found) { authority = Some key } in v) k.2 ∙ sym a.adds in

@@ -12,9 +12,10 @@ use Rattle.x509_profile.specs.Span.{IsInside, IsPartInside, bytes_of, ended, nex
 use Rattle.x509_profile.specs.Within.{bits_in, first_in, sole_in}
 use Rattle.x509_profile.specs.Signature.{numbers_in, scalar_in, signature_in}
 use Rattle.x509_profile.specs.Parts.{NumberText, SignatureText}
-use Rattle.x509_profile.proofs.Steps.{after, came, inside, kept, unbroken}
+use Rattle.x509_profile.proofs.Steps.{kept, unbroken}
 use Rattle.x509_profile.proofs.SpanTexts.{ended_read, ended_there, reads, stands}
 use Rattle.x509_profile.proofs.WithinTexts.{bits_read, bits_there, first_reads, first_stands, sole_reads, sole_stands}
+use Rattle.lists.proofs.StepLaws.{after, came, inside}
 
 -- the number of an element
 scalar_there : (all : List ℕ) (text : List ℕ) (part : Part) (broken : Fault) (number : List ℕ)

@@ -12,7 +12,7 @@ use Rattle.x509_profile.specs.declared.fault.Fault.{Fault}
 use Rattle.x509_profile.specs.declared.span.Span.{Span}
 use Rattle.x509_profile.specs.declared.part.Part.{Part}
 use Rattle.x509_profile.specs.declared.validity.Validity.{Validity}
-use Rattle.x509_profile.specs.declared.signed.Signed.{Signed}
+use Rattle.x509_profile.specs.declared.signed.SignedPart.{SignedPart}
 use Rattle.x509_profile.specs.Fault.{fault_at, or_broken}
 use Rattle.x509_profile.specs.Span.{IsInside, behind_text, bytes_of, is_empty, next_in, tagged_in}
 use Rattle.x509_profile.specs.Within.{first_in}
@@ -20,9 +20,10 @@ use Rattle.x509_profile.specs.Text.{algorithm_text, is_key, key_front, version_t
 use Rattle.x509_profile.specs.Signed.{key_in, signed_in, time_in, times_in, two_times, validity_in}
 use Rattle.x509_profile.specs.Parts.{AnyElement, KeyText, TimeElement, ValidityText}
 use Rattle.x509_profile.proofs.SpanLaws.{byte_count}
-use Rattle.x509_profile.proofs.Steps.{after, came, inside, kept, number_test, passed, same_number, taken, through, unbroken, which}
+use Rattle.x509_profile.proofs.Steps.{kept, number_test, passed, same_number, through, unbroken, which}
 use Rattle.x509_profile.proofs.SpanTexts.{Again, Front, Stands, cut, nothing_read, nothing_there, reads, stands, tagged_reads, tagged_stands, text_reads, text_stands}
 use Rattle.x509_profile.proofs.WithinTexts.{first_reads, first_stands}
+use Rattle.lists.proofs.StepLaws.{after, came, inside, taken}
 
 -- ---- times
 
@@ -252,7 +253,7 @@ key_read all span text point more i k split =
 -- ---- the signed part up to its key
 
 -- the texts of the signed part up to its key, and what follows
-pub record SignedFront (all : List ℕ) (text : List ℕ) (signed : Signed) (more : List ℕ) : Type 0 where
+pub record SignedFront (all : List ℕ) (text : List ℕ) (signed : SignedPart) (more : List ℕ) : Type 0 where
   pub serial : List ℕ
   pub validity : List ℕ
   pub key : List ℕ
@@ -271,7 +272,7 @@ any all span tag next s t = record {
   elem = subst (λ n. Elem (bytes_of all next.0.whole) n (bytes_of all next.0.content)) t s.elem;
 }
 
-pub signed_there : (all : List ℕ) (span : Span) (out : Signed × Span) → AllBytes all → IsInside span all
+pub signed_there : (all : List ℕ) (span : Span) (out : SignedPart × Span) → AllBytes all → IsInside span all
     → signed_in all span ≡ Ok out → SignedFront all (bytes_of all span) out.0 (bytes_of all out.1) × IsInside out.1 all
 unfolding signed_in
 signed_there all span out b i e =
@@ -289,7 +290,7 @@ signed_there all span out b i e =
     let tu = tagged_stands all v.0.1 0x30 u.0 b tv.inside u.1 in
     let k = came (key_in all u.0.1) _ out u.2 in
     let tk = key_there all u.0.1 k.0 b tu.0.rest k.1 in
-    let signed : Signed = record { issuer = n.0.0.whole; validity = v.0.0; subject = u.0.0.whole; key = k.0.0 } in
+    let signed : SignedPart = record { issuer = n.0.0.whole; validity = v.0.0; subject = u.0.0.whole; key = k.0.0 } in
     let issuer : List ℕ = bytes_of all n.0.0.whole in
     let subject : List ℕ = bytes_of all u.0.0.whole in
     let serial : List ℕ = bytes_of all s.0.0.whole in
@@ -297,7 +298,7 @@ signed_there all span out b i e =
     ta.0 ∙ ap (λ r. version_text ++ r) (ts.0.split ∙ ap (λ r. serial ++ r) (tg.0 ∙ ap (λ r. algorithm_text ++ r)
     (tn.0.split ∙ ap (λ r. issuer ++ r) (tv.split ∙ ap (λ r. tv.text ++ r) (tu.0.split ∙ ap (λ r. subject ++ r) tk.split))))) in
     let same : (signed, k.0.1) ≡ out = inside _ _ k.2 in
-    let P : Signed × Span → Type 0 = λ o. SignedFront all (bytes_of all span) o.0 (bytes_of all o.1) × IsInside o.1 all in
+    let P : SignedPart × Span → Type 0 = λ o. SignedFront all (bytes_of all span) o.0 (bytes_of all o.1) × IsInside o.1 all in
     subst P same (
       record {
         serial = serial;
@@ -314,7 +315,7 @@ signed_there all span out b i e =
     )
 
 -- what is kept of the signed part, as it stands there
-pub record Shows (all : List ℕ) (signed : Signed) (issuer : List ℕ) (validity : Validity) (subject point : List ℕ) : Type 0 where
+pub record Shows (all : List ℕ) (signed : SignedPart) (issuer : List ℕ) (validity : Validity) (subject point : List ℕ) : Type 0 where
   pub is_issuer : bytes_of all signed.issuer ≡ issuer
   pub is_validity : signed.validity ≡ validity
   pub is_subject : bytes_of all signed.subject ≡ subject
@@ -334,7 +335,7 @@ signed_read all span serial issuer validity subject key point more times i form 
     let v = validity_read all n.next.1 validity times _ n.inside is_validity n.left in
     let u = tagged_reads all v.out.1 subject 0x30 is_subject.content _ v.inside is_subject.elem v.left in
     let k = key_read all u.next.1 key point more u.inside is_key u.left in
-    let signed : Signed = record { issuer = n.next.0.whole; validity = v.out.0; subject = u.next.0.whole; key = k.out.0 } in
+    let signed : SignedPart = record { issuer = n.next.0.whole; validity = v.out.0; subject = u.next.0.whole; key = k.out.0 } in
     record {
       out = (signed, k.out.1);
       reads =

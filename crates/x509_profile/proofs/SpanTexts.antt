@@ -14,7 +14,8 @@ use Rattle.x509_profile.specs.declared.part.Part.{Part}
 use Rattle.x509_profile.specs.Fault.{fault_at}
 use Rattle.x509_profile.specs.Span.{IsInside, IsPartInside, behind, behind_text, bytes_of, ended, is_empty, next_in, part_at, placed, tagged_in}
 use Rattle.x509_profile.proofs.SpanLaws.{byte_count, sizes}
-use Rattle.x509_profile.proofs.Steps.{after, came, inside, number_test, passed, same_number, taken}
+use Rattle.x509_profile.proofs.Steps.{number_test, passed, same_number}
+use Rattle.lists.proofs.StepLaws.{after, came, inside, taken}
 
 -- ---- bytes of bytes
 

@@ -2,28 +2,7 @@
 use Rattle.std.proofs.Common.{◌≡◌, ◌≢◌, ℕ, ◌==◌, Bool, true, false, cond, Result, Ok, Err, refl, ap, ◌∙◌, arith}
 use Rattle.std.proofs.lemmas.Bool.Decides.{nat_tests}
 use Rattle.x509_profile.specs.declared.fault.Fault.{Fault}
-use Rattle.x509_profile.specs.Fault.{◌>>=◌, or_broken}
-
--- an equation of two answers that are Ok is one of what they hold
-pub inside : {X E : Type 0} (x y : X) → ◌≡◌ {A = Result X E} (Ok x) (Ok y) → x ≡ y
-inside x y e = cc
-
--- a reading that gives something gave something at its first step
-pub came : {A B : Type 0} (r : Result A Fault) (f : A → Result B Fault) (b : B) → r >>= f ≡ Ok b
-    → (a : A) × (r ≡ Ok a) × (f a ≡ Ok b)
-came (Ok a) f b e = (a, refl, e)
-came (Err x) f b e = cc
-
--- a step that gives something goes on with it
-pub after : {A B : Type 0} (r : Result A Fault) (a : A) (f : A → Result B Fault) (z : Result B Fault)
-    → r ≡ Ok a → f a ≡ z → r >>= f ≡ z
-after r a f z e k = ap (λ r. r >>= f) e ∙ k
-
--- an answer behind a test
-pub taken : {A : Type 0} (t : Bool) (v w : A) (fault : Fault) → ◌≡◌ {A = Result A Fault} (cond t (Ok v) (Err fault)) (Ok w)
-    → (t ≡ true) × (v ≡ w)
-taken true v w fault e = (refl, cc)
-taken false v w fault e = cc
+use Rattle.x509_profile.specs.Fault.{or_broken}
 
 -- the answer behind a test that holds
 pub passed : {A : Type 0} (t : Bool) (v : A) (fault : Fault) → t ≡ true → ◌≡◌ {A = Result A Fault} (cond t (Ok v) (Err fault)) (Ok v)

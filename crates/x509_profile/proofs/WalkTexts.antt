@@ -5,18 +5,19 @@ use Rattle.x509_profile.specs.declared.fault.Fault.{Fault}
 use Rattle.x509_profile.specs.declared.span.Span.{Span}
 use Rattle.x509_profile.specs.declared.part.Part.{Part}
 use Rattle.x509_profile.specs.declared.extensions.Extensions.{Extensions}
-use Rattle.x509_profile.specs.Fault.{◌>>=◌, fault_at}
-use Rattle.x509_profile.specs.Name.{name_of}
+use Rattle.x509_profile.specs.Fault.{fault_at}
+use Rattle.lists.specs.Steps.{◌>>=◌}
+use Rattle.x509_profile.specs.ExtensionId.{name_of}
 use Rattle.x509_profile.specs.Span.{IsInside, IsPartInside, bytes_of, ended, is_empty, next_in, tagged_in}
 use Rattle.x509_profile.specs.Extension.{extension_in}
 use Rattle.x509_profile.specs.Extensions.{extensions_at, extensions_in, marked_in, no_extensions, optional_in, with_extension}
 use Rattle.x509_profile.specs.Extended.{ExtensionText, ExtensionView, ExtensionsText, MarkedText, Values, no_values}
 use Rattle.x509_profile.proofs.Adding.{Adds, Extended, extended_say, say_extended}
-use Rattle.x509_profile.proofs.Steps.{after, came, inside}
 use Rattle.x509_profile.proofs.SpanTexts.{ended_read, ended_there, nothing_read, nothing_there, reads, stands, tagged_reads, tagged_stands}
 use Rattle.x509_profile.proofs.ContentTexts.{some_there}
 use Rattle.x509_profile.proofs.ExtensionSteps.{next_smaller}
 use Rattle.x509_profile.proofs.ExtensionTexts.{Says, added_read, added_there, extension_at, extension_read, extension_there, values_of}
+use Rattle.lists.proofs.StepLaws.{after, came, inside}
 
 -- an extension, and what it adds
 record Added (all text : List ℕ) (found more : Extensions) : Type 0 where

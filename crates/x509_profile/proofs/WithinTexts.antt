@@ -10,8 +10,9 @@ use Rattle.x509_profile.specs.Fault.{or_broken}
 use Rattle.x509_profile.specs.Span.{IsInside, IsPartInside, bytes_of, is_empty, next_in}
 use Rattle.x509_profile.specs.Within.{bits_in, first_in, first_tagged, sole_in}
 use Rattle.x509_profile.proofs.SpanLaws.{byte_count}
-use Rattle.x509_profile.proofs.Steps.{after, came, inside, kept, number_test, passed, same_number, taken, unbroken}
+use Rattle.x509_profile.proofs.Steps.{kept, number_test, passed, same_number, unbroken}
 use Rattle.x509_profile.proofs.SpanTexts.{Reads, Stands, cut, likewise, nothing_read, nothing_there, reads, stands}
+use Rattle.lists.proofs.StepLaws.{after, came, inside, taken}
 
 pub first_stands : (all : List ℕ) (span : Span) (broken : Fault) (next : Part × Span) → AllBytes all → IsInside span all
     → first_in all span broken ≡ Ok next → Stands all span next

@@ -1,4 +1,4 @@
--- A certificate of the profile (RFC 5280 section 4.1).
+-- A certificate of the profile (RFC 5280, section 4.1).
 use Rattle.std.specs.Prelude.{◌≡◌, ℕ, ◌≤◌, List, ◌++◌, length, Option, Some, None}
 use Rattle.sha2.specs.Sha256.{sha256}
 use Rattle.der_reader.specs.Elem.{Elem}

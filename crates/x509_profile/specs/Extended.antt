@@ -1,4 +1,4 @@
--- The extensions of a certificate of the profile, as texts, and what they say (RFC 5280 section 4.2).
+-- The extensions of a certificate of the profile, as texts, and what they say (RFC 5280, section 4.2).
 use Rattle.std.specs.Prelude.{◌≡◌, ◌≢◌, ◌⊎◌, ℕ, ◌^◌, ◌<◌, Bool, false, List, [], ◌∷◌, ◌++◌, Option, Some, None, Ok}
 use Rattle.der_reader.specs.BitString.{flags_of}
 use Rattle.der_reader.specs.Boolean.{boolean_text}
@@ -6,10 +6,10 @@ use Rattle.der_reader.specs.Elem.{Elem}
 use Rattle.der_reader.specs.Integer.{IntegerText}
 use Rattle.tn_auth_list.specs.declared.entries.Entry.{Entry}
 use Rattle.tn_auth_list.specs.ListText.{ListText}
-use Rattle.x509_profile.specs.declared.contents.Basic.{Basic}
-use Rattle.x509_profile.specs.declared.name.Name.{Name}
-use Rattle.x509_profile.specs.declared.name.Name.TheVariants.{BasicConstraints, KeyUsage, SubjectKey, AuthorityKey, AuthorityList, ClaimConstraints, Unknown}
-use Rattle.x509_profile.specs.Name.{name_of}
+use Rattle.x509_profile.specs.declared.contents.BasicConstraintsValue.{BasicConstraintsValue}
+use Rattle.x509_profile.specs.declared.extension_id.ExtensionId.{ExtensionId}
+use Rattle.x509_profile.specs.declared.extension_id.ExtensionId.TheVariants.{BasicConstraints, KeyUsage, SubjectKey, AuthorityKey, AuthorityList, ClaimConstraints, Unknown}
+use Rattle.x509_profile.specs.ExtensionId.{name_of}
 
 -- a BOOLEAN that says this
 pub record BooleanText (text : List ℕ) (truth : Bool) : Type 0 where
@@ -32,7 +32,7 @@ LimitText text (Some number) = CountText text number
 LimitText text None = text ≡ []
 
 -- basicConstraints: a SEQUENCE of cA and the path length, either of which may be absent (section 4.2.1.9)
-pub record BasicText (value : List ℕ) (basic : Basic) : Type 0 where
+pub record BasicText (value : List ℕ) (basic : BasicConstraintsValue) : Type 0 where
   pub flag : List ℕ
   pub limit : List ℕ
   pub elem : Elem value 0x30 (flag ++ limit)
@@ -85,12 +85,12 @@ OneAfterAnother (extension ∷ more) text =
     (first : List ℕ) × (rest : List ℕ) × (text ≡ first ++ rest) × ExtensionText first extension × OneAfterAnother more rest
 
 -- no extension has this name
-abbrev pub NoneNamed : Name → List ExtensionView → Type 0
+abbrev pub NoneNamed : ExtensionId → List ExtensionView → Type 0
 NoneNamed name [] = Unit {0}
 NoneNamed name (extension ∷ more) = (name_of extension.oid ≢ name) × NoneNamed name more
 
 -- the extension has this name, none behind it has, and this is what its content says
-pub record OnlyOne {A : Type 0} (name : Name) (Text : List ℕ → A → Type 0) (extension : ExtensionView)
+pub record OnlyOne {A : Type 0} (name : ExtensionId) (Text : List ℕ → A → Type 0) (extension : ExtensionView)
     (more : List ExtensionView) (said : Option A) : Type 0 where
   pub named : name_of extension.oid ≡ name
   pub value : A
@@ -99,7 +99,7 @@ pub record OnlyOne {A : Type 0} (name : Name) (Text : List ℕ → A → Type 0)
   pub none : NoneNamed name more
 
 -- At most one extension has this name, and what is said is what its content says.
-abbrev pub Once : {A : Type 0} → Name → (List ℕ → A → Type 0) → List ExtensionView → Option A → Type 0
+abbrev pub Once : {A : Type 0} → ExtensionId → (List ℕ → A → Type 0) → List ExtensionView → Option A → Type 0
 Once name Text [] said = said ≡ None
 Once name Text (extension ∷ more) said =
     OnlyOne name Text extension more said ⊎ ((name_of extension.oid ≢ name) × Once name Text more said)
@@ -115,7 +115,7 @@ AreAllowed (extension ∷ more) = IsAllowed extension × AreAllowed more
 
 -- what the extensions of the profile say, each where it stands
 pub record Values : Type 0 where
-  pub basic : Option Basic
+  pub basic : Option BasicConstraintsValue
   pub usage : Option ℕ
   pub subject_key : Option (List ℕ)
   -- the inner option is that of the identifier
@@ -135,7 +135,7 @@ pub record SayTogether (extensions : List ExtensionView) (values : Values) : Typ
   pub usage : Once KeyUsage UsageText extensions values.usage
   pub subject_key : Once SubjectKey SubjectKeyText extensions values.subject_key
   pub authority : Once AuthorityKey AuthorityText extensions values.authority
-  -- the telephone number authorization list (RFC 8226 section 9)
+  -- the telephone number authorization list (RFC 8226, section 9)
   pub list : Once AuthorityList ListText extensions values.list
   pub allowed : AreAllowed extensions
 

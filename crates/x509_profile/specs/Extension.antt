@@ -1,4 +1,4 @@
--- One extension of a certificate, as it is read (RFC 5280 sections 4.1 and 4.2).
+-- One extension of a certificate, as it is read (RFC 5280, sections 4.1 and 4.2).
 use Rattle.std.specs.Prelude.{ℕ, ◌==◌, List, Bool, false, Option, Some, None, Result, Ok, Err, if◌then◌else◌}
 use Rattle.der_reader.specs.BitString.{flags_of}
 use Rattle.der_reader.specs.Boolean.{boolean_of}
@@ -6,10 +6,11 @@ use Rattle.der_reader.specs.Integer.{unsigned_of}
 use Rattle.x509_profile.specs.declared.fault.Fault.{Fault}
 use Rattle.x509_profile.specs.declared.span.Span.{Span}
 use Rattle.x509_profile.specs.declared.part.Part.{Part}
-use Rattle.x509_profile.specs.declared.contents.Basic.{Basic}
-use Rattle.x509_profile.specs.declared.contents.Authority.{Authority}
+use Rattle.x509_profile.specs.declared.contents.BasicConstraintsValue.{BasicConstraintsValue}
+use Rattle.x509_profile.specs.declared.contents.AuthorityKeyIdentifier.{AuthorityKeyIdentifier}
 use Rattle.x509_profile.specs.declared.extension.Extension.{Extension}
-use Rattle.x509_profile.specs.Fault.{◌>>=◌, or_broken}
+use Rattle.x509_profile.specs.Fault.{or_broken}
+use Rattle.lists.specs.Steps.{◌>>=◌}
 use Rattle.x509_profile.specs.Span.{bytes_of, is_empty}
 use Rattle.x509_profile.specs.Within.{first_in, first_tagged, sole_in}
 
@@ -41,7 +42,7 @@ unfoldable pub number_in : List ℕ → Span → Fault → Result (Option ℕ) F
 number_in all span broken = if is_empty span then Ok None else number_at all span broken
 
 -- basicConstraints: a SEQUENCE of cA and the path length, either of which may be absent (section 4.2.1.9)
-unfoldable pub basic_in : List ℕ → Span → Fault → Result Basic Fault
+unfoldable pub basic_in : List ℕ → Span → Fault → Result BasicConstraintsValue Fault
 basic_in all span broken = do
   part ← sole_in all span 0x30 broken
   is_ca ← flag_in all part.content broken
@@ -71,7 +72,7 @@ unfoldable pub identifier_in : List ℕ → Span → Fault → Result (Option Sp
 identifier_in all span broken = if is_empty span then Ok None else identifier_at all span broken
 
 -- authorityKeyIdentifier: a SEQUENCE; what follows its first element is passed over (section 4.2.1.1)
-unfoldable pub authority_in : List ℕ → Span → Fault → Result Authority Fault
+unfoldable pub authority_in : List ℕ → Span → Fault → Result AuthorityKeyIdentifier Fault
 authority_in all span broken = do
   part ← sole_in all span 0x30 broken
   key ← identifier_in all part.content broken

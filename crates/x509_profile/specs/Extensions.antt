@@ -1,17 +1,18 @@
--- The extensions of a certificate, as they are read one after another (RFC 5280 section 4.2).
+-- The extensions of a certificate, as they are read one after another (RFC 5280, section 4.2).
 use Rattle.std.specs.Prelude.{ℕ, zero, suc, ◌-◌, List, Some, None, is_none, Result, Ok, Err, if◌then◌else◌}
 use Rattle.tn_auth_list.specs.declared.entries.Entry.{Entry}
 use Rattle.tn_auth_list.specs.Read.{read_list}
 use Rattle.x509_profile.specs.declared.fault.Fault.{Fault}
 use Rattle.x509_profile.specs.declared.span.Span.{Span}
 use Rattle.x509_profile.specs.declared.part.Part.{Part}
-use Rattle.x509_profile.specs.declared.name.Name.{Name}
-use Rattle.x509_profile.specs.declared.name.Name.TheVariants.{BasicConstraints, KeyUsage, SubjectKey, AuthorityKey, AuthorityList, ClaimConstraints, Unknown}
+use Rattle.x509_profile.specs.declared.extension_id.ExtensionId.{ExtensionId}
+use Rattle.x509_profile.specs.declared.extension_id.ExtensionId.TheVariants.{BasicConstraints, KeyUsage, SubjectKey, AuthorityKey, AuthorityList, ClaimConstraints, Unknown}
 use Rattle.x509_profile.specs.declared.extension.Extension.{Extension}
 use Rattle.x509_profile.specs.declared.extensions.Extensions.{Extensions}
-use Rattle.x509_profile.specs.Fault.{◌>>=◌, fault_at, or_broken}
+use Rattle.x509_profile.specs.Fault.{fault_at, or_broken}
+use Rattle.lists.specs.Steps.{◌>>=◌}
 use Rattle.x509_profile.specs.Span.{bytes_of, ended, is_empty, next_in, tagged_in}
-use Rattle.x509_profile.specs.Name.{name_of}
+use Rattle.x509_profile.specs.ExtensionId.{name_of}
 use Rattle.x509_profile.specs.Extension.{extension_in}
 use Rattle.x509_profile.specs.Known.{known_with, nothing_known}
 
@@ -30,14 +31,14 @@ with_list all found value = do
   Ok (record found { list = Some list })
 
 -- with an extension of fixed size
-abbrev pub with_known : List ℕ → Extensions → Name → Span → Fault → Result Extensions Fault
+abbrev pub with_known : List ℕ → Extensions → ExtensionId → Span → Fault → Result Extensions Fault
 with_known all found name value broken = do
   known ← known_with all found.known name value broken
   Ok (record found { known = known })
 
 -- With one more extension, which begins at this place. One of the profile may not have been read before,
 -- constraints on claims are refused, and any other extension is passed over where it isn't critical.
-unfoldable pub with_named : List ℕ → Extensions → Name → Extension → ℕ → Result Extensions Fault
+unfoldable pub with_named : List ℕ → Extensions → ExtensionId → Extension → ℕ → Result Extensions Fault
 with_named all found ClaimConstraints extension place = Err (fault_at 7 place)
 with_named all found Unknown extension place =
     if extension.critical then Err (fault_at 6 place) else Ok found

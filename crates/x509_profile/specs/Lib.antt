@@ -4,7 +4,7 @@ pub mod Within
 pub mod Text
 pub mod Signed
 pub mod Signature
-pub mod Name
+pub mod ExtensionId
 pub mod Extension
 pub mod Known
 pub mod Extensions

@@ -1,4 +1,4 @@
--- The parts of a certificate of the profile, as texts (RFC 5280 section 4.1, in DER).
+-- The parts of a certificate of the profile, as texts (RFC 5280, section 4.1, in DER).
 use Rattle.std.specs.Prelude.{◌≡◌, ℕ, ℤ, List, ◌∷◌, ◌++◌, length, Ok}
 use Rattle.der_reader.specs.BitString.{BitText}
 use Rattle.der_reader.specs.Elem.{Elem}

@@ -1,11 +1,12 @@
 -- What reading a certificate gives: its values, or the first broken part in byte order, with its kind and its
--- offset (RFC 5280 section 4.1).
+-- offset (RFC 5280, section 4.1).
 use Rattle.std.specs.Prelude.{ℕ, List, length, nat_lt, Result, Ok, Err, if◌then◌else◌}
 use Rattle.x509_profile.specs.declared.fault.Fault.{Fault}
 use Rattle.x509_profile.specs.declared.span.Span.{Span}
 use Rattle.x509_profile.specs.declared.part.Part.{Part}
 use Rattle.x509_profile.specs.declared.fields.Fields.{Fields}
-use Rattle.x509_profile.specs.Fault.{◌>>=◌, fault_at}
+use Rattle.x509_profile.specs.Fault.{fault_at}
+use Rattle.lists.specs.Steps.{◌>>=◌}
 use Rattle.x509_profile.specs.Span.{behind_text, ended, tagged_in}
 use Rattle.x509_profile.specs.Text.{algorithm_text}
 use Rattle.x509_profile.specs.Signed.{signed_in}

@@ -1,11 +1,12 @@
--- A certificate's signature, as it is read: the BIT STRING of a SEQUENCE of two INTEGERs (RFC 5280 section
+-- A certificate's signature, as it is read: the BIT STRING of a SEQUENCE of two INTEGERs (RFC 5280, section
 -- 4.1.1.3, RFC 5480 appendix A).
 use Rattle.std.specs.Prelude.{ℕ, List, ◌++◌, Result, Ok}
 use Rattle.der_reader.specs.Integer.{scalar_of}
 use Rattle.x509_profile.specs.declared.fault.Fault.{Fault}
 use Rattle.x509_profile.specs.declared.span.Span.{Span}
 use Rattle.x509_profile.specs.declared.part.Part.{Part}
-use Rattle.x509_profile.specs.Fault.{◌>>=◌, fault_at, or_broken}
+use Rattle.x509_profile.specs.Fault.{fault_at, or_broken}
+use Rattle.lists.specs.Steps.{◌>>=◌}
 use Rattle.x509_profile.specs.Span.{bytes_of, ended, next_in}
 use Rattle.x509_profile.specs.Within.{bits_in, first_in, sole_in}
 

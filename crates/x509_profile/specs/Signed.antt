@@ -1,12 +1,13 @@
--- The signed part of a certificate up to its key, as it is read (RFC 5280 section 4.1).
+-- The signed part of a certificate up to its key, as it is read (RFC 5280, section 4.1).
 use Rattle.std.specs.Prelude.{ℕ, ◌+◌, ◌==◌, List, ℤ, Result, Ok, Err, if◌then◌else◌}
 use Rattle.der_reader.specs.Time.{time_of}
 use Rattle.x509_profile.specs.declared.fault.Fault.{Fault}
 use Rattle.x509_profile.specs.declared.span.Span.{Span}
 use Rattle.x509_profile.specs.declared.part.Part.{Part}
 use Rattle.x509_profile.specs.declared.validity.Validity.{Validity}
-use Rattle.x509_profile.specs.declared.signed.Signed.{Signed}
-use Rattle.x509_profile.specs.Fault.{◌>>=◌, fault_at, or_broken}
+use Rattle.x509_profile.specs.declared.signed.SignedPart.{SignedPart}
+use Rattle.x509_profile.specs.Fault.{fault_at, or_broken}
+use Rattle.lists.specs.Steps.{◌>>=◌}
 use Rattle.x509_profile.specs.Span.{behind_text, bytes_of, is_empty, next_in, tagged_in}
 use Rattle.x509_profile.specs.Within.{first_in}
 use Rattle.x509_profile.specs.Text.{algorithm_text, is_key, version_text}
@@ -27,7 +28,7 @@ two_times all span broken = do
       then Ok (record { not_before = not_before.0; not_after = not_after.0 })
       else Err broken
 
--- the times of a validity: a SEQUENCE of two times (RFC 5280 section 4.1.2.5)
+-- the times of a validity: a SEQUENCE of two times (RFC 5280, section 4.1.2.5)
 abbrev pub times_in : List ℕ → Part → Fault → Result Validity Fault
 times_in all part broken = if part.tag == 0x30 then two_times all part.content broken else Err broken
 
@@ -39,7 +40,7 @@ validity_in all span = do
   Ok (validity, found.1)
 
 -- The bytes of the key, from the one that says that the point isn't compressed on, and what is behind
--- the key (RFC 5280 section 4.1.2.7, RFC 5480 section 2).
+-- the key (RFC 5280, section 4.1.2.7, RFC 5480, section 2).
 unfoldable pub key_in : List ℕ → Span → Result (Span × Span) Fault
 key_in all span = do
   found ← next_in all span
@@ -48,8 +49,8 @@ key_in all span = do
       else Err (fault_at 4 found.0.whole.start)
 
 -- The signed part up to its key, and what is behind it: version, serial number, algorithm, issuer,
--- validity, subject and key (RFC 5280 section 4.1).
-unfoldable pub signed_in : List ℕ → Span → Result (Signed × Span) Fault
+-- validity, subject and key (RFC 5280, section 4.1).
+unfoldable pub signed_in : List ℕ → Span → Result (SignedPart × Span) Fault
 signed_in all span = do
   serial_at ← behind_text all span version_text 2
   serial ← tagged_in all serial_at 0x02

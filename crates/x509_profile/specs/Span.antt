@@ -1,4 +1,4 @@
--- Places in a certificate's bytes, and the elements that stand there (X.690 section 8.1).
+-- Places in a certificate's bytes, and the elements that stand there (X.690, section 8.1).
 use Rattle.std.specs.Prelude.{ℕ, ◌+◌, ◌-◌, ◌≤◌, Bool, ◌==◌, List, length, slice_range, Result, Ok, Err, if◌then◌else◌}
 use Rattle.std.specs.Str.{bytes_eq}
 use Rattle.der_reader.specs.Elem.{Element}
@@ -7,7 +7,8 @@ use Rattle.der_reader.specs.declared.fault.DerFault.{DerFault}
 use Rattle.x509_profile.specs.declared.fault.Fault.{Fault}
 use Rattle.x509_profile.specs.declared.span.Span.{Span}
 use Rattle.x509_profile.specs.declared.part.Part.{Part}
-use Rattle.x509_profile.specs.Fault.{◌>>=◌, fault_at}
+use Rattle.x509_profile.specs.Fault.{fault_at}
+use Rattle.lists.specs.Steps.{◌>>=◌}
 
 -- the bytes that stand there
 abbrev pub bytes_of : List ℕ → Span → List ℕ

@@ -4,9 +4,9 @@ use Rattle.std.specs.Option.{option_map}
 use Rattle.sha2.specs.Sha256.{sha256}
 use Rattle.tn_auth_list.specs.declared.entries.Entry.{Entry}
 use Rattle.x509_profile.specs.declared.span.Span.{Span}
-use Rattle.x509_profile.specs.declared.contents.Basic.{Basic}
-use Rattle.x509_profile.specs.declared.contents.Authority.{Authority}
-use Rattle.x509_profile.specs.declared.signed.Signed.{Signed}
+use Rattle.x509_profile.specs.declared.contents.BasicConstraintsValue.{BasicConstraintsValue}
+use Rattle.x509_profile.specs.declared.contents.AuthorityKeyIdentifier.{AuthorityKeyIdentifier}
+use Rattle.x509_profile.specs.declared.signed.SignedPart.{SignedPart}
 use Rattle.x509_profile.specs.declared.extensions.Extensions.{Extensions}
 use Rattle.x509_profile.specs.declared.fields.Fields.{Fields}
 use Rattle.x509_profile.specs.Span.{bytes_of}
@@ -36,22 +36,22 @@ pub record CertView : Type 0 where
   pub list : Option (List Entry)
 
 -- whether basic constraints say that the key may sign certificates
-abbrev pub says_ca : Option Basic → Bool
+abbrev pub says_ca : Option BasicConstraintsValue → Bool
 says_ca (Some basic) = basic.is_ca
 says_ca None = false
 
 -- the path length in basic constraints
-abbrev pub path_length_of : Option Basic → Option ℕ
+abbrev pub path_length_of : Option BasicConstraintsValue → Option ℕ
 path_length_of (Some basic) = basic.path_length
 path_length_of None = None
 
 -- the place of the identifier in an authority key identifier
-abbrev pub identifier_of : Option Authority → Option Span
+abbrev pub identifier_of : Option AuthorityKeyIdentifier → Option Span
 identifier_of (Some authority) = authority.key
 identifier_of None = None
 
 -- what the parts of these bytes are seen as
-abbrev pub view_at : List ℕ → Signed → Extensions → List ℕ → List ℕ → List ℕ → CertView
+abbrev pub view_at : List ℕ → SignedPart → Extensions → List ℕ → List ℕ → List ℕ → CertView
 view_at all signed extensions key digest signature = record {
   whole = all;
   subject = bytes_of all signed.subject;

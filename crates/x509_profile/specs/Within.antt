@@ -4,7 +4,8 @@ use Rattle.der_reader.specs.BitString.{bits_of}
 use Rattle.x509_profile.specs.declared.fault.Fault.{Fault}
 use Rattle.x509_profile.specs.declared.span.Span.{Span}
 use Rattle.x509_profile.specs.declared.part.Part.{Part}
-use Rattle.x509_profile.specs.Fault.{◌>>=◌, or_broken}
+use Rattle.x509_profile.specs.Fault.{or_broken}
+use Rattle.lists.specs.Steps.{◌>>=◌}
 use Rattle.x509_profile.specs.Span.{bytes_of, is_empty, next_in}
 
 -- the first element
@@ -23,7 +24,7 @@ sole_in all span tag broken = do
   found ← first_tagged all span tag broken
   if is_empty found.1 then Ok found.0 else Err broken
 
--- the bytes of a BIT STRING without unused bits (X.690 section 8.6)
+-- the bytes of a BIT STRING without unused bits (X.690, section 8.6)
 unfoldable pub bits_in : List ℕ → Part → Fault → Result Span Fault
 bits_in all part broken = do
   bits ← or_broken (bits_of part.tag (bytes_of all part.content)) broken

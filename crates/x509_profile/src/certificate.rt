@@ -10,7 +10,7 @@ ghost use Rattle.x509_profile.specs.View.{CertView};
 use crate::extensions::Extensions;
 use crate::fault::CertFault;
 use crate::fields::Fields;
-use crate::signed::Signed;
+use crate::signed::SignedPart;
 use sha2::{Digest, Sha256};
 use std::alloc::Global;
 use std::marker::Model;
@@ -23,7 +23,7 @@ use tn_auth_list::AuthList;
 #[derive(Drop)]
 pub struct Certificate {
     bytes: Vec<u8>,
-    signed: Signed,
+    signed: SignedPart,
     extensions: Extensions,
     key: [u8; 65],
     digest: [u8; 32],
@@ -100,7 +100,7 @@ impl Certificate {
         &self.bytes
     }
 
-    /// The subject's name: its whole element, a SEQUENCE (RFC 5280 section 4.1.2.6). Names are one
+    /// The subject's name: its whole element, a SEQUENCE (RFC 5280, section 4.1.2.6). Names are one
     /// where they are so byte for byte, which is this project's own rule.
     pub fn subject(&self) -> &[u8]
         ensures { result.now ≡ self.now.subject }
@@ -108,14 +108,14 @@ impl Certificate {
         self.signed.subject.of(&self.bytes)
     }
 
-    /// The issuer's name: its whole element, a SEQUENCE (RFC 5280 section 4.1.2.4).
+    /// The issuer's name: its whole element, a SEQUENCE (RFC 5280, section 4.1.2.4).
     pub fn issuer(&self) -> &[u8]
         ensures { result.now ≡ self.now.issuer }
     {
         self.signed.issuer.of(&self.bytes)
     }
 
-    /// The first second at which the certificate is valid, in Unix time (RFC 5280 section 4.1.2.5).
+    /// The first second at which the certificate is valid, in Unix time (RFC 5280, section 4.1.2.5).
     pub fn not_before(&self) -> i64
         ensures { result ≡ self.now.not_before }
     {
@@ -129,14 +129,14 @@ impl Certificate {
         self.signed.validity.not_after
     }
 
-    /// The point of the key: the byte 04, and 32 bytes each of x and y (RFC 5480 section 2.2).
+    /// The point of the key: the byte 04, and 32 bytes each of x and y (RFC 5480, section 2.2).
     pub fn key(&self) -> &[u8; 65]
         ensures { result.now ≡ self.now.key }
     {
         &self.key
     }
 
-    /// The SHA-256 of the signed part, which is what the signature signs (RFC 5280 section 4.1.1.3).
+    /// The SHA-256 of the signed part, which is what the signature signs (RFC 5280, section 4.1.1.3).
     pub fn digest(&self) -> &[u8; 32]
         ensures { result.now ≡ self.now.digest }
     {
@@ -150,7 +150,7 @@ impl Certificate {
         &self.signature
     }
 
-    /// Whether the key may sign certificates (RFC 5280 section 4.2.1.9).
+    /// Whether the key may sign certificates (RFC 5280, section 4.2.1.9).
     pub fn is_ca(&self) -> bool
         ensures { result ≡ self.now.is_ca }
     {
@@ -171,14 +171,14 @@ impl Certificate {
     }
 
     /// What the key may be used for, where that is said: bit 0 is digitalSignature and bit 5 keyCertSign
-    /// (RFC 5280 section 4.2.1.3).
+    /// (RFC 5280, section 4.2.1.3).
     pub fn usage(&self) -> Option<u16>
         ensures { result ≡ self.now.usage }
     {
         self.extensions.known.usage
     }
 
-    /// The identifier of the key (RFC 5280 section 4.2.1.2).
+    /// The identifier of the key (RFC 5280, section 4.2.1.2).
     pub fn subject_key(&self) -> Option<&[u8]>
         ensures { option_copied result ≡ self.now.subject_key }
     {
@@ -188,7 +188,7 @@ impl Certificate {
         }
     }
 
-    /// The identifier of the issuer's key (RFC 5280 section 4.2.1.1).
+    /// The identifier of the issuer's key (RFC 5280, section 4.2.1.1).
     pub fn authority_key(&self) -> Option<&[u8]>
         ensures { option_copied result ≡ self.now.authority_key }
     {
@@ -201,7 +201,7 @@ impl Certificate {
         }
     }
 
-    /// The telephone numbers that the holder may speak for (RFC 8226 section 9). A certificate without a
+    /// The telephone numbers that the holder may speak for (RFC 8226, section 9). A certificate without a
     /// list has no limit of its own.
     pub fn list(&self) -> Option<&AuthList>
         ensures { option_copied result ≡ self.now.list }

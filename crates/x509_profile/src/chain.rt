@@ -87,6 +87,7 @@ pub fn read_chain(alloc: Global, bytes: &[u8]) -> Result<Vec<Certificate>, Chain
     certificates_of(alloc, bytes)
 }
 
+/// The certificates that the bytes are, or the first that is refused.
 #[tactic(auto, using(crate::proofs::ChainSteps::left_all, crate::proofs::ChainSteps::left_done, crate::proofs::ChainSteps::left_many, crate::proofs::ChainSteps::left_refused, crate::proofs::ChainSteps::left_few))]
 fn certificates_of(alloc: Global, bytes: &[u8]) -> Result<Vec<Certificate>, ChainFault>
     ensures { GivesChain (λ certificates. certificates.items) result (certificates_in bytes.now) }

@@ -1,4 +1,4 @@
-//! The contents of the extensions that the profile knows (RFC 5280 section 4.2.1).
+//! The contents of the extensions that the profile knows (RFC 5280, section 4.2.1).
 
 ghost use Rattle.std.specs.Prelude.{◌≡◌, ◌≤◌, length, IfOk, IfErr, IfSome};
 ghost use Rattle.x509_profile.specs.Span.{IsInside};
@@ -8,19 +8,19 @@ use crate::fault::Fault;
 use crate::span::Span;
 use crate::tags::{BIT_STRING, BOOLEAN, INTEGER, KEY_IDENTIFIER, OCTET_STRING, SEQUENCE};
 
-/// The basic constraints (RFC 5280 section 4.2.1.9).
+/// The basic constraints (RFC 5280, section 4.2.1.9).
 #[derive(Clone, Copy)]
-pub(crate) struct Basic {
+pub(crate) struct BasicConstraintsValue {
     /// Whether the key may sign certificates.
     pub is_ca: bool,
     /// How many certificates may stand between this one and the leaf.
     pub path_length: Option<u64>,
 }
 
-impl Basic {
+impl BasicConstraintsValue {
     /// The content: a SEQUENCE of a BOOLEAN and an INTEGER, either of which may be absent.
     #[tactic(auto, unfolding(crate::specs::Extension::basic_in))]
-    pub fn read(all: &[u8], span: Span, broken: Fault) -> Result<Basic, Fault>
+    pub fn read(all: &[u8], span: Span, broken: Fault) -> Result<BasicConstraintsValue, Fault>
         requires inside { IsInside span all.now }
         ensures exact { result ≡ basic_in all.now span broken }
         ensures fault { IfErr result (λ fault. fault ≡ broken) }
@@ -28,7 +28,7 @@ impl Basic {
         let part = span.sole(all, SEQUENCE, broken)?;
         let (is_ca, rest) = read_flag(all, part.content, broken)?;
         let path_length = read_number(all, rest, broken)?;
-        Ok(Basic { is_ca, path_length })
+        Ok(BasicConstraintsValue { is_ca, path_length })
     }
 }
 
@@ -71,7 +71,7 @@ fn read_number(all: &[u8], span: Span, broken: Fault) -> Result<Option<u64>, Fau
 }
 
 /// The key usages: a BIT STRING of at most 16 bits, whose bit 0 is digitalSignature and whose bit 5 is
-/// keyCertSign (RFC 5280 section 4.2.1.3).
+/// keyCertSign (RFC 5280, section 4.2.1.3).
 #[tactic(auto, unfolding(crate::specs::Extension::usage_in))]
 pub(crate) fn read_usage(all: &[u8], span: Span, broken: Fault) -> Result<u16, Fault>
     requires inside { IsInside span all.now }
@@ -85,7 +85,7 @@ pub(crate) fn read_usage(all: &[u8], span: Span, broken: Fault) -> Result<u16, F
     }
 }
 
-/// The subject key identifier: the content of an OCTET STRING (RFC 5280 section 4.2.1.2).
+/// The subject key identifier: the content of an OCTET STRING (RFC 5280, section 4.2.1.2).
 #[tactic(auto, unfolding(crate::specs::Extension::subject_key_in))]
 pub(crate) fn read_subject_key(all: &[u8], span: Span, broken: Fault) -> Result<Span, Fault>
     requires inside { IsInside span all.now }
@@ -97,17 +97,17 @@ pub(crate) fn read_subject_key(all: &[u8], span: Span, broken: Fault) -> Result<
     Ok(part.content)
 }
 
-/// The authority key identifier (RFC 5280 section 4.2.1.1).
+/// The authority key identifier (RFC 5280, section 4.2.1.1).
 #[derive(Clone, Copy)]
-pub(crate) struct Authority {
+pub(crate) struct AuthorityKeyIdentifier {
     /// The identifier of the issuer's key.
     pub key: Option<Span>,
 }
 
-impl Authority {
+impl AuthorityKeyIdentifier {
     /// The content: a SEQUENCE; what follows its first element is passed over.
     #[tactic(auto, unfolding(crate::specs::Extension::authority_in))]
-    pub fn read(all: &[u8], span: Span, broken: Fault) -> Result<Authority, Fault>
+    pub fn read(all: &[u8], span: Span, broken: Fault) -> Result<AuthorityKeyIdentifier, Fault>
         requires inside { IsInside span all.now }
         ensures exact { result ≡ authority_in all.now span broken }
         ensures key { IfOk result (λ authority. IfSome authority.key (λ key. IsInside key all.now)) }
@@ -115,7 +115,7 @@ impl Authority {
     {
         let part = span.sole(all, SEQUENCE, broken)?;
         let key = read_identifier(all, part.content, broken)?;
-        Ok(Authority { key })
+        Ok(AuthorityKeyIdentifier { key })
     }
 }
 

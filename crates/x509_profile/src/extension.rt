@@ -1,4 +1,4 @@
-//! One extension of a certificate (RFC 5280 section 4.1).
+//! One extension of a certificate (RFC 5280, section 4.1).
 
 ghost use Rattle.std.specs.Prelude.{◌≡◌, ◌≤◌, length, IfOk, IfErr};
 ghost use Rattle.x509_profile.specs.Span.{IsInside, IsPartInside};

@@ -1,4 +1,4 @@
-//! The extensions of a certificate (RFC 5280 section 4.2).
+//! The extensions of a certificate (RFC 5280, section 4.2).
 
 ghost use Rattle.std.specs.Prelude.{◌≡◌, ◌≤◌, length, IfOk};
 ghost use Rattle.x509_profile.specs.Fault.{Gives, IsPlacedUpTo};
@@ -7,9 +7,9 @@ ghost use Rattle.x509_profile.specs.Known.{AreInside};
 ghost use Rattle.x509_profile.specs.Extensions.{extensions_in, list_in, marked_in, no_extensions, optional_in, with_extension, with_named};
 
 use crate::extension::Extension;
+use crate::extension_id::ExtensionId;
 use crate::fault::CertFault;
-use crate::known::Known;
-use crate::name::Name;
+use crate::known::KnownExtensions;
 use crate::part::Part;
 use crate::span::Span;
 use crate::tags::{EXTENSIONS, SEQUENCE};
@@ -19,7 +19,7 @@ use tn_auth_list::{AuthList, ListFault};
 /// The extensions that were read so far.
 #[derive(Drop)]
 pub(crate) struct Extensions {
-    pub known: Known,
+    pub known: KnownExtensions,
     pub list: Option<AuthList>,
 }
 
@@ -43,7 +43,7 @@ impl Extensions {
         ensures exact { result ≡ no_extensions }
     {
         Extensions {
-            known: Known::new(),
+            known: KnownExtensions::new(),
             list: None,
         }
     }
@@ -92,7 +92,7 @@ impl Extensions {
         ensures place { IsPlacedUpTo (length all.now) result }
     {
         let extension = Extension::read(all, part, part.fault(CertFault::DER))?;
-        let name = Name::of(extension.oid.of(all));
+        let name = ExtensionId::of(extension.oid.of(all));
         self.with_named(alloc, all, name, extension, part)
     }
 
@@ -102,7 +102,7 @@ impl Extensions {
         self,
         alloc: Global,
         all: &[u8],
-        name: Name,
+        name: ExtensionId,
         extension: Extension,
         part: Part,
     ) -> Result<Extensions, CertFault>
@@ -114,15 +114,15 @@ impl Extensions {
         ensures place { IsPlacedUpTo (length all.now) result }
     {
         match name {
-            Name::ClaimConstraints => Err(CertFault::from(part.fault(CertFault::CONSTRAINT))),
-            Name::Unknown if extension.critical => {
+            ExtensionId::ClaimConstraints => Err(CertFault::from(part.fault(CertFault::CONSTRAINT))),
+            ExtensionId::Unknown if extension.critical => {
                 Err(CertFault::from(part.fault(CertFault::CRITICAL)))
             }
-            Name::Unknown => Ok(self),
-            Name::AuthorityList if self.list.is_some() => {
+            ExtensionId::Unknown => Ok(self),
+            ExtensionId::AuthorityList if self.list.is_some() => {
                 Err(CertFault::from(part.fault(CertFault::DER)))
             }
-            Name::AuthorityList => Ok(Extensions {
+            ExtensionId::AuthorityList => Ok(Extensions {
                 list: Some(read_list(alloc, all, extension.value)?),
                 known: self.known,
             }),

@@ -23,19 +23,19 @@ pub enum CertFault {
 impl CertFault {
     /// An element can't be read, has another tag, or isn't of its form, or bytes are left over.
     pub const DER: u8 = 1;
-    /// The version isn't 3 (RFC 5280 section 4.1.2.1).
+    /// The version isn't 3 (RFC 5280, section 4.1.2.1).
     pub const VERSION: u8 = 2;
-    /// An algorithm isn't ecdsa-with-SHA256 (RFC 5758 section 3.2).
+    /// An algorithm isn't ecdsa-with-SHA256 (RFC 5758, section 3.2).
     pub const ALGORITHM: u8 = 3;
-    /// The key isn't an uncompressed point of P-256 (RFC 5480 section 2).
+    /// The key isn't an uncompressed point of P-256 (RFC 5480, section 2).
     pub const KEY: u8 = 4;
-    /// The validity isn't two times (RFC 5280 section 4.1.2.5).
+    /// The validity isn't two times (RFC 5280, section 4.1.2.5).
     pub const TIME: u8 = 5;
-    /// A critical extension isn't known (RFC 5280 section 4.2).
+    /// A critical extension isn't known (RFC 5280, section 4.2).
     pub const CRITICAL: u8 = 6;
-    /// The certificate constrains the claims that may be signed (RFC 8226 section 8, RFC 9118).
+    /// The certificate constrains the claims that may be signed (RFC 8226, section 8, RFC 9118).
     pub const CONSTRAINT: u8 = 7;
-    /// The telephone number authorization list can't be read (RFC 8226 section 9).
+    /// The telephone number authorization list can't be read (RFC 8226, section 9).
     pub const LIST: u8 = 8;
     /// The signature isn't two numbers below 2^256 (RFC 5480 appendix A).
     pub const SIGNATURE: u8 = 9;

@@ -1,4 +1,4 @@
-//! The parts of a certificate (RFC 5280 section 4.1).
+//! The parts of a certificate (RFC 5280, section 4.1).
 
 ghost use Rattle.std.specs.Prelude.{◌≡◌, ◌+◌, ◌≤◌, length, IfOk, IfErr};
 ghost use Rattle.x509_profile.specs.Fault.{Gives, IsPlacedUpTo};
@@ -10,7 +10,7 @@ use crate::extensions::Extensions;
 use crate::fault::{CertFault, Fault};
 use crate::part::Part;
 use crate::signature::read_signature;
-use crate::signed::{ALGORITHM, Signed};
+use crate::signed::{ALGORITHM, SignedPart};
 use crate::span::Span;
 use crate::tags::SEQUENCE;
 use std::alloc::Global;
@@ -23,7 +23,7 @@ const LONGEST: usize = 8_192;
 pub(crate) struct Fields {
     /// The signed part, the whole element.
     pub part: Span,
-    pub signed: Signed,
+    pub signed: SignedPart,
     pub extensions: Extensions,
     /// The two numbers of the signature, 32 bytes each.
     pub signature: [u8; 64],
@@ -43,7 +43,7 @@ impl Fields {
     {
         let (certificate, behind) = read_outer(all)?;
         let (part, rest) = certificate.content.tagged(all, SEQUENCE)?;
-        let (signed, inner) = Signed::read(all, part.content)?;
+        let (signed, inner) = SignedPart::read(all, part.content)?;
         let extensions = Extensions::read(alloc, all, inner)?;
         let rest = rest.behind(all, &ALGORITHM, CertFault::ALGORITHM)?;
         let signature = read_signature(all, rest)?;

@@ -11,7 +11,7 @@ mod fault;
 mod fields;
 mod known;
 mod laws;
-mod name;
+mod extension_id;
 mod part;
 mod signature;
 mod signed;

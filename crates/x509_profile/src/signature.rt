@@ -1,4 +1,4 @@
-//! A certificate's signature (RFC 5280 section 4.1.1.3, RFC 5480 appendix A).
+//! A certificate's signature (RFC 5280, section 4.1.1.3, RFC 5480 appendix A).
 
 ghost use Rattle.std.specs.Prelude.{◌≡◌, ◌≤◌, ◌++◌, length, IfOk, IfErr};
 ghost use Rattle.x509_profile.specs.Span.{IsInside, IsPartInside};

@@ -1,4 +1,4 @@
-//! The signed part of a certificate, up to its key (RFC 5280 section 4.1).
+//! The signed part of a certificate, up to its key (RFC 5280, section 4.1).
 
 ghost use Rattle.std.specs.Prelude.{◌≡◌, ◌+◌, ◌≤◌, length, IfOk, IfErr};
 ghost use Rattle.x509_profile.specs.Span.{IsInside};
@@ -10,16 +10,16 @@ use crate::span::Span;
 use crate::tags::{INTEGER, SEQUENCE};
 use crate::validity::Validity;
 
-/// Version 3, by its explicit tag (RFC 5280 section 4.1.2.1).
+/// Version 3, by its explicit tag (RFC 5280, section 4.1.2.1).
 const VERSION: [u8; 5] = [0xA0, 0x03, 0x02, 0x01, 0x02];
 
-/// The algorithm ecdsa-with-SHA256, without parameters (RFC 5758 section 3.2).
+/// The algorithm ecdsa-with-SHA256, without parameters (RFC 5758, section 3.2).
 pub(crate) const ALGORITHM: [u8; 12] = [
     0x30, 0x0A, 0x06, 0x08, 0x2A, 0x86, 0x48, 0xCE, 0x3D, 0x04, 0x03, 0x02,
 ];
 
 /// What stands before the 64 bytes of an uncompressed point of P-256: the algorithm id-ecPublicKey with
-/// the curve prime256v1, and the head of a BIT STRING (RFC 5480 sections 2.1.1 and 2.2).
+/// the curve prime256v1, and the head of a BIT STRING (RFC 5480, sections 2.1.1 and 2.2).
 const KEY_FRONT: [u8; 27] = [
     0x30, 0x59, 0x30, 0x13, 0x06, 0x07, 0x2A, 0x86, 0x48, 0xCE, 0x3D, 0x02, 0x01, 0x06, 0x08, 0x2A,
     0x86, 0x48, 0xCE, 0x3D, 0x03, 0x01, 0x07, 0x03, 0x42, 0x00, 0x04,
@@ -33,7 +33,7 @@ const POINT: u16 = 26;
 
 /// The parts of the signed part that are kept, up to the key.
 #[derive(Clone, Copy)]
-pub(crate) struct Signed {
+pub(crate) struct SignedPart {
     /// The issuer's name, as a whole element.
     pub issuer: Span,
     pub validity: Validity,
@@ -43,10 +43,10 @@ pub(crate) struct Signed {
     pub key: Span,
 }
 
-impl Signed {
+impl SignedPart {
     /// The signed part that begins there, up to its key, and what is behind the key.
     #[tactic(auto, unfolding(crate::specs::Signed::signed_in))]
-    pub fn read(all: &[u8], span: Span) -> Result<(Signed, Span), Fault>
+    pub fn read(all: &[u8], span: Span) -> Result<(SignedPart, Span), Fault>
         requires inside { IsInside span all.now }
         ensures exact { result ≡ signed_in all.now span }
         ensures issuer { IfOk result (λ r. IsInside r.0.issuer all.now) }
@@ -62,7 +62,7 @@ impl Signed {
         let (validity, rest) = Validity::read(all, rest)?;
         let (subject, rest) = rest.tagged(all, SEQUENCE)?;
         let (key, rest) = read_key(all, rest)?;
-        let signed = Signed {
+        let signed = SignedPart {
             issuer: issuer.whole,
             validity,
             subject: subject.whole,

@@ -31,7 +31,7 @@ impl Span {
     }
 
     /// The first element there, and what is behind it. An element that can't be read is `DER` at the
-    /// place of its fault (X.690 sections 8.1.2, 8.1.3 and 10.1).
+    /// place of its fault (X.690, sections 8.1.2, 8.1.3 and 10.1).
     #[tactic(auto, using(crate::proofs::SpanLaws::sizes), unfolding(crate::specs::Span::next_in))]
     pub fn next(self, all: &[u8]) -> Result<(Part, Span), Fault>
         requires inside { IsInside self all.now }

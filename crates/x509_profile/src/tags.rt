@@ -1,4 +1,4 @@
-//! Tag bytes of a certificate's elements (X.690 section 8.1.2, RFC 5280 sections 4.1 and 4.2).
+//! Tag bytes of a certificate's elements (X.690, section 8.1.2, RFC 5280, sections 4.1 and 4.2).
 
 /// A BOOLEAN.
 pub(crate) const BOOLEAN: u8 = 0x01;

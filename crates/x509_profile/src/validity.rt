@@ -1,4 +1,4 @@
-//! The validity of a certificate (RFC 5280 section 4.1.2.5).
+//! The validity of a certificate (RFC 5280, section 4.1.2.5).
 
 ghost use Rattle.std.specs.Prelude.{◌≡◌, ◌≤◌, length, IfOk, IfErr};
 ghost use Rattle.x509_profile.specs.Span.{IsInside, IsPartInside};

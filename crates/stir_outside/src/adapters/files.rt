@@ -1,5 +1,5 @@
 ghost use Rattle.std.specs.Prelude.{◌≡◌, ◌≢◌, ℕ, ◌<◌, ◌≤◌, None, Err, IfOk, IfSome, is_ok, length, vec_len, if◌then◌else◌};
-ghost use Rattle.stir_base.specs.Count.{Rose, one_more};
+ghost use Rattle.stir_outside.specs.Count.{Rose, one_more};
 ghost use Rattle.stir_outside.specs.Files.{CountsGoOn};
 ghost use Rattle.stir_outside.specs.Shelf.{counted};
 

@@ -1,6 +1,6 @@
 ghost use Rattle.std.specs.Prelude.{◌≡◌, ℕ, ◌<◌, ◌≤◌, length, IfOk};
 ghost use Rattle.std.specs.Io.KnownBytes.{WriteAppends};
-ghost use Rattle.stir_base.specs.Count.{HasCause, faults_after};
+ghost use Rattle.stir_outside.specs.Count.{HasCause, faults_after};
 
 use crate::sink::Sink;
 use crate::source::Failed;

@@ -70,6 +70,7 @@ impl Answers {
         Answers::read_lines(alloc, text)
     }
 
+    /// Reads the lines one by one, up to the first bad one.
     #[tactic(auto, using(crate::proofs::HeldLaws::one_more, crate::proofs::HeldLaws::bad_line, crate::proofs::HeldLaws::none_read, crate::proofs::HeldLaws::all_read))]
     fn read_lines(alloc: Global, text: &[u8]) -> Result<Answers, AnswerFault>
         requires { length text.now < 2 ^ 32 - 1 }
@@ -86,6 +87,7 @@ impl Answers {
         Ok(answers)
     }
 
+    /// Answers that say nothing.
     fn none(alloc: Global) -> Answers
         ensures { HoldsRows [] result }
     {
@@ -122,6 +124,7 @@ impl Answers {
         }
     }
 
+    /// Whether this signature over this digest is held as good under this key.
     pub(crate) fn says(&self, key: &[u8; 65], digest: &[u8; 32], signature: &[u8; 64]) -> bool
         ensures { result ≡ held_says self.now key.now digest.now signature.now }
     {
@@ -133,6 +136,7 @@ impl Answers {
         self.triples.contains(&triple)
     }
 
+    /// The signature that is held for this name and digest.
     pub(crate) fn signs(&self, name: &[u8], digest: &[u8; 32]) -> Option<[u8; 64]>
         ensures { result ≡ held_signs self.now name.now digest.now }
     {

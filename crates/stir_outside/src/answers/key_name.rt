@@ -88,6 +88,7 @@ impl Hash for KeyName {
     }
 }
 
+/// The bytes with zeros behind them.
 fn filled(text: &[u8]) -> [u8; LONGEST]
     requires { length text.now ≤ 64 }
     ensures { result ≡ filled text.now }
@@ -97,6 +98,7 @@ fn filled(text: &[u8]) -> [u8; LONGEST]
     bytes
 }
 
+/// Whether a text is a name.
 #[tactic(auto, unfolding(crate::specs::KeyName::is_name))]
 fn is_name(text: &[u8]) -> bool
     ensures { result ≡ is_name text.now }
@@ -107,12 +109,14 @@ fn is_name(text: &[u8]) -> bool
     }
 }
 
+/// Whether all bytes may stand in a name.
 fn are_name_bytes(text: &[u8]) -> bool
     ensures { result ≡ list_all is_name_byte text.now }
 {
     text.iter().all(|byte| is_name_byte(*byte))
 }
 
+/// Whether a byte may stand in a name.
 fn is_name_byte(byte: u8) -> bool
     ensures { result ≡ is_name_byte byte }
 {

@@ -1,6 +1,6 @@
 //! A provider over an answers file.
 ghost use Rattle.std.specs.Prelude.{◌≡◌, ◌≤◌, IfOk, OnErr, is_err};
-ghost use Rattle.stir_base.specs.Count.{HasCause, faults_after, one_more};
+ghost use Rattle.stir_outside.specs.Count.{HasCause, faults_after, one_more};
 ghost use Rattle.stir_outside.specs.Held.{held_says, held_signs};
 ghost use Rattle.stir_outside.specs.Memory.{is_failing};
 
@@ -29,6 +29,7 @@ impl<'a> Model for AnswerProvider<'a> {
 impl<'a> AnswerProvider<'a> {
     ghost use Rattle.stir_outside.specs.Provided.{Asked};
 
+    /// A provider of these answers whose listed calls fail.
     pub(crate) fn new(answers: &'a Answers, failing: Vec<u64>) -> AnswerProvider<'a>
         ensures { result ≡ record { held = answers.now; failing = failing.items; asks = 0; faults = 0 } }
     {

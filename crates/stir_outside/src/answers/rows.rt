@@ -42,6 +42,7 @@ pub(crate) fn row_of(line: &[u8]) -> Option<Row>
     }
 }
 
+/// What a line says whose first word is its kind.
 fn of_kind(kind: &[u8], subject: &[u8], digest: &[u8], signature: &[u8]) -> Option<Row>
     ensures { result ≡ of_kind kind.now subject.now digest.now signature.now }
 {
@@ -54,6 +55,7 @@ fn of_kind(kind: &[u8], subject: &[u8], digest: &[u8], signature: &[u8]) -> Opti
     None
 }
 
+/// What a `confirm` line says.
 fn confirm_of(key: &[u8], digest: &[u8], signature: &[u8]) -> Option<Row>
     ensures { result ≡ confirm_of key.now digest.now signature.now }
 {
@@ -73,6 +75,7 @@ fn confirm_of(key: &[u8], digest: &[u8], signature: &[u8]) -> Option<Row>
     }))
 }
 
+/// What a `sign` line says.
 fn sign_of(name: &[u8], digest: &[u8], signature: &[u8]) -> Option<Row>
     ensures { result ≡ sign_of name.now digest.now signature.now }
 {
@@ -91,6 +94,7 @@ fn sign_of(name: &[u8], digest: &[u8], signature: &[u8]) -> Option<Row>
 /// The first byte of a point in its uncompressed form (SEC 1, section 2.3.3).
 const UNCOMPRESSED: u8 = 4;
 
+/// The key that a word writes: an uncompressed point (SEC 1, section 2.3.3).
 fn key_of(word: &[u8]) -> Option<[u8; 65]>
     ensures { result ≡ key_of word.now }
 {

@@ -1,6 +1,6 @@
 //! A provider over an answers file that never fails.
 ghost use Rattle.std.specs.Prelude.{◌≡◌, ◌≤◌, Ok, IfOk};
-ghost use Rattle.stir_base.specs.Count.{HasCause, one_more};
+ghost use Rattle.stir_outside.specs.Count.{HasCause, one_more};
 ghost use Rattle.stir_outside.specs.Held.{held_says, held_signs};
 
 use crate::answers::held::Answers;
@@ -25,6 +25,7 @@ impl<'a> Model for SteadyProvider<'a> {
 }
 
 impl<'a> SteadyProvider<'a> {
+    /// A provider of these answers.
     pub(crate) fn new(answers: &'a Answers) -> SteadyProvider<'a>
         ensures { result ≡ record { held = answers.now; asks = 0 } }
     {

@@ -1,6 +1,6 @@
 ghost use Rattle.std.specs.Prelude.{◌≡◌, ℕ, ◌≤◌, Option, Some, None, Err, IfOk, is_ok, vec_len, map, false, if◌then◌else◌};
 ghost use Rattle.std.specs.Option.{option_copied};
-ghost use Rattle.stir_base.specs.Count.{Rose, one_more};
+ghost use Rattle.stir_outside.specs.Count.{Rose, one_more};
 ghost use Rattle.stir_outside.specs.Files.{CountsGoOn, OfFile, IsLonger, file};
 ghost use Rattle.stir_outside.specs.Memory.{is_failing};
 ghost use Rattle.stir_outside.specs.Shelf.{counted, is_failed};
@@ -136,6 +136,7 @@ impl Shelf for ShelfMem {
     }
 }
 
+/// The content of the first file of this name.
 fn find<'a>(files: &'a [(Vec<u8>, Vec<u8>)], name: &[u8]) -> Option<&'a [u8]>
     ensures { option_copied result ≡ file name.now (map (λ entry. (entry.0.items, entry.1.items)) files.now) }
 {

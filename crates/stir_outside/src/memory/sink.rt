@@ -1,6 +1,6 @@
 ghost use Rattle.std.specs.Prelude.{◌≡◌, ℕ, ◌-◌, ◌+◌, ◌≤◌, ◌<◌, ◌==◌, ◌||◌, Option, Some, length, min, max, IfOk, OnOk, OnErr, is_err};
 ghost use Rattle.std.specs.Io.KnownBytes.{WriteAppends};
-ghost use Rattle.stir_base.specs.Count.{HasCause, faults_after, one_more};
+ghost use Rattle.stir_outside.specs.Count.{HasCause, faults_after, one_more};
 ghost use Rattle.stir_outside.specs.Memory.{is_failing};
 
 use crate::sink::Sink;

@@ -1,6 +1,6 @@
 ghost use Rattle.std.specs.Prelude.{◌≡◌, ℕ, ◌≤◌, ◌<◌, Some, Ok, length, min, IfOk};
 ghost use Rattle.std.specs.Io.KnownBytes.{ReadConsumes};
-ghost use Rattle.stir_base.specs.Count.{HasCause};
+ghost use Rattle.stir_outside.specs.Count.{HasCause};
 
 use crate::source::{Failed, Source};
 use std::marker::Model;

@@ -1,6 +1,6 @@
 ghost use Rattle.std.specs.Prelude.{◌≡◌, ℕ, ◌-◌, ◌≤◌, ◌<◌, Option, Some, length, min, take, drop, IfOk, is_err};
 ghost use Rattle.std.specs.Io.KnownBytes.{ReadConsumes};
-ghost use Rattle.stir_base.specs.Count.{HasCause, faults_after, one_more};
+ghost use Rattle.stir_outside.specs.Count.{HasCause, faults_after, one_more};
 ghost use Rattle.stir_outside.specs.Memory.{is_failing};
 
 use crate::source::{Failed, Source};
@@ -89,7 +89,7 @@ impl Source for SourceMem {
     }
 }
 
-// Copies as much as there is room for.
+/// Copies as much as there is room for.
 fn copy_front(to: &mut [u8], from: &[u8]) -> usize
     ensures count { result ≡ min (length to.old) (length from.now) }
     ensures copied { take result to.new ≡ take result from.now }

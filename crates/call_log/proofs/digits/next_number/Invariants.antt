@@ -1,6 +1,6 @@
 -- The digits so far were taken. They are at most 13.
 use Rattle.std.proofs.Common.{◌-◌}
-use Rattle.stir_base.specs.Count.{GoesOn}
+use Rattle.stir_outside.specs.Count.{GoesOn}
 use Rattle.std.specs.Io.KnownBytes.{prepend_known}
 use Rattle.call_log.proofs.NumberSteps.{Took}
 use Rattle.call_log.proofs.digits.next_number.Given as goal

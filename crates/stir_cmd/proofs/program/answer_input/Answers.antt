@@ -1,6 +1,6 @@
 -- The answer to what was taken is the answer to all that the source tells.
 use Rattle.std.proofs.Common.{◌≡◌, Some, arith, ◌∙◌, ap, subst, List, ℕ}
-use Rattle.stir_base.specs.Told.{Takes}
+use Rattle.stir_outside.specs.Told.{Takes}
 use Rattle.stir_cmd.specs.Answer.{answer}
 use Rattle.stir_cmd.specs.Causes.{Shows}
 use Rattle.stir_cmd.specs.declared.command.Command.TheVariants.{Show}

@@ -1,7 +1,7 @@
 -- What was taken so far, and no more than the limit.
 use Rattle.std.proofs.Common.{◌≤◌, ◌-◌, vec_len}
-use Rattle.stir_base.specs.Count.{GoesOn}
-use Rattle.stir_base.specs.Told.{Takes}
+use Rattle.stir_outside.specs.Count.{GoesOn}
+use Rattle.stir_outside.specs.Told.{Takes}
 use Rattle.stir_outside.proofs.transfer.read_up_to.Given as goal
 
 abbrev pub invariant-loop-block : goal.invariant-loop-block

@@ -1,6 +1,6 @@
 -- What was written so far is what stands before the rest.
 use Rattle.std.proofs.Common.{length}
-use Rattle.stir_base.specs.Count.{GoesOn}
+use Rattle.stir_outside.specs.Count.{GoesOn}
 use Rattle.stir_outside.proofs.Transfers.{WrittenBefore}
 use Rattle.stir_outside.proofs.transfer.write_whole.Given as goal
 

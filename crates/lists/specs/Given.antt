@@ -1,0 +1,13 @@
+-- What a call of the code gives, against what a definition gives. How a fault of the code is named by the definition is an argument:
+-- `None` of want of memory, which is free.
+use Rattle.std.specs.Prelude.{◌≡◌, Option, Some, None, Result, Ok, Err}
+
+-- a fault other than want of memory is the one that the definition gives
+abbrev pub IsFaultOf : {Y F : Type 0} → Option F → Result Y F → Type 0
+IsFaultOf None read = Unit {0}
+IsFaultOf (Some fault) read = read ≡ Err fault
+
+-- the result is what the definition gives, seen so; or memory was wanting
+abbrev pub Gives : {X Y E F : Type 0} → (E → Option F) → (X → Y) → Result X E → Result Y F → Type 0
+Gives fault_seen seen (Ok x) read = read ≡ Ok (seen x)
+Gives fault_seen seen (Err fault) read = IsFaultOf (fault_seen fault) read

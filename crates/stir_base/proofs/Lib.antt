@@ -1,4 +1,0 @@
-pub mod CountLaws
-pub mod CutLaws
-pub mod DecimalLaws
-pub mod Passing

@@ -1,0 +1,29 @@
+-- Counts of what went wrong outside. A count is kept in 64 bits, never falls, and stands still at its last value.
+use Rattle.std.specs.Prelude.{◌≢◌, ℕ, ◌+◌, ◌-◌, ◌^◌, ◌<◌, ◌≤◌, min, max, Result, OnErr, is_err, if◌then◌else◌}
+
+-- the last value of a count
+abbrev pub last_count : ℕ
+last_count = 2 ^ 64 - 1
+
+-- the count after one more event
+abbrev pub one_more : ℕ → ℕ
+one_more count = min (count + 1) last_count
+
+-- the count behind a call: one more where the call failed, and else as it was
+abbrev pub faults_after : {T E : Type 0} → ℕ → Result T E → ℕ
+faults_after count result = if is_err result then one_more count else count
+
+-- a count that rose, or that stands at its last value
+abbrev pub Rose : ℕ → ℕ → Type 0
+Rose before now = now ≢ last_count → before < now
+
+-- a count that neither fell nor passed its last value
+pub record GoesOn (before now : ℕ) : Type 0 where
+  pub never_falls : before ≤ now
+  pub within : now ≤ max before last_count
+
+-- a call kept the count from falling and from passing its last value, and answered a fault only where it rose
+pub record HasCause {T E : Type 0} (before now : ℕ) (result : Result T E) : Type 0 where
+  pub never_falls : before ≤ now
+  pub within : now ≤ max before last_count
+  pub rose : OnErr result (Rose before now)
