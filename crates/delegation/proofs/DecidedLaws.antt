@@ -87,12 +87,15 @@ means_in table number (Code code) h = means_granted (grant_in table code) number
 means_in table number (Range span) h = means_owned number (Range span) h
 means_in table number (Single own) h = means_owned number (Single own) h
 
+-- the test of coverage decides it
+pub coverage_decided : (entries : List Entry) (table : Table) (number : List ℕ) → IsTrue (covers_number entries table number) ↔ Covers entries table number
+coverage_decided entries table number =
+    (some_found (In table number) (is_in table number) (in_means table number) entries, some_tested (In table number) (is_in table number) (means_in table number) entries)
+
 -- an answer that is true just where some entry holds the number is that of the test
 pub same_coverage : (answer : Bool) (entries : List Entry) (table : Table) (number : List ℕ) → IsTrue answer ↔ Covers entries table number
     → answer ≡ covers_number entries table number
-same_coverage answer entries table number h =
-    same_from_decides answer (covers_number entries table number) h
-    (some_found (In table number) (is_in table number) (in_means table number) entries, some_tested (In table number) (is_in table number) (means_in table number) entries)
+same_coverage answer entries table number h = same_from_decides answer (covers_number entries table number) h (coverage_decided entries table number)
 
 -- ---- a number that the child holds
 

@@ -12,6 +12,7 @@ mod coverage;
 mod fault;
 mod found;
 mod gathering;
+mod laws;
 mod path;
 mod usage;
 
@@ -20,6 +21,7 @@ pub use authority::{Authority, within};
 pub use coverage::covers;
 pub use fault::{AnchorFault, PathFault};
 pub use found::Shape;
+pub use laws::covers_law;
 pub use path::shape;
 /// Memory ran out.
 pub use std::alloc::AllocError as Memory;
