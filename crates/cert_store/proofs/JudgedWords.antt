@@ -55,7 +55,7 @@ size_of [] certs = omega arith
 size_of (c ∷ others) (cert, certs) = let more = size_of others certs in omega (arith, more, cert.size, length-append c.whole (joined others))
 
 -- so a chain has at most 49,152
-is_short : (bytes : List ℕ) (chain : List CertView) → Chain bytes chain → length bytes ≤ 49152
+pub is_short : (bytes : List ℕ) (chain : List CertView) → Chain bytes chain → length bytes ≤ 49152
 is_short bytes chain c = let size = size_of chain c.each in omega (arith, size, c.most, ap length c.text)
 
 short_by : (bytes : List ℕ) (read : Result (List CertView) RefusedCertificate) → AllBytes bytes → length bytes ≤ 49152 → certificates_in bytes ≡ read

@@ -8,3 +8,4 @@ pub mod JudgedLaws
 pub mod WalkLaws
 pub mod WordLaws
 pub mod JudgedWords
+pub mod TruthLaws

@@ -96,3 +96,13 @@ KeysAre anchors judged = (anchor : Option ℕ) → Path judged.certificates anch
 -- no signature was asked for exactly where rule 11, 12 or 14 is broken
 abbrev pub UnaskedIs : JudgedView → Type 0
 UnaskedIs judged = (judged.asked ≡ NotAsked) ↔ ((judged.profile ≡ None) × (judged.shape ≡ None) × (judged.authority ≡ None) → ⊥)
+
+-- ---- all of it
+
+-- what is known of a chain with these bytes, each rule in its own words
+pub record InWords (anchors : List CertView) (table : Table) (says : Says) (bytes : List ℕ) (judged : JudgedView) : Type 0 where
+  pub profile : ProfileIs bytes judged
+  pub path : PathIs anchors judged
+  pub dates : DatesAre anchors judged
+  pub authority : AuthorityIs anchors table judged
+  pub signatures : SignaturesAre anchors says judged

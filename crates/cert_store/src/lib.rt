@@ -9,6 +9,7 @@
 mod authority;
 mod judge;
 mod judged;
+mod laws;
 mod map;
 mod map_rows;
 mod path;
@@ -16,6 +17,7 @@ mod signatures;
 
 pub use judge::judge_chain;
 pub use judged::{Asked, Judged};
+pub use laws::judged_law;
 pub use map::{ChainMap, MapFault};
 /// Memory ran out.
 pub use std::alloc::AllocError as Memory;
