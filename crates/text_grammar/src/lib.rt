@@ -6,15 +6,15 @@ mod decimal;
 mod split;
 mod uri;
 
-pub use decimal::read_number;
-pub use split::{behind, cut};
-pub use uri::{is_uri, uri_law, uri_text};
-
 ghost use Rattle.std.specs.Prelude.{◌≡◌, ◌≤◌, length, map, take};
 ghost use Rattle.std.specs.List.{prefix_len};
 ghost use Rattle.text_grammar.specs.Bytes as bytes;
 ghost use Rattle.text_grammar.specs.Reading as reading;
 ghost use Rattle.text_grammar.specs.Gives.{Gives, slice_view, split_view};
+
+pub use decimal::read_number;
+pub use split::{behind, cut};
+pub use uri::{is_uri, uri_law, uri_text};
 
 /// The last second of the year 9999, in Unix time: the latest moment that a text of this program names (this project's own
 /// limit).

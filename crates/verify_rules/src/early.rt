@@ -12,7 +12,7 @@ use crate::passports::read_all;
 use crate::refusal::{Place, ScreenFault, Stop};
 use crate::screened::{Screened, stale};
 use crate::settings::Settings;
-use crate::turns::{other_calling, order_of};
+use crate::turns::{order_of, other_calling};
 use identity_header::field_law;
 use passport_claims::claims_law;
 use passport_json::{token_found_law, token_law};

@@ -114,7 +114,9 @@ impl Extensions {
         ensures place { IsPlacedUpTo (length all.now) result }
     {
         match name {
-            ExtensionId::ClaimConstraints => Err(CertFault::from(part.fault(CertFault::CONSTRAINT))),
+            ExtensionId::ClaimConstraints => Err(CertFault::from(part.fault(
+                CertFault::CONSTRAINT,
+            ))),
             ExtensionId::Unknown if extension.critical => {
                 Err(CertFault::from(part.fault(CertFault::CRITICAL)))
             }

@@ -4,7 +4,9 @@ ghost use Rattle.std.specs.Prelude.{◌≡◌, IfOk, IfErr};
 ghost use Rattle.x509_profile.specs.Span.{IsInside};
 ghost use Rattle.x509_profile.specs.Known.{AreInside, known_with, nothing_known};
 
-use crate::contents::{AuthorityKeyIdentifier, BasicConstraintsValue, read_subject_key, read_usage};
+use crate::contents::{
+    AuthorityKeyIdentifier, BasicConstraintsValue, read_subject_key, read_usage,
+};
 use crate::extension_id::ExtensionId;
 use crate::fault::Fault;
 use crate::span::Span;
@@ -34,7 +36,13 @@ impl KnownExtensions {
 
     /// These with one more, whose content stands there. One that was there before is broken.
     #[tactic(auto, unfolding(crate::specs::Known::known_with))]
-    pub fn with(self, all: &[u8], name: ExtensionId, value: Span, broken: Fault) -> Result<KnownExtensions, Fault>
+    pub fn with(
+        self,
+        all: &[u8],
+        name: ExtensionId,
+        value: Span,
+        broken: Fault,
+    ) -> Result<KnownExtensions, Fault>
         requires inside { IsInside value all.now }
         requires known { AreInside self all.now }
         ensures exact { result ≡ known_with all.now self name value broken }
