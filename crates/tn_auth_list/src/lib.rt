@@ -4,10 +4,10 @@
 //! 1,000 entries, which are read from DER and written to it. A [`CodeTable`] says which numbers a code stands for.
 #![tactic(auto)]
 
+mod auth_list;
 mod codes;
 mod entries;
 mod faults;
-mod lists;
 mod parts;
 mod reading;
 mod table;
@@ -16,10 +16,10 @@ mod table_rows;
 mod tags;
 mod writing;
 
+pub use auth_list::AuthList;
 pub use codes::Code;
 pub use entries::Entry;
 pub use faults::ListFault;
-pub use lists::AuthList;
 pub use table::{CodeTable, Grant, TableFault};
 /// Memory ran out.
 pub use std::alloc::AllocError as Memory;

@@ -2,7 +2,7 @@
 use Rattle.std.proofs.Common.{rules, arith, Ok}
 use Rattle.tn_auth_list.proofs.ListLaws.{list_found, read_is_list, answer_again, one_list}
 use Rattle.tn_auth_list.proofs.RefusedLaws.{answer_is, empty_read, left_over_read, past_limit_read}
-use Rattle.tn_auth_list.proofs.lists.AuthList.read.Goals as goal
+use Rattle.tn_auth_list.proofs.auth_list.AuthList.read.Goals as goal
 
 pub returns-in_err-entries-clause-only : goal.returns-in_err-entries-clause-only
 returns-in_err-entries-clause-only c = answer_again c.args.bytes.now c.from_residual.result (search rules)

@@ -4,7 +4,7 @@ use Rattle.tn_auth_list.specs.Entry.{is_list}
 use Rattle.tn_auth_list.specs.ListText.{ListText}
 use Rattle.tn_auth_list.proofs.ListLaws.{list_found, list_again}
 use Rattle.tn_auth_list.proofs.WriteLaws.{text_written}
-use Rattle.tn_auth_list.proofs.lists.AuthList.write.Goals as goal
+use Rattle.tn_auth_list.proofs.auth_list.AuthList.write.Goals as goal
 
 text_is : (c : goal.In_ok-text) → ListText c.in_ok-text.text.items c.args.self.now
 text_is c =
