@@ -1,4 +1,5 @@
 pub mod AnswerLaws
+pub mod CountLaws
 pub mod HeldLaws
 pub mod KeyNames
 pub mod Transfers

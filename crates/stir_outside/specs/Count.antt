@@ -1,5 +1,5 @@
 -- Counts of what went wrong outside. A count is kept in 64 bits, never falls, and stands still at its last value.
-use Rattle.std.specs.Prelude.{◌≢◌, ℕ, ◌+◌, ◌-◌, ◌^◌, ◌<◌, ◌≤◌, min, max, Result, OnErr, is_err, if◌then◌else◌}
+use Rattle.std.specs.Prelude.{◌≡◌, ◌≢◌, ℕ, ◌+◌, ◌-◌, ◌^◌, ◌<◌, ◌≤◌, ◌⊎◌, min, max, Result, OnErr, is_err, if◌then◌else◌}
 
 -- the last value of a count
 abbrev pub last_count : ℕ
@@ -16,6 +16,15 @@ faults_after count result = if is_err result then one_more count else count
 -- a count that rose, or that stands at its last value
 abbrev pub Rose : ℕ → ℕ → Type 0
 Rose before now = now ≢ last_count → before < now
+
+-- a count that stayed as it was, below its last value
+pub record NotRisen (before now : ℕ) : Type 0 where
+  pub same : now ≡ before
+  pub below_last : before ≢ last_count
+
+-- at most as many events as the count rose by, unless it stands at its last value
+abbrev pub AtMost : ℕ → ℕ → ℕ → Type 0
+AtMost events before now = (events + before ≤ now) ⊎ (last_count ≤ now)
 
 -- a count that neither fell nor passed its last value
 pub record GoesOn (before now : ℕ) : Type 0 where

@@ -8,7 +8,7 @@ use Rattle.passport_claims.specs.OrderReading.{order_of}
 use Rattle.passport_json.specs.Compact.{CallView}
 use Rattle.passport_json.specs.Token.{read_token}
 use Rattle.verify_rules.specs.Call.{IdentityField, Reading, called_by, given_to_compact, passports_of, read_field, reading_by, readings_of, turn_of}
-use Rattle.verify_rules.specs.Rules.{each, unreadable, unread_at}
+use Rattle.verify_rules.specs.Rules.{each, unread, unread_at}
 use Rattle.verify_rules.specs.Seen.{Serves, facts_asked, is_compact}
 use Rattle.verify_rules.specs.Words.{HasOrder}
 use Rattle.verify_rules.specs.declared.facts.Facts.{Facts}
@@ -25,15 +25,15 @@ same_field : (said full : Facts) (field : IdentityField) → is_compact field �
 unfolding read_field
 same_field said full field e = ap (reading_by field) (same_token (given_to_compact said field.parts) (given_to_compact full field.parts) field.parts.token e)
 
-same_unread_one : (said full : Facts) (field : IdentityField) → is_compact field ≡ false → unreadable said field ≡ unreadable full field
-unfolding unreadable
+same_unread_one : (said full : Facts) (field : IdentityField) → is_compact field ≡ false → unread said field ≡ unread full field
+unfolding unread
 same_unread_one said full field e = ap (unread_at field.number) (same_field said full field e)
 
-same_unread : (said full : Facts) (fields : List IdentityField) → list_any is_compact fields ≡ false → each (unreadable said) fields ≡ each (unreadable full) fields
+same_unread : (said full : Facts) (fields : List IdentityField) → list_any is_compact fields ≡ false → each (unread said) fields ≡ each (unread full) fields
 same_unread said full [] h = refl
 same_unread said full (field ∷ fields) h =
     let k = neither (is_compact field) (list_any is_compact fields) h in
-    ap (λ x. option_or x (each (unreadable said) fields)) (same_unread_one said full field k.0) ∙ ap (option_or (unreadable full field)) (same_unread said full fields k.1)
+    ap (λ x. option_or x (each (unread said) fields)) (same_unread_one said full field k.0) ∙ ap (option_or (unread full field)) (same_unread said full fields k.1)
 
 same_readings : (said full : Facts) (fields : List IdentityField) → list_any is_compact fields ≡ false → readings_of said fields ≡ readings_of full fields
 same_readings said full [] h = refl
@@ -44,13 +44,13 @@ same_readings said full (field ∷ fields) h =
     rw (one, rest) refl
 
 serves_by : (full : Facts) (fields : List IdentityField) (asked : Bool) → asked ≡ list_any is_compact fields → Serves (facts_asked asked full) full fields
-serves_by full fields true e = record { calling = refl; to = refl; target = refl; unreadable = refl; readings = refl }
+serves_by full fields true e = record { calling = refl; to = refl; target = refl; unread = refl; readings = refl }
 serves_by full fields false e =
     record {
       calling = refl;
       to = refl;
       target = refl;
-      unreadable = same_unread (facts_asked false full) full fields (sym e);
+      unread = same_unread (facts_asked false full) full fields (sym e);
       readings = same_readings (facts_asked false full) full fields (sym e);
     }
 

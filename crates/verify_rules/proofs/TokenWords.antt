@@ -18,7 +18,7 @@ use Rattle.passport_json.specs.Token.{TokenText, read_token}
 use Rattle.passport_json.specs.View.{TokenView}
 use Rattle.passport_json.specs.declared.fault.TokenFault.{TokenFault}
 use Rattle.verify_rules.specs.Call.{IdentityField, Reading, has_ppt, judged_fields, lacks_ppt, given_to_compact, links, mark_of, marked_or_part, numbered, originating, read_field, reading, reading_by, readings_of, with_field}
-use Rattle.verify_rules.specs.Rules.{each, unreadable}
+use Rattle.verify_rules.specs.Rules.{each, unread}
 use Rattle.verify_rules.specs.Words.{AreRead, CanBeRead, Each, IsRead}
 use Rattle.verify_rules.specs.declared.facts.Facts.{Facts}
 use Rattle.verify_rules.proofs.FreshLaws.{read_there}
@@ -143,16 +143,16 @@ read_again tokens claims said field one judged h =
 
 -- ---- the rule
 
-unread_means : TokenLaw → TokenFoundLaw → ClaimsLaw → (said : Facts) (field : IdentityField) → IsJudged field → (unreadable said field ≡ None) ↔ CanBeRead said field
+unread_means : TokenLaw → TokenFoundLaw → ClaimsLaw → (said : Facts) (field : IdentityField) → IsJudged field → (unread said field ≡ None) ↔ CanBeRead said field
 unread_means tokens found claims said field judged = (
   (λ h. let r = read_there said field h in (r.0, is_read found claims said field r.0 judged r.1)),
   (λ (h : CanBeRead said field). read_one said field h.0 (read_again tokens claims said field h.0 judged h.1)),
 )
 
 pub tokens_mean : FieldLaw → TokenLaw → TokenFoundLaw → ClaimsLaw → (said : Facts) (values : List (List ℕ))
-    → (each (unreadable said) (judged_fields (numbered 1 values)) ≡ None) ↔ Each (CanBeRead said) (judged_fields (numbered 1 values))
+    → (each (unread said) (judged_fields (numbered 1 values)) ≡ None) ↔ Each (CanBeRead said) (judged_fields (numbered 1 values))
 tokens_mean fields tokens found claims said values =
-    each_means_of (unreadable said) IsJudged (CanBeRead said) (unread_means tokens found claims said) (judged_fields (numbered 1 values)) (are_judged fields 1 values)
+    each_means_of (unread said) IsJudged (CanBeRead said) (unread_means tokens found claims said) (judged_fields (numbered 1 values)) (are_judged fields 1 values)
 
 all_read : TokenLaw → ClaimsLaw → (said : Facts) (fields : List IdentityField) → Each IsJudged fields → Each (CanBeRead said) fields → AreRead said fields (readings_of said fields)
 all_read tokens claims said [] judged h = tt
