@@ -52,7 +52,7 @@ abbrev pub is_signed_by : Says → Reading → Option CertView → Bool
 is_signed_by says one None = false
 is_signed_by says one (Some leaf) = says leaf.key one.mark.digest one.mark.signature
 
--- ---- rule 17, what the leaf's authority must cover (ATIS-1000074, section 5.2.3; RFC 8946, section 5; which attestation asks for which
+-- ---- rule 17, what the leaf's authority must cover (ATIS-1000074, section 5.2.3; RFC 8946, section 4.2; which attestation asks for which
 -- coverage is this project's own rule)
 
 abbrev pub is_code : Entry → Bool

@@ -26,7 +26,7 @@ pub(crate) enum LateRule {
     Authority,
     /// Rule 15: their signatures are good, as far as the provider answered (RFC 5280, section 6.1.3).
     Asked,
-    /// Rule 17: the leaf's authority covers what the PASSporT vouches for (ATIS-1000074, section 5.2.3; RFC 8946, section 5).
+    /// Rule 17: the leaf's authority covers what the PASSporT vouches for (ATIS-1000074, section 5.2.3; RFC 8946, section 4.2).
     Covers,
 }
 

@@ -9,7 +9,7 @@ use passport_claims::{Attest, Kind, Passport};
 use tn_auth_list::{AuthList, CodeTable, Entry};
 use x509_profile::Certificate;
 
-/// Whether the leaf's authority covers what a PASSporT vouches for (ATIS-1000074, section 5.2.3; RFC 8946, section 5): the calling number
+/// Whether the leaf's authority covers what a PASSporT vouches for (ATIS-1000074, section 5.2.3; RFC 8946, section 4.2): the calling number
 /// where the PASSporT has no type or attests in full; that, or any service provider code, where it attests in part or as a gateway; and the
 /// diverted number where it is a diversion. It doesn't where there is no leaf, or this has no authority list.
 pub(crate) fn covers_leaf(
