@@ -36,7 +36,7 @@ none_by : (rule : Rule) (others : List Rule) (call : Call) (k : Option Place) �
 none_by rule others call None e below h = (e, below h)
 none_by rule others call (Some bad) e below h = absurd cc
 
-none_broken : (rules : List Rule) (call : Call) → first rules call ≡ None → HoldAll rules call
+pub none_broken : (rules : List Rule) (call : Call) → first rules call ≡ None → HoldAll rules call
 none_broken [] call h = tt
 none_broken (rule ∷ others) call h = none_by rule others call (rule.broken call) refl (none_broken others call) h
 

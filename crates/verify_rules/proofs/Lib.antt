@@ -1,5 +1,8 @@
+pub mod AllLateWords
 pub mod AllWords
 pub mod AskingSteps
+pub mod CauseLaws
+pub mod ChainMeans
 pub mod EarlySteps
 pub mod FactLaws
 pub mod FieldSteps
@@ -7,7 +10,9 @@ pub mod FirstLaws
 pub mod FirstOf
 pub mod FreshLaws
 pub mod Known
+pub mod LateMeans
 pub mod LateSteps
+pub mod LeafMeans
 pub mod OrderWords
 pub mod ReadSteps
 pub mod ReadingLaws
@@ -17,3 +22,8 @@ pub mod TurnSteps
 pub mod VerdictLaws
 pub mod WordLaws
 pub mod WordSteps
+pub mod WorldAgrees
+pub mod WorldAside
+pub mod WorldEvents
+pub mod WorldLaws
+pub mod WorldVerdict

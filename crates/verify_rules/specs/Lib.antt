@@ -1,10 +1,13 @@
 pub mod Asking
 pub mod Call
+pub mod Causes
 pub mod Code
 pub mod Late
+pub mod LateWords
 pub mod Rules
 pub mod Screened
 pub mod Seen
 pub mod States
 pub mod Verdict
 pub mod Words
+pub mod World

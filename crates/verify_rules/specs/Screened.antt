@@ -1,6 +1,7 @@
 -- What comes of a call by rules 1 to 9.
 use Rattle.std.specs.Prelude.{◌≡◌, ⊤, ℕ, ◌+◌, ◌-◌, ◌<◌, ◌≤◌, List, [], ◌∷◌, ◌++◌, length, take, slice_index, Option, Some, None, Result, Ok, Err}
 use Rattle.std.specs.List.{slice_get}
+use Rattle.std.specs.Option.{option_map}
 use Rattle.passport_claims.specs.Links.{IsOneOf}
 use Rattle.passport_claims.specs.Passport.{ClaimsView}
 use Rattle.verify_rules.specs.Call.{Call, Reading, in_chain, reading}
@@ -36,6 +37,14 @@ screened_by window readings = record { readings = readings; last = iat_or_none (
 
 abbrev pub screened_of : Call → ScreenedView
 screened_of call = screened_by call.settings.window (in_chain call)
+
+-- the ticket by which a call is known again: the digest of its last PASSporT
+abbrev pub ticket_of : Call → Option (List ℕ)
+ticket_of call = option_map digest_in (last_of (in_chain call))
+
+-- the last second at which a call is fresh: the iat of its last PASSporT, and the window
+abbrev pub last_of_call : Call → ℕ
+last_of_call call = iat_or_none (last_of (in_chain call)) + call.settings.window
 
 -- ---- how they are kept
 

@@ -1,13 +1,19 @@
 //! Rules 10 to 17, tried in their order.
 ghost use Rattle.std.specs.Prelude.{◌≡◌, ◌+◌, ◌≤◌, length};
+ghost use Rattle.verify_rules.specs.Call.{Call};
+ghost use Rattle.verify_rules.specs.Causes.{IsCaused};
+ghost use Rattle.verify_rules.specs.LateWords.{SaysLateWords};
 ghost use Rattle.verify_rules.specs.Verdict.{IsVerdict, QuietIs, verdict_of};
+ghost use Rattle.verify_rules.specs.World.{AreRight, HoldsBytes, IsJudgedBy, VerdictOf, World};
 
 use crate::asking::ask;
 use crate::chains::Chains;
 use crate::late::{Event, LateRule};
+use crate::laws::late_words_law;
 use crate::refusal::{Place, Refusal};
 use crate::screened::Screened;
 use crate::told::first_rule;
+use cert_store::judged_law;
 use stir_outside::Provider;
 use tn_auth_list::CodeTable;
 
@@ -44,7 +50,7 @@ const AFTER: [LateRule; 1] = [LateRule::Covers];
 /// The provider is asked for the signatures of the PASSporTs alone (rule 16), and only where rules 10 to 15 hold; what it says of the
 /// certificates' stands in the chains. The first rule that is broken refuses the call, unless a chain that isn't known or a signature at
 /// which the provider failed comes before it.
-#[tactic(auto, using(crate::proofs::VerdictLaws::quiet))]
+#[tactic(auto, using(crate::proofs::VerdictLaws::quiet, crate::proofs::CauseLaws::caused))]
 pub fn finish<C: Chains, P: Provider>(
     screened: &Screened,
     chains: &C,
@@ -57,6 +63,19 @@ pub fn finish<C: Chains, P: Provider>(
     // What the rules give first, over the chains that are handed in.
     ensures verdict { IsVerdict (P.says provider.old) table.now moment screened.now.readings (C.states chains.now) (P.faults provider.old) (P.faults provider.new) result }
 
+    // Where the chains are right in a world that judges the call, so is the verdict: it is the first broken rule of all, or the call may be
+    // set aside.
+    ensures right { (world : World) (call : Call) → IsJudgedBy world call table.now (P.says provider.old) moment screened.now.readings
+        → AreRight world screened.now.readings (C.states chains.now) → VerdictOf world call result }
+
+    // Each of rules 10 to 17 in its own words, where the files of that world hold bytes: of a call that passes it holds; where it refuses, it
+    // doesn't hold, and those before it do.
+    ensures words { (world : World) (call : Call) → HoldsBytes world → IsJudgedBy world call table.now (P.says provider.old) moment screened.now.readings
+        → AreRight world screened.now.readings (C.states chains.now) → SaysLateWords world call result }
+
+    // An answer is left open by a chain that was handed in, or by a question that failed in this call.
+    ensures causes { IsCaused screened.now.readings (C.states chains.now) (P.faults provider.old) (P.faults provider.new) result }
+
     // Where no fault was counted, only a chain that is handed in leaves an answer open.
     ensures quiet { QuietIs screened.now.readings (C.states chains.now) (P.faults provider.old) (P.faults provider.new) result }
 
@@ -67,6 +86,8 @@ pub fn finish<C: Chains, P: Provider>(
     ensures same_says { P.says provider.new ≡ P.says provider.old }
     ensures same_signs { P.signs provider.new ≡ P.signs provider.old }
 {
+    judged_law();
+    late_words_law();
     finish_exactly(screened, chains, moment, table, provider)
 }
 

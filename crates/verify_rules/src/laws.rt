@@ -1,0 +1,60 @@
+//! Laws: a function here does nothing, and its clauses are the law.
+ghost use Rattle.std.specs.List.{slice_get};
+ghost use Rattle.std.specs.Option.{option_map};
+ghost use Rattle.std.specs.Prelude.{◌≡◌, ◌≤◌, ◌++◌, ◌∷◌, [], ℕ, List, length, Some, None, Ok, Err};
+ghost use Rattle.stir_outside.specs.Files.{IsLonger, file};
+ghost use Rattle.delegation.specs.Coverage.{Table};
+ghost use Rattle.cert_store.specs.ChainMap.{listed};
+ghost use Rattle.cert_store.specs.Judged.{JudgedAs, JudgedView, judged_of};
+ghost use Rattle.cert_store.specs.Rules.{Says};
+ghost use Rattle.verify_rules.specs.Call.{Call, Reading};
+ghost use Rattle.verify_rules.specs.LateWords.{SaysLateWords};
+ghost use Rattle.verify_rules.specs.Rules.{early_rules, first};
+ghost use Rattle.verify_rules.specs.Screened.{IsScreenedBy, ScreenedView, digest_in, last_of, last_of_call, ticket_of};
+ghost use Rattle.verify_rules.specs.States.{State, have, long, no_chain, unread};
+ghost use Rattle.verify_rules.specs.World.{AreRight, First, HoldsBytes, IsJudgedBy, IsRight, VerdictOf, World};
+ghost use Rattle.verify_rules.specs.declared.refusal.Refusal.{Refusal};
+ghost use Rattle.verify_rules.specs.declared.refusal.ScreenFault.TheVariants.{Refused};
+ghost use Rattle.verify_rules.specs.declared.verdict.Verdict.{Verdict};
+
+use cert_store::judged_law;
+use delegation::covers_law;
+use x509_profile::chain_law;
+
+/// What comes of a call by rules 1 to 9, in every world: where they refuse it, so does the first broken rule of all; else it is judged on
+/// by the codes and signatures of the world. Its ticket is the digest of its last PASSporT, and it is fresh up to this one's iat and the
+/// window.
+pub fn screened_law()
+    ensures refused { (world : World) (call : Call) (refused : Refusal) → IsScreenedBy early_rules call (Err (Refused refused)) → First world call ≡ Some refused }
+    ensures judged { (world : World) (call : Call) (table : Table) (says : Says) (moment : ℕ) (screened : ScreenedView) → IsScreenedBy early_rules call (Ok screened)
+        → moment ≡ call.moment → table ≡ world.table → says ≡ world.says → IsJudgedBy world call table says moment screened.readings }
+    ensures ticket { (call : Call) (screened : ScreenedView) → IsScreenedBy early_rules call (Ok screened) → option_map digest_in (last_of screened.readings) ≡ ticket_of call }
+    ensures last { (call : Call) (screened : ScreenedView) → IsScreenedBy early_rules call (Ok screened) → screened.last ≡ last_of_call call }
+{}
+
+/// What the first broken rule of all says of rules 10 to 17 in their own words, where the files of the world hold bytes and the call breaks
+/// none of the rules before; and what it says of a call that may be set aside.
+pub fn late_words_law()
+    ensures { (world : World) (call : Call) (verdict : Verdict) → HoldsBytes world → first early_rules call ≡ None → VerdictOf world call verdict → SaysLateWords world call verdict }
+{
+    judged_law();
+    chain_law();
+    covers_law();
+}
+
+/// What a chain map, a shelf and the rules on a chain tell of the chain of an x5u is right.
+pub fn right_law()
+    ensures judged { (world : World) (x5u name bytes : List ℕ) (judged : JudgedView) → listed world.chains x5u ≡ Some name → file name world.files ≡ Some bytes
+        → length bytes ≤ 49152 → JudgedAs (judged_of world.anchors world.table world.says bytes) judged → IsRight world x5u (have judged) }
+    ensures unlisted { (world : World) (x5u : List ℕ) → listed world.chains x5u ≡ None → IsRight world x5u no_chain }
+    ensures missing { (world : World) (x5u name : List ℕ) → listed world.chains x5u ≡ Some name → file name world.files ≡ None → IsRight world x5u no_chain }
+    ensures too_long { (world : World) (x5u name : List ℕ) → listed world.chains x5u ≡ Some name → IsLonger 49152 (file name world.files) → IsRight world x5u long }
+    ensures failed { (world : World) (x5u name : List ℕ) → listed world.chains x5u ≡ Some name → IsRight world x5u unread }
+
+    // Of several PASSporTs: one more, and each by itself.
+    ensures more { (world : World) (readings : List Reading) (states : List State) (one : Reading) (state : State) → AreRight world readings states
+        → IsRight world one.passport.x5u state → AreRight world (readings ++ one ∷ []) (states ++ state ∷ []) }
+    ensures each { (world : World) (readings : List Reading) (states : List State) → length states ≡ length readings
+        → ((at : ℕ) (one : Reading) (state : State) → slice_get readings at ≡ Some one → slice_get states at ≡ Some state → IsRight world one.passport.x5u state)
+        → AreRight world readings states }
+{}
