@@ -1,10 +1,9 @@
 -- What is known of a chain whose every question is answered.
-use Rattle.std.proofs.Common.{◌≡◌, ◌≢◌, ℕ, List, Option, Some, None, refl}
+use Rattle.std.proofs.Common.{◌≢◌, ℕ, List, Option, Some, None, refl}
 use Rattle.der_reader.specs.Elem.{AllBytes}
 use Rattle.x509_profile.specs.View.{CertView}
 use Rattle.delegation.specs.Coverage.{Table}
-use Rattle.cert_store.specs.declared.judged.Asked.{Asked}
-use Rattle.cert_store.specs.declared.judged.Asked.TheVariants.{NotAsked, Yes, No, Failed}
+use Rattle.cert_store.specs.declared.judged.Asked.TheVariants.{Failed}
 use Rattle.cert_store.specs.Asking.{FailedAt, Keys, SoFar}
 use Rattle.cert_store.specs.Judged.{JudgedAs, asked_where, judged_of}
 use Rattle.cert_store.specs.Links.{chain_in, links_of}
