@@ -5,10 +5,11 @@ use Rattle.std.proofs.KnownBytes.{Consumes-nil}
 use Rattle.std.proofs.lemmas.Bool.Decides.{nat_tests}
 use Rattle.stir_outside.specs.Told.{Takes}
 use Rattle.stir_cmd.specs.Answer.{Reply, answer, judged_reply, long_input, shown, shown_reply}
-use Rattle.stir_cmd.specs.Causes.{IsAnswerTo, Shows, TakesAtMost}
+use Rattle.stir_cmd.specs.Causes.{IsAnswerTo, TakesAtMost}
 use Rattle.x509_profile.specs.Chain.{certificates_in}
 use Rattle.stir_cmd.specs.Command.{most_input}
 use Rattle.stir_cmd.specs.Entry.{Entry, entry}
+use Rattle.stir_cmd.specs.Says.{Says}
 use Rattle.stir_cmd.specs.declared.command.Command.{Command}
 use Rattle.stir_cmd.specs.declared.command.Command.TheVariants.{Verify, Show}
 use Rattle.stir_cmd.proofs.EntryLaws.{entry_long, entry_short}
@@ -73,17 +74,28 @@ all_taken (Some known) (Some rest) bytes other t ended e =
     let none : rest ≡ [] = ended in
     t.from_front ∙ ap (λ x. t.taken ++ x) none ∙ append-nil t.taken ∙ sym t.behind ∙ e
 
--- the lines of what was taken are the lines of all
-pub shows_all : (command : Command) (left left_now : Option (List ℕ)) (bytes : List ℕ) (reply : Reply) → Takes left left_now [] bytes → (length bytes < most_input command → IsAtEnd left_now)
-    → reply ≡ answer command bytes → (command ≡ Show → reply.status ≡ 0 → Shows (Some bytes) reply.text) → command ≡ Show → reply.status ≡ 0 → Shows left reply.text
-shows_all command left left_now bytes reply t ended e shows is zero_status =
-    let s = shows is zero_status in
-    let end = ended_below command left_now bytes reply ended e (omega (arith, zero_status)) in
-    record {
-      bytes = s.bytes;
-      certificates = s.certificates;
-      all = all_taken left left_now bytes s.bytes t end s.all;
-      size = s.size;
-      chain = s.chain;
-      lines = s.lines;
-    }
+-- what is said of what was taken is said of all
+says_left : (command : Command) (left left_now : Option (List ℕ)) (bytes text : List ℕ) (status : ℕ) → Takes left left_now [] bytes → IsAtEnd left_now → Says command (Some bytes) text status
+    → Says command left text status
+says_left Verify left left_now bytes text status t end s = record {
+  bytes = s.bytes;
+  entered = s.entered;
+  verdict = s.verdict;
+  all = all_taken left left_now bytes s.bytes t end s.all;
+  whole = s.whole;
+  judged = s.judged;
+  said = s.said;
+}
+says_left Show left left_now bytes text status t end s = record {
+  bytes = s.bytes;
+  certificates = s.certificates;
+  all = all_taken left left_now bytes s.bytes t end s.all;
+  size = s.size;
+  chain = s.chain;
+  lines = s.lines;
+}
+
+pub says_all : (command : Command) (left left_now : Option (List ℕ)) (bytes : List ℕ) (reply : Reply) → Takes left left_now [] bytes → (length bytes < most_input command → IsAtEnd left_now)
+    → reply ≡ answer command bytes → (reply.status ≤ 1 → Says command (Some bytes) reply.text reply.status) → reply.status ≤ 1 → Says command left reply.text reply.status
+says_all command left left_now bytes reply t ended e says low =
+    says_left command left left_now bytes reply.text reply.status t (ended_below command left_now bytes reply ended e low) (says low)

@@ -1,19 +1,20 @@
 -- Why a run ended as it did, from what it came to.
-use Rattle.std.proofs.Common.{◌≡◌, ℕ, ◌≤◌, ◌⊎◌, inl, inr, Bool, true, false, nat_lt, List, length, Option, Some, None, Result, Ok, Err, IfOk, IfSome, refl, sym, ◌∙◌, ap, subst, arith}
+use Rattle.std.proofs.Common.{◌≡◌, ℕ, ◌≤◌, ◌⊎◌, inl, inr, Bool, true, false, nat_lt, List, length, Option, Some, None, Result, Ok, Err, IfSome, refl, sym, ◌∙◌, ap, subst, arith}
 use Rattle.std.specs.Io.KnownBytes.{Appends, IsAtEnd}
 use Rattle.std.proofs.lemmas.Bool.Decides.{nat_tests}
 use Rattle.stir_outside.specs.Count.{Rose}
 use Rattle.x509_profile.specs.View.{CertView}
-use Rattle.stir_cmd.specs.Answer.{Reply, answer, fault_status, judged, judged_reply, outcome_status, shown, shown_reply, status_of, text_of}
-use Rattle.stir_cmd.specs.Causes.{EndsAs, HasCauses, HasReason, IsAnswered, IsAnswerTo, IsRefused, Ran, Shows, WroteShow}
+use Rattle.stir_cmd.specs.Answer.{Reply, answer, fault_status, judged_reply, shown, shown_reply, status_of, text_of}
+use Rattle.stir_cmd.specs.Causes.{EndsAs, HasCauses, HasReason, IsAnswered, IsAnswerTo, IsRefused, Ran}
 use Rattle.x509_profile.specs.Chain.{Chain, RefusedCertificate, certificates_in}
 use Rattle.stir_cmd.specs.Entry.{Entry, entry}
+use Rattle.stir_cmd.specs.Says.{SaysOf, Wrote, WroteShow, WroteVerdict}
+use Rattle.stir_cmd.specs.Verdict.{first_broken, verdict_status}
 use Rattle.stir_cmd.specs.declared.command.Command.{Command}
 use Rattle.stir_cmd.specs.declared.command.Command.TheVariants.{Verify, Show}
 use Rattle.stir_cmd.specs.declared.program.Fault.{Fault}
 use Rattle.stir_cmd.specs.declared.program.Fault.TheVariants.{Words, Read, Memory}
-use Rattle.stir_cmd.specs.declared.verdict.Outcome.{Outcome}
-use Rattle.stir_cmd.specs.declared.verdict.Outcome.TheVariants.{Screened, Refused, NotBuilt}
+use Rattle.verify_rules.specs.declared.refusal.Refusal.{Refusal}
 use Rattle.x509_profile.proofs.ChainLaws.{chain_again}
 
 -- ---- the statuses of an answer
@@ -23,14 +24,13 @@ record Statuses (command : Command) (bytes : List ℕ) (status : ℕ) : Type 0 w
   pub judged : status ≡ 1 → command ≡ Verify
   pub refused : status ≡ 5 → IsRefused (Some command) bytes
 
-of_outcome : (bytes : List ℕ) (outcome : Outcome) → Statuses Verify bytes (outcome_status outcome)
-of_outcome bytes Screened = record { each = inl (omega arith); judged = λ h. refl; refused = λ h. absurd (omega (arith, h)) }
-of_outcome bytes (Refused refusal) = record { each = inl (omega arith); judged = λ h. refl; refused = λ h. absurd (omega (arith, h)) }
-of_outcome bytes NotBuilt = record { each = inl (omega arith); judged = λ h. refl; refused = λ h. absurd (omega (arith, h)) }
+of_first : (bytes : List ℕ) (broken : Option Refusal) → Statuses Verify bytes (verdict_status broken)
+of_first bytes None = record { each = inl (omega arith); judged = λ h. refl; refused = λ h. absurd (omega (arith, h)) }
+of_first bytes (Some refusal) = record { each = inl (omega arith); judged = λ h. refl; refused = λ h. absurd (omega (arith, h)) }
 
 of_entry : (bytes : List ℕ) (k : Option Entry) → entry bytes ≡ k → Statuses Verify bytes (judged_reply k).status
 of_entry bytes None e = record { each = inr refl; judged = λ h. refl; refused = λ h. e }
-of_entry bytes (Some call) e = of_outcome bytes (judged call)
+of_entry bytes (Some entered) e = of_first bytes (first_broken entered)
 
 no_chain : (bytes : List ℕ) (refused : RefusedCertificate) → certificates_in bytes ≡ Err refused → (certificates : List CertView) → Chain bytes certificates → ⊥
 no_chain bytes refused e certificates chain = let k : Ok certificates ≡ Err refused = sym (chain_again bytes certificates chain) ∙ e in absurd cc
@@ -141,11 +141,32 @@ pub ended_run : (written written_now left_now : Option (List ℕ)) (sink sink_no
 ended_run written written_now left_now sink sink_now result text status ends ended low =
     let k = written_by written written_now sink sink_now result text status ends low in ended (omega (arith, k.0, low))
 
-pub wrote_show : (command : Option Command) (left written written_now : Option (List ℕ)) (sink sink_now result : ℕ) (text : List ℕ) (status : ℕ)
-    → EndsAs written written_now sink sink_now result text status → (command ≡ Some Show → status ≡ 0 → Shows left text) → command ≡ Some Show → result ≡ 0 → WroteShow left written written_now
-wrote_show command left written written_now sink sink_now result text status ends shows is zero_result =
-    let k = written_by written written_now sink sink_now result text status ends (omega (arith, zero_result)) in
-    record { text = text; shows = shows is (omega (arith, k.0, zero_result)); appended = k.1 }
+-- what was answered was written, and the result is its status
+pub wrote : (command : Option Command) (left written written_now : Option (List ℕ)) (sink sink_now result : ℕ) (text : List ℕ) (status : ℕ) (reply : Reply)
+    → EndsAs written written_now sink sink_now result text status → text ≡ reply.text → status ≡ reply.status → (reply.status ≤ 1 → SaysOf command left reply.text reply.status)
+    → result ≤ 1 → Wrote command left written written_now result
+wrote command left written written_now sink sink_now result text status reply ends same_text same_status says low =
+    let k = written_by written written_now sink sink_now result text status ends low in
+    let is : result ≡ reply.status = k.0 ∙ same_status in
+    record {
+      text = text;
+      says = subst (λ (x : List ℕ). SaysOf command left x result) (sym same_text) (subst (SaysOf command left reply.text) (sym is) (says (omega (arith, is, low))));
+      appended = k.1;
+    }
+
+-- of `verify` it is the line of the call
+pub wrote_verdict : (command : Option Command) (left written written_now : Option (List ℕ)) (result : ℕ) → (result ≤ 1 → Wrote command left written written_now result) → command ≡ Some Verify
+    → result ≤ 1 → WroteVerdict left written written_now result
+wrote_verdict command left written written_now result wrote is low =
+    let k = wrote low in
+    record { text = k.text; judges = subst (λ (x : Option Command). SaysOf x left k.text result) is k.says; appended = k.appended }
+
+-- of `show` it is the lines of the certificates
+pub wrote_show : (command : Option Command) (left written written_now : Option (List ℕ)) (result : ℕ) → (result ≤ 1 → Wrote command left written written_now result) → command ≡ Some Show
+    → result ≡ 0 → WroteShow left written written_now
+wrote_show command left written written_now result wrote is zero_result =
+    let k = wrote (omega (arith, zero_result)) in
+    record { text = k.text; shows = subst (λ (x : Option Command). SaysOf x left k.text result) is k.says; appended = k.appended }
 
 -- the status of a fault is none of an answer
 fault_high : (fault : Fault) → 2 ≤ fault_status fault
@@ -156,12 +177,3 @@ fault_high Memory = omega arith
 pub fault_ends : (written written_now : Option (List ℕ)) (sink sink_now result : ℕ) (text : List ℕ) (fault : Fault) → EndsAs written written_now sink sink_now result text (fault_status fault) → result ≤ 1 → ⊥
 fault_ends written written_now sink sink_now result text fault ends low =
     let k = written_by written written_now sink sink_now result text (fault_status fault) ends low in omega (arith, k.0, low, fault_high fault)
-
-named_is : (named : Option Command) (command other : Command) → named ≡ Some command → named ≡ Some other → command ≡ other
-named_is named command other a b = let k : Some command ≡ Some other = sym a ∙ b in cc
-
--- what is said of a command is said of the words that are its name
-pub shows_named : (named : Option Command) (command : Command) (left : Option (List ℕ)) (r : Result Reply Fault) → named ≡ Some command
-    → IfOk r (λ reply. command ≡ Show → reply.status ≡ 0 → Shows left reply.text) → IfOk r (λ reply. named ≡ Some Show → reply.status ≡ 0 → Shows left reply.text)
-shows_named named command left (Ok reply) e shows = λ is zero_status. shows (named_is named command Show e is) zero_status
-shows_named named command left (Err fault) e shows = tt

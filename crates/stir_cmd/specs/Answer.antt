@@ -1,49 +1,17 @@
 -- What the program answers to an input, as a text and a status.
 use Rattle.std.specs.Prelude.{ℕ, List, ◌++◌, length, nat_lt, codes, Option, Some, None, Result, Ok, Err, if◌then◌else◌}
 use Rattle.std.specs.Fmt.{decimal}
-use Rattle.sip_message.specs.Reading.{read}
-use Rattle.x509_profile.specs.View.{CertView}
 use Rattle.stir_outside.specs.declared.transfer.ReadFault.{ReadFault}
 use Rattle.stir_outside.specs.declared.transfer.ReadFault.TheVariants.{Source, Memory as ReadMemory}
-use Rattle.stir_cmd.specs.Entry.{Entry, entry}
-use Rattle.stir_cmd.specs.Call.{Call, fields_of}
 use Rattle.x509_profile.specs.Chain.{RefusedCertificate, certificates_in}
-use Rattle.stir_cmd.specs.Rules.{code, first, form_rules, is_not_built, token_rules}
+use Rattle.x509_profile.specs.View.{CertView}
+use Rattle.stir_cmd.specs.Entry.{Entry, entry}
 use Rattle.stir_cmd.specs.Show.{show}
+use Rattle.stir_cmd.specs.Verdict.{first_broken, verdict_line, verdict_status}
 use Rattle.stir_cmd.specs.declared.command.Command.{Command}
 use Rattle.stir_cmd.specs.declared.command.Command.TheVariants.{Verify, Show}
 use Rattle.stir_cmd.specs.declared.program.Fault.{Fault}
 use Rattle.stir_cmd.specs.declared.program.Fault.TheVariants.{Words, Read, Memory}
-use Rattle.stir_cmd.specs.declared.verdict.Outcome.{Outcome}
-use Rattle.stir_cmd.specs.declared.verdict.Outcome.TheVariants.{Screened, Refused, NotBuilt}
-use Rattle.stir_cmd.specs.declared.verdict.Refusal.{Refusal}
-
--- a call is refused by its first broken rule, and otherwise this comes of it
-abbrev pub refused_or : Option Refusal → Outcome → Outcome
-refused_or None other = other
-refused_or (Some refusal) other = Refused refusal
-
--- the rules on what is there, then what isn't judged yet, then the rules on what the PASSporT says
-abbrev pub outcome_of : Call → Outcome
-outcome_of call = refused_or (first form_rules call) (if is_not_built (fields_of call) then NotBuilt else refused_or (first token_rules call) Screened)
-
-abbrev pub call_of : Entry → Call
-call_of entered = record { moment = entered.moment; message = read entered.message }
-
-abbrev pub judged : Entry → Outcome
-judged entered = outcome_of (call_of entered)
-
-abbrev pub outcome_line : Outcome → List ℕ
-outcome_line Screened = codes "1 screened - - -\n"
-outcome_line (Refused refusal) =
-    codes "1 refused " ++ (decimal (code refusal.rule) ++ (codes " " ++ (decimal refusal.rule ++ (codes " "
-    ++ (decimal refusal.place.field ++ (codes "." ++ (decimal refusal.place.part ++ codes "\n")))))))
-outcome_line NotBuilt = codes "1 not-built - - -\n"
-
-abbrev pub outcome_status : Outcome → ℕ
-outcome_status Screened = 0
-outcome_status (Refused refusal) = 1
-outcome_status NotBuilt = 1
 
 -- what is said of an input: the text that is written and the status
 pub record Reply : Type 0 where
@@ -54,9 +22,10 @@ pub record Reply : Type 0 where
 abbrev pub refused_input : ℕ → Reply
 refused_input place = record { text = codes "refused input " ++ (decimal place ++ codes "\n"); status = 5 }
 
+-- by the first rule that the call of the entry breaks
 abbrev pub judged_reply : Option Entry → Reply
 judged_reply None = refused_input 0
-judged_reply (Some call) = record { text = outcome_line (judged call); status = outcome_status (judged call) }
+judged_reply (Some entered) = record { text = verdict_line (first_broken entered); status = verdict_status (first_broken entered) }
 
 -- the answer of `verify` to an input, which is to be one entry
 abbrev pub verified : List ℕ → Reply

@@ -7,7 +7,6 @@ use Rattle.x509_profile.specs.View.{CertView}
 use Rattle.stir_cmd.specs.Answer.{Reply, answer, status_of, text_of}
 use Rattle.x509_profile.specs.Chain.{Chain}
 use Rattle.stir_cmd.specs.Entry.{entry}
-use Rattle.stir_cmd.specs.Show.{show}
 use Rattle.stir_cmd.specs.declared.command.Command.{Command}
 use Rattle.stir_cmd.specs.declared.command.Command.TheVariants.{Verify, Show}
 use Rattle.stir_cmd.specs.declared.program.Fault.{Fault}
@@ -67,19 +66,3 @@ pub record HasCauses (command : Option Command) (left : Option (List ℕ)) (sour
   pub answered : result ≤ 1 → IfSome left (λ bytes. IsAnswered command bytes result)
   pub judged : result ≡ 1 → command ≡ Some Verify
   pub known : result ≤ 6
-
--- The bytes are all that the source had left, where it tells that, and a chain of certificates within its limit,
--- of which the text is what `show` writes.
-pub record Shows (left : Option (List ℕ)) (text : List ℕ) : Type 0 where
-  pub bytes : List ℕ
-  pub certificates : List CertView
-  pub all : IfSome left (λ known. known ≡ bytes)
-  pub size : length bytes ≤ 49152
-  pub chain : Chain bytes certificates
-  pub lines : text ≡ show certificates
-
--- what was written is the lines of a chain of certificates that the source had left
-pub record WroteShow (left written written_now : Option (List ℕ)) : Type 0 where
-  pub text : List ℕ
-  pub shows : Shows left text
-  pub appended : Appends written written_now text

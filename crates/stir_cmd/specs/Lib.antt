@@ -1,9 +1,8 @@
 pub mod Answer
-pub mod Call
 pub mod Causes
 pub mod Command
 pub mod Entry
-pub mod Fields
-pub mod Rules
+pub mod Says
 pub mod Seen
 pub mod Show
+pub mod Verdict

@@ -1,7 +1,6 @@
-ghost use Rattle.std.specs.Prelude.{◌≡◌, IfOk, Some, string_bytes};
+ghost use Rattle.std.specs.Prelude.{◌≡◌, ◌≤◌, IfOk, Some, string_bytes};
 ghost use Rattle.stir_cmd.specs.Answer.{answer, long_input, refused_input};
-ghost use Rattle.stir_cmd.specs.Causes.{Shows};
-ghost use Rattle.stir_cmd.specs.declared.command.Command.TheVariants.{Show};
+ghost use Rattle.stir_cmd.specs.Says.{Says};
 
 use crate::command::Command;
 use crate::show::shown;
@@ -68,7 +67,7 @@ impl Answer {
 /// The answer of a command to an input.
 pub(crate) fn answer_to(alloc: Global, command: Command, input: &[u8]) -> Result<Answer, AllocError>
     ensures exact { IfOk result (λ reply. reply ≡ answer command input.now) }
-    ensures shows { IfOk result (λ reply. command ≡ Show → reply.status ≡ 0 → Shows (Some input.now) reply.text) }
+    ensures says { IfOk result (λ reply. reply.status ≤ 1 → Says command (Some input.now) reply.text reply.status) }
 {
     match command {
         Command::Verify => verified(alloc, input),

@@ -4,12 +4,8 @@
 mod answer;
 mod command;
 mod entry;
-mod fields;
-mod judge;
 mod program;
 mod show;
-mod token;
-mod verdict;
 mod verify;
 
 pub use program::run;

@@ -1,10 +1,10 @@
 ghost use Rattle.std.specs.Prelude.{◌≡◌, ◌≤◌, map, IfOk, Some, None};
 ghost use Rattle.std.specs.Io.KnownBytes.{IsAtEnd};
 ghost use Rattle.stir_cmd.specs.Answer.{fault_line, fault_status};
-ghost use Rattle.stir_cmd.specs.Causes.{EndsAs, HasCauses, HasReason, Ran, Shows, TakesAtMost, WroteShow};
+ghost use Rattle.stir_cmd.specs.Causes.{EndsAs, HasCauses, HasReason, Ran, TakesAtMost};
 ghost use Rattle.stir_cmd.specs.Command.{command_of, most_input, most_taken};
-ghost use Rattle.stir_cmd.specs.Rules.{GivesLeast, form_rules, token_rules};
-ghost use Rattle.stir_cmd.specs.declared.command.Command.TheVariants.{Show};
+ghost use Rattle.stir_cmd.specs.Says.{Says, SaysOf, Wrote, WroteShow, WroteVerdict};
+ghost use Rattle.stir_cmd.specs.declared.command.Command.TheVariants.{Show, Verify};
 
 use crate::answer::{Answer, answer_to};
 use crate::command::Command;
@@ -55,10 +55,10 @@ const SINK_FAILED: u8 = 4;
 /// The words are exactly `verify` or exactly `show`. The input of `verify` is exactly one entry of a call log,
 /// of which at most 131,094 bytes are read; that of `show` is at most six certificates one after another, at
 /// most 49,152 bytes, of which at most 49,153 are read. The status is 0 where the call is screened or the
-/// certificates are shown, 1 where the call is refused or not built, 2 where the words are refused and nothing
-/// is read, 3 where the source failed, 4 where the sink failed and a front of the text was written, 5 where the
-/// input is too long or isn't of its form, and 6 for want of memory.
-#[tactic(auto, using(crate::proofs::RuleLaws::gives_least))]
+/// certificates are shown, 1 where the call is refused, 2 where the words are refused and nothing is read,
+/// 3 where the source failed, 4 where the sink failed and a front of the text was written, 5 where the input is
+/// too long or isn't of its form, and 6 for want of memory.
+#[tactic(auto, using(crate::proofs::RunLaws::wrote_verdict, crate::proofs::RunLaws::wrote_show))]
 pub fn run<R: Threads + Sync, S: Shelf, I: Source, O: Sink>(
     rt: &R,
     alloc: Global,
@@ -80,23 +80,24 @@ pub fn run<R: Threads + Sync, S: Shelf, I: Source, O: Sink>(
     ensures shown { (command_of (map (λ word. word.now) words.now) ≡ Some Show) → result ≡ 0
         → WroteShow (I.left input.old) (O.written sink.old) (O.written sink.new) }
 
-    // The rule that a refusal names is the first that the call breaks: those before it hold.
-    ensures first_form { GivesLeast form_rules }
-    ensures first_token { GivesLeast token_rules }
+    // Where `verify` ends with 0 or 1, the input is one entry of a call log, and the line that was written says what the rules say of its
+    // call: with 0 that all nine hold; with 1 the least that doesn't, with its code and place, while those before it hold. Each rule is said
+    // besides in the grammars and claims of the message that came.
+    ensures judged { (command_of (map (λ word. word.now) words.now) ≡ Some Verify) → result ≤ 1
+        → WroteVerdict (I.left input.old) (O.written sink.old) (O.written sink.new) result }
 {
     carry_out(alloc, words, input, sink)
 }
 
 /// Reads the input and writes the answer to it, or why there is none.
-#[tactic(auto, using(crate::proofs::RunLaws::wrote_show, crate::proofs::RunLaws::ended_run, crate::proofs::RunLaws::fault_ends))]
+#[tactic(auto, using(crate::proofs::RunLaws::ended_run, crate::proofs::RunLaws::fault_ends))]
 fn carry_out<I: Source, O: Sink>(alloc: Global, words: &[&str], input: &mut I, sink: &mut O) -> u8
     ensures outcome { Ran (command_of (map (λ word. word.now) words.now)) (I.left input.old) (I.faults input.old) (I.faults input.new)
         (O.written sink.old) (O.written sink.new) (O.faults sink.old) (O.faults sink.new) result }
     ensures ended { result ≤ 1 → IsAtEnd (I.left input.new) }
     ensures limited { TakesAtMost (most_taken (command_of (map (λ word. word.now) words.now))) (I.left input.old) (I.left input.new) }
     ensures unread { (command_of (map (λ word. word.now) words.now) ≡ None) → input.new ≡ input.old }
-    ensures shown { (command_of (map (λ word. word.now) words.now) ≡ Some Show) → result ≡ 0
-        → WroteShow (I.left input.old) (O.written sink.old) (O.written sink.new) }
+    ensures wrote { result ≤ 1 → Wrote (command_of (map (λ word. word.now) words.now)) (I.left input.old) (O.written sink.old) (O.written sink.new) result }
 {
     match reply_to(alloc, words, input) {
         Ok(answer) => finish(sink, answer.text(), answer.status()),
@@ -110,8 +111,8 @@ fn reply_to<I: Source>(alloc: Global, words: &[&str], input: &mut I) -> Result<A
     ensures ended { IfOk result (λ answer. answer.status ≤ 1 → IsAtEnd (I.left input.new)) }
     ensures limited { TakesAtMost (most_taken (command_of (map (λ word. word.now) words.now))) (I.left input.old) (I.left input.new) }
     ensures unread { (command_of (map (λ word. word.now) words.now) ≡ None) → input.new ≡ input.old }
-    ensures shows { IfOk result (λ answer. (command_of (map (λ word. word.now) words.now) ≡ Some Show) → answer.status ≡ 0
-        → Shows (I.left input.old) answer.text) }
+    ensures says { IfOk result (λ answer. answer.status ≤ 1
+        → SaysOf (command_of (map (λ word. word.now) words.now)) (I.left input.old) answer.text answer.status) }
 {
     match Command::of(words) {
         Some(command) => answer_input(alloc, command, input),
@@ -125,7 +126,7 @@ fn answer_input<I: Source>(alloc: Global, command: Command, input: &mut I) -> Re
     ensures reason { HasReason (Some command) (I.left input.old) (I.faults input.old) (I.faults input.new) result }
     ensures ended { IfOk result (λ answer. answer.status ≤ 1 → IsAtEnd (I.left input.new)) }
     ensures limited { TakesAtMost (most_input command) (I.left input.old) (I.left input.new) }
-    ensures shows { IfOk result (λ answer. command ≡ Show → answer.status ≡ 0 → Shows (I.left input.old) answer.text) }
+    ensures says { IfOk result (λ answer. answer.status ≤ 1 → Says command (I.left input.old) answer.text answer.status) }
 {
     let mut bytes = Vec::new(alloc);
     read_up_to(input, &mut bytes, command.most_input())?;

@@ -1,7 +1,7 @@
 //! The command `show`: what the certificates of a chain say, in lines.
 ghost use Rattle.std.specs.Prelude.{◌≡◌, ◌≤◌, length, IfOk, Some, string_bytes};
 ghost use Rattle.stir_cmd.specs.Answer.{shown};
-ghost use Rattle.stir_cmd.specs.Causes.{Shows};
+ghost use Rattle.stir_cmd.specs.Says.{Shows};
 ghost use Rattle.stir_cmd.specs.Show.{authority_lines, certificate_lines, entry_line, key_lines, number_or_none, show, usage_or_none, validity_lines, yes_or_no};
 
 use crate::answer::Answer;
@@ -15,7 +15,7 @@ const MOST_CHAIN: usize = 49_152;
 /// The answer to an input, which is to be a chain of certificates.
 pub(crate) fn shown(alloc: Global, input: &[u8]) -> Result<Answer, AllocError>
     ensures exact { IfOk result (λ reply. reply ≡ shown input.now) }
-    ensures shows { IfOk result (λ reply. reply.status ≡ 0 → Shows (Some input.now) reply.text) }
+    ensures shows { IfOk result (λ reply. reply.status ≤ 1 → Shows (Some input.now) reply.text) }
 {
     if input.len() > MOST_CHAIN {
         return Answer::long_input(alloc);

@@ -1,7 +1,7 @@
 -- What a call is set aside for stands in the chains that are handed in, or is a question that failed.
 use Rattle.std.proofs.Common.{◌≡◌, ◌≢◌, inl, inr, ℕ, List, Some, refl, ap, arith}
 use Rattle.std.specs.List.{slice_get}
-use Rattle.stir_base.specs.Count.{last_count}
+use Rattle.stir_outside.specs.Count.{last_count}
 use Rattle.cert_store.specs.Rules.{Says}
 use Rattle.delegation.specs.Coverage.{Table}
 use Rattle.verify_rules.specs.Call.{Reading}

@@ -1,7 +1,7 @@
 -- What a call is set aside for: a chain that isn't known, or a question that wasn't answered.
 use Rattle.std.specs.Prelude.{◌≡◌, ⊤, ◌⊎◌, ℕ, List, Some}
 use Rattle.std.specs.List.{slice_get}
-use Rattle.stir_base.specs.Count.{Rose}
+use Rattle.stir_outside.specs.Count.{Rose}
 use Rattle.verify_rules.specs.Call.{Reading}
 use Rattle.verify_rules.specs.Rules.{place}
 use Rattle.verify_rules.specs.States.{State, unread}
