@@ -7,11 +7,13 @@ mod call;
 mod digits;
 mod entry;
 mod fault;
+mod laws;
 mod message;
 mod progress;
 mod reader;
 
 pub use call::Call;
 pub use fault::LogFault;
+pub use laws::one_log;
 pub use reader::LogReader;
 pub use std::alloc::AllocError as Memory;
