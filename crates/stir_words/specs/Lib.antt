@@ -1,0 +1,5 @@
+pub mod Options
+pub mod Table
+pub mod Order
+pub mod Seen
+pub mod Status

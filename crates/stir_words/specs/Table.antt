@@ -1,0 +1,83 @@
+-- Which options a command takes (this project's own rule).
+use Rattle.std.specs.Prelude.{◌≡◌, ℕ, Bool, true, false, not, ◌&&◌, ◌||◌, List, [], ◌∷◌, ◌++◌, codes, is_some, Option, Some, None, if◌then◌else◌}
+use Rattle.std.specs.List.{list_any, list_all}
+use Rattle.std.specs.Str.{bytes_eq}
+use Rattle.stir_words.specs.Options.{Pair}
+use Rattle.stir_words.specs.declared.commands.Command.{Command}
+use Rattle.stir_words.specs.declared.commands.Command.TheVariants.{Verify, Show}
+
+-- an option that a command takes
+pub record Known : Type 0 where
+  pub name : List ℕ
+  pub required : Bool
+
+-- the value of the option of that name
+abbrev pub get : List ℕ → List Pair → Option (List ℕ)
+get name [] = None
+get name (pair ∷ pairs) = if bytes_eq pair.name name then Some pair.value else get name pairs
+
+-- an option of that name stands among them
+abbrev pub has : List ℕ → List Pair → Bool
+has name pairs = is_some (get name pairs)
+
+-- the table has an option of that name
+abbrev pub is_known : List Known → List ℕ → Bool
+is_known table name = list_any (λ known. bytes_eq known.name name) table
+
+-- each is an option of the table, and none has the name of one before it or of one already seen
+abbrev pub are_known : List Known → List Pair → List Pair → Bool
+are_known table seen [] = true
+are_known table seen (pair ∷ pairs) = is_known table pair.name && (not (has pair.name seen) && are_known table (seen ++ pair ∷ []) pairs)
+
+-- all that the table requires stand there
+abbrev pub has_required : List Known → List Pair → Bool
+has_required table pairs = list_all (λ known. not known.required || has known.name pairs) table
+
+-- the options are those of the table, each at most once, and all that it requires
+abbrev pub accepts : List Known → List Pair → Bool
+accepts table pairs = are_known table [] pairs && has_required table pairs
+
+-- ---- the commands
+
+-- an option that has to stand
+abbrev pub needed : List ℕ → Known
+needed name = record { name = name; required = true }
+
+-- an option that may be left out
+abbrev pub optional : List ℕ → Known
+optional name = record { name = name; required = false }
+
+-- the options of a command
+abbrev pub options_of : Command → List Known
+options_of Verify =
+    needed (codes "chains") ∷ needed (codes "anchors") ∷ needed (codes "table") ∷ needed (codes "answers")
+    ∷ optional (codes "window") ∷ optional (codes "country") ∷ optional (codes "national") ∷ []
+options_of Show = []
+
+-- the command of that name
+abbrev pub command_named : List ℕ → Option Command
+command_named name =
+    if bytes_eq name (codes "verify") then Some Verify
+    else if bytes_eq name (codes "show") then Some Show
+    else None
+
+-- ---- the same, said of the options
+
+-- some option of the table has that name
+abbrev pub Knows : List Known → List ℕ → Type 0
+Knows table name = is_known table name ≡ true
+
+-- each is known, and no later one has its name
+abbrev pub KnownOnce : List Known → List Pair → Type 0
+KnownOnce table [] = Unit {0}
+KnownOnce table (pair ∷ pairs) = Knows table pair.name × (has pair.name pairs ≡ false) × KnownOnce table pairs
+
+-- each that the table requires has a value
+abbrev pub HoldsRequired : List Known → List Pair → Type 0
+HoldsRequired [] pairs = Unit {0}
+HoldsRequired (known ∷ table) pairs = (known.required ≡ true → has known.name pairs ≡ true) × HoldsRequired table pairs
+
+-- the options are those of the table, each at most once, and all that it requires
+pub record Accepted (table : List Known) (pairs : List Pair) : Type 0 where
+  pub once : KnownOnce table pairs
+  pub required : HoldsRequired table pairs
