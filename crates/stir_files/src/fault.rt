@@ -1,0 +1,36 @@
+//! Why a named file can't be had.
+ghost use Rattle.std.specs.Prelude.{◌≡◌};
+ghost use Rattle.stir_files.specs.Event.{fault_status};
+
+use stir_words::Status;
+
+/// Why a named file can't be had.
+#[derive(Clone, Copy, Debug, PartialEq, Eq)]
+pub enum FileFault {
+    /// There is no file of that name.
+    Missing,
+    /// The file has more bytes than its limit.
+    Long,
+    /// The file can't be read.
+    Failed,
+    /// The file is outside its grammar.
+    Refused {
+        /// The first bad line, counted from 1; of trust anchors the offset of the first that is none.
+        place: u64,
+    },
+    /// Memory ran out.
+    Memory,
+}
+
+impl FileFault {
+    /// The status that the program ends with.
+    pub fn status(self) -> Status
+        ensures { result ≡ fault_status self }
+    {
+        match self {
+            FileFault::Missing | FileFault::Long | FileFault::Refused { .. } => Status::Input,
+            FileFault::Failed => Status::Read,
+            FileFault::Memory => Status::Memory,
+        }
+    }
+}
