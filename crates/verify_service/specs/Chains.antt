@@ -1,0 +1,71 @@
+-- What is known of the chains of a call's PASSporTs, and that it is right where the shelf tells its files.
+use Rattle.std.specs.Prelude.{⊤, ℕ, Bool, true, false, List, Option, Some, None}
+use Rattle.stir_outside.specs.Files.{Files}
+use Rattle.cert_store.specs.Judged.{JudgedAs, judged_of}
+use Rattle.cert_store.specs.Rules.{Says}
+use Rattle.cert_store.specs.declared.judged.Asked.{Asked}
+use Rattle.cert_store.specs.declared.judged.Asked.TheVariants.{NotAsked, Yes, No, Failed}
+use Rattle.verify_rules.specs.Call.{Reading}
+use Rattle.verify_rules.specs.States.{State, have, no_chain, long, unread}
+use Rattle.verify_rules.specs.World.{World, AreRight, IsRight}
+use Rattle.verify_service.specs.declared.chains.CallChain.{CallChain}
+use Rattle.verify_service.specs.declared.chains.CallChain.TheVariants as kept
+use Rattle.verify_service.specs.declared.materials.World.{World as Materials}
+
+abbrev pub state_of : CallChain → State
+state_of (kept.Have judged) = have judged
+state_of kept.NoChain = no_chain
+state_of kept.Long = long
+state_of kept.Unread = unread
+
+-- ---- the world
+
+-- what calls are judged by, with the files of a shelf and what a provider says
+abbrev pub world_by : Materials → Files → Says → World
+world_by materials files says = record {
+  chains = materials.chains;
+  files = files;
+  anchors = materials.anchors;
+  table = materials.table;
+  says = says;
+}
+
+-- ---- what is known is right
+
+-- of the chain of this x5u, over the files that the shelf tells
+abbrev pub IsRightWhere : Option Files → Materials → Says → List ℕ → State → Type 0
+IsRightWhere None materials says x5u state = ⊤
+IsRightWhere (Some files) materials says x5u state = IsRight (world_by materials files says) x5u state
+
+-- of the chain of each of these PASSporTs
+abbrev pub AreRightWhere : Option Files → Materials → Says → List Reading → List State → Type 0
+AreRightWhere None materials says readings states = ⊤
+AreRightWhere (Some files) materials says readings states = AreRight (world_by materials files says) readings states
+
+-- it is what the rules on a chain say of these bytes, as far as the provider answered
+abbrev pub IsOfBytes : Materials → Says → List ℕ → CallChain → Type 0
+IsOfBytes materials says bytes (kept.Have judged) = JudgedAs (judged_of materials.anchors materials.table says bytes) judged
+IsOfBytes materials says bytes kept.NoChain = ⊥
+IsOfBytes materials says bytes kept.Long = ⊥
+IsOfBytes materials says bytes kept.Unread = ⊥
+
+-- ---- what wasn't answered
+
+abbrev pub is_unread : State → Bool
+is_unread (have judged) = false
+is_unread no_chain = false
+is_unread long = false
+is_unread unread = true
+
+abbrev pub is_failed : Asked → Bool
+is_failed NotAsked = false
+is_failed Yes = false
+is_failed (No part) = false
+is_failed (Failed part) = true
+
+-- the provider failed at the signature of a certificate when the chain was judged
+abbrev pub is_unasked : State → Bool
+is_unasked (have judged) = is_failed judged.asked
+is_unasked no_chain = false
+is_unasked long = false
+is_unasked unread = false

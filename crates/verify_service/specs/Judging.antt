@@ -1,0 +1,112 @@
+-- What comes of a call: by itself, and with the calls around it.
+use Rattle.std.specs.Prelude.{◌≡◌, ⊤, ℕ, List, [], ◌∷◌, Option, Some, None, unwrap_or}
+use Rattle.call_log.specs.Entry.{Entry}
+use Rattle.cert_store.specs.Rules.{Says}
+use Rattle.stir_outside.specs.Files.{Files}
+use Rattle.verify_rules.specs.Call.{Call, call_of}
+use Rattle.verify_rules.specs.Screened.{last_of_call, ticket_of}
+use Rattle.verify_rules.specs.World.{World, First, MayBeUnread, MayBeUnasked}
+use Rattle.verify_rules.specs.declared.settings.Settings.{Settings}
+use Rattle.verify_rules.specs.declared.verdict.Verdict.{Verdict}
+use Rattle.verify_rules.specs.declared.verdict.Verdict.TheVariants as verdicts
+use Rattle.verify_service.specs.Chains.{world_by}
+use Rattle.verify_service.specs.declared.finding.Finding.{Finding}
+use Rattle.verify_service.specs.declared.finding.Finding.TheVariants as found
+use Rattle.verify_service.specs.declared.materials.World.{World as Materials}
+use Rattle.verify_service.specs.declared.outcome.Outcome.{Outcome}
+use Rattle.verify_service.specs.declared.outcome.Outcome.TheVariants.{Valid, Refused, Replay, Unread, Unasked}
+
+-- a call of the log as the rules see it
+unfoldable pub call_in : Settings → Entry → Call
+call_in settings entry = call_of settings entry.moment entry.message
+
+-- ---- by which a call is known again
+
+-- its ticket, the digest of what was signed as its last PASSporT in the order in which it went; nothing where it has none
+unfoldable pub ticket_or_none : Call → List ℕ
+ticket_or_none call = unwrap_or (ticket_of call) []
+
+-- the last second at which this PASSporT is fresh, in Unix time
+unfoldable pub last_second : Call → ℕ
+last_second call = last_of_call call
+
+-- ---- what the rules but the one on replay say of a call, in a world
+
+-- a call that isn't set aside is refused by the first rule that it breaks, and else valid or a replay; and it is set aside only where it may be
+abbrev pub IsJudged : World → Call → Outcome → Type 0
+IsJudged world call Valid = First world call ≡ None
+IsJudged world call (Refused refused) = First world call ≡ Some refused
+IsJudged world call (Replay winner) = First world call ≡ None
+IsJudged world call (Unread bad) = MayBeUnread world call bad
+IsJudged world call (Unasked bad) = MayBeUnasked world call bad
+
+-- the same of a call by itself
+abbrev pub IsFound : World → Call → Finding → Type 0
+IsFound world call (found.Refused refused) = First world call ≡ Some refused
+IsFound world call (found.Unread bad) = MayBeUnread world call bad
+IsFound world call (found.Unasked bad) = MayBeUnasked world call bad
+IsFound world call (found.Passes pass) = First world call ≡ None
+
+-- a verdict by the rules on chains says the same of it
+abbrev pub IsOfVerdict : Verdict → Finding → Type 0
+IsOfVerdict verdict (found.Refused refused) = verdict ≡ verdicts.Refused refused
+IsOfVerdict verdict (found.Unread bad) = verdict ≡ verdicts.Unread bad
+IsOfVerdict verdict (found.Unasked bad) = verdict ≡ verdicts.Unasked bad
+IsOfVerdict verdict (found.Passes pass) = verdict ≡ verdicts.Passed
+
+-- over the files that a shelf tells
+abbrev pub IsFoundWhere : Option Files → Materials → Says → Call → Finding → Type 0
+IsFoundWhere None materials says call finding = ⊤
+IsFoundWhere (Some files) materials says call finding = IsFound (world_by materials files says) call finding
+
+-- a call that passes is known again by this ticket, up to this second
+pub record IsKnownBy (call : Call) (ticket : List ℕ) (last : ℕ) : Type 0 where
+  pub ticket_is : ticket ≡ ticket_or_none call
+  pub last_is : last ≡ last_second call
+
+abbrev pub HasTicket : Call → Finding → Type 0
+HasTicket call (found.Refused refused) = ⊤
+HasTicket call (found.Unread bad) = ⊤
+HasTicket call (found.Unasked bad) = ⊤
+HasTicket call (found.Passes pass) = IsKnownBy call pass.ticket pass.last
+
+-- ---- with the calls around it
+
+abbrev pub IsPassing : Outcome → Type 0
+IsPassing Valid = ⊤
+IsPassing (Refused refused) = ⊥
+IsPassing (Replay winner) = ⊤
+IsPassing (Unread bad) = ⊥
+IsPassing (Unasked bad) = ⊥
+
+-- a call that passes is valid or a replay, and any other stays what it is
+abbrev pub ComesOf : Finding → Outcome → Type 0
+ComesOf (found.Refused refused) outcome = outcome ≡ Refused refused
+ComesOf (found.Unread bad) outcome = outcome ≡ Unread bad
+ComesOf (found.Unasked bad) outcome = outcome ≡ Unasked bad
+ComesOf (found.Passes pass) outcome = IsPassing outcome
+
+-- ---- of several calls
+
+-- it holds of the first of both, of the second, and so on, and one list has as many as the other
+abbrev pub EachPair : {A B : Type 0} → (A → B → Type 0) → List A → List B → Type 0
+EachPair R [] [] = ⊤
+EachPair R [] (b ∷ bs) = ⊥
+EachPair R (a ∷ others) [] = ⊥
+EachPair R (a ∷ others) (b ∷ bs) = R a b × EachPair R others bs
+
+-- each call of a round is judged so
+abbrev pub EachJudged : Settings → World → List Entry → List Outcome → Type 0
+EachJudged settings world entries outcomes = EachPair (λ entry outcome. IsJudged world (call_in settings entry) outcome) entries outcomes
+
+-- the same of each by itself, over the files that a shelf tells
+abbrev pub EachFoundWhere : Option Files → Materials → Says → Settings → List Entry → List Finding → Type 0
+EachFoundWhere None materials says settings entries findings = ⊤
+EachFoundWhere (Some files) materials says settings entries findings =
+    EachPair (λ entry finding. IsFound (world_by materials files says) (call_in settings entry) finding) entries findings
+
+abbrev pub EachHasTicket : Settings → List Entry → List Finding → Type 0
+EachHasTicket settings entries findings = EachPair (λ entry finding. HasTicket (call_in settings entry) finding) entries findings
+
+abbrev pub EachComesOf : List Finding → List Outcome → Type 0
+EachComesOf findings outcomes = EachPair ComesOf findings outcomes

@@ -1,0 +1,6 @@
+pub mod Causes
+pub mod Chains
+pub mod Judging
+pub mod Report
+pub mod Rows
+pub mod Service

@@ -1,0 +1,111 @@
+-- What a service is told, and what it holds.
+use Rattle.std.specs.Prelude.{◌≡◌, ⊤, ℕ, ◌-◌, ◌<◌, ◌≤◌, nat_lt, nat_le, Bool, true, ◌&&◌, List, [], ◌∷◌, length, Option, Some, None}
+use Rattle.std.specs.List.{slice_get}
+use Rattle.call_log.specs.Entry.{Entry}
+use Rattle.text_grammar.specs.Moment.{last_second}
+use Rattle.cert_store.specs.Files.{Files}
+use Rattle.cert_store.specs.Rules.{Says}
+use Rattle.delegation.specs.Coverage.{Table}
+use Rattle.replay_desk.specs.Past.{PastView, found}
+use Rattle.replay_law.specs.Held.{Held, Same, purged}
+use Rattle.stir_outside.specs.Files.{Files as ShelfFiles}
+use Rattle.verify_rules.specs.World.{World}
+use Rattle.verify_rules.specs.declared.settings.Settings.{Settings}
+use Rattle.verify_service.specs.Judging.{EachJudged}
+use Rattle.verify_service.specs.declared.materials.World.{World as Materials}
+use Rattle.verify_service.specs.declared.outcome.Outcome.{Outcome}
+use Rattle.x509_profile.specs.View.{CertView}
+
+pub record ServiceView : Type 0 where
+  pub settings : Settings
+  -- which file has the certificates of which x5u, the trust anchors, and which numbers a code stands for
+  pub chains : Files
+  pub anchors : List CertView
+  pub table : Table
+  -- the calls that passed, by ticket
+  pub past : PastView
+  -- of the last call that was handed in; 0 before the first
+  pub number : ℕ
+  pub moment : ℕ
+
+-- the world of a service with the files of a shelf and what a provider says
+abbrev pub world_of : ServiceView → ShelfFiles → Says → World
+world_of service files says = record { chains = service.chains; files = files; anchors = service.anchors; table = service.table; says = says }
+
+-- ---- the calls of a round
+
+-- A call follows on the one before it.
+pub record Follows (number moment : ℕ) (entry : Entry) : Type 0 where
+  pub above : number < entry.number
+  pub below : entry.number < 4294967295
+  pub not_before : moment ≤ entry.moment
+  pub within : entry.moment ≤ last_second
+
+abbrev pub EachFollows : ℕ → ℕ → List Entry → Type 0
+EachFollows number moment [] = ⊤
+EachFollows number moment (entry ∷ entries) = Follows number moment entry × EachFollows entry.number entry.moment entries
+
+-- They are 1 to 256, their numbers rise and their moments never fall, from the number and the moment of the last that was handed in.
+pub record Follow (number moment : ℕ) (entries : List Entry) : Type 0 where
+  pub some : 1 ≤ length entries
+  pub few : length entries ≤ 256
+  pub each : EachFollows number moment entries
+
+-- the same as tests
+abbrev pub follows_on : ℕ → ℕ → Entry → Bool
+follows_on number moment entry = nat_lt number entry.number && nat_lt entry.number 4294967295 && nat_le moment entry.moment && nat_le entry.moment last_second
+
+abbrev pub all_follow : ℕ → ℕ → List Entry → Bool
+all_follow number moment [] = true
+all_follow number moment (entry ∷ entries) = follows_on number moment entry && all_follow entry.number entry.moment entries
+
+abbrev pub number_or : ℕ → Option Entry → ℕ
+number_or number None = number
+number_or number (Some entry) = entry.number
+
+abbrev pub moment_or : ℕ → Option Entry → ℕ
+moment_or moment None = moment
+moment_or moment (Some entry) = entry.moment
+
+abbrev pub last_entry : List Entry → Option Entry
+last_entry entries = slice_get entries (length entries - 1)
+
+-- those of the last call, or these where there is none
+abbrev pub last_number : ℕ → List Entry → ℕ
+last_number number entries = number_or number (last_entry entries)
+
+abbrev pub last_moment_of : ℕ → List Entry → ℕ
+last_moment_of moment entries = moment_or moment (last_entry entries)
+
+-- the moment by which the past is purged
+abbrev pub first_moment_of : List Entry → ℕ
+first_moment_of [] = 0
+first_moment_of (entry ∷ entries) = entry.moment
+
+-- ---- what a round leaves
+
+-- What a service is told stays.
+pub record IsToldSame (service now : ServiceView) : Type 0 where
+  pub settings : now.settings ≡ service.settings
+  pub chains : now.chains ≡ service.chains
+  pub anchors : now.anchors ≡ service.anchors
+  pub table : now.table ≡ service.table
+
+-- each outcome is what the rules say of its call, where the shelf tells its files
+abbrev pub AreJudged : Option ShelfFiles → ServiceView → Says → List Entry → List Outcome → Type 0
+AreJudged None service says entries outcomes = ⊤
+AreJudged (Some files) service says entries outcomes = EachJudged service.settings (world_of service files says) entries outcomes
+
+-- the past is only purged
+abbrev pub IsPurged : List Entry → Held → Held → Type 0
+IsPurged entries past next = Same (purged (first_moment_of entries) past) next
+
+-- A service that was told this, and has judged no call.
+pub record IsNew (settings : Settings) (materials : Materials) (service : ServiceView) : Type 0 where
+  pub settings_are : service.settings ≡ settings
+  pub chains : service.chains ≡ materials.chains
+  pub anchors : service.anchors ≡ materials.anchors
+  pub table : service.table ≡ materials.table
+  pub past : (ticket : List ℕ) → found service.past ticket ≡ None
+  pub number : service.number ≡ 0
+  pub moment : service.moment ≡ 0

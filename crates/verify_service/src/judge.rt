@@ -1,0 +1,142 @@
+//! Judging calls, each by itself.
+ghost use Rattle.std.specs.Prelude.{◌≡◌, ◌≤◌, Ok, length, IfOk, vec_len};
+ghost use Rattle.stir_outside.specs.Files.{CountsGoOn};
+ghost use Rattle.verify_rules.specs.Call.{Call as RuledCall};
+ghost use Rattle.verify_rules.specs.Rules.{early_rules};
+ghost use Rattle.verify_rules.specs.Screened.{IsScreenedBy};
+ghost use Rattle.verify_service.specs.Causes.{AreCounted, HasCauseIf, found_unasked, found_unread};
+ghost use Rattle.verify_service.specs.Judging.{EachFoundWhere, EachHasTicket, HasTicket, IsFoundWhere, IsOfVerdict, call_in};
+
+use crate::chains::CallChains;
+use crate::finding::{Finding, Pass};
+use crate::materials::World;
+use crate::reading::read_chains;
+use crate::worker::Worker;
+use call_log::Call;
+use std::alloc::{AllocError, Global};
+use stir_outside::{Gate, Provider, Shelf};
+use verify_rules::{ScreenFault, Screened, Settings, Verdict, finish, screen, screened_law};
+
+/// Judges the calls in their order. The gate is passed once a call, before anything is done for it.
+pub(crate) fn judge_all<S: Shelf, P: Provider, G: Gate>(
+    alloc: Global,
+    settings: &Settings,
+    materials: &World,
+    shelf: &mut S,
+    worker: &mut Worker<P, G>,
+    calls: &[Call],
+) -> Result<Vec<Finding>, AllocError>
+    requires window { settings.now.window ≤ 86400 }
+    ensures counted { IfOk result (λ findings. vec_len findings ≡ length calls.now) }
+    ensures tickets { IfOk result (λ findings. EachHasTicket settings.now calls.now findings.items) }
+    ensures found { IfOk result (λ findings. EachFoundWhere (S.files shelf.old) materials.now (P.says worker.old.provider) settings.now calls.now findings.items) }
+
+    // As many are set aside at most as faults were counted.
+    ensures unread { IfOk result (λ findings. AreCounted found_unread findings.items (S.counts shelf.old).faults (S.counts shelf.new).faults) }
+    ensures unasked { IfOk result (λ findings. AreCounted found_unasked findings.items (P.faults worker.old.provider) (P.faults worker.new.provider)) }
+
+    ensures same_files { S.files shelf.new ≡ S.files shelf.old }
+    ensures counts { CountsGoOn (S.counts shelf.old) (S.counts shelf.new) }
+    ensures same_says { P.says worker.new.provider ≡ P.says worker.old.provider }
+    ensures same_signs { P.signs worker.new.provider ≡ P.signs worker.old.provider }
+    ensures faults { P.faults worker.old.provider ≤ P.faults worker.new.provider }
+{
+    let mut findings = Vec::new(alloc);
+    'calls: for call in calls {
+        worker.gate.at(0, call.number());
+        let finding = judge_call(
+            alloc,
+            settings,
+            materials,
+            shelf,
+            &mut worker.provider,
+            &mut worker.chains,
+            call,
+        )?;
+        findings.push(finding)?;
+    }
+    Ok(findings)
+}
+
+/// Judges a call by all rules but the one on replay.
+fn judge_call<S: Shelf, P: Provider>(
+    alloc: Global,
+    settings: &Settings,
+    materials: &World,
+    shelf: &mut S,
+    provider: &mut P,
+    chains: &mut CallChains,
+    call: &Call,
+) -> Result<Finding, AllocError>
+    requires window { settings.now.window ≤ 86400 }
+    ensures ticket { IfOk result (HasTicket (call_in settings.now call.now)) }
+    ensures found { IfOk result (IsFoundWhere (S.files shelf.old) materials.now (P.says provider.old) (call_in settings.now call.now)) }
+    ensures unread { IfOk result (λ finding. HasCauseIf (found_unread finding) (S.counts shelf.old).faults (S.counts shelf.new).faults) }
+    ensures unasked { IfOk result (λ finding. HasCauseIf (found_unasked finding) (P.faults provider.old) (P.faults provider.new)) }
+    ensures same_files { S.files shelf.new ≡ S.files shelf.old }
+    ensures counts { CountsGoOn (S.counts shelf.old) (S.counts shelf.new) }
+    ensures same_says { P.says provider.new ≡ P.says provider.old }
+    ensures same_signs { P.signs provider.new ≡ P.signs provider.old }
+    ensures faults { P.faults provider.old ≤ P.faults provider.new }
+{
+    screened_law();
+    match screen(alloc, call.message(), call.moment(), settings) {
+        Ok(screened) => judge_screened(
+            alloc,
+            materials,
+            shelf,
+            provider,
+            chains,
+            call.moment(),
+            &screened,
+        ),
+        Err(fault) => match fault {
+            ScreenFault::Refused(refusal) => Ok(Finding::Refused(refusal)),
+            ScreenFault::Memory => Err(AllocError),
+        },
+    }
+}
+
+/// Judges a call that was screened: reads its chains, and tries the rules that look at them.
+fn judge_screened<S: Shelf, P: Provider>(
+    alloc: Global,
+    materials: &World,
+    shelf: &mut S,
+    provider: &mut P,
+    chains: &mut CallChains,
+    moment: u64,
+    screened: &Screened,
+) -> Result<Finding, AllocError>
+    ensures ticket { (call : RuledCall) → IsScreenedBy early_rules call (Ok screened.now) → IfOk result (HasTicket call) }
+    ensures found { (call : RuledCall) → IsScreenedBy early_rules call (Ok screened.now) → moment ≡ call.moment
+        → IfOk result (IsFoundWhere (S.files shelf.old) materials.now (P.says provider.old) call) }
+    ensures unread { IfOk result (λ finding. HasCauseIf (found_unread finding) (S.counts shelf.old).faults (S.counts shelf.new).faults) }
+    ensures unasked { IfOk result (λ finding. HasCauseIf (found_unasked finding) (P.faults provider.old) (P.faults provider.new)) }
+    ensures same_files { S.files shelf.new ≡ S.files shelf.old }
+    ensures counts { CountsGoOn (S.counts shelf.old) (S.counts shelf.new) }
+    ensures same_says { P.says provider.new ≡ P.says provider.old }
+    ensures same_signs { P.signs provider.new ≡ P.signs provider.old }
+    ensures faults { P.faults provider.old ≤ P.faults provider.new }
+{
+    screened_law();
+    read_chains(alloc, materials, shelf, provider, screened, chains)?;
+    let verdict = finish(screened, &*chains, moment, &materials.table, provider);
+    Ok(finding_of(verdict, screened))
+}
+
+/// What comes of a call by this verdict.
+fn finding_of(verdict: Verdict, screened: &Screened) -> Finding
+    ensures same { IsOfVerdict verdict result }
+    ensures ticket { (call : RuledCall) → IsScreenedBy early_rules call (Ok screened.now) → HasTicket call result }
+{
+    screened_law();
+    match verdict {
+        Verdict::Passed => Finding::Passes(Pass {
+            ticket: *screened.ticket(),
+            last: screened.last(),
+        }),
+        Verdict::Refused(refusal) => Finding::Refused(refusal),
+        Verdict::Unread(place) => Finding::Unread(place),
+        Verdict::Unasked(place) => Finding::Unasked(place),
+    }
+}

@@ -1,0 +1,27 @@
+//! The verification service (RFC 8224, section 6.2): [`Service::round`] judges the calls of a round over what a shelf of files, the trust
+//! anchors, a code table and a provider of signatures say, and lets each PASSporT by which calls are known again pass one of them.
+//!
+//! A round first judges each call by itself, by all rules but the one on replay; then it settles, in the order of the calls, which of those
+//! that pass are replays of an earlier one. The calls come from a log, by [`LogReader`]; [`report_line`] writes what came of one.
+#![tactic(auto)]
+
+mod chains;
+mod finding;
+mod judge;
+mod materials;
+mod outcome;
+mod reading;
+mod report;
+mod round;
+mod service;
+mod settle;
+mod worker;
+
+pub use call_log::{Call, LogFault, LogReader};
+pub use materials::World;
+pub use outcome::Outcome;
+pub use report::report_line;
+pub use service::Service;
+pub use worker::Worker;
+/// Memory ran out.
+pub use std::alloc::AllocError as Memory;

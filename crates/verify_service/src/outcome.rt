@@ -1,0 +1,21 @@
+//! What comes of a call.
+use verify_rules::{Place, Refusal};
+
+/// What comes of a call in a round.
+#[derive(Clone, Copy, Debug, PartialEq, Eq, Default)]
+pub enum Outcome {
+    /// It breaks no rule, and of the calls that pass with its last PASSporT it is the one that may.
+    #[default]
+    Valid,
+    /// This is the first rule that it breaks.
+    Refused(Refusal),
+    /// It breaks no other rule, and a call with the same last PASSporT is valid: the one of this number.
+    Replay {
+        /// The number of the valid call.
+        winner: u32,
+    },
+    /// It is set aside: the file with the certificates of the PASSporT there couldn't be read.
+    Unread(Place),
+    /// It is set aside: the provider failed at a signature, of a certificate where the part is its number, of the PASSporT where it is 0.
+    Unasked(Place),
+}

@@ -1,0 +1,120 @@
+//! Reading the chains of a call.
+ghost use Rattle.std.specs.Prelude.{◌≡◌, ◌≤◌, ℕ, List, length, true, IfOk, OnOk, Some};
+ghost use Rattle.std.specs.List.{list_any};
+ghost use Rattle.cert_store.specs.ChainMap.{listed};
+ghost use Rattle.stir_outside.specs.Files.{CountsGoOn};
+ghost use Rattle.verify_service.specs.Causes.{HasCauseIf};
+ghost use Rattle.verify_service.specs.Chains.{AreRightWhere, IsOfBytes, IsRightWhere, is_unasked, is_unread, state_of};
+
+use crate::chains::{CallChain, CallChains};
+use crate::materials::World;
+use cert_store::judge_chain;
+use std::alloc::{AllocError, Global};
+use stir_outside::{Provider, Shelf, ShelfFault};
+use verify_rules::{Screened, right_law};
+
+/// The most bytes that the file of a chain may have: six certificates of 8,192.
+const MOST_BYTES: usize = 49_152;
+
+/// Reads and judges the chain of each PASSporT of a call, in the order in which the call went, in place of those that there were.
+pub(crate) fn read_chains<S: Shelf, P: Provider>(
+    alloc: Global,
+    materials: &World,
+    shelf: &mut S,
+    provider: &mut P,
+    screened: &Screened,
+    chains: &mut CallChains,
+) -> Result<(), AllocError>
+    ensures counted { OnOk result (length chains.new ≡ length screened.now.readings) }
+    ensures right { OnOk result (AreRightWhere (S.files shelf.old) materials.now (P.says provider.old) screened.now.readings chains.new) }
+
+    // A chain isn't known, or has a question that failed, only where a fault was counted.
+    ensures unread { OnOk result (HasCauseIf (list_any is_unread chains.new) (S.counts shelf.old).faults (S.counts shelf.new).faults) }
+    ensures unasked { OnOk result (HasCauseIf (list_any is_unasked chains.new) (P.faults provider.old) (P.faults provider.new)) }
+
+    ensures same_files { S.files shelf.new ≡ S.files shelf.old }
+    ensures counts { CountsGoOn (S.counts shelf.old) (S.counts shelf.new) }
+    ensures same_says { P.says provider.new ≡ P.says provider.old }
+    ensures same_signs { P.signs provider.new ≡ P.signs provider.old }
+    ensures faults { P.faults provider.old ≤ P.faults provider.new }
+{
+    right_law();
+    chains.clear();
+    'passports: for i in 0..screened.count() {
+        let x5u = screened.passport(i).x5u();
+        let chain = chain_of(alloc, materials, shelf, provider, x5u)?;
+        chains.push(chain)?;
+    }
+    Ok(())
+}
+
+/// What is known of the chain of this x5u (RFC 7515, section 4.1.5).
+fn chain_of<S: Shelf, P: Provider>(
+    alloc: Global,
+    materials: &World,
+    shelf: &mut S,
+    provider: &mut P,
+    x5u: &[u8],
+) -> Result<CallChain, AllocError>
+    ensures right { IfOk result (λ chain. IsRightWhere (S.files shelf.old) materials.now (P.says provider.old) x5u.now (state_of chain)) }
+    ensures unread { IfOk result (λ chain. HasCauseIf (is_unread (state_of chain)) (S.counts shelf.old).faults (S.counts shelf.new).faults) }
+    ensures unasked { IfOk result (λ chain. HasCauseIf (is_unasked (state_of chain)) (P.faults provider.old) (P.faults provider.new)) }
+    ensures same_files { S.files shelf.new ≡ S.files shelf.old }
+    ensures counts { CountsGoOn (S.counts shelf.old) (S.counts shelf.new) }
+    ensures same_says { P.says provider.new ≡ P.says provider.old }
+    ensures same_signs { P.signs provider.new ≡ P.signs provider.old }
+    ensures faults { P.faults provider.old ≤ P.faults provider.new }
+{
+    right_law();
+    match materials.chains.file(x5u) {
+        Some(name) => chain_in(alloc, materials, shelf, provider, name),
+        None => Ok(CallChain::NoChain),
+    }
+}
+
+/// What is known of the chain in the file of this name.
+fn chain_in<S: Shelf, P: Provider>(
+    alloc: Global,
+    materials: &World,
+    shelf: &mut S,
+    provider: &mut P,
+    name: &str,
+) -> Result<CallChain, AllocError>
+    ensures right { (x5u : List ℕ) → listed materials.now.chains x5u ≡ Some name.now
+        → IfOk result (λ chain. IsRightWhere (S.files shelf.old) materials.now (P.says provider.old) x5u (state_of chain)) }
+    ensures unread { IfOk result (λ chain. HasCauseIf (is_unread (state_of chain)) (S.counts shelf.old).faults (S.counts shelf.new).faults) }
+    ensures unasked { IfOk result (λ chain. HasCauseIf (is_unasked (state_of chain)) (P.faults provider.old) (P.faults provider.new)) }
+    ensures same_files { S.files shelf.new ≡ S.files shelf.old }
+    ensures counts { CountsGoOn (S.counts shelf.old) (S.counts shelf.new) }
+    ensures same_says { P.says provider.new ≡ P.says provider.old }
+    ensures same_signs { P.signs provider.new ≡ P.signs provider.old }
+    ensures faults { P.faults provider.old ≤ P.faults provider.new }
+{
+    right_law();
+    match shelf.read(alloc, name, MOST_BYTES) {
+        Ok(bytes) => judged(alloc, materials, provider, bytes.as_slice()),
+        Err(fault) => match fault {
+            ShelfFault::Missing => Ok(CallChain::NoChain),
+            ShelfFault::Long => Ok(CallChain::Long),
+            ShelfFault::Failed => Ok(CallChain::Unread),
+            ShelfFault::Memory => Err(AllocError),
+        },
+    }
+}
+
+/// The chain that these bytes are.
+fn judged<P: Provider>(
+    alloc: Global,
+    materials: &World,
+    provider: &mut P,
+    bytes: &[u8],
+) -> Result<CallChain, AllocError>
+    ensures judged { IfOk result (IsOfBytes materials.now (P.says provider.old) bytes.now) }
+    ensures unasked { IfOk result (λ chain. HasCauseIf (is_unasked (state_of chain)) (P.faults provider.old) (P.faults provider.new)) }
+    ensures same_says { P.says provider.new ≡ P.says provider.old }
+    ensures same_signs { P.signs provider.new ≡ P.signs provider.old }
+    ensures faults { P.faults provider.old ≤ P.faults provider.new }
+{
+    let judged = judge_chain(alloc, bytes, &materials.anchors, &materials.table, provider)?;
+    Ok(CallChain::Have(judged))
+}

@@ -1,0 +1,103 @@
+//! The service.
+ghost use Rattle.std.specs.Prelude.{◌≡◌, ◌≤◌, ◌↔◌, IfOk, IsTrue};
+ghost use Rattle.verify_service.specs.Service.{Follow, IsNew, all_follow, follows_on};
+
+use crate::materials::World;
+use call_log::Call;
+use replay_desk::Past;
+use std::alloc::{AllocError, Global};
+use std::marker::Model;
+use verify_rules::Settings;
+
+/// The most calls of a round.
+const MOST_CALLS: usize = 256;
+
+/// The last second of the year 9999, in Unix time.
+const LAST_MOMENT: u64 = 253_402_300_799;
+
+/// Judges calls round by round: what it judges them by, and which calls passed before.
+///
+/// A contract sees the settings, the chain map, the anchors, the code table, the past, and the number and moment of the last call that was
+/// handed in.
+#[derive(Drop)]
+pub struct Service {
+    pub(crate) settings: Settings,
+    pub(crate) materials: World,
+    pub(crate) past: Past,
+    pub(crate) number: u32,
+    pub(crate) moment: u64,
+}
+
+impl Model for Service {
+    ghost use Rattle.std.specs.Prelude.{◌≤◌};
+    ghost use Rattle.verify_service.specs.Service.{ServiceView};
+
+    ghost Value = { ServiceView };
+
+    ghost view = { λ s. record {
+      settings = s.settings;
+      chains = s.materials.chains;
+      anchors = s.materials.anchors;
+      table = s.materials.table;
+      past = s.past;
+      number = s.number;
+      moment = s.moment;
+    } };
+
+    ghost invariant = { λ s. s.settings.window ≤ 86400 };
+}
+
+impl Service {
+    /// A service that has judged no call yet. The window of the settings is at most 86,400 seconds. `Memory` is the only error.
+    pub fn new(alloc: Global, settings: Settings, world: World) -> Result<Service, AllocError>
+        requires window { settings.window ≤ 86400 }
+        ensures { IfOk result (IsNew settings world) }
+    {
+        Ok(Service {
+            settings,
+            materials: world,
+            past: Past::new(alloc),
+            number: 0,
+            moment: 0,
+        })
+    }
+
+    /// Whether these calls may be handed in as a round: they are 1 to 256, their numbers rise, from above that of the last call that was
+    /// handed in, and are below 4,294,967,295, and their moments never fall and are none behind the year 9999.
+    #[tactic(auto, using(crate::proofs::FollowLaws::follow_means, crate::proofs::FollowLaws::follow_none, crate::proofs::FollowLaws::follow_many))]
+    pub fn follows(&self, calls: &[Call]) -> bool
+        ensures { IsTrue result ↔ Follow self.now.number self.now.moment calls.now }
+    {
+        if calls.is_empty() || calls.len() > MOST_CALLS {
+            return false;
+        }
+        all_follow(self.number, self.moment, calls)
+    }
+}
+
+/// Whether each of these calls follows on the one before it, from this number and this moment.
+#[tactic(auto, using(crate::proofs::FollowLaws::follows_more, crate::proofs::FollowLaws::follows_not))]
+fn all_follow(number: u32, moment: u64, calls: &[Call]) -> bool
+    ensures { result ≡ all_follow number moment calls.now }
+{
+    let mut number = number;
+    let mut moment = moment;
+    'calls: for call in calls {
+        if !follows_on(number, moment, call) {
+            return false;
+        }
+        number = call.number();
+        moment = call.moment();
+    }
+    true
+}
+
+/// Whether a call follows on one of this number and this moment.
+fn follows_on(number: u32, moment: u64, call: &Call) -> bool
+    ensures { result ≡ follows_on number moment call.now }
+{
+    number < call.number()
+        && call.number() < u32::MAX
+        && moment <= call.moment()
+        && call.moment() <= LAST_MOMENT
+}

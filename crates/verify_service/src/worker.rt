@@ -1,0 +1,30 @@
+//! Who judges calls.
+ghost use Rattle.std.specs.Prelude.{◌≡◌};
+
+use crate::chains::CallChains;
+use std::alloc::Global;
+
+/// Judges calls: with a provider of signatures, and a gate that it passes before each call.
+///
+/// What came of calls that it judged before has no part in what comes of the next.
+#[derive(Drop)]
+pub struct Worker<P, G> {
+    pub provider: P,
+    pub gate: G,
+    /// The chains of the call that is judged.
+    pub(crate) chains: CallChains,
+}
+
+impl<P, G> Worker<P, G> {
+    /// A worker with this provider and this gate. It takes no memory.
+    pub fn new(alloc: Global, provider: P, gate: G) -> Worker<P, G>
+        ensures provider { result.provider ≡ provider }
+        ensures gate { result.gate ≡ gate }
+    {
+        Worker {
+            provider,
+            gate,
+            chains: CallChains::new(alloc),
+        }
+    }
+}
