@@ -83,7 +83,7 @@ abbrev pub IsGenuine : World → Reading → Type 0
 IsGenuine world one = (leaf : CertView) × HasLeaf world one leaf × (world.says leaf.key one.mark.digest one.mark.signature ≡ true)
 
 -- entries cover the calling number where there is no type or full attestation; they cover it or name some code at partial and gateway
--- attestation; and they cover the diverted number of a diversion (RFC 8226, section 9; RFC 8588, section 4; RFC 8946, section 5; which
+-- attestation; and they cover the diverted number of a diversion (RFC 8226, section 9; RFC 8588, section 4; RFC 8946, section 4.2; which
 -- attestation asks for which coverage is this project's own rule)
 abbrev pub CoversOrNamesCode : Table → List Entry → List ℕ → Type 0
 CoversOrNamesCode table entries number = Covers entries table number ⊎ ((code : List ℕ) × NamesCode entries code)
