@@ -1,5 +1,5 @@
 -- How the counts of shelf and provider add up over the chains of a call, over calls, and over a round.
-use Rattle.std.proofs.Common.{◌≡◌, ◌≢◌, ℕ, zero, suc, ◌+◌, ◌<◌, ◌≤◌, ◌==◌, ◌||◌, ◌⊎◌, inl, inr, max, Bool, true, false, cond, List, [], ◌∷◌, ◌++◌, length, filter, zero-add, refl, ap, sym, ◌∙◌, subst, arith}
+use Rattle.std.proofs.Common.{◌≡◌, ◌≢◌, ℕ, suc, ◌+◌, ◌<◌, ◌≤◌, ◌==◌, ◌||◌, inl, inr, Bool, true, false, cond, List, [], ◌∷◌, ◌++◌, length, filter, zero-add, refl, ap, sym, ◌∙◌, subst, arith}
 use Rattle.std.specs.List.{list_any}
 use Rattle.std.specs.Str.{bytes_eq}
 use Rattle.std.proofs.lemmas.Bool.Decides.{nat_tests}
@@ -8,11 +8,9 @@ use Rattle.call_log.specs.Entry.{Entry}
 use Rattle.stir_outside.specs.Count.{AtMost, GoesOn, NotRisen, Rose, last_count}
 use Rattle.stir_outside.proofs.CountLaws.{at_most_of_rose, both_at_most, none_at, not_rose}
 use Rattle.stir_outside.specs.Files.{Counts, CountsGoOn}
-use Rattle.verify_rules.specs.Call.{Call}
-use Rattle.verify_rules.specs.declared.refusal.Place.{Place}
 use Rattle.verify_rules.specs.declared.settings.Settings.{Settings}
-use Rattle.verify_service.specs.Causes.{AreCounted, HasCauseIf, NoneUnasked, NoneUnread, UnaskedIsCounted, UnreadIsCounted, found_unasked, found_unread, is_passport, is_unasked, is_unasked_passport, is_unread, joined, unasked_texts, unread_texts, with_unasked, with_unread, x5u_at}
-use Rattle.verify_service.specs.Judging.{ComesOf, EachComesOf, EachPair, call_in}
+use Rattle.verify_service.specs.Causes.{AreCounted, HasCauseIf, NoneUnasked, NoneUnread, UnaskedIsCounted, UnreadIsCounted, found_unasked, found_unread, is_passport, is_unasked, is_unasked_passport, is_unread, joined, unasked_texts, unread_texts, x5u_at}
+use Rattle.verify_service.specs.Judging.{ComesOf, EachComesOf, call_in}
 use Rattle.verify_service.specs.declared.finding.Finding.{Finding}
 use Rattle.verify_service.specs.declared.finding.Finding.TheVariants as found
 use Rattle.verify_service.specs.declared.outcome.Outcome.{Outcome}

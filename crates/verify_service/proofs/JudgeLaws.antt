@@ -1,5 +1,5 @@
 -- What comes of a call by itself, from its verdict.
-use Rattle.std.proofs.Common.{◌≡◌, ◌≢◌, ℕ, zero, suc, ◌<◌, ◌≤◌, ◌==◌, Bool, true, false, ◌||◌, ◌⊎◌, inl, inr, List, [], ◌∷◌, ◌++◌, length, Option, Some, None, Result, Ok, Err, unwrap_or, refl, ap, sym, ◌∙◌, subst, arith}
+use Rattle.std.proofs.Common.{◌≡◌, ℕ, zero, suc, ◌≤◌, Bool, true, false, ◌||◌, ◌⊎◌, inl, inr, List, [], ◌∷◌, Option, Some, None, Result, Ok, Err, unwrap_or, refl, ap, sym, ◌∙◌, subst}
 use Rattle.std.specs.List.{list_any, slice_get}
 use Rattle.std.specs.Option.{option_map}
 use Rattle.cert_store.specs.Rules.{Says}
@@ -11,7 +11,7 @@ use Rattle.verify_rules.specs.Call.{Call, Reading, call_of}
 use Rattle.verify_rules.specs.Causes.{HasFailed, IsCaused, IsUnknownAt}
 use Rattle.verify_rules.specs.Rules.{early_rules}
 use Rattle.verify_rules.specs.Screened.{IsScreenedBy, ScreenedView, digest_in, last_of, last_of_call, ticket_of}
-use Rattle.verify_rules.specs.States.{State, have, no_chain, long, unread}
+use Rattle.verify_rules.specs.States.{State, have, unread}
 use Rattle.verify_rules.specs.Verdict.{IsLeftOpen}
 use Rattle.verify_rules.specs.World.{AreRight, First, IsJudgedBy, VerdictOf, World}
 use Rattle.verify_rules.specs.declared.refusal.Place.{Place}

@@ -1,20 +1,18 @@
 -- A round from what comes of each of its calls.
-use Rattle.std.proofs.Common.{◌≡◌, ℕ, ◌≤◌, List, [], ◌∷◌, length, Option, Some, None, refl, ap, sym, ◌∙◌, subst, arith}
+use Rattle.std.proofs.Common.{◌≡◌, List, [], ◌∷◌, length, Option, Some, None, refl, ap, sym, ◌∙◌, subst, arith}
 use Rattle.call_log.specs.Entry.{Entry}
 use Rattle.cert_store.specs.Rules.{Says}
 use Rattle.delegation.specs.Coverage.{Table}
 use Rattle.replay_law.specs.Held.{Held, Same, purged}
 use Rattle.replay_law.specs.Law.{OneByOne, SameIsOne}
 use Rattle.replay_law.specs.Round.{RoundSettled, Settled, first_moment, round_of}
-use Rattle.replay_law.specs.Row.{Row}
 use Rattle.replay_law.specs.Turn.{FirstWins, Turns}
 use Rattle.stir_outside.specs.Files.{Files}
 use Rattle.verify_rules.specs.Call.{Call}
-use Rattle.verify_rules.specs.World.{World, First, MayBeUnasked, MayBeUnread}
+use Rattle.verify_rules.specs.World.{World}
 use Rattle.verify_rules.specs.declared.settings.Settings.{Settings}
-use Rattle.verify_service.specs.Chains.{world_by}
-use Rattle.verify_service.specs.Judging.{ComesOf, EachComesOf, EachFoundWhere, EachPair, IsFound, IsJudged, call_in}
-use Rattle.verify_service.specs.Rows.{row_of, rows_of}
+use Rattle.verify_service.specs.Judging.{ComesOf, EachComesOf, EachFoundWhere, IsFound, IsJudged, call_in}
+use Rattle.verify_service.specs.Rows.{rows_of}
 use Rattle.verify_service.specs.Service.{AreJudged, IsToldSame, ServiceView, first_moment_of, world_of}
 use Rattle.verify_service.specs.declared.finding.Finding.{Finding}
 use Rattle.verify_service.specs.declared.finding.Finding.TheVariants as found

@@ -1,19 +1,18 @@
 -- A call that is settled takes its turn over the past.
-use Rattle.std.proofs.Common.{◌≡◌, ◌≢◌, ℕ, nat_lt, Bool, true, false, cond, List, [], ◌∷◌, ◌++◌, length, Option, Some, None, refl, ap, sym, ◌∙◌, subst, arith}
+use Rattle.std.proofs.Common.{◌≡◌, ◌≢◌, ℕ, nat_lt, Bool, true, false, cond, List, [], ◌∷◌, ◌++◌, length, Option, Some, None, refl, ap, sym, ◌∙◌, arith}
 use Rattle.std.specs.Option.{option_map}
 use Rattle.call_log.specs.Entry.{Entry}
 use Rattle.replay_desk.specs.Past.{PastView, found}
 use Rattle.replay_desk.specs.Past.{unless_below as desk_unless_below}
 use Rattle.replay_desk.specs.declared.kept.Kept.{Kept as Passed}
 use Rattle.replay_law.specs.Held.{Held, Kept, Same, kept_of, purged, unless_below}
-use Rattle.replay_law.specs.Row.{Row, neither, replay, valid}
-use Rattle.replay_law.specs.Turn.{Adds, Turn}
-use Rattle.verify_rules.specs.Call.{Call}
+use Rattle.replay_law.specs.Row.{Row, neither, replay}
+use Rattle.replay_law.specs.Turn.{Turn}
 use Rattle.verify_rules.specs.declared.settings.Settings.{Settings}
-use Rattle.verify_service.specs.Judging.{EachPair, IsKnownBy, call_in, last_second, ticket_or_none}
-use Rattle.verify_service.specs.Rows.{answer_of, held, kept_of_past, passes, row_of, rows_of}
+use Rattle.verify_service.specs.Judging.{IsKnownBy, call_in, last_second, ticket_or_none}
+use Rattle.verify_service.specs.Rows.{held, kept_of_past, row_of, rows_of}
 use Rattle.verify_service.specs.declared.outcome.Outcome.{Outcome}
-use Rattle.verify_service.specs.declared.outcome.Outcome.TheVariants.{Valid, Refused, Replay, Unread, Unasked}
+use Rattle.verify_service.specs.declared.outcome.Outcome.TheVariants.{Valid, Replay}
 
 false_is_not_true : false ≡ true → ⊥
 false_is_not_true e = cc

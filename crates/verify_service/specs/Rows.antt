@@ -1,5 +1,5 @@
 -- What the replay rule sees of the calls of a round, and when their outcomes are legal.
-use Rattle.std.specs.Prelude.{◌≡◌, ⊤, ℕ, Bool, true, false, List, [], ◌∷◌, length, Option}
+use Rattle.std.specs.Prelude.{◌≡◌, Bool, true, false, List, [], ◌∷◌, length}
 use Rattle.std.specs.Option.{option_map}
 use Rattle.call_log.specs.Entry.{Entry}
 use Rattle.replay_desk.specs.Past.{PastView, found}

@@ -1,5 +1,5 @@
 -- One call more was judged.
-use Rattle.std.proofs.Common.{◌≡◌, ◌+◌, ◌<◌, ◌≤◌, [], ◌∷◌, ◌++◌, List, length, take, sym, ◌∙◌, subst, arith}
+use Rattle.std.proofs.Common.{◌≡◌, ◌+◌, ◌<◌, [], ◌∷◌, ◌++◌, List, length, take, sym, ◌∙◌, subst, arith}
 use Rattle.verify_service.specs.Causes.{AreCounted, found_unasked, found_unread}
 use Rattle.verify_service.specs.Judging.{EachFoundWhere, EachHasTicket}
 use Rattle.verify_service.specs.declared.finding.Finding.{Finding}

@@ -1,5 +1,5 @@
 -- What is found of a call, refused by the screening or judged on.
-use Rattle.std.proofs.Common.{Ok, Err, Result, subst}
+use Rattle.std.proofs.Common.{Ok, Err, subst}
 use Rattle.verify_rules.specs.Call.{call_of}
 use Rattle.verify_rules.specs.Rules.{early_rules}
 use Rattle.verify_rules.specs.Screened.{IsScreenedBy}

@@ -1,5 +1,5 @@
 -- One call more takes its turn.
-use Rattle.std.proofs.Common.{◌≡◌, ◌<◌, length, get_or, refl, sym, arith}
+use Rattle.std.proofs.Common.{◌<◌, length, get_or, refl, sym, arith}
 use Rattle.verify_service.specs.Rows.{held}
 use Rattle.verify_service.specs.declared.finding.Finding.{Finding}
 use Rattle.verify_service.specs.declared.finding.Finding.TheVariants as found

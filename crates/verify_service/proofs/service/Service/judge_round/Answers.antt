@@ -3,7 +3,6 @@ use Rattle.std.proofs.Common.{◌≡◌, List, length, sym, ap, ◌∙◌, subst
 use Rattle.replay_desk.specs.Past.{PastView}
 use Rattle.replay_law.specs.Held.{Same, purged}
 use Rattle.verify_rules.specs.declared.settings.Settings.{Settings}
-use Rattle.verify_service.specs.Causes.{AreCounted, found_unasked, found_unread}
 use Rattle.verify_service.specs.Judging.{EachComesOf, EachHasTicket}
 use Rattle.verify_service.specs.Rows.{held}
 use Rattle.verify_service.specs.Service.{ServiceView, first_moment_of}
