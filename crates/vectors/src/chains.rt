@@ -154,7 +154,7 @@ fn map(alloc: Global, text: &[u8]) -> Result<String, Unread> {
 }
 
 /// The chain map that a text is.
-fn map_of(alloc: Global, text: &[u8]) -> Result<ChainMap, Unread> {
+pub fn map_of(alloc: Global, text: &[u8]) -> Result<ChainMap, Unread> {
     if text.len() >= 4_000_000_000 {
         return Err(Unread::Value);
     }

@@ -8,6 +8,7 @@ mod authority;
 mod certificates;
 mod chains;
 mod claims;
+mod commands;
 mod der;
 mod identity;
 mod log;
@@ -15,16 +16,19 @@ mod messages;
 mod numbers;
 mod order;
 mod paths;
+mod rounds;
 mod rules;
 mod table;
 mod text;
 mod tokens;
+mod verdicts;
 mod words;
 
 use answer::Answer;
 use std::alloc::Global;
 use std::io;
 use std::process::ExitCode;
+use std::thread::Threads;
 use table::{Line, Names, Unread};
 
 /// The status where a line can't be read.
@@ -33,7 +37,7 @@ const UNREAD: u8 = 2;
 const FAILED: u8 = 3;
 
 fn main(rt: HostRuntime) -> ExitCode {
-    match run(&rt) {
+    match run(&rt, &rt) {
         Ok(()) => ExitCode::SUCCESS,
         Err(Stop::Unread(number, reason)) => {
             let _ = eprintln!(rt; "line {number} can't be read: {reason}");
@@ -62,13 +66,13 @@ impl From<io::Error> for Stop {
 }
 
 /// Answers each line of the table.
-fn run(rt: &HostRuntime) -> Result<(), Stop> {
+fn run<T: Threads + Sync>(rt: &HostRuntime, threads: &T) -> Result<(), Stop> {
     let mut names = Names::new(rt.alloc());
     let mut number: u64 = 0;
     for line in rt.lines(rt.alloc()) {
         let line = line?;
         number = number.saturating_add(1);
-        match answered(rt.alloc(), &mut names, line.as_str()) {
+        match answered(threads, rt.alloc(), &mut names, line.as_str()) {
             Ok(text) => rt.println(text.as_str())?,
             Err(reason) => return Err(Stop::Unread(number, reason)),
         }
@@ -77,7 +81,12 @@ fn run(rt: &HostRuntime) -> Result<(), Stop> {
 }
 
 /// What is written for a line.
-fn answered(alloc: Global, names: &mut Names, line: &str) -> Result<String, Unread> {
+fn answered<T: Threads + Sync>(
+    threads: &T,
+    alloc: Global,
+    names: &mut Names,
+    line: &str,
+) -> Result<String, Unread> {
     match Line::of(line)? {
         Line::Comment => Ok(String::from_str(alloc, line)?),
         Line::Definition { name, words } => {
@@ -90,6 +99,9 @@ fn answered(alloc: Global, names: &mut Names, line: &str) -> Result<String, Unre
             words,
         } => {
             let words = names.arguments(alloc, words)?;
+            if subject == "rounds" {
+                return rounds::answer(threads, alloc, call, words.as_slice());
+            }
             called(alloc, subject, call, words.as_slice())
         }
     }
@@ -113,6 +125,9 @@ fn called(alloc: Global, subject: &str, call: &str, words: &[Vec<u8>]) -> Result
         "order" => order::answer(alloc, call, words),
         "log" => log::answer(alloc, call, words),
         "rules" => rules::answer(alloc, call, words),
+        "verdicts" => verdicts::answer(alloc, call, words),
+        "words" => commands::words(alloc, call, words),
+        "files" => commands::files(alloc, call, words),
         _ => Err(Unread::Call),
     }
 }

@@ -14,6 +14,7 @@ pub fn answer(alloc: Global, call: &str, words: &[Vec<u8>]) -> Result<String, Un
         ("show", [digits]) => shown(alloc, &number_of(digits.as_slice())?),
         ("span", [start, size]) => span(alloc, start.as_slice(), size.as_slice()),
         ("set", [words]) => set(alloc, words.as_slice()),
+        ("parts", [words]) => word(alloc, set_of(alloc, words.as_slice())?.parts()),
         ("has", [words, digits]) => has(alloc, words.as_slice(), digits.as_slice()),
         ("within", [child, parent]) => within(alloc, child.as_slice(), parent.as_slice()),
         ("local", [country, national]) => local(alloc, country.as_slice(), national.as_slice()),

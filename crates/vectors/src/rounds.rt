@@ -1,0 +1,157 @@
+//! Rounds of calls on one worker, over files in memory: the calls of `verify_service`.
+
+use crate::answer::Answer;
+use crate::authority::table_of;
+use crate::chains::{answers_of, map_of, numbers_of};
+use crate::numbers::local_of;
+use crate::paths::anchors_of;
+use crate::table::Unread;
+use std::alloc::Global;
+use std::thread::Threads;
+use stir_outside::{AnswerProvider, NoGate, ShelfMem, SourceMem};
+use verify_rules::Settings;
+use verify_service::{Call, LogReader, Outcome, Service, Worker, World, report_line};
+
+/// What a call answers.
+pub fn answer<R: Threads + Sync>(
+    rt: &R,
+    alloc: Global,
+    call: &str,
+    words: &[Vec<u8>],
+) -> Result<String, Unread> {
+    match (call, words) {
+        ("report", [answers, questions, reads, rounds, log, world @ ..]) => {
+            let answers = answers_of(alloc, answers.as_slice())?;
+            let questions = numbers_of(alloc, questions.as_slice())?;
+            let reads = numbers_of(alloc, reads.as_slice())?;
+            let rounds = numbers_of(alloc, rounds.as_slice())?;
+            let provider = answers.provider(questions.as_slice())?;
+            let mut case = Case::new(alloc, world, reads, provider)?;
+            let log = Vec::from_slice(alloc, log.as_slice())?;
+            case.report(rt, alloc, log, rounds.as_slice())
+        }
+        _ => Err(Unread::Call),
+    }
+}
+
+/// A service with its one worker, and a shelf.
+#[derive(Drop)]
+struct Case<'a> {
+    service: Service,
+    workers: [Worker<AnswerProvider<'a>, NoGate>; 1],
+    shelf: ShelfMem,
+}
+
+impl<'a> Case<'a> {
+    /// The case of a chain map, anchors, a code table, and files behind them, each a name and a content; these reads of the shelf fail.
+    fn new(
+        alloc: Global,
+        words: &[Vec<u8>],
+        reads: Vec<u64>,
+        provider: AnswerProvider<'a>,
+    ) -> Result<Case<'a>, Unread> {
+        let [map, anchors, table, files @ ..] = words else {
+            return Err(Unread::Call);
+        };
+        let world = World {
+            chains: map_of(alloc, map.as_slice())?,
+            anchors: anchors_of(alloc, anchors.as_slice())?,
+            table: table_of(alloc, table.as_slice())?,
+        };
+        Ok(Case {
+            service: service_of(alloc, world)?,
+            workers: [Worker::new(alloc, provider, NoGate)],
+            shelf: ShelfMem::new(files_of(alloc, files)?, reads),
+        })
+    }
+
+    /// The report of the calls of a log, cut into rounds of so many calls.
+    fn report<R: Threads + Sync>(
+        &mut self,
+        rt: &R,
+        alloc: Global,
+        log: Vec<u8>,
+        rounds: &[u64],
+    ) -> Result<String, Unread> {
+        let mut source = SourceMem::new(log, Vec::new(alloc));
+        let mut reader = LogReader::new(alloc);
+        let mut report = Vec::new(alloc);
+        for count in rounds {
+            let calls = calls_of(alloc, &mut reader, &mut source, *count)?;
+            let outcomes = self.round(rt, alloc, calls.as_slice())?;
+            put_lines(alloc, &mut report, calls.as_slice(), outcomes.as_slice())?;
+        }
+        Ok(Answer::new(alloc).text(report.as_slice())?.line())
+    }
+
+    /// What comes of the calls of a round.
+    fn round<R: Threads + Sync>(
+        &mut self,
+        rt: &R,
+        alloc: Global,
+        calls: &[Call],
+    ) -> Result<Vec<Outcome>, Unread> {
+        if !self.service.follows(calls) {
+            return Err(Unread::Value);
+        }
+        let outcomes = self
+            .service
+            .round(rt, alloc, &mut self.shelf, &mut self.workers, calls)?;
+        Ok(outcomes)
+    }
+}
+
+/// A service for country 1, national numbers of ten digits and a window of 60 seconds.
+fn service_of(alloc: Global, world: World) -> Result<Service, Unread> {
+    let local = local_of(b"1", b"10")?;
+    let settings = Settings { local, window: 60 };
+    Ok(Service::new(alloc, settings, world)?)
+}
+
+/// The files of a shelf, each a name and a content.
+fn files_of(alloc: Global, words: &[Vec<u8>]) -> Result<Vec<(Vec<u8>, Vec<u8>)>, Unread> {
+    let mut files = Vec::new(alloc);
+    let mut rest = words;
+    for _ in words {
+        let [name, content, behind @ ..] = rest else {
+            break;
+        };
+        let name = Vec::from_slice(alloc, name.as_slice())?;
+        let content = Vec::from_slice(alloc, content.as_slice())?;
+        files.push((name, content))?;
+        rest = behind;
+    }
+    Ok(files)
+}
+
+/// The next so many calls of a log.
+fn calls_of(
+    alloc: Global,
+    reader: &mut LogReader,
+    source: &mut SourceMem,
+    count: u64,
+) -> Result<Vec<Call>, Unread> {
+    let mut calls = Vec::new(alloc);
+    for _ in 0..count {
+        match reader.next(source) {
+            Ok(Some(call)) => calls.push(call)?,
+            Ok(None) => break,
+            Err(_) => return Err(Unread::Value),
+        }
+    }
+    Ok(calls)
+}
+
+/// Puts the lines of a round behind others.
+fn put_lines(
+    alloc: Global,
+    report: &mut Vec<u8>,
+    calls: &[Call],
+    outcomes: &[Outcome],
+) -> Result<(), Unread> {
+    for (call, outcome) in calls.iter().zip(outcomes) {
+        let line = report_line(alloc, call.number(), outcome)?;
+        report.extend_from_slice(line.as_slice())?;
+    }
+    Ok(())
+}

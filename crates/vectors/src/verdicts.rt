@@ -1,0 +1,193 @@
+//! Calls judged by rules 10 to 17 over the chains of their PASSporTs: `screen` and then `finish` of `verify_rules`.
+ghost use Rattle.std.specs.Prelude.{◌≡◌};
+ghost use Rattle.verify_rules.specs.States.{seen};
+ghost use Rattle.vectors.specs.Known.{known_seen};
+
+use crate::answer::Answer;
+use crate::authority::table_of;
+use crate::chains::{answers_of, numbers_of};
+use crate::numbers::local_of;
+use crate::paths::anchors_of;
+use crate::table::{Unread, number};
+use cert_store::{Judged, judge_chain};
+use delegation::Anchors;
+use std::alloc::Global;
+use stir_outside::AnswerProvider;
+use tn_auth_list::CodeTable;
+use verify_rules::{
+    ChainState, Chains, Place, Refusal, Screened, Settings, Verdict, code, finish, screen,
+};
+
+/// What a call answers.
+pub fn answer(alloc: Global, call: &str, words: &[Vec<u8>]) -> Result<String, Unread> {
+    match (call, words) {
+        (
+            "finish",
+            [
+                moment,
+                anchors,
+                table,
+                answers,
+                failing,
+                message,
+                files @ ..,
+            ],
+        ) => {
+            let anchors = anchors_of(alloc, anchors.as_slice())?;
+            let table = table_of(alloc, table.as_slice())?;
+            let answers = answers_of(alloc, answers.as_slice())?;
+            let failing = numbers_of(alloc, failing.as_slice())?;
+            let moment = number(moment.as_slice())?;
+            let screened = screened(alloc, message.as_slice(), moment)?;
+            let case = Case {
+                anchors: &anchors,
+                table: &table,
+                files,
+            };
+            let mut provider = answers.provider(failing.as_slice())?;
+            let verdict = case.judge(alloc, &screened, moment, &mut provider)?;
+            said(alloc, verdict, provider.asks())
+        }
+        _ => Err(Unread::Call),
+    }
+}
+
+/// A call that breaks none of the rules 1 to 9, with country 1, national numbers of ten digits and a window of 60 seconds.
+fn screened(alloc: Global, message: &[u8], moment: u64) -> Result<Screened, Unread> {
+    let local = local_of(b"1", b"10")?;
+    let settings = Settings { local, window: 60 };
+    match screen(alloc, message, moment, &settings) {
+        Ok(screened) => Ok(screened),
+        Err(_) => Err(Unread::Value),
+    }
+}
+
+/// What is known of a chain.
+#[derive(Drop)]
+enum Known {
+    Have(Judged),
+    NoChain,
+    Long,
+    Unread,
+}
+
+impl Known {
+    /// The same as a call is judged by it.
+    fn state(&self) -> ChainState<'_>
+        ensures { seen result ≡ known_seen self.now }
+    {
+        match self {
+            Known::Have(judged) => ChainState::Have(judged),
+            Known::NoChain => ChainState::NoChain,
+            Known::Long => ChainState::Long,
+            Known::Unread => ChainState::Unread,
+        }
+    }
+}
+
+/// What is known of the chains of a call's PASSporTs, in the order in which it went.
+#[derive(Drop)]
+struct KnownChains {
+    known: Vec<Known>,
+}
+
+impl Chains for KnownChains {
+    ghost use Rattle.std.specs.Prelude.{map};
+    ghost use Rattle.vectors.specs.Known.{known_seen};
+
+    ghost states = { λ chains. map known_seen chains.known.items };
+
+    #[tactic(auto, using(crate::proofs::KnownLaws::known_count))]
+    fn count(&self) -> usize {
+        self.known.len()
+    }
+
+    #[tactic(auto, using(crate::proofs::KnownLaws::known_within, crate::proofs::KnownLaws::known_at))]
+    fn state(&self, i: usize) -> ChainState<'_> {
+        self.known[i].state()
+    }
+}
+
+/// What calls are judged by: trust anchors, a code table, and x5us, each with its file or a word for what is known of this.
+#[derive(Clone, Copy)]
+struct Case<'a> {
+    anchors: &'a Anchors,
+    table: &'a CodeTable,
+    files: &'a [Vec<u8>],
+}
+
+impl<'a> Case<'a> {
+    /// What rules 10 to 17 come to.
+    fn judge(
+        self,
+        alloc: Global,
+        screened: &Screened,
+        moment: u64,
+        provider: &mut AnswerProvider<'_>,
+    ) -> Result<Verdict, Unread> {
+        let mut known = Vec::new(alloc);
+        for i in 0..screened.count() {
+            let file = self.file(screened.passport(i).x5u());
+            known.push(self.known(alloc, file, provider)?)?;
+        }
+        let chains = KnownChains { known };
+        if chains.count() == screened.count() {
+            Ok(finish(screened, &chains, moment, self.table, provider))
+        } else {
+            Err(Unread::Value)
+        }
+    }
+
+    /// The word behind an x5u; `none` where it isn't listed.
+    fn file(self, x5u: &[u8]) -> &'a [u8] {
+        let mut rest = self.files;
+        for _ in self.files {
+            let [name, file, behind @ ..] = rest else {
+                break;
+            };
+            if name.as_slice() == x5u {
+                return file.as_slice();
+            }
+            rest = behind;
+        }
+        b"none"
+    }
+
+    /// What is known of the chain in a file.
+    fn known(
+        self,
+        alloc: Global,
+        file: &[u8],
+        provider: &mut AnswerProvider<'_>,
+    ) -> Result<Known, Unread> {
+        match file {
+            b"none" => Ok(Known::NoChain),
+            b"long" => Ok(Known::Long),
+            b"unread" => Ok(Known::Unread),
+            _ => Ok(Known::Have(judge_chain(alloc, file, self.anchors, self.table, provider)?)),
+        }
+    }
+}
+
+/// A verdict, where it stands, and how often the provider was asked.
+fn said(alloc: Global, verdict: Verdict, asks: u64) -> Result<String, Unread> {
+    let answer = Answer::new(alloc);
+    let answer = match verdict {
+        Verdict::Passed => answer.word("passed")?,
+        Verdict::Refused(refusal) => put_refusal(answer, refusal)?,
+        Verdict::Unread(place) => put_place(answer.word("unread")?, place)?,
+        Verdict::Unasked(place) => put_place(answer.word("unasked")?, place)?,
+    };
+    Ok(answer.word(asks)?.line())
+}
+
+/// Puts `refused`, the response code, the rule, and where it is broken behind other words.
+fn put_refusal(answer: Answer, refusal: Refusal) -> Result<Answer, Unread> {
+    let answer = answer.word("refused")?.word(code(refusal.rule))?;
+    put_place(answer.word(refusal.rule)?, refusal.place)
+}
+
+/// Puts a place behind other words.
+fn put_place(answer: Answer, place: Place) -> Result<Answer, Unread> {
+    answer.word(place.field)?.word(place.part)
+}
