@@ -38,7 +38,7 @@ pub fn answer<R: Threads + Sync>(
 #[derive(Drop)]
 struct Case<'a> {
     service: Service,
-    workers: [Worker<AnswerProvider<'a>, NoGate>; 1],
+    workers: Vec<Worker<AnswerProvider<'a>, NoGate>>,
     shelf: ShelfMem,
 }
 
@@ -58,10 +58,14 @@ impl<'a> Case<'a> {
             anchors: anchors_of(alloc, anchors.as_slice())?,
             table: table_of(alloc, table.as_slice())?,
         };
+        let service = service_of(alloc, world)?;
+        let mut workers = Vec::new(alloc);
+        workers.push(Worker::new(alloc, provider, NoGate))?;
+        let shelf = ShelfMem::new(files_of(alloc, files)?, reads);
         Ok(Case {
-            service: service_of(alloc, world)?,
-            workers: [Worker::new(alloc, provider, NoGate)],
-            shelf: ShelfMem::new(files_of(alloc, files)?, reads),
+            service,
+            workers,
+            shelf,
         })
     }
 
@@ -91,12 +95,13 @@ impl<'a> Case<'a> {
         alloc: Global,
         calls: &[Call],
     ) -> Result<Vec<Outcome>, Unread> {
-        if !self.service.follows(calls) {
+        let workers = self.workers.as_mut_slice();
+        if workers.len() != 1 || !self.service.follows(calls) {
             return Err(Unread::Value);
         }
         let outcomes = self
             .service
-            .round(rt, alloc, &mut self.shelf, &mut self.workers, calls)?;
+            .round(rt, alloc, &mut self.shelf, workers, calls)?;
         Ok(outcomes)
     }
 }
