@@ -1,5 +1,6 @@
 pub mod AnswerLaws
 pub mod CountLaws
+pub mod FileLaws
 pub mod HeldLaws
 pub mod KeyNames
 pub mod Transfers

@@ -1,5 +1,5 @@
 -- What a shelf holds and counts.
-use Rattle.std.specs.Prelude.{ℕ, ◌<◌, ⊤, List, [], ◌∷◌, length, Option, Some, None, if◌then◌else◌}
+use Rattle.std.specs.Prelude.{◌≡◌, ℕ, ◌<◌, ⊤, List, [], ◌∷◌, length, slice_index, Option, Some, None, if◌then◌else◌}
 use Rattle.std.specs.Str.{bytes_eq}
 use Rattle.stir_outside.specs.Count.{GoesOn}
 
@@ -16,6 +16,19 @@ file name (entry ∷ others) = if bytes_eq name entry.0 then Some entry.1 else f
 abbrev pub OfFile : Option Files → List ℕ → (Option (List ℕ) → Type 0) → Type 0
 OfFile None name P = ⊤
 OfFile (Some files) name P = P (file name files)
+
+-- each of them is a byte
+abbrev pub AreBytes : List ℕ → Type 0
+AreBytes content = (i : ℕ) → slice_index content i < 256
+
+-- each file holds bytes
+abbrev pub HoldBytes : Files → Type 0
+HoldBytes files = (name content : List ℕ) → file name files ≡ Some content → AreBytes content
+
+-- the same, where the shelf tells its files
+abbrev pub HoldBytesWhere : Option Files → Type 0
+HoldBytesWhere None = ⊤
+HoldBytesWhere (Some files) = HoldBytes files
 
 -- the content is longer than the limit
 abbrev pub IsLonger : ℕ → Option (List ℕ) → Type 0

@@ -1,6 +1,6 @@
 ghost use Rattle.std.specs.Prelude.{◌≡◌, ℕ, ◌≤◌, Option, Some, None, Err, IfOk, is_ok, vec_len, if◌then◌else◌};
 ghost use Rattle.stir_outside.specs.Count.{Rose, one_more};
-ghost use Rattle.stir_outside.specs.Files.{Files, Counts, CountsGoOn, OfFile, IsLonger};
+ghost use Rattle.stir_outside.specs.Files.{Files, Counts, CountsGoOn, HoldBytesWhere, OfFile, IsLonger};
 
 use std::alloc::Global;
 
@@ -42,4 +42,8 @@ pub trait Shelf {
         ensures long { result ≡ Err ShelfFault.Long → OfFile (files self.old) name.now (IsLonger limit) }
 
         ensures failed_rose { result ≡ Err ShelfFault.Failed → Rose (counts self.old).faults (counts self.new).faults };
+
+    /// What the files hold are bytes. It reads nothing.
+    fn holds_bytes(&self)
+        ensures { HoldBytesWhere (files self.now) };
 }
