@@ -3,6 +3,7 @@ pub mod FirstLaws
 mod MemberLaws
 mod OrigidLaws
 mod PassportLaws
+pub mod SignedLaws
 mod ValueLaws
 pub mod WayLaws
 pub mod TurnLaws

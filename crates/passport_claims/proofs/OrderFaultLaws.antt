@@ -220,6 +220,9 @@ answer_is origin links called = many_is origin links called (nat_lt 8 (length li
 
 -- ---- what callers see of it
 
+pub order_of_found : (origin : ClaimsView) (links : List ClaimsView) (called : Option (List ℕ)) (turn : List ℕ) → order_of origin links called ≡ Ok turn → IsOrder origin links called turn
+order_of_found origin links called turn e = subst (AnswerIs origin links called) e (answer_is origin links called)
+
 pub order_found : (origin : ClaimsView) (links : List ClaimsView) (called : Option (List ℕ)) (result : Result Order ChainFault)
     → order_seen result ≡ order_of origin links called → IfOk result (λ order. IsOrder origin links called (turn_of order))
 order_found origin links called (Ok order) e = subst (AnswerIs origin links called) (sym e) (answer_is origin links called)

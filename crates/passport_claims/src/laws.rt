@@ -1,13 +1,35 @@
 //! Laws: a function here does nothing, and its clause is the law.
-ghost use Rattle.std.specs.Prelude.{◌≡◌, ℕ, ◌↔◌, List, Option, Ok};
+ghost use Rattle.std.specs.Prelude.{◌≡◌, ℕ, ◌↔◌, List, Option, Some, Ok};
 ghost use Rattle.serde_json.specs.Data.{Data};
+ghost use Rattle.passport_json.specs.Compact.{CallView};
+ghost use Rattle.passport_json.specs.Signed.{payload_in};
+ghost use Rattle.passport_json.specs.Token.{TokenText};
+ghost use Rattle.passport_json.specs.View.{TokenView};
 ghost use Rattle.passport_claims.specs.Claims.{Claims, IsKnown};
+ghost use Rattle.passport_claims.specs.Order.{IsOrder};
+ghost use Rattle.passport_claims.specs.OrderReading.{order_of};
 ghost use Rattle.passport_claims.specs.Passport.{ClaimsView};
 ghost use Rattle.passport_claims.specs.Read.{read_claims};
+
+use passport_json::signed_law;
 
 /// Claims are read of a header and a payload just where these are those of a PASSporT that says so (RFC 8225, sections 4
 /// and 5), for each type that an Identity header field may have here.
 pub fn claims_law()
     ensures { (header payload : Data) (ppt : Option (List ℕ)) (info : List ℕ) (claims : ClaimsView) → IsKnown ppt
         → (read_claims header payload ppt info ≡ Ok claims) ↔ Claims header payload ppt info claims }
+{}
+
+/// What was signed as a token whose header and payload are those of a PASSporT has this payload behind its dot (RFC 7515, section 2).
+pub fn signed_claims_law()
+    ensures { (text : List ℕ) (call : CallView) (token : TokenView) (ppt : Option (List ℕ)) (info : List ℕ) (claims : ClaimsView) → TokenText text call token
+        → Claims token.header token.payload ppt info claims → payload_in token.signing ≡ Some token.payload }
+{
+    signed_law();
+}
+
+/// Links are given an order just where they stand in it, and then this one (RFC 8946, section 4.2).
+pub fn order_law()
+    ensures { (origin : ClaimsView) (links : List ClaimsView) (called : Option (List ℕ)) (turn : List ℕ)
+        → (order_of origin links called ≡ Ok turn) ↔ IsOrder origin links called turn }
 {}

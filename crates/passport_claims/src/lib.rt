@@ -18,7 +18,7 @@ mod values;
 pub use diversion::chain;
 pub use fault::ClaimFault;
 pub use kind::{Attest, Kind};
-pub use laws::claims_law;
+pub use laws::{claims_law, order_law, signed_claims_law};
 pub use order::{ChainFault, Order};
 pub use passport::Passport;
 pub use std::alloc::AllocError as Memory;

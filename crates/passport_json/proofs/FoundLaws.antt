@@ -16,13 +16,11 @@ use Rattle.serde_json.specs.Data.{Data, null, boolean, number, string, array, ob
 use Rattle.serde_json.specs.Read.{read}
 use Rattle.text_grammar.specs.Cut.{cut, lacks}
 use Rattle.text_grammar.proofs.CutLaws.{cut_first, cut_split}
-use Rattle.passport_json.specs.declared.fault.TokenFault.{TokenFault}
 use Rattle.passport_json.specs.declared.fault.TokenFault.TheVariants.{Parts, SignatureLength}
 use Rattle.passport_json.specs.Base64.{IsBase64}
 use Rattle.passport_json.specs.Compact.{CallView, CompactText, checked_base, rebuilt}
 use Rattle.passport_json.specs.Object.{IsObjectText, object_of, only_object}
 use Rattle.passport_json.specs.Parts.{PartTexts, AreParts, dot, one_is_empty, parts_of}
-use Rattle.lists.specs.Steps.{◌>>=◌}
 use Rattle.passport_json.specs.Token.{FullText, TokenText, checked_base64, checked_json, checked_parts, checked_signature, or_base64_fault, or_json_fault, read_compact, read_full, read_token, whole_parts}
 use Rattle.passport_json.specs.View.{TokenView}
 use Rattle.passport_json.proofs.CompactLaws.{compact_text}

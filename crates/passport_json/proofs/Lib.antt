@@ -4,6 +4,7 @@ pub mod FoundLaws
 pub mod ObjectLaws
 pub mod OrderLaws
 pub mod PartLaws
+pub mod PayloadLaws
 pub mod PlainLaws
 pub mod SignedLaws
 pub mod SpelledLaws

@@ -1,8 +1,5 @@
 -- A text with exactly two dots is cut into its three texts, and into no other.
-use Rattle.std.proofs.Common.{◌≡◌, ℕ, suc, ◌+◌, ◌≤◌, Bool, true, false, ◌==◌, nat_lt, List, [], ◌∷◌, ◌++◌, length, take, drop, Some, refl, arith, ap, length-append}
-use Rattle.std.specs.List.{position_or_len}
-use Rattle.std.proofs.lemmas.Bool.Decides.{nat_tests}
-use Rattle.text_grammar.specs.Cut.{cut, lacks}
+use Rattle.std.proofs.Common.{◌≡◌, ℕ, suc, ◌+◌, ◌≤◌, List, [], ◌∷◌, ◌++◌, length, take, Some, refl, arith, ap, length-append}
 use Rattle.passport_json.specs.Parts.{PartTexts, AreParts, parts_of, dot, signing_of}
 use Rattle.text_grammar.proofs.CutLaws.{cut_again}
 

@@ -8,6 +8,7 @@ ghost use Rattle.text_grammar.specs.Cut.{lacks};
 ghost use Rattle.passport_json.specs.Compact.{CallView, CompactText, base_of, rebuilt};
 ghost use Rattle.passport_json.specs.Parts.{dot};
 ghost use Rattle.passport_json.specs.Passport.{PassportView};
+ghost use Rattle.passport_json.specs.Signed.{GivesNumbers, payload_in};
 ghost use Rattle.passport_json.specs.Signing.{Signing};
 ghost use Rattle.passport_json.specs.Spelled.{IsSignature, IsSpelled, compact_text, full_text, full_token, is_symbol};
 ghost use Rattle.passport_json.specs.Token.{FullText, TokenText, read_token};
@@ -42,4 +43,12 @@ pub fn base64_law()
     ensures symbols { (bytes : List ℕ) → IsBytes bytes → list_all is_symbol (encode_of url_safe_no_pad bytes) ≡ true }
     ensures dots { (bytes : List ℕ) → lacks dot (encode_of url_safe_no_pad bytes) ≡ true }
     ensures size { (bytes : List ℕ) → length (encode_of url_safe_no_pad bytes) ≡ (4 * length bytes + 2) / 3 }
+{}
+
+/// What was signed as a token has the token's payload behind its dot (RFC 7515, section 2): in the full form as it was received, and in the
+/// compact form as it is built of a call that gives numbers.
+pub fn signed_law()
+    ensures full { (text : List ℕ) (token : TokenView) → FullText text token → payload_in token.signing ≡ Some token.payload }
+    ensures compact { (text : List ℕ) (call : CallView) (token : TokenView) → CompactText text call token → GivesNumbers call
+        → payload_in token.signing ≡ Some token.payload }
 {}

@@ -16,7 +16,9 @@ mod view;
 mod writing;
 
 pub use fault::TokenFault;
-pub use laws::{base64_law, compact_text_law, full_text_law, token_found_law, token_law};
+pub use laws::{
+    base64_law, compact_text_law, full_text_law, signed_law, token_found_law, token_law,
+};
 pub use signing::{signing_input, ticket};
 pub use std::alloc::AllocError as Memory;
 pub use token::Token;
