@@ -10,6 +10,7 @@ use Rattle.verify_rules.specs.Words.{AreRead, CallHasOrder, CanBeRead, Each, IsE
 use Rattle.verify_rules.specs.declared.refusal.ScreenFault.{ScreenFault}
 use Rattle.verify_rules.specs.declared.refusal.ScreenFault.TheVariants.{Refused, Memory}
 use Rattle.verify_rules.specs.declared.settings.Settings.{Settings}
+use Rattle.verify_rules.proofs.OrderWords.{OrderLaw, order_means}
 use Rattle.verify_rules.proofs.TokenWords.{ClaimsLaw, FieldLaw, TokenFoundLaw, TokenLaw, speaks_of_read, tokens_mean}
 use Rattle.verify_rules.proofs.WordLaws.{each_means, means}
 use Rattle.verify_rules.proofs.WordSteps.{alg_means, fields_mean, fresh_means, identity_means, invite_means, orig_means, origin_means}
@@ -23,9 +24,9 @@ read_by call (Ok screened) all h = all h
 read_by call (Err (Refused refused)) all h = λ later. all (h.1 later)
 read_by call (Err Memory) all h = tt
 
-pub all_words : (settings : Settings) (moment : ℕ) (bytes : List ℕ) (result : Result ScreenedView ScreenFault) → HeadLaw → FieldLaw → TokenLaw → TokenFoundLaw → ClaimsLaw
-    → IsScreenedBy early_rules (call_of settings moment bytes) result → Means 8 (CallHasOrder (call_of settings moment bytes)) result → SaysWords bytes (call_of settings moment bytes) result
-all_words settings moment bytes result heads fields tokens found claims h order =
+pub all_words : (settings : Settings) (moment : ℕ) (bytes : List ℕ) (result : Result ScreenedView ScreenFault) → HeadLaw → FieldLaw → TokenLaw → TokenFoundLaw → ClaimsLaw → OrderLaw
+    → IsScreenedBy early_rules (call_of settings moment bytes) result → SaysWords bytes (call_of settings moment bytes) result
+all_words settings moment bytes result heads fields tokens found claims orders h =
     let call : Call = call_of settings moment bytes in
     let read : Means 6 (Each (CanBeRead (facts call)) (judged_fields (fields_of call))) result =
     means (Each (CanBeRead (facts call)) (judged_fields (fields_of call))) (rule_1 ∷ rule_2 ∷ rule_3 ∷ rule_4 ∷ rule_5 ∷ []) rule_6 (rule_7 ∷ rule_8 ∷ rule_9 ∷ []) call result (omega arith, (omega arith, (omega arith, (omega arith, (omega arith, tt))))) (omega arith, (omega arith, (omega arith, tt))) (tokens_mean fields tokens found claims (facts call) (values_of call)) h in
@@ -39,7 +40,8 @@ all_words settings moment bytes result heads fields tokens found claims h order 
       read = read_by call result (speaks_of_read fields tokens claims (facts call) (values_of call)) read;
       calling = means (Each (IsFrom (facts call).calling) (in_message call)) (rule_1 ∷ rule_2 ∷ rule_3 ∷ rule_4 ∷ rule_5 ∷ rule_6 ∷ []) rule_7 (rule_8 ∷ rule_9 ∷ []) call result (omega arith, (omega arith, (omega arith, (omega arith, (omega arith, (omega arith, tt)))))) (omega arith, (omega arith, tt))
           (each_means (other_calling (facts call).calling) (IsFrom (facts call).calling) (orig_means (facts call).calling) (in_message call)) h;
-      order = order;
+      order = means (CallHasOrder call) (rule_1 ∷ rule_2 ∷ rule_3 ∷ rule_4 ∷ rule_5 ∷ rule_6 ∷ rule_7 ∷ []) rule_8 (rule_9 ∷ []) call result (omega arith, (omega arith, (omega arith, (omega arith, (omega arith, (omega arith, (omega arith, tt))))))) (omega arith, tt)
+          (order_means orders (facts call) (in_message call)) h;
       fresh = means (Each (IsFresh call.settings.window call.moment) (in_chain call)) (rule_1 ∷ rule_2 ∷ rule_3 ∷ rule_4 ∷ rule_5 ∷ rule_6 ∷ rule_7 ∷ rule_8 ∷ []) rule_9 [] call result (omega arith, (omega arith, (omega arith, (omega arith, (omega arith, (omega arith, (omega arith, (omega arith, tt)))))))) tt
           (each_means (stale call.settings.window call.moment) (IsFresh call.settings.window call.moment) (fresh_means call.settings.window call.moment) (in_chain call)) h;
     }

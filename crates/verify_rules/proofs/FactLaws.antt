@@ -3,14 +3,12 @@ use Rattle.std.proofs.Common.{◌≡◌, ◌||◌, ℕ, Bool, true, false, List,
 use Rattle.std.specs.Prelude.{nat_eq}
 use Rattle.std.specs.List.{list_any, starts_with}
 use Rattle.std.specs.Option.{option_or}
-use Rattle.passport_claims.specs.Order.{IsOrder}
 use Rattle.passport_claims.specs.OrderReading.{order_of}
 use Rattle.passport_json.specs.Compact.{CallView}
 use Rattle.passport_json.specs.Token.{read_token}
 use Rattle.verify_rules.specs.Call.{IdentityField, Reading, called_by, given_to_compact, passports_of, read_field, reading_by, readings_of, turn_of}
 use Rattle.verify_rules.specs.Rules.{each, unread, unread_at}
 use Rattle.verify_rules.specs.Seen.{Serves, facts_asked, is_compact}
-use Rattle.verify_rules.specs.Words.{HasOrder}
 use Rattle.verify_rules.specs.declared.facts.Facts.{Facts}
 
 neither : (a b : Bool) → (a || b) ≡ false → (a ≡ false) × (b ≡ false)
@@ -66,8 +64,3 @@ called_same said full (one ∷ others) t g = g
 pub turn_same : (said full : Facts) (readings : List Reading) → said.to ≡ full.to → said.target ≡ full.target → turn_of said readings ≡ turn_of full readings
 turn_same said full [] t g = refl
 turn_same said full (origin ∷ others) t g = ap (order_of origin.passport (passports_of others)) (called_same said full others t g)
-
-pub order_same : (said full : Facts) (readings : List Reading) → said.to ≡ full.to → said.target ≡ full.target → HasOrder said readings → HasOrder full readings
-order_same said full [] t g has = tt
-order_same said full (origin ∷ others) t g has =
-    (has.0, subst (λ x. IsOrder origin.passport (passports_of others) x has.0) (called_same said full others t g) has.1)

@@ -40,6 +40,10 @@ pub none_broken : (rules : List Rule) (call : Call) → first rules call ≡ Non
 none_broken [] call h = tt
 none_broken (rule ∷ others) call h = none_by rule others call (rule.broken call) refl (none_broken others call) h
 
+pub none_first : (rules : List Rule) (call : Call) → HoldAll rules call → first rules call ≡ None
+none_first [] call h = refl
+none_first (rule ∷ others) call h = holds rule others call h.0 ∙ none_first others call h.1
+
 pub least : (rules : List Rule) (call : Call) (result : Result ScreenedView ScreenFault) → IsScreenedBy rules call result → IsLeast rules call result
 least rules call (Ok screened) h = none_broken rules call h.0
 least rules call (Err (Refused refused)) h = first_is rules call refused h

@@ -51,7 +51,7 @@ pub read_there : (said : Facts) (field : IdentityField) → unread said field �
 unfolding unread
 read_there said field e = read_by field.number (read_field said field) e
 
-some_message : (call : Call) → HoldAll early_rules call → (one : Reading) × (others : List Reading) × (in_message call ≡ one ∷ others)
+pub some_message : (call : Call) → HoldAll early_rules call → (one : Reading) × (others : List Reading) × (in_message call ≡ one ∷ others)
 some_message call h =
     let o = some_origin (originating (fields_of call)) h.1.1.1.0 in
     let judged : judged_fields (fields_of call) ≡ o.0 ∷ links (fields_of call) = ap (λ x. option_to_list x ++ links (fields_of call)) o.1 in
@@ -60,13 +60,13 @@ some_message call h =
     let first : readings_of (facts call) (o.0 ∷ links (fields_of call)) ≡ r.0 ∷ readings_of (facts call) (links (fields_of call)) = rw r.1 refl in
     (r.0, readings_of (facts call) (links (fields_of call)), ap (readings_of (facts call)) judged ∙ first)
 
-some_chain : (call : Call) → HoldAll early_rules call → 1 ≤ length (in_chain call)
+pub some_chain : (call : Call) → HoldAll early_rules call → 1 ≤ length (in_chain call)
 some_chain call h =
     let m = some_message call h in
     let chain : in_chain call ≡ in_turn (m.0 ∷ m.1) (or_none (turn_of (facts call) (in_message call))) = ap (λ x. in_turn x (or_none (turn_of (facts call) (in_message call)))) m.2 in
     let count = ap length chain in omega (arith, count)
 
-fresh_call : (call : Call) → HoldAll early_rules call → call.moment ≤ iat_or_none (last_of (in_chain call)) + call.settings.window
+pub fresh_call : (call : Call) → HoldAll early_rules call → call.moment ≤ iat_or_none (last_of (in_chain call)) + call.settings.window
 fresh_call call h =
     let some = some_chain call h in
     let m = some_message call h in

@@ -1,4 +1,5 @@
 pub mod AllLateWords
+pub mod AllRules
 pub mod AllWords
 pub mod AskingSteps
 pub mod CauseLaws
@@ -17,6 +18,7 @@ pub mod OrderWords
 pub mod ReadSteps
 pub mod ReadingLaws
 pub mod ScreenedLaws
+pub mod SignedLaws
 pub mod TokenWords
 pub mod TurnSteps
 pub mod VerdictLaws

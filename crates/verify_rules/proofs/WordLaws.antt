@@ -27,7 +27,8 @@ above_by number rule others call refused None high below h = below h
 above_by number rule others call refused (Some bad) high below h =
     let same : rule.number ≡ refused.rule = cc in omega (arith, high, same)
 
-above : (number : ℕ) (rules : List Rule) (call : Call) (refused : Refusal) → AllAbove number rules → first rules call ≡ Some refused → number < refused.rule
+-- the first broken rule of those above a number is above it
+pub above : (number : ℕ) (rules : List Rule) (call : Call) (refused : Refusal) → AllAbove number rules → first rules call ≡ Some refused → number < refused.rule
 above number [] call refused high h = absurd cc
 above number (rule ∷ others) call refused high h =
     above_by number rule others call refused (rule.broken call) high.0 (above number others call refused high.1) h

@@ -1,3 +1,4 @@
+pub mod AllWords
 pub mod Asking
 pub mod Call
 pub mod Causes
@@ -7,6 +8,7 @@ pub mod LateWords
 pub mod Rules
 pub mod Screened
 pub mod Seen
+pub mod Signed
 pub mod States
 pub mod Verdict
 pub mod Words

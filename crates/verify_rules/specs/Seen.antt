@@ -8,7 +8,6 @@ use Rattle.passport_claims.specs.declared.order.Order.{Order}
 use Rattle.verify_rules.specs.Call.{IdentityField, Reading, links, numbered, reading, readings_of, turn_of}
 use Rattle.verify_rules.specs.Rules.{bad_field, each, no_order, place, unread}
 use Rattle.verify_rules.specs.Screened.{IsTurned}
-use Rattle.verify_rules.specs.Words.{HasOrder}
 use Rattle.verify_rules.specs.declared.facts.Facts.{Facts}
 use Rattle.verify_rules.specs.declared.fields.NumberedField.{NumberedField}
 use Rattle.verify_rules.specs.declared.passports.Marked.{Marked}
@@ -97,11 +96,6 @@ pub record ReadSoFar (said : Facts) (origin : IdentityField) (fields : List Numb
 abbrev pub GivesOrder : Facts → List Reading → Result Order Place → Type 0
 GivesOrder said readings (Ok order) = (turn_of said readings ≡ Ok (take order.length order.turn)) × IsTurned readings order.length order.turn
 GivesOrder said readings (Err bad) = no_order readings (turn_of said readings) ≡ Some bad
-
--- they have an order; or they have none
-abbrev pub SaysOrder : Facts → List Reading → Result Order Place → Type 0
-SaysOrder said readings (Ok order) = HasOrder said readings
-SaysOrder said readings (Err bad) = HasOrder said readings → ⊥
 
 -- ---- one PASSporT
 

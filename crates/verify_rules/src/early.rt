@@ -4,7 +4,7 @@ ghost use Rattle.verify_rules.specs.Call.{call_of, fields_of, read_call};
 ghost use Rattle.verify_rules.specs.Rules.{Rule, early_rules, field_rules};
 ghost use Rattle.verify_rules.specs.Screened.{IsFirstBefore, IsLeast, IsScreenedBy};
 ghost use Rattle.verify_rules.specs.Seen.{field_seen};
-ghost use Rattle.verify_rules.specs.Words.{CallHasOrder, Means, SaysWords};
+ghost use Rattle.verify_rules.specs.Words.{SaysWords};
 
 use crate::facts::Facts;
 use crate::fields::{NumberedField, foreign_alg, originating, read_fields};
@@ -14,7 +14,7 @@ use crate::screened::{Screened, stale};
 use crate::settings::Settings;
 use crate::turns::{order_of, other_calling};
 use identity_header::field_law;
-use passport_claims::claims_law;
+use passport_claims::{claims_law, order_law};
 use passport_json::{token_found_law, token_law};
 use sip_message::{Message, MessageFault, head_law};
 use std::alloc::Global;
@@ -51,11 +51,12 @@ pub fn screen(
     token_law();
     token_found_law();
     claims_law();
+    order_law();
     screen_exactly(alloc, bytes, moment, settings)
 }
 
 /// The first broken rule, or what is screened.
-#[tactic(auto, using(crate::proofs::EarlySteps::refused_form, crate::proofs::EarlySteps::as_read, crate::proofs::OrderWords::before_order, crate::proofs::OrderWords::order_as_read))]
+#[tactic(auto, using(crate::proofs::EarlySteps::refused_form, crate::proofs::EarlySteps::as_read))]
 fn screen_exactly(
     alloc: Global,
     bytes: &[u8],
@@ -63,8 +64,7 @@ fn screen_exactly(
     settings: &Settings,
 ) -> Result<Screened, ScreenFault>
     requires window { settings.now.window ≤ 86400 }
-    ensures exact { IsScreenedBy early_rules (call_of settings.now moment bytes.now) result }
-    ensures order { Means 8 (CallHasOrder (call_of settings.now moment bytes.now)) result }
+    ensures { IsScreenedBy early_rules (call_of settings.now moment bytes.now) result }
 {
     match Message::read(alloc, bytes) {
         Ok(message) => screen_message(alloc, &message, moment, settings),
@@ -76,7 +76,7 @@ fn screen_exactly(
 }
 
 /// All rules on a message that was read.
-#[tactic(auto, using(crate::proofs::EarlySteps::refused_method, crate::proofs::EarlySteps::refused_none, crate::proofs::EarlySteps::refused_value, crate::proofs::EarlySteps::fields_are, crate::proofs::OrderWords::before_order))]
+#[tactic(auto, using(crate::proofs::EarlySteps::refused_method, crate::proofs::EarlySteps::refused_none, crate::proofs::EarlySteps::refused_value, crate::proofs::EarlySteps::fields_are))]
 fn screen_message(
     alloc: Global,
     message: &Message<'_>,
@@ -84,8 +84,7 @@ fn screen_message(
     settings: &Settings,
 ) -> Result<Screened, ScreenFault>
     requires window { settings.now.window ≤ 86400 }
-    ensures exact { IsScreenedBy early_rules (read_call settings.now moment message.now) result }
-    ensures order { Means 8 (CallHasOrder (read_call settings.now moment message.now)) result }
+    ensures { IsScreenedBy early_rules (read_call settings.now moment message.now) result }
 {
     if !message.is_invite() {
         return Err(ScreenFault::broken(1, Place::new(0, 0)));
@@ -103,7 +102,7 @@ fn screen_message(
 }
 
 /// Rules 4 to 9 on the Identity fields of a message.
-#[tactic(auto, using(crate::proofs::EarlySteps::refused_origin, crate::proofs::EarlySteps::refused_alg, crate::proofs::EarlySteps::refused_token, crate::proofs::EarlySteps::refused_orig, crate::proofs::EarlySteps::refused_order, crate::proofs::EarlySteps::refused_stale, crate::proofs::EarlySteps::none_refused, crate::proofs::OrderWords::before_order, crate::proofs::OrderWords::at_order, crate::proofs::OrderWords::behind_order, crate::proofs::OrderWords::order_of_call, crate::proofs::OrderWords::none_of_call))]
+#[tactic(auto, using(crate::proofs::EarlySteps::refused_origin, crate::proofs::EarlySteps::refused_alg, crate::proofs::EarlySteps::refused_token, crate::proofs::EarlySteps::refused_orig, crate::proofs::EarlySteps::refused_order, crate::proofs::EarlySteps::refused_stale, crate::proofs::EarlySteps::none_refused))]
 fn screen_fields(
     alloc: Global,
     message: &Message<'_>,
@@ -113,8 +112,7 @@ fn screen_fields(
 ) -> Result<Screened, ScreenFault>
     requires window { settings.now.window ≤ 86400 }
     requires fields { map field_seen fields.now ≡ fields_of (read_call settings.now moment message.now) }
-    ensures exact { IsScreenedBy field_rules (read_call settings.now moment message.now) result }
-    ensures order { Means 8 (CallHasOrder (read_call settings.now moment message.now)) result }
+    ensures { IsScreenedBy field_rules (read_call settings.now moment message.now) result }
 {
     let Some(origin) = originating(fields) else {
         return Err(ScreenFault::broken(4, Place::new(0, 0)));

@@ -7,18 +7,25 @@ ghost use Rattle.delegation.specs.Coverage.{Table};
 ghost use Rattle.cert_store.specs.ChainMap.{listed};
 ghost use Rattle.cert_store.specs.Judged.{JudgedAs, JudgedView, judged_of};
 ghost use Rattle.cert_store.specs.Rules.{Says};
-ghost use Rattle.verify_rules.specs.Call.{Call, Reading};
+ghost use Rattle.verify_rules.specs.AllWords.{SaysRules};
+ghost use Rattle.verify_rules.specs.Call.{Call, Reading, call_of};
 ghost use Rattle.verify_rules.specs.LateWords.{SaysLateWords};
 ghost use Rattle.verify_rules.specs.Rules.{early_rules, first};
 ghost use Rattle.verify_rules.specs.Screened.{IsScreenedBy, ScreenedView, digest_in, last_of, last_of_call, ticket_of};
+ghost use Rattle.verify_rules.specs.Signed.{IsKnownAgain};
 ghost use Rattle.verify_rules.specs.States.{State, have, long, no_chain, unread};
 ghost use Rattle.verify_rules.specs.World.{AreRight, First, HoldsBytes, IsJudgedBy, IsRight, VerdictOf, World};
 ghost use Rattle.verify_rules.specs.declared.refusal.Refusal.{Refusal};
 ghost use Rattle.verify_rules.specs.declared.refusal.ScreenFault.TheVariants.{Refused};
+ghost use Rattle.verify_rules.specs.declared.settings.Settings.{Settings};
 ghost use Rattle.verify_rules.specs.declared.verdict.Verdict.{Verdict};
 
 use cert_store::judged_law;
 use delegation::covers_law;
+use identity_header::field_law;
+use passport_claims::{claims_law, order_law, signed_claims_law};
+use passport_json::{token_found_law, token_law};
+use sip_message::head_law;
 use x509_profile::chain_law;
 
 /// What comes of a call by rules 1 to 9, in every world: where they refuse it, so does the first broken rule of all; else it is judged on
@@ -58,3 +65,28 @@ pub fn right_law()
         → ((at : ℕ) (one : Reading) (state : State) → slice_get readings at ≡ Some one → slice_get states at ≡ Some state → IsRight world one.passport.x5u state)
         → AreRight world readings states }
 {}
+
+/// A call that breaks none of rules 1 to 9 has a last PASSporT, and is known again by what was signed as it.
+pub fn signed_law()
+    ensures { (call : Call) → first early_rules call ≡ None → IsKnownAgain call }
+{
+    field_law();
+    token_law();
+    token_found_law();
+    claims_law();
+    signed_claims_law();
+}
+
+/// What a verdict over a world says of each rule but the one on replay in its own words, where the files of the world hold bytes.
+pub fn words_law()
+    ensures { (world : World) (settings : Settings) (moment : ℕ) (bytes : List ℕ) (verdict : Verdict) → HoldsBytes world
+        → VerdictOf world (call_of settings moment bytes) verdict → SaysRules world bytes (call_of settings moment bytes) verdict }
+{
+    head_law();
+    field_law();
+    token_law();
+    token_found_law();
+    claims_law();
+    order_law();
+    late_words_law();
+}

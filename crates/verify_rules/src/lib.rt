@@ -23,7 +23,7 @@ mod verdict;
 pub use chains::{ChainState, Chains};
 pub use codes::code;
 pub use early::screen;
-pub use laws::{late_words_law, right_law, screened_law};
+pub use laws::{late_words_law, right_law, screened_law, signed_law, words_law};
 pub use refusal::{Place, Refusal, ScreenFault};
 pub use screened::Screened;
 pub use settings::Settings;

@@ -2,7 +2,7 @@
 ghost use Rattle.std.specs.Prelude.{◌≡◌, ◌≤◌, length, if◌then◌else◌};
 ghost use Rattle.verify_rules.specs.Call.{is_text};
 ghost use Rattle.verify_rules.specs.Rules.{each, field_at, other_calling};
-ghost use Rattle.verify_rules.specs.Seen.{GivesOrder, IsChainable, SaysOrder, taken_seen};
+ghost use Rattle.verify_rules.specs.Seen.{GivesOrder, IsChainable, taken_seen};
 
 use crate::facts::Facts;
 use crate::readings::{Readings, Taken};
@@ -45,12 +45,11 @@ fn is_calling(calling: Option<Number>, number: Number) -> bool
 }
 
 /// The order of the links, or where they show that there is none.
-#[tactic(auto, using(crate::proofs::TurnSteps::rest_links, crate::proofs::TurnSteps::order_is, crate::proofs::TurnSteps::order_turned, crate::proofs::TurnSteps::no_order_is, crate::proofs::OrderWords::order_there, crate::proofs::OrderWords::order_missing))]
+#[tactic(auto, using(crate::proofs::TurnSteps::rest_links, crate::proofs::TurnSteps::order_is, crate::proofs::TurnSteps::order_turned, crate::proofs::TurnSteps::no_order_is))]
 pub(crate) fn order_of(readings: &Readings, facts: &Facts) -> Result<Order, Place>
     requires some { 1 ≤ length readings.now }
     requires kept { IsChainable readings.now }
-    ensures exact { GivesOrder facts.now readings.now result }
-    ensures words { SaysOrder facts.now readings.now result }
+    ensures { GivesOrder facts.now readings.now result }
 {
     let passports = readings.passports();
     let links = &passports[1..];

@@ -5,4 +5,4 @@ use Rattle.verify_rules.proofs.early.screen.Goals as goal
 pub returns-clause-words : goal.returns-clause-words
 returns-clause-words c =
     all_words c.args.settings.now c.args.moment c.args.bytes.now c.screen_exactly.result c.head_law.ensures c.field_law.ensures c.token_law.ensures c.token_found_law.ensures c.claims_law.ensures
-    c.screen_exactly.ensures.exact c.screen_exactly.ensures.order
+    c.order_law.ensures c.screen_exactly.ensures
