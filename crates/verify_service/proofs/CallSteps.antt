@@ -10,7 +10,7 @@ use Rattle.replay_law.specs.Turn.{Turn, Turns}
 use Rattle.stir_outside.specs.Files.{Files}
 use Rattle.verify_rules.specs.declared.settings.Settings.{Settings}
 use Rattle.verify_service.specs.Chains.{world_by}
-use Rattle.verify_service.specs.Judging.{ComesOf, EachComesOf, EachFoundWhere, EachHasTicket, HasTicket, IsFound, IsFoundWhere, call_in}
+use Rattle.verify_service.specs.Judging.{ComesOf, EachComesOf, EachFoundWhere, EachHasSigned, EachHasTicket, HasSigned, HasTicket, IsFound, IsFoundWhere, call_in}
 use Rattle.verify_service.specs.Rows.{row_of, rows_of}
 use Rattle.verify_service.specs.declared.finding.Finding.{Finding}
 use Rattle.verify_service.specs.declared.materials.World.{World as Materials}
@@ -49,6 +49,13 @@ pub ticket_next : (settings : Settings) (entries : List Entry) (i : ℕ) (entry 
 ticket_next settings entries i entry d findings finding within is each here =
     subst (λ (es : List Entry). EachHasTicket settings es (findings ++ finding ∷ [])) (sym (take_item entries i entry d within is))
     (each_more (λ e f. HasTicket (call_in settings e) f) (take i entries) findings entry finding each here)
+
+pub signed_next : (settings : Settings) (entries : List Entry) (i : ℕ) (entry d : Entry) (findings : List Finding) (finding : Finding) → i < length entries
+    → entry ≡ get_or entries i d → EachHasSigned settings (take i entries) findings → HasSigned (call_in settings entry) finding
+    → EachHasSigned settings (take (i + 1) entries) (findings ++ finding ∷ [])
+signed_next settings entries i entry d findings finding within is each here =
+    subst (λ (es : List Entry). EachHasSigned settings es (findings ++ finding ∷ [])) (sym (take_item entries i entry d within is))
+    (each_more (λ e f. HasSigned (call_in settings e) f) (take i entries) findings entry finding each here)
 
 -- ---- settled
 

@@ -1,5 +1,5 @@
 -- A round from what comes of each of its calls.
-use Rattle.std.proofs.Common.{◌≡◌, List, [], ◌∷◌, length, Option, Some, None, refl, ap, sym, ◌∙◌, subst, arith}
+use Rattle.std.proofs.Common.{◌≡◌, true, false, List, [], ◌∷◌, length, Option, Some, None, refl, ap, sym, ◌∙◌, subst, arith}
 use Rattle.call_log.specs.Entry.{Entry}
 use Rattle.cert_store.specs.Rules.{Says}
 use Rattle.delegation.specs.Coverage.{Table}
@@ -11,8 +11,8 @@ use Rattle.stir_outside.specs.Files.{Files}
 use Rattle.verify_rules.specs.Call.{Call}
 use Rattle.verify_rules.specs.World.{World}
 use Rattle.verify_rules.specs.declared.settings.Settings.{Settings}
-use Rattle.verify_service.specs.Judging.{ComesOf, EachComesOf, EachFoundWhere, IsFound, IsJudged, call_in}
-use Rattle.verify_service.specs.Rows.{rows_of}
+use Rattle.verify_service.specs.Judging.{ComesOf, EachComesOf, EachFoundWhere, EachHasSigned, HasSigned, IsFound, IsJudged, call_in}
+use Rattle.verify_service.specs.Rows.{EachOwed, IsOwed, passes, rows_of}
 use Rattle.verify_service.specs.Service.{AreJudged, IsToldSame, ServiceView, first_moment_of, world_of}
 use Rattle.verify_service.specs.declared.finding.Finding.{Finding}
 use Rattle.verify_service.specs.declared.finding.Finding.TheVariants as found
@@ -65,6 +65,24 @@ judged_round told service settings materials says entries findings outcomes sett
     let two : EachFoundWhere told (materials_of service) says service.settings entries findings =
     subst (λ (m : Materials). EachFoundWhere told m says service.settings entries findings) materials_is one in
     all_judged told service says entries findings outcomes two comes
+
+-- ---- owed
+
+sets_aside : (outcome : Outcome) → passes outcome ≡ false → passes outcome ≡ true → ⊥
+sets_aside outcome aside passing = let k : false ≡ true = sym aside ∙ passing in absurd cc
+
+owed_so : (settings : Settings) (entry : Entry) (finding : Finding) (outcome : Outcome) → HasSigned (call_in settings entry) finding → ComesOf finding outcome → IsOwed settings entry outcome
+owed_so settings entry (found.Refused refused) outcome signed is = λ passing. absurd (sets_aside outcome (ap passes is) passing)
+owed_so settings entry (found.Unread bad) outcome signed is = λ passing. absurd (sets_aside outcome (ap passes is) passing)
+owed_so settings entry (found.Unasked bad) outcome signed is = λ passing. absurd (sets_aside outcome (ap passes is) passing)
+owed_so settings entry (found.Passes pass) outcome signed is = λ passing. signed
+
+-- what passes was found to be known again by what was signed
+pub owed_round : (settings : Settings) (entries : List Entry) (findings : List Finding) (outcomes : List Outcome) → EachHasSigned settings entries findings → EachComesOf findings outcomes
+    → EachOwed settings entries outcomes
+owed_round settings entries findings outcomes signed comes =
+    each_then (λ entry finding. HasSigned (call_in settings entry) finding) ComesOf (IsOwed settings) (λ entry finding outcome one other. owed_so settings entry finding outcome one other)
+    entries findings outcomes signed comes
 
 -- ---- settled
 

@@ -5,6 +5,7 @@ use Rattle.cert_store.specs.Rules.{Says}
 use Rattle.stir_outside.specs.Files.{Files}
 use Rattle.verify_rules.specs.Call.{Call, call_of}
 use Rattle.verify_rules.specs.Screened.{last_of_call, ticket_of}
+use Rattle.verify_rules.specs.Signed.{IsKnownAgain}
 use Rattle.verify_rules.specs.World.{World, First, MayBeUnread, MayBeUnasked}
 use Rattle.verify_rules.specs.declared.settings.Settings.{Settings}
 use Rattle.verify_rules.specs.declared.verdict.Verdict.{Verdict}
@@ -70,6 +71,13 @@ HasTicket call (found.Unread bad) = ⊤
 HasTicket call (found.Unasked bad) = ⊤
 HasTicket call (found.Passes pass) = IsKnownBy call pass.ticket pass.last
 
+-- and by what was signed as its last PASSporT, of which both are made
+abbrev pub HasSigned : Call → Finding → Type 0
+HasSigned call (found.Refused refused) = ⊤
+HasSigned call (found.Unread bad) = ⊤
+HasSigned call (found.Unasked bad) = ⊤
+HasSigned call (found.Passes pass) = IsKnownAgain call
+
 -- ---- with the calls around it
 
 abbrev pub IsPassing : Outcome → Type 0
@@ -107,6 +115,9 @@ EachFoundWhere (Some files) materials says settings entries findings =
 
 abbrev pub EachHasTicket : Settings → List Entry → List Finding → Type 0
 EachHasTicket settings entries findings = EachPair (λ entry finding. HasTicket (call_in settings entry) finding) entries findings
+
+abbrev pub EachHasSigned : Settings → List Entry → List Finding → Type 0
+EachHasSigned settings entries findings = EachPair (λ entry finding. HasSigned (call_in settings entry) finding) entries findings
 
 abbrev pub EachComesOf : List Finding → List Outcome → Type 0
 EachComesOf findings outcomes = EachPair ComesOf findings outcomes

@@ -7,9 +7,10 @@ use Rattle.replay_desk.specs.declared.kept.Kept.{Kept as Passed}
 use Rattle.replay_law.specs.Held.{Held, Kept}
 use Rattle.replay_law.specs.Round.{RoundSettled, round_of}
 use Rattle.replay_law.specs.Row.{Answer, valid, replay, neither, Row}
+use Rattle.verify_rules.specs.Signed.{IsKnownAgain}
 use Rattle.verify_rules.specs.World.{World}
 use Rattle.verify_rules.specs.declared.settings.Settings.{Settings}
-use Rattle.verify_service.specs.Judging.{EachJudged, call_in, last_second, ticket_or_none}
+use Rattle.verify_service.specs.Judging.{EachJudged, EachPair, call_in, last_second, ticket_or_none}
 use Rattle.verify_service.specs.declared.outcome.Outcome.{Outcome}
 use Rattle.verify_service.specs.declared.outcome.Outcome.TheVariants.{Valid, Refused, Replay, Unread, Unasked}
 
@@ -29,6 +30,13 @@ passes (Refused refused) = false
 passes (Replay winner) = true
 passes (Unread bad) = false
 passes (Unasked bad) = false
+
+-- a call that passes is known again by what was signed as its last PASSporT, told or not
+abbrev pub IsOwed : Settings → Entry → Outcome → Type 0
+IsOwed settings entry outcome = passes outcome ≡ true → IsKnownAgain (call_in settings entry)
+
+abbrev pub EachOwed : Settings → List Entry → List Outcome → Type 0
+EachOwed settings entries outcomes = EachPair (IsOwed settings) entries outcomes
 
 abbrev pub row_of : Settings → Entry → Outcome → Row
 row_of settings entry outcome = record {

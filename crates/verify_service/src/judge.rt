@@ -5,7 +5,7 @@ ghost use Rattle.verify_rules.specs.Call.{Call as RuledCall};
 ghost use Rattle.verify_rules.specs.Rules.{early_rules};
 ghost use Rattle.verify_rules.specs.Screened.{IsScreenedBy};
 ghost use Rattle.verify_service.specs.Causes.{AreCounted, HasCauseIf, found_unasked, found_unread};
-ghost use Rattle.verify_service.specs.Judging.{EachFoundWhere, EachHasTicket, HasTicket, IsFoundWhere, IsOfVerdict, call_in};
+ghost use Rattle.verify_service.specs.Judging.{EachFoundWhere, EachHasSigned, EachHasTicket, HasSigned, HasTicket, IsFoundWhere, IsOfVerdict, call_in};
 
 use crate::chains::CallChains;
 use crate::finding::{Finding, Pass};
@@ -15,7 +15,9 @@ use crate::worker::Worker;
 use call_log::Call;
 use std::alloc::{AllocError, Global};
 use stir_outside::{Gate, Provider, Shelf};
-use verify_rules::{ScreenFault, Screened, Settings, Verdict, finish, screen, screened_law};
+use verify_rules::{
+    ScreenFault, Screened, Settings, Verdict, finish, screen, screened_law, signed_law,
+};
 
 /// Judges the calls in their order. The gate is passed once a call, before anything is done for it.
 pub(crate) fn judge_all<S: Shelf, P: Provider, G: Gate>(
@@ -29,6 +31,7 @@ pub(crate) fn judge_all<S: Shelf, P: Provider, G: Gate>(
     requires window { settings.now.window ≤ 86400 }
     ensures counted { IfOk result (λ findings. vec_len findings ≡ length calls.now) }
     ensures tickets { IfOk result (λ findings. EachHasTicket settings.now calls.now findings.items) }
+    ensures signed { IfOk result (λ findings. EachHasSigned settings.now calls.now findings.items) }
     ensures found { IfOk result (λ findings. EachFoundWhere (S.files shelf.old) materials.now (P.says worker.old.provider) settings.now calls.now findings.items) }
 
     // As many are set aside at most as faults were counted.
@@ -70,6 +73,7 @@ fn judge_call<S: Shelf, P: Provider>(
 ) -> Result<Finding, AllocError>
     requires window { settings.now.window ≤ 86400 }
     ensures ticket { IfOk result (HasTicket (call_in settings.now call.now)) }
+    ensures signed { IfOk result (HasSigned (call_in settings.now call.now)) }
     ensures found { IfOk result (IsFoundWhere (S.files shelf.old) materials.now (P.says provider.old) (call_in settings.now call.now)) }
     ensures unread { IfOk result (λ finding. HasCauseIf (found_unread finding) (S.counts shelf.old).faults (S.counts shelf.new).faults) }
     ensures unasked { IfOk result (λ finding. HasCauseIf (found_unasked finding) (P.faults provider.old) (P.faults provider.new)) }
@@ -108,6 +112,7 @@ fn judge_screened<S: Shelf, P: Provider>(
     screened: &Screened,
 ) -> Result<Finding, AllocError>
     ensures ticket { (call : RuledCall) → IsScreenedBy early_rules call (Ok screened.now) → IfOk result (HasTicket call) }
+    ensures signed { (call : RuledCall) → IsScreenedBy early_rules call (Ok screened.now) → IfOk result (HasSigned call) }
     ensures found { (call : RuledCall) → IsScreenedBy early_rules call (Ok screened.now) → moment ≡ call.moment
         → IfOk result (IsFoundWhere (S.files shelf.old) materials.now (P.says provider.old) call) }
     ensures unread { IfOk result (λ finding. HasCauseIf (found_unread finding) (S.counts shelf.old).faults (S.counts shelf.new).faults) }
@@ -128,8 +133,10 @@ fn judge_screened<S: Shelf, P: Provider>(
 fn finding_of(verdict: Verdict, screened: &Screened) -> Finding
     ensures same { IsOfVerdict verdict result }
     ensures ticket { (call : RuledCall) → IsScreenedBy early_rules call (Ok screened.now) → HasTicket call result }
+    ensures signed { (call : RuledCall) → IsScreenedBy early_rules call (Ok screened.now) → HasSigned call result }
 {
     screened_law();
+    signed_law();
     match verdict {
         Verdict::Passed => Finding::Passes(Pass {
             ticket: *screened.ticket(),

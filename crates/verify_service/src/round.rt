@@ -5,7 +5,7 @@ ghost use Rattle.replay_law.specs.Turn.{FirstWins};
 ghost use Rattle.stir_outside.specs.Count.{NotRisen};
 ghost use Rattle.stir_outside.specs.Files.{CountsGoOn};
 ghost use Rattle.verify_service.specs.Causes.{NoneUnasked, NoneUnread, UnaskedIsCounted, UnreadIsCounted};
-ghost use Rattle.verify_service.specs.Rows.{held, rows_of};
+ghost use Rattle.verify_service.specs.Rows.{EachOwed, held, rows_of};
 ghost use Rattle.verify_service.specs.Service.{AreJudged, Follow, IsPurged, IsToldSame, last_moment_of, last_number};
 
 use crate::judge::judge_all;
@@ -44,6 +44,9 @@ impl Service {
         // Of the calls that pass with one ticket one is valid, and each other is a replay of it; and it is the first.
         ensures settled { IfOk result (λ outcomes. RoundSettled (held self.old.past) (round_of (rows_of self.old.settings calls.now outcomes.items)) (held self.new.past)) }
         ensures first { IfOk result (λ outcomes. FirstWins (rows_of self.old.settings calls.now outcomes.items)) }
+
+        // A call that passes is known again by what was signed as its last PASSporT, whether the shelf tells its files or not.
+        ensures owed { IfOk result (λ outcomes. EachOwed self.old.settings calls.now outcomes.items) }
 
         // A call is set aside only for a fault outside that was counted.
         ensures unread { IfOk result (λ outcomes. UnreadIsCounted self.old.settings calls.now (S.counts shelf.old).faults (S.counts shelf.new).faults outcomes.items) }
@@ -84,6 +87,7 @@ impl Service {
         ensures judged { IfOk result (λ outcomes. AreJudged (S.files shelf.old) self.old (P.says worker.old.provider) calls.now outcomes.items) }
         ensures settled { IfOk result (λ outcomes. RoundSettled (held self.old.past) (round_of (rows_of self.old.settings calls.now outcomes.items)) (held self.new.past)) }
         ensures first { IfOk result (λ outcomes. FirstWins (rows_of self.old.settings calls.now outcomes.items)) }
+        ensures owed { IfOk result (λ outcomes. EachOwed self.old.settings calls.now outcomes.items) }
         ensures unread { IfOk result (λ outcomes. UnreadIsCounted self.old.settings calls.now (S.counts shelf.old).faults (S.counts shelf.new).faults outcomes.items) }
         ensures unasked { IfOk result (λ outcomes. UnaskedIsCounted self.old.settings calls.now (P.faults worker.old.provider) (P.faults worker.new.provider) outcomes.items) }
         ensures quiet_shelf { NotRisen (S.counts shelf.old).faults (S.counts shelf.new).faults → IfOk result (λ outcomes. NoneUnread outcomes.items) }

@@ -1,9 +1,9 @@
 -- One call more was judged.
 use Rattle.std.proofs.Common.{◌≡◌, ◌+◌, ◌<◌, [], ◌∷◌, ◌++◌, List, length, take, sym, ◌∙◌, subst, arith}
 use Rattle.verify_service.specs.Causes.{AreCounted, found_unasked, found_unread}
-use Rattle.verify_service.specs.Judging.{EachFoundWhere, EachHasTicket}
+use Rattle.verify_service.specs.Judging.{EachFoundWhere, EachHasSigned, EachHasTicket}
 use Rattle.verify_service.specs.declared.finding.Finding.{Finding}
-use Rattle.verify_service.proofs.CallSteps.{found_next, ticket_next}
+use Rattle.verify_service.proofs.CallSteps.{found_next, signed_next, ticket_next}
 use Rattle.verify_service.proofs.CountLaws.{counted_more, go_on}
 use Rattle.verify_service.proofs.judge.judge_all.Goals as goal
 
@@ -17,6 +17,9 @@ calls-preserved g c =
       tickets = subst (λ (fs : List Finding). EachHasTicket c.args.settings.now (take (c.calls.call-index + 1) c.args.calls.now) fs) (sym pushed)
           (ticket_next c.args.settings.now c.args.calls.now c.calls.call-index c.call-item.result c.call-item.result c.calls.findings.items c.in_ok-finding.finding within c.call-item.is
           c.calls.invariant.tickets c.in_ok-finding.ensures.ticket);
+      signed = subst (λ (fs : List Finding). EachHasSigned c.args.settings.now (take (c.calls.call-index + 1) c.args.calls.now) fs) (sym pushed)
+          (signed_next c.args.settings.now c.args.calls.now c.calls.call-index c.call-item.result c.call-item.result c.calls.findings.items c.in_ok-finding.finding within c.call-item.is
+          c.calls.invariant.signed c.in_ok-finding.ensures.signed);
       found = subst (λ (fs : List Finding). EachFoundWhere (g.S.Shelf.files c.args.shelf.now) c.args.materials.now (g.P.Provider.says c.args.worker.now.provider) c.args.settings.now
           (take (c.calls.call-index + 1) c.args.calls.now) fs) (sym pushed)
           (found_next (g.S.Shelf.files c.args.shelf.now) (g.S.Shelf.files c.calls.shelf) c.args.materials.now (g.P.Provider.says c.args.worker.now.provider)

@@ -13,6 +13,10 @@ pub returns-in-Ok-clause-ticket : goal.returns-in-Ok-clause-ticket
 returns-in-Ok-clause-ticket g c = c.judge_screened.ensures.ticket (call_in c.args.settings.now c.args.call.now)
     (screened_call c.args.settings.now c.args.call.now c.moment.result c.message.result.now (Ok c.in-Ok.screened) c.message.ensures c.moment.ensures c.in-Ok.ensures.exact)
 
+pub returns-in-Ok-clause-signed : goal.returns-in-Ok-clause-signed
+returns-in-Ok-clause-signed g c = c.judge_screened.ensures.signed (call_in c.args.settings.now c.args.call.now)
+    (screened_call c.args.settings.now c.args.call.now c.moment.result c.message.result.now (Ok c.in-Ok.screened) c.message.ensures c.moment.ensures c.in-Ok.ensures.exact)
+
 pub returns-in-Ok-clause-found : goal.returns-in-Ok-clause-found
 returns-in-Ok-clause-found g c = c.judge_screened.ensures.found (call_in c.args.settings.now c.args.call.now)
     (screened_call c.args.settings.now c.args.call.now c.moment.result c.message.result.now (Ok c.in-Ok.screened) c.message.ensures c.moment.ensures c.in-Ok.ensures.exact)

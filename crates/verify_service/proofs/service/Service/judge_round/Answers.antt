@@ -3,12 +3,12 @@ use Rattle.std.proofs.Common.{◌≡◌, List, length, sym, ap, ◌∙◌, subst
 use Rattle.replay_desk.specs.Past.{PastView}
 use Rattle.replay_law.specs.Held.{Same, purged}
 use Rattle.verify_rules.specs.declared.settings.Settings.{Settings}
-use Rattle.verify_service.specs.Judging.{EachComesOf, EachHasTicket}
+use Rattle.verify_service.specs.Judging.{EachComesOf, EachHasSigned, EachHasTicket}
 use Rattle.verify_service.specs.Rows.{held}
 use Rattle.verify_service.specs.Service.{ServiceView, first_moment_of}
 use Rattle.verify_service.specs.declared.finding.Finding.{Finding}
 use Rattle.verify_service.proofs.CountLaws.{none_unasked, none_unread, unasked_counted, unread_counted}
-use Rattle.verify_service.proofs.RoundLaws.{judged_round, materials_same, round_settled}
+use Rattle.verify_service.proofs.RoundLaws.{judged_round, materials_same, owed_round, round_settled}
 use Rattle.verify_service.proofs.SettleLaws.{held_same}
 use Rattle.verify_service.proofs.service.Service.judge_round.Goals as goal
 
@@ -39,6 +39,15 @@ returns-clause-settled g c =
     c.same_is_one.ensures counted
     (held_same c.self.inside.past c.reserve.new.self (purged (first_moment_of c.args.calls.now) (held c.args.self.now.past)) c.in_ok-reserve.ensures.same before)
     (c.settle_all.ensures.turns c.args.self.now.settings tickets)).0
+
+pub returns-clause-owed : goal.returns-clause-owed
+returns-clause-owed g c =
+    let each : EachComesOf c.in_ok-findings.findings.items c.settle_all.result.items =
+    subst (λ (fs : List Finding). EachComesOf fs c.settle_all.result.items) c.as_slice.ensures.value c.settle_all.ensures.same in
+    let settings : c.self.inside.settings ≡ c.args.self.now.settings = ap (λ (s : ServiceView). s.settings) c.self.view_is ∙ c.begin.ensures.told.settings in
+    let signed : EachHasSigned c.args.self.now.settings c.args.calls.now c.in_ok-findings.findings.items =
+    subst (λ (s : Settings). EachHasSigned s c.args.calls.now c.in_ok-findings.findings.items) settings c.in_ok-findings.ensures.signed in
+    owed_round c.args.self.now.settings c.args.calls.now c.in_ok-findings.findings.items c.settle_all.result.items signed each
 
 pub returns-clause-unread : goal.returns-clause-unread
 returns-clause-unread g c =
