@@ -8,7 +8,7 @@ use Rattle.stir_words.specs.Order.{JudgingView, OrderView, SettingsView, VerifyB
 use Rattle.stir_words.specs.declared.commands.Row.{Row}
 use Rattle.stir_words.specs.declared.options.Long.{Long}
 use Rattle.stir_words.specs.declared.options.Turn.{Turn}
-use Rattle.stir_words.specs.declared.order.Settings.{Settings}
+use Rattle.stir_words.specs.declared.settings.Settings.{Settings}
 use Rattle.stir_words.specs.declared.order.Judging.{Judging}
 use Rattle.stir_words.specs.declared.order.Order.{Order}
 use Rattle.stir_words.specs.declared.order.Order.TheVariants.{Verify, Show}

@@ -8,8 +8,10 @@
 mod commands;
 mod options;
 mod order;
+mod settings;
 mod status;
 mod table;
 
-pub use order::{Judging, Order, Settings};
+pub use order::{Judging, Order};
+pub use settings::Settings;
 pub use status::Status;

@@ -1,5 +1,5 @@
 //! What a command line orders.
-ghost use Rattle.std.specs.Prelude.{◌≡◌, ◌↔◌, ℕ, List, true};
+ghost use Rattle.std.specs.Prelude.{◌≡◌, ◌≤◌, ◌↔◌, ℕ, List, true, IfSome};
 ghost use Rattle.std.specs.Option.{option_map};
 ghost use Rattle.text_grammar.specs.Decimal.{number_up_to};
 ghost use Rattle.stir_words.specs.Options.{are_options, options_in, pairs_of, Options, Pair};
@@ -9,6 +9,7 @@ ghost use Rattle.stir_words.specs.Table.{Accepted, Known, accepts};
 
 use crate::commands::Command;
 use crate::options::{are_options, value_of};
+use crate::settings::Settings;
 use crate::table::accepts;
 use text_grammar::read_number;
 use tn_values::Local;
@@ -27,15 +28,6 @@ const NATIONAL: u8 = 10;
 
 /// The country where none is given.
 const COUNTRY: &str = "1";
-
-/// How long a PASSporT is fresh, and how numbers without `+` are read.
-#[derive(Clone, Copy, Debug)]
-pub struct Settings {
-    /// The window of freshness on either side of a call's moment, in seconds: at most a day.
-    pub window: u64,
-    /// The local numbering.
-    pub local: Local,
-}
 
 /// By what calls are judged: the names of four files, and the settings.
 #[derive(Clone, Copy, Debug)]
@@ -168,9 +160,11 @@ fn settings_of(words: &[&str]) -> Option<Settings>
 }
 
 /// The window, in seconds.
+#[tactic(auto, using(crate::proofs::OrderLaws::within_a_day))]
 fn window_of(words: &[&str]) -> Option<u64>
     requires { are_options (texts words.now) ≡ true }
-    ensures { result ≡ window_of (options_in (texts words.now)) }
+    ensures exact { result ≡ window_of (options_in (texts words.now)) }
+    ensures within { IfSome result (λ window. window ≤ 86400) }
 {
     match value_of(words, "window") {
         Some(text) => read_number(text.as_bytes(), MOST_WINDOW),
