@@ -1,0 +1,9 @@
+pub mod ReadLaws
+pub mod ReportLaws
+pub mod RoundLaws
+pub mod JudgedLaws
+pub mod OneRound
+pub mod RunLaws
+pub mod LegalLaws
+pub mod EndLaws
+pub mod ClauseLaws

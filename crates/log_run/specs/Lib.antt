@@ -1,0 +1,9 @@
+pub mod Bench
+pub mod AllValid
+pub mod Rounds
+pub mod Judged
+pub mod Reading
+pub mod Running
+pub mod Steps
+pub mod Ending
+pub mod Clauses

@@ -1,0 +1,94 @@
+-- A run over the rounds of a log, up to its last round or to what stopped it.
+use Rattle.std.specs.Prelude.{◌≡◌, ⊤, ℕ, ◌+◌, ◌≤◌, Bool, List, Option, Some, None, Result, Ok, Err}
+use Rattle.std.specs.Io.KnownBytes.{Appends}
+use Rattle.call_log.specs.Entry.{Entry}
+use Rattle.call_log.specs.declared.fault.LogFault.{LogFault}
+use Rattle.call_log.specs.declared.fault.LogFault.TheVariants.{Grammar, Backward, Many, Source, Memory}
+use Rattle.log_run.specs.Bench.{Bench}
+use Rattle.log_run.specs.Judged.{At, Judged}
+use Rattle.log_run.specs.Reading.{ReadBehind}
+use Rattle.log_run.specs.Rounds.{AllFull, IsCut, Round, outcomes_in}
+use Rattle.log_run.specs.declared.ends.Next.{Next}
+use Rattle.log_run.specs.declared.ends.Next.TheVariants.{More, Whole, Fault}
+use Rattle.log_run.specs.declared.ends.Stop.{Stop}
+use Rattle.log_run.specs.declared.ends.Stop.TheVariants as stop
+use Rattle.stir_outside.specs.Count.{Rose}
+use Rattle.stir_outside.specs.Told.{AppendsFront}
+use Rattle.verify_service.specs.Report.{report}
+use Rattle.verify_service.specs.declared.outcome.Outcome.{Outcome}
+
+-- how often reads of the log failed, what was written, and how often writes failed
+pub record Streams : Type 0 where
+  pub reads : ℕ
+  pub written : Option (List ℕ)
+  pub writes : ℕ
+
+abbrev pub streams : ℕ → Option (List ℕ) → ℕ → Streams
+streams reads written writes = record { reads = reads; written = written; writes = writes }
+
+-- neither count of failures fell
+pub record StreamsStay (before now : Streams) : Type 0 where
+  pub reads : before.reads ≤ now.reads
+  pub writes : before.writes ≤ now.writes
+
+-- the lines of these rounds, which go on from those before
+abbrev pub lines_behind : At → List Round → List ℕ
+lines_behind before rounds = report (before.passed.number + 1) (outcomes_in rounds)
+
+-- full rounds were judged and reported
+pub record RunsOn (judged : Entry → Outcome → Type 0) (bench : Bench) (before now : At) (outside outside_now : Streams) : Type 0 where
+  pub rounds : List Round
+  pub stands : Judged judged bench before now rounds
+  pub full : AllFull rounds
+  pub reported : Appends outside.written outside_now.written (lines_behind before rounds)
+  pub stay : StreamsStay outside outside_now
+
+-- what ended the run: the end of the log or a fault of it, or what stopped it before
+abbrev pub RunEnd : Type 0
+RunEnd = Result (Option LogFault) Stop
+
+abbrev pub BehindBy : At → Option (List ℕ) → RunEnd → Type 0
+BehindBy mid left_now (Ok None) = ReadBehind mid.passed mid.left left_now (Ok None)
+BehindBy mid left_now (Ok (Some fault)) = ReadBehind mid.passed mid.left left_now (Err fault)
+BehindBy mid left_now (Err stopped) = ⊤
+
+abbrev pub GoodBy : Bool → Bool → RunEnd → Type 0
+GoodBy good good_now (Ok fault) = good_now ≡ good
+GoodBy good good_now (Err stopped) = ⊤
+
+-- the source or the sink failed where that ended the run
+abbrev pub RoseBy : Streams → Streams → RunEnd → Type 0
+RoseBy before now (Ok None) = ⊤
+RoseBy before now (Ok (Some (Grammar place))) = ⊤
+RoseBy before now (Ok (Some (Backward place))) = ⊤
+RoseBy before now (Ok (Some (Many place))) = ⊤
+RoseBy before now (Ok (Some Source)) = Rose before.reads now.reads
+RoseBy before now (Ok (Some Memory)) = ⊤
+RoseBy before now (Err stop.Sink) = Rose before.writes now.writes
+RoseBy before now (Err stop.Memory) = ⊤
+
+-- the lines were written, or where the sink failed a front of them
+abbrev pub WroteBy : Option (List ℕ) → Option (List ℕ) → List ℕ → RunEnd → Type 0
+WroteBy written written_now lines (Ok fault) = Appends written written_now lines
+WroteBy written written_now lines (Err stop.Sink) = AppendsFront written written_now lines
+WroteBy written written_now lines (Err stop.Memory) = Appends written written_now lines
+
+-- rounds were judged up to the last one or to what stopped the run, and reported
+pub record RunsOut (judged : Entry → Outcome → Type 0) (bench : Bench) (before now : At) (outside outside_now : Streams) (ended : RunEnd) : Type 0 where
+  pub rounds : List Round
+  pub mid : At
+  pub stands : Judged judged bench before mid rounds
+  pub cut : IsCut rounds
+  pub behind : BehindBy mid now.left ended
+  pub good : GoodBy mid.all_good now.all_good ended
+  pub shelf_stays : mid.standing.shelf ≤ now.standing.shelf
+  pub provider_stays : mid.standing.provider ≤ now.standing.provider
+  pub reported : WroteBy outside.written outside_now.written (lines_behind before rounds) ended
+  pub rose : RoseBy outside outside_now ended
+  pub stay : StreamsStay outside outside_now
+
+abbrev pub RanRound : (Entry → Outcome → Type 0) → Bench → At → At → Streams → Streams → Result Next Stop → Type 0
+RanRound judged bench before now outside outside_now (Ok More) = RunsOn judged bench before now outside outside_now
+RanRound judged bench before now outside outside_now (Ok Whole) = RunsOut judged bench before now outside outside_now (Ok None)
+RanRound judged bench before now outside outside_now (Ok (Fault fault)) = RunsOut judged bench before now outside outside_now (Ok (Some fault))
+RanRound judged bench before now outside outside_now (Err stopped) = RunsOut judged bench before now outside outside_now (Err stopped)

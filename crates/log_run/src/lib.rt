@@ -1,0 +1,17 @@
+//! A whole log judged round by round, and its report: the loop that stands around whatever judges a round.
+//!
+//! [`judge_log`] reads the calls of a log in rounds of 256, hands each round to a [`Judge`], and writes a line for each call. Memory is taken
+//! for one round at a time.
+#![tactic(auto)]
+
+mod ends;
+mod judge;
+mod reading;
+mod report;
+mod rounds;
+mod run;
+
+pub use judge::Judge;
+pub use run::{end_with, judge_log};
+/// Memory ran out.
+pub use std::alloc::AllocError as Memory;

@@ -1,0 +1,154 @@
+//! A run over a whole log: its rounds, and the last line.
+ghost use Rattle.std.specs.Prelude.{◌≡◌, ◌≤◌, ℕ};
+ghost use Rattle.log_run.specs.Clauses.{Fails, HasCauses, HasEnded, Headline, IsComplete, LogRan, Refuses, around};
+ghost use Rattle.log_run.specs.Ending.{EndsAs, EndsAtFault, EndsBy, EndsRefused, failed_line, memory_line, refused_line, report_status};
+ghost use Rattle.log_run.specs.Steps.{StandsAtFirst};
+ghost use Rattle.stir_words.specs.Status.{status_number};
+
+use crate::ends::Stop;
+use crate::judge::Judge;
+use crate::rounds::run_rounds;
+use call_log::{LogFault, LogReader, one_log};
+use replay_law::{first_of_all, legal_together};
+use std::alloc::Global;
+use std::thread::Threads;
+use stir_outside::{Shelf, Sink, Source, write_whole};
+use stir_words::Status;
+
+/// Judges a whole log by a judge that has judged nothing before, and writes a line for each call, in rounds of 256.
+///
+/// The status is 0 where all calls are valid, else 1. Where the log is outside its grammar, or a read of it fails, the whole entries before
+/// are judged and reported, and a line says so: status 5 or 3. Where a write fails the status is 4, and what was written is a front of the
+/// whole. For want of memory whole lines were written, and a line says so: status 6.
+pub fn judge_log<R: Threads + Sync, J: Judge, S: Shelf, I: Source, O: Sink>(
+    rt: &R,
+    alloc: Global,
+    judge: &mut J,
+    shelf: &mut S,
+    input: &mut I,
+    sink: &mut O,
+) -> u8
+    requires { StandsAtFirst (J.standing judge.old (S.counts shelf.old).faults) }
+    ensures ran { LogRan (J.judged judge.old (S.files shelf.old)) (J.bench judge.old)
+        (around (I.left input.old) (J.standing judge.old (S.counts shelf.old).faults) (I.faults input.old) (O.written sink.old) (O.faults sink.old))
+        (around (I.left input.new) (J.standing judge.new (S.counts shelf.new).faults) (I.faults input.new) (O.written sink.new) (O.faults sink.new)) result }
+    ensures headline { Headline (J.judged judge.old (S.files shelf.old)) (J.bench judge.old)
+        (around (I.left input.old) (J.standing judge.old (S.counts shelf.old).faults) (I.faults input.old) (O.written sink.old) (O.faults sink.old))
+        (around (I.left input.new) (J.standing judge.new (S.counts shelf.new).faults) (I.faults input.new) (O.written sink.new) (O.faults sink.new)) result }
+    ensures ended { HasEnded
+        (around (I.left input.new) (J.standing judge.new (S.counts shelf.new).faults) (I.faults input.new) (O.written sink.new) (O.faults sink.new)) result }
+    ensures refuses { Refuses (J.judged judge.old (S.files shelf.old)) (J.bench judge.old)
+        (around (I.left input.old) (J.standing judge.old (S.counts shelf.old).faults) (I.faults input.old) (O.written sink.old) (O.faults sink.old))
+        (around (I.left input.new) (J.standing judge.new (S.counts shelf.new).faults) (I.faults input.new) (O.written sink.new) (O.faults sink.new)) result }
+    ensures fails { Fails (J.judged judge.old (S.files shelf.old)) (J.bench judge.old)
+        (around (I.left input.old) (J.standing judge.old (S.counts shelf.old).faults) (I.faults input.old) (O.written sink.old) (O.faults sink.old))
+        (around (I.left input.new) (J.standing judge.new (S.counts shelf.new).faults) (I.faults input.new) (O.written sink.new) (O.faults sink.new)) result }
+    ensures causes { HasCauses (J.judged judge.old (S.files shelf.old)) (J.bench judge.old)
+        (around (I.left input.old) (J.standing judge.old (S.counts shelf.old).faults) (I.faults input.old) (O.written sink.old) (O.faults sink.old))
+        (around (I.left input.new) (J.standing judge.new (S.counts shelf.new).faults) (I.faults input.new) (O.written sink.new) (O.faults sink.new)) result }
+    ensures complete { IsComplete
+        (around (I.left input.old) (J.standing judge.old (S.counts shelf.old).faults) (I.faults input.old) (O.written sink.old) (O.faults sink.old))
+        (around (I.left input.new) (J.standing judge.new (S.counts shelf.new).faults) (I.faults input.new) (O.written sink.new) (O.faults sink.new)) result }
+    ensures same_files { S.files shelf.new ≡ S.files shelf.old }
+    ensures shelf_stays { (S.counts shelf.old).faults ≤ (S.counts shelf.new).faults }
+{
+    one_log();
+    legal_together();
+    first_of_all();
+    run_log(rt, alloc, judge, shelf, input, sink)
+}
+
+/// Runs the rounds and ends.
+fn run_log<R: Threads + Sync, J: Judge, S: Shelf, I: Source, O: Sink>(
+    rt: &R,
+    alloc: Global,
+    judge: &mut J,
+    shelf: &mut S,
+    input: &mut I,
+    sink: &mut O,
+) -> u8
+    requires { StandsAtFirst (J.standing judge.old (S.counts shelf.old).faults) }
+    ensures ran { LogRan (J.judged judge.old (S.files shelf.old)) (J.bench judge.old)
+        (around (I.left input.old) (J.standing judge.old (S.counts shelf.old).faults) (I.faults input.old) (O.written sink.old) (O.faults sink.old))
+        (around (I.left input.new) (J.standing judge.new (S.counts shelf.new).faults) (I.faults input.new) (O.written sink.new) (O.faults sink.new)) result }
+    ensures same_files { S.files shelf.new ≡ S.files shelf.old }
+    ensures shelf_stays { (S.counts shelf.old).faults ≤ (S.counts shelf.new).faults }
+{
+    let mut reader = LogReader::new(alloc);
+    let mut all_good = true;
+    let ended = run_rounds(
+        rt,
+        alloc,
+        judge,
+        shelf,
+        &mut reader,
+        input,
+        sink,
+        &mut all_good,
+    );
+    finish(alloc, sink, ended, all_good)
+}
+
+/// Writes the line that says why the log ended, if one is to be written, and gives the status.
+#[tactic(auto, unfolding(crate::specs::Ending::memory_line))]
+fn finish<O: Sink>(
+    alloc: Global,
+    sink: &mut O,
+    ended: Result<Option<LogFault>, Stop>,
+    all_good: bool,
+) -> u8
+    ensures { EndsBy (O.written sink.old) (O.written sink.new) (O.faults sink.old) (O.faults sink.new) result all_good ended }
+{
+    match ended {
+        Ok(None) => report_status(all_good),
+        Ok(Some(fault)) => end_at(alloc, sink, fault),
+        Err(Stop::Sink) => Status::Write.number(),
+        Err(Stop::Memory) => end_with(sink, "want of memory\n", Status::Memory),
+    }
+}
+
+/// The status of a whole report.
+fn report_status(all_good: bool) -> u8
+    ensures { result ≡ report_status all_good }
+{
+    if all_good {
+        Status::Done.number()
+    } else {
+        Status::NotAllValid.number()
+    }
+}
+
+/// Writes the line of a fault of the log.
+#[tactic(auto, unfolding(crate::specs::Ending::memory_line, crate::specs::Ending::failed_line))]
+fn end_at<O: Sink>(alloc: Global, sink: &mut O, fault: LogFault) -> u8
+    ensures { EndsAtFault (O.written sink.old) (O.written sink.new) (O.faults sink.old) (O.faults sink.new) result fault }
+{
+    match fault {
+        LogFault::Grammar { place } => refuse(alloc, sink, place),
+        LogFault::Backward { place } => refuse(alloc, sink, place),
+        LogFault::Many { place } => refuse(alloc, sink, place),
+        LogFault::Source => end_with(sink, "read fault input\n", Status::Read),
+        LogFault::Memory => end_with(sink, "want of memory\n", Status::Memory),
+    }
+}
+
+/// Writes the line of a log that is outside its grammar at this offset.
+#[tactic(auto, unfolding(crate::specs::Ending::memory_line, crate::specs::Ending::refused_line))]
+fn refuse<O: Sink>(alloc: Global, sink: &mut O, place: u64) -> u8
+    ensures { EndsRefused (O.written sink.old) (O.written sink.new) (O.faults sink.old) (O.faults sink.new) result place }
+{
+    match format!(in alloc; "refused input {place}\n") {
+        Ok(line) => end_with(sink, line.as_str(), Status::Input),
+        Err(_) => end_with(sink, "want of memory\n", Status::Memory),
+    }
+}
+
+/// Writes the last line and gives its status, or that of a sink that failed.
+pub fn end_with<O: Sink>(sink: &mut O, line: &str, status: Status) -> u8
+    ensures { EndsAs (O.written sink.old) (O.written sink.new) (O.faults sink.old) (O.faults sink.new) result line.now (status_number status) }
+{
+    match write_whole(sink, line.as_bytes()) {
+        Ok(()) => status.number(),
+        Err(_) => Status::Write.number(),
+    }
+}
