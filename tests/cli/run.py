@@ -7,6 +7,7 @@ Each folder beside this file is a case, with these files:
 
     args      the words, one a line, as bytes; absent: none
     stdin     what stands on the standard input; absent: nothing
+    files     a folder with the files that lie where the program runs; absent: none
     stdout    what the program must write to the standard output, byte for byte; absent: nothing
     status    its exit status, in digits
     streams   words of `no-stdin`, `no-stdout` and `full-stdout`: the standard input or output is
@@ -14,12 +15,14 @@ Each folder beside this file is a case, with these files:
 
 Each file NAME.rows has a case a line, beside empty lines and comments, which begin with `#`:
 
-    NAME = WORD ..                              lets $NAME stand for the bytes of the words put together
-    COMMAND [@MOMENT] WORD .. => STATUS WORD .. the program's one word, its input, its status and its output;
-                                                with @MOMENT the input is one entry of a call log with that message
+    NAME = PIECE ..                       lets $NAME stand for the bytes of the pieces put together
+    +NAME = PIECE ..                      lets +NAME stand for these words of a command line, one a piece
+    FILE NAME = PIECE ..                  a file that lies where the program runs, in each case of the file of rows
+    PIECE .. < INPUT .. => STATUS PIECE ..  the program's words, its input, its status and its output
 
-A word is `[COUNT*]PIECE`, and a piece is `$NAME`, `x:HEX`, or plain text in which `\\xHH`, `\\s` (a space), `\\n`, `\\r`,
-`\\t` and `\\\\` are escapes. A line that can't be read fails the run.
+A piece is `[COUNT*]TEXT`, and a text is `$NAME`, `x:HEX`, or plain text in which `\\xHH`, `\\s` (a space), `\\n`, `\\r`,
+`\\t` and `\\\\` are escapes. An input is pieces; the pieces behind a piece `@MOMENT`, up to the next such or the end, are
+one entry of a call log with that message. A line that can't be read fails the run.
 
 The program runs in a folder of its own and must write nothing to standard error. Needs the standard
 library alone. The last line counts the cases.
@@ -48,10 +51,12 @@ def closing(streams):
     return close
 
 
-def run(program, words, given, streams=()):
-    """Status, standard output and standard error of one run in a folder of its own."""
+def run(program, words, given, files, streams=()):
+    """Status, standard output and standard error of one run in a folder of its own with these files."""
     out = open('/dev/full', 'wb') if 'full-stdout' in streams else subprocess.PIPE
     with tempfile.TemporaryDirectory() as folder:
+        for name, data in files.items():
+            pathlib.Path(folder, name).write_bytes(data)
         done = subprocess.run([os.fsencode(program)] + words, input=given, stdout=out, stderr=subprocess.PIPE,
                               cwd=folder, timeout=60, preexec_fn=closing(streams))
     return done.returncode, done.stdout or b'', done.stderr
@@ -59,7 +64,8 @@ def run(program, words, given, streams=()):
 
 def folder_case(program, case):
     words = [word for word in content(case / 'args').split(b'\n') if word]
-    got = run(program, words, content(case / 'stdin'), content(case / 'streams').decode().split())
+    files = {path.name: path.read_bytes() for path in case.glob('files/*')}
+    got = run(program, words, content(case / 'stdin'), files, content(case / 'streams').decode().split())
     return (int(content(case / 'status')), content(case / 'stdout'), b''), got
 
 
@@ -74,39 +80,60 @@ def text_bytes(text):
     return out
 
 
-def word_bytes(word, names):
-    count, piece = re.fullmatch(r'(?:(\d+)\*)?(.*)', word).groups()
-    if piece.startswith('$'):
-        found = names[piece[1:]]
-    else:
-        found = bytes.fromhex(piece[2:]) if piece.startswith('x:') else text_bytes(piece)
-    return found * int(count or 1)
+class Rows:
+    """What a file of rows has named so far."""
 
+    def __init__(self):
+        self.texts, self.words, self.files = {}, {}, {}
 
-def put_together(words, names):
-    return b''.join(word_bytes(word, names) for word in words)
+    def piece(self, piece):
+        count, text = re.fullmatch(r'(?:(\d+)\*)?(.*)', piece).groups()
+        if text.startswith('$'):
+            found = self.texts[text[1:]]
+        else:
+            found = bytes.fromhex(text[2:]) if text.startswith('x:') else text_bytes(text)
+        return found * int(count or 1)
 
+    def text(self, pieces):
+        return b''.join(self.piece(piece) for piece in pieces)
 
-def row_case(program, line, names):
-    given, wanted = line.split(' => ')
-    command, *words = given.split(' ')
-    status, *said = wanted.split(' ')
-    moment = words and re.fullmatch(r'@\d+', words[0])
-    data = put_together(words[1:] if moment else words, names)
-    if moment:
-        data = b'%s %d\n%s' % (words[0].encode(), len(data), data)
-    return (int(status), put_together(said, names), b''), run(program, [command.encode()], data)
+    def line_of_words(self, pieces):
+        return [word for piece in pieces for word in (self.words[piece[1:]] if piece.startswith('+') else [self.piece(piece)])]
+
+    def log(self, pieces):
+        """The input: entries of a log where moments stand, and other pieces as they are."""
+        moments = [at for at, piece in enumerate(pieces) if re.fullmatch(r'@\d+', piece)]
+        out = self.text(pieces[:moments[0]] if moments else pieces)
+        for start, end in zip(moments, moments[1:] + [len(pieces)]):
+            message = self.text(pieces[start + 1:end])
+            out += b'%s %d\n%s' % (pieces[start].encode(), len(message), message)
+        return out
+
+    def named(self, line):
+        """Whether the line names something, which it then does."""
+        found = re.fullmatch(r'(FILE |\+|)([\w.]+) = (.*)', line)
+        if found:
+            pieces = found[3].split()
+            if found[1] == '+':
+                self.words[found[2]] = self.line_of_words(pieces)
+            else:
+                (self.files if found[1] else self.texts)[found[2]] = self.text(pieces)
+        return found is not None
+
+    def case(self, program, line):
+        given, wanted = line.split(' => ')
+        words, data = f' {given} '.split(' < ')
+        status, *said = wanted.split(' ')
+        got = run(program, self.line_of_words(words.split()), self.log(data.split()), self.files)
+        return (int(status), self.text(said), b''), got
 
 
 def rows(program, path):
     """Each case of a file of rows: its name, what is wanted, and what came."""
-    names = {}
+    file = Rows()
     for number, line in enumerate(path.read_text().splitlines(), 1):
-        defined = re.fullmatch(r'(\w+) = (.*)', line)
-        if defined:
-            names[defined[1]] = put_together(defined[2].split(' '), names)
-        elif line and not line.startswith('#'):
-            yield f'{path.name}:{number}', *row_case(program, line, names)
+        if line and not line.startswith('#') and not file.named(line):
+            yield f'{path.name}:{number}', *file.case(program, line)
 
 
 def cases(program):

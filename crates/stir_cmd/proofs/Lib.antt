@@ -1,5 +1,6 @@
-pub mod EntryLaws
-pub mod Reply
+pub mod BenchLaws
 pub mod RunLaws
+pub mod ShowLaws
 pub mod ShowSteps
-pub mod VerdictLaws
+pub mod VerifyLaws
+pub mod VerifySteps

@@ -1,68 +1,174 @@
--- Why a run ended as it did. Want of memory alone is free.
-use Rattle.std.specs.Prelude.{◌≡◌, ⊤, ℕ, ◌≤◌, ◌<◌, ◌⊎◌, List, length, Option, Some, None, Result, Ok, Err, IfSome}
-use Rattle.std.specs.Io.KnownBytes.{Appends, Consumes}
-use Rattle.stir_outside.specs.Count.{Rose}
+-- What a run came to, by its words, and why it ended with its status. Want of memory alone is free.
+use Rattle.std.specs.Prelude.{◌≡◌, ◌≢◌, ◌⊎◌, ℕ, ◌≤◌, List, [], length, codes, Option, Some, None, Result, IfSome}
+use Rattle.std.specs.Io.KnownBytes.{Appends}
+use Rattle.call_log.specs.Entry.{Entry}
+use Rattle.call_log.specs.Log.{LogText, start}
+use Rattle.log_run.specs.Clauses.{DoneReport, FailedReport, FrontReport, PartReport, ShortReport}
+use Rattle.log_run.specs.Ending.{EndsAs, memory_line}
+use Rattle.stir_files.specs.Event.{event_line}
+use Rattle.stir_files.specs.Materials.{files_of}
+use Rattle.stir_files.specs.Named.{IsOutside, Stop, first_fault}
+use Rattle.stir_files.specs.declared.fault.FileFault.TheVariants as faults
+use Rattle.stir_outside.specs.Count.{NotRisen, Rose}
+use Rattle.stir_outside.specs.Files.{Files}
 use Rattle.stir_outside.specs.Told.{AppendsFront}
-use Rattle.x509_profile.specs.View.{CertView}
-use Rattle.stir_cmd.specs.Answer.{Reply, answer, status_of, text_of}
 use Rattle.x509_profile.specs.Chain.{Chain}
-use Rattle.stir_cmd.specs.Entry.{entry}
-use Rattle.stir_cmd.specs.declared.command.Command.{Command}
-use Rattle.stir_cmd.specs.declared.command.Command.TheVariants.{Verify, Show}
-use Rattle.stir_cmd.specs.declared.program.Fault.{Fault}
-use Rattle.stir_cmd.specs.declared.program.Fault.TheVariants.{Words, Read, Memory}
+use Rattle.x509_profile.specs.View.{CertView}
+use Rattle.stir_cmd.specs.Answer.{Reply, most_chain, text_of}
+use Rattle.stir_words.specs.Order.{JudgingView, OrderView, VerifyBy, ShowCertificates}
+use Rattle.stir_cmd.specs.Around.{IsUntouched, Outside}
+use Rattle.stir_cmd.specs.Calls.{AnswersBy, bench_by, settings_by}
+use Rattle.stir_cmd.specs.Showing.{HasReason, IsNoChain, RanShow, TakesAtMost}
+use Rattle.stir_cmd.specs.Verifying.{ByFiles, InputStays, RanVerify, StopsAtFile}
+use Rattle.stir_cmd.specs.declared.answer.ShowFault.{ShowFault}
 
--- at most so many bytes were taken
-pub record TakesAtMost (limit : ℕ) (left left_now : Option (List ℕ)) : Type 0 where
-  pub taken : List ℕ
-  pub from_front : Consumes left left_now taken
-  pub limited : length taken ≤ limit
+-- the words are refused, and nothing was read
+pub record Refused (before now : Outside) (status : ℕ) : Type 0 where
+  pub untouched : IsUntouched before now
+  pub ends : EndsAs before.written now.written before.writes now.writes status (codes "words refused\n") 2
 
--- the answer to what the source had left, where it tells that, and else to some bytes
-abbrev pub IsAnswerTo : Command → Option (List ℕ) → Reply → Type 0
-IsAnswerTo command None reply = (bytes : List ℕ) × (reply ≡ answer command bytes)
-IsAnswerTo command (Some bytes) reply = reply ≡ answer command bytes
+-- certificates were shown, and no file was read; of the input no more than the longest and one byte
+pub record Showing (before now : Outside) (status : ℕ) : Type 0 where
+  pub counts : now.counts ≡ before.counts
+  pub limited : TakesAtMost 49153 before.left now.left
+  pub ran : RanShow before.left before.reads now.reads before.written now.written before.writes now.writes status
 
--- the cause of what a run came to: the words, the source and the source's count of faults
-abbrev pub HasReason : Option Command → Option (List ℕ) → ℕ → ℕ → Result Reply Fault → Type 0
-HasReason (Some command) left faults faults_now (Ok reply) = IsAnswerTo command left reply
-HasReason (Some command) left faults faults_now (Err Words) = ⊥
-HasReason (Some command) left faults faults_now (Err Read) = Rose faults faults_now
-HasReason (Some command) left faults faults_now (Err Memory) = ⊤
-HasReason None left faults faults_now (Ok reply) = ⊥
-HasReason None left faults faults_now (Err Words) = ⊤
-HasReason None left faults faults_now (Err Read) = ⊥
-HasReason None left faults faults_now (Err Memory) = ⊥
+-- what a run came to, by the words
+abbrev pub Ran : Option OrderView → Outside → Outside → ℕ → Type 0
+Ran None before now status = Refused before now status
+Ran (Some ShowCertificates) before now status = Showing before now status
+Ran (Some (VerifyBy judging)) before now status = RanVerify judging before now status
 
--- the line was written and its status answered; or the sink failed, a front of the line was written, and 4 was answered
-abbrev pub EndsAs : Option (List ℕ) → Option (List ℕ) → ℕ → ℕ → ℕ → List ℕ → ℕ → Type 0
-EndsAs written written_now faults faults_now result line status =
-    ((result ≡ status) × Appends written written_now line)
-    ⊎ ((result ≡ 4) × Rose faults faults_now × AppendsFront written written_now line)
+-- ---- the causes
 
--- what a run came to, why, and how it ended
-pub record Ran (command : Option Command) (left : Option (List ℕ)) (source source_now : ℕ) (written written_now : Option (List ℕ)) (sink sink_now result : ℕ) : Type 0 where
-  pub outcome : Result Reply Fault
-  pub reason : HasReason command left source source_now outcome
-  pub ends : EndsAs written written_now sink sink_now result (text_of outcome) (status_of outcome)
+-- a named file stopped the run before the input was read, and its line is all that was written
+pub record FileStops (judging : JudgingView) (before now : Outside) (stop : Stop) : Type 0 where
+  pub at : StopsAtFile judging before now stop
+  pub reported : Appends before.written now.written (event_line stop.name stop.fault)
 
--- the bytes are outside what the command takes
-abbrev pub IsRefused : Option Command → List ℕ → Type 0
-IsRefused (Some Verify) bytes = entry bytes ≡ None
-IsRefused (Some Show) bytes = (49152 < length bytes) ⊎ ((certificates : List CertView) → Chain bytes certificates → ⊥)
-IsRefused None bytes = ⊥
+-- 3: a named file couldn't be read; or the input couldn't, and the calls before were judged and reported
+abbrev pub FileFailed : JudgingView → Outside → Outside → Type 0
+FileFailed judging before now = (stop : Stop) × (stop.fault ≡ faults.Failed) × Rose before.counts.faults now.counts.faults × FileStops judging before now stop
 
--- the bytes are within what the command takes, and it ends so with them
-abbrev pub IsAnswered : Option Command → List ℕ → ℕ → Type 0
-IsAnswered (Some command) bytes result = result ≡ (answer command bytes).status
-IsAnswered None bytes result = ⊥
+abbrev pub LogFailed : JudgingView → Outside → Outside → Type 0
+LogFailed judging before now = ByFiles judging before now (λ materials stands stands_now.
+    FailedReport (AnswersBy materials (settings_by judging.settings) before.files) (bench_by (settings_by judging.settings)) stands stands_now)
+
+abbrev pub ReadCause : Option OrderView → Outside → Outside → Type 0
+ReadCause None before now = ⊥
+ReadCause (Some ShowCertificates) before now = Rose before.reads now.reads
+ReadCause (Some (VerifyBy judging)) before now = FileFailed judging before now ⊎ LogFailed judging before now
+
+-- 4: the output couldn't be written, and a front of what was to be written was: of the line that refuses the words; of what `show` answers; of the
+-- line that ends `verify` before the input is read; or of the report of the first calls and a last line
+pub record Front (before now : Outside) (Line : List ℕ → Type 0) : Type 0 where
+  pub rose : Rose before.writes now.writes
+  pub line : List ℕ
+  pub says : Line line
+  pub front : AppendsFront before.written now.written line
+
+abbrev pub IsShown : Outside → Outside → List ℕ → Type 0
+IsShown before now line = (outcome : Result Reply ShowFault) × HasReason before.left before.reads now.reads outcome × (line ≡ text_of outcome)
+
+abbrev pub IsEarly : JudgingView → Outside → Outside → List ℕ → Type 0
+IsEarly judging before now line = InputStays before now × ((line ≡ memory_line) ⊎ ((stop : Stop) × StopsAtFile judging before now stop × (line ≡ event_line stop.name stop.fault)))
+
+abbrev pub LogFront : JudgingView → Outside → Outside → Type 0
+LogFront judging before now = ByFiles judging before now (λ materials stands stands_now.
+    FrontReport (AnswersBy materials (settings_by judging.settings) before.files) (bench_by (settings_by judging.settings)) stands stands_now)
+
+abbrev pub WriteCause : Option OrderView → Outside → Outside → Type 0
+WriteCause None before now = Front before now (λ line. line ≡ codes "words refused\n")
+WriteCause (Some ShowCertificates) before now = Front before now (IsShown before now)
+WriteCause (Some (VerifyBy judging)) before now = Front before now (IsEarly judging before now) ⊎ LogFront judging before now
+
+-- 5: a named file is missing, too long or outside its grammar; or the input is outside its grammar, and the calls before were judged and reported
+abbrev pub FileRefused : JudgingView → Outside → Outside → Type 0
+FileRefused judging before now = (stop : Stop) × (IsOutside stop.fault → ⊥) × FileStops judging before now stop
+
+abbrev pub LogRefused : JudgingView → Outside → Outside → Type 0
+LogRefused judging before now = ByFiles judging before now (λ materials stands stands_now.
+    IfSome stands.left (PartReport (AnswersBy materials (settings_by judging.settings) before.files) (bench_by (settings_by judging.settings)) stands stands_now))
+
+abbrev pub InputCause : Option OrderView → Outside → Outside → Type 0
+InputCause None before now = ⊥
+InputCause (Some ShowCertificates) before now = IfSome before.left IsNoChain
+InputCause (Some (VerifyBy judging)) before now = FileRefused judging before now ⊎ LogRefused judging before now
+
+-- 6: memory was wanting, and a line says so; of `verify`, before the input is read, or the first calls were judged and reported
+pub record Early (judging : JudgingView) (before now : Outside) : Type 0 where
+  pub line : List ℕ
+  pub says : IsEarly judging before now line
+  pub reported : Appends before.written now.written line
+
+abbrev pub LogShort : JudgingView → Outside → Outside → Type 0
+LogShort judging before now = ByFiles judging before now (λ materials stands stands_now.
+    ShortReport (AnswersBy materials (settings_by judging.settings) before.files) (bench_by (settings_by judging.settings)) stands stands_now)
+
+abbrev pub MemoryCause : Option OrderView → Outside → Outside → Type 0
+MemoryCause None before now = ⊥
+MemoryCause (Some ShowCertificates) before now = Appends before.written now.written (codes "want of memory\n")
+MemoryCause (Some (VerifyBy judging)) before now = Early judging before now ⊎ LogShort judging before now
+
+-- 0 and 1, whether the input is told or not: the report is whole; only `verify` ends with 1
+abbrev pub DoneCause : Option OrderView → Outside → Outside → ℕ → Type 0
+DoneCause None before now status = ⊥
+DoneCause (Some ShowCertificates) before now status = status ≡ 0
+DoneCause (Some (VerifyBy judging)) before now status = ByFiles judging before now (λ materials stands stands_now.
+    DoneReport (AnswersBy materials (settings_by judging.settings) before.files) (bench_by (settings_by judging.settings)) stands stands_now status)
 
 -- each status with its cause
-pub record HasCauses (command : Option Command) (left : Option (List ℕ)) (source source_now sink sink_now result : ℕ) : Type 0 where
-  pub words : result ≡ 2 → command ≡ None
-  pub source_failed : result ≡ 3 → Rose source source_now
-  pub sink_failed : result ≡ 4 → Rose sink sink_now
-  pub input_refused : result ≡ 5 → IfSome left (IsRefused command)
-  pub answered : result ≤ 1 → IfSome left (λ bytes. IsAnswered command bytes result)
-  pub judged : result ≡ 1 → command ≡ Some Verify
-  pub known : result ≤ 6
+pub record HasCauses (order : Option OrderView) (before now : Outside) (status : ℕ) : Type 0 where
+  pub known : status ≤ 6
+  pub done : status ≤ 1 → DoneCause order before now status
+  pub words : status ≡ 2 → order ≡ None
+  pub read : status ≡ 3 → ReadCause order before now
+  pub write : status ≡ 4 → WriteCause order before now
+  pub input : status ≡ 5 → InputCause order before now
+  pub memory : status ≡ 6 → MemoryCause order before now
+
+-- ---- which status comes
+
+-- the sink never failed, and no read of a file or of the input did
+pub record IsQuiet (before now : Outside) : Type 0 where
+  pub files : NotRisen before.counts.faults now.counts.faults
+  pub reads : NotRisen before.reads now.reads
+  pub writes : NotRisen before.writes now.writes
+
+-- Where the named files have no fault, and the bytes are a whole log, the whole report comes.
+abbrev pub AnswersWhole : JudgingView → Outside → Outside → ℕ → Type 0
+AnswersWhole judging before now status = (files : Files) (bytes : List ℕ) (calls : List Entry) → before.files ≡ Some files → first_fault files (files_of judging) ≡ None
+    → before.left ≡ Some bytes → LogText (start 0 0) bytes calls [] → IsQuiet before now → (status ≤ 1) ⊎ (status ≡ 6)
+
+-- where a named file has a fault, or the bytes aren't a whole log, they are refused
+abbrev pub AnswersFault : JudgingView → Outside → Outside → ℕ → Type 0
+AnswersFault judging before now status = (files : Files) (stop : Stop) → before.files ≡ Some files → first_fault files (files_of judging) ≡ Some stop → IsQuiet before now
+    → (status ≡ 5) ⊎ (status ≡ 6)
+
+abbrev pub AnswersPart : JudgingView → Outside → Outside → ℕ → Type 0
+AnswersPart judging before now status = (files : Files) (bytes rest : List ℕ) (calls : List Entry) → before.files ≡ Some files → first_fault files (files_of judging) ≡ None
+    → before.left ≡ Some bytes → LogText (start 0 0) bytes calls rest → rest ≢ [] → IsQuiet before now → (status ≡ 5) ⊎ (status ≡ 6)
+
+pub record VerifyComplete (judging : JudgingView) (before now : Outside) (status : ℕ) : Type 0 where
+  pub whole : AnswersWhole judging before now status
+  pub fault : AnswersFault judging before now status
+  pub part : AnswersPart judging before now status
+
+-- where the bytes are a chain within the limit, they are shown, and else refused
+abbrev pub AnswersChain : Outside → Outside → ℕ → Type 0
+AnswersChain before now status = (bytes : List ℕ) (certificates : List CertView) → before.left ≡ Some bytes → length bytes ≤ most_chain → Chain bytes certificates
+    → NotRisen before.reads now.reads → NotRisen before.writes now.writes → (status ≡ 0) ⊎ (status ≡ 6)
+
+abbrev pub AnswersNoChain : Outside → Outside → ℕ → Type 0
+AnswersNoChain before now status = (bytes : List ℕ) → before.left ≡ Some bytes → IsNoChain bytes
+    → NotRisen before.reads now.reads → NotRisen before.writes now.writes → (status ≡ 5) ⊎ (status ≡ 6)
+
+pub record ShowComplete (before now : Outside) (status : ℕ) : Type 0 where
+  pub chain : AnswersChain before now status
+  pub no_chain : AnswersNoChain before now status
+
+-- what the words, the files and the input ask for comes, where nothing fails outside, or memory was wanting
+abbrev pub IsComplete : Option OrderView → Outside → Outside → ℕ → Type 0
+IsComplete None before now status = NotRisen before.writes now.writes → status ≡ 2
+IsComplete (Some ShowCertificates) before now status = ShowComplete before now status
+IsComplete (Some (VerifyBy judging)) before now status = VerifyComplete judging before now status

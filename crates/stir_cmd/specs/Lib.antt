@@ -1,8 +1,9 @@
 pub mod Answer
-pub mod Causes
-pub mod Command
-pub mod Entry
-pub mod Says
-pub mod Seen
+pub mod Around
+pub mod Calls
 pub mod Show
-pub mod Verdict
+pub mod Showing
+pub mod Standing
+pub mod Verifying
+pub mod Headline
+pub mod Causes

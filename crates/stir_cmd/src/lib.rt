@@ -2,8 +2,7 @@
 #![tactic(auto)]
 
 mod answer;
-mod command;
-mod entry;
+mod bench;
 mod program;
 mod show;
 mod verify;

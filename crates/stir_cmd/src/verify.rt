@@ -1,82 +1,92 @@
-//! The command `verify`: the judgement of one call.
-ghost use Rattle.std.specs.Prelude.{◌≡◌, ◌≤◌, ℕ, Some, IfOk, string_bytes};
-ghost use Rattle.stir_cmd.specs.Answer.{verified};
-ghost use Rattle.stir_cmd.specs.Says.{Judges};
-ghost use Rattle.stir_cmd.specs.Seen.{entry_of};
-ghost use Rattle.stir_cmd.specs.Verdict.{IsJudged, IsSaidBy, refused_line, settings};
+//! The command `verify`: the judgement of the calls of a log.
+ghost use Rattle.std.specs.Prelude.{◌≡◌, ◌≤◌};
+ghost use Rattle.stir_cmd.specs.Around.{outside};
+ghost use Rattle.stir_cmd.specs.Verifying.{EndsAtStop, RanBy, RanVerify};
+ghost use Rattle.stir_files.specs.Materials.{stop_of};
+ghost use Rattle.stir_words.specs.Seen.{judging_view};
 
-use crate::answer::Answer;
-use crate::entry::{LogEntry, read_entry};
-use std::alloc::{AllocError, Global};
-use tn_values::Local;
-use verify_rules::{Refusal, ScreenFault, Screened, Settings, code, screen};
+use crate::bench::Bench;
+use log_run::{end_with, judge_log};
+use std::alloc::Global;
+use std::thread::Threads;
+use stir_files::{FileStop, Materials, read_materials};
+use stir_outside::{Shelf, Sink, Source};
+use stir_words::{Judging, Status};
+use verify_rules::Settings;
+use verify_service::{Service, World};
 
-/// How many seconds the moment of a call and the `iat` of its PASSporTs may differ.
-const WINDOW: u64 = 60;
-
-/// The answer to an input, which is to be one entry of a call log.
-pub(crate) fn verified(alloc: Global, input: &[u8]) -> Result<Answer, AllocError>
-    ensures exact { IfOk result (λ reply. reply ≡ verified input.now) }
-    ensures judges { IfOk result (λ reply. reply.status ≤ 1 → Judges (Some input.now) reply.text reply.status) }
+/// Reads the named files, and judges the calls of the log by what they say; where a file can't be had, it says so.
+pub(crate) fn verify<R: Threads + Sync, S: Shelf, I: Source, O: Sink>(
+    rt: &R,
+    alloc: Global,
+    judging: &Judging<'_>,
+    shelf: &mut S,
+    input: &mut I,
+    sink: &mut O,
+) -> u8
+    ensures ran { RanVerify (judging_view judging.now)
+        (outside (S.files shelf.old) (S.counts shelf.old) (I.left input.old) (I.faults input.old) (O.written sink.old) (O.faults sink.old))
+        (outside (S.files shelf.new) (S.counts shelf.new) (I.left input.new) (I.faults input.new) (O.written sink.new) (O.faults sink.new)) result }
+    ensures same_files { S.files shelf.new ≡ S.files shelf.old }
 {
-    match read_entry(input) {
-        Some(call) => {
-            let verdict = judged(alloc, &call);
-            let answer = said(alloc, &verdict)?;
-            Ok(answer)
+    match read_materials(alloc, shelf, judging) {
+        Ok(materials) => {
+            let settings = Settings {
+                local: judging.settings.local,
+                window: judging.settings.window,
+            };
+            judge_by(rt, alloc, materials, settings, shelf, input, sink)
         }
-        None => Answer::refused_input(alloc, 0),
+        Err(stop) => end_at(alloc, &stop, sink),
     }
 }
 
-/// What the rules say of a call.
-fn judged(alloc: Global, call: &LogEntry<'_>) -> Result<Screened, ScreenFault>
-    ensures { IsJudged (entry_of call.now) result }
+/// Judges the calls of the log by what the files say.
+#[tactic(auto, unfolding(log_run::specs::Ending::memory_line))]
+fn judge_by<R: Threads + Sync, S: Shelf, I: Source, O: Sink>(
+    rt: &R,
+    alloc: Global,
+    materials: Materials,
+    settings: Settings,
+    shelf: &mut S,
+    input: &mut I,
+    sink: &mut O,
+) -> u8
+    requires window { settings.window ≤ 86400 }
+    ensures ran { RanBy materials settings
+        (outside (S.files shelf.old) (S.counts shelf.old) (I.left input.old) (I.faults input.old) (O.written sink.old) (O.faults sink.old))
+        (outside (S.files shelf.new) (S.counts shelf.new) (I.left input.new) (I.faults input.new) (O.written sink.new) (O.faults sink.new)) result }
+    ensures same_files { S.files shelf.new ≡ S.files shelf.old }
 {
-    let settings = settings();
-    screen(alloc, call.message, call.moment, &settings)
+    let Materials {
+        chains,
+        anchors,
+        table,
+        answers,
+    } = materials;
+    let world = World {
+        chains,
+        anchors,
+        table,
+    };
+    let service = match Service::new(alloc, settings, world) {
+        Ok(service) => service,
+        Err(_) => return end_with(sink, "want of memory\n", Status::Memory),
+    };
+    let mut bench = Bench {
+        service,
+        answers: &answers,
+    };
+    judge_log(rt, alloc, &mut bench, shelf, input, sink)
 }
 
-/// The numbers of a message are read with country 1 and national numbers of ten digits.
-#[tactic(auto, unfolding(tn_values::specs::Local::is_local))]
-fn settings() -> Settings
-    ensures { result ≡ settings }
+/// Writes the line that says why a named file can't be had.
+#[tactic(auto, unfolding(log_run::specs::Ending::memory_line))]
+fn end_at<O: Sink>(alloc: Global, stop: &FileStop<'_>, sink: &mut O) -> u8
+    ensures { EndsAtStop (stop_of stop.now) (O.written sink.old) (O.written sink.new) (O.faults sink.old) (O.faults sink.new) result }
 {
-    match Local::new(b"1", 10) {
-        Some(local) => Settings {
-            local,
-            window: WINDOW,
-        },
-        None => unreachable!(),
+    match stop.line(alloc) {
+        Ok(line) => end_with(sink, line.as_str(), stop.status()),
+        Err(_) => end_with(sink, "want of memory\n", Status::Memory),
     }
-}
-
-/// The line and the status that say what the rules said.
-fn said(alloc: Global, verdict: &Result<Screened, ScreenFault>) -> Result<Answer, AllocError>
-    ensures { IfOk result (λ reply. IsSaidBy verdict.now reply.text reply.status) }
-{
-    match verdict {
-        Ok(_) => {
-            let line = String::from_str(alloc, "1 screened - - -\n")?;
-            Ok(Answer::new(line, 0))
-        }
-        Err(fault) => match fault {
-            ScreenFault::Refused(refusal) => {
-                let line = refused_line(alloc, refusal)?;
-                Ok(Answer::new(line, 1))
-            }
-            ScreenFault::Memory => Err(AllocError),
-        },
-    }
-}
-
-/// The line of a refused call: the rule's response code, the rule, and the place.
-fn refused_line(alloc: Global, refusal: &Refusal) -> Result<String, AllocError>
-    ensures { IfOk result (λ line. string_bytes line ≡ refused_line refusal.now) }
-{
-    let code = code(refusal.rule);
-    let rule = refusal.rule;
-    let field = refusal.place.field;
-    let part = refusal.place.part;
-    format!(in alloc; "1 refused {code} {rule} {field}.{part}\n")
 }

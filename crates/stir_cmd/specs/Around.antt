@@ -1,0 +1,29 @@
+-- What stands around the program: the shelf of named files, the input and the output.
+use Rattle.std.specs.Prelude.{◌≡◌, ⊤, ℕ, List, Option, Some, None}
+use Rattle.stir_outside.specs.Files.{Counts, Files}
+
+-- the files where the shelf tells them, and its counts; what is left of the input where it is told, and how often reads of it failed; what was
+-- written where that is told, and how often writes failed
+pub record Outside : Type 0 where
+  pub files : Option Files
+  pub counts : Counts
+  pub left : Option (List ℕ)
+  pub reads : ℕ
+  pub written : Option (List ℕ)
+  pub writes : ℕ
+
+abbrev pub outside : Option Files → Counts → Option (List ℕ) → ℕ → Option (List ℕ) → ℕ → Outside
+outside files counts left reads written writes =
+    record { files = files; counts = counts; left = left; reads = reads; written = written; writes = writes }
+
+-- it holds of the files and of the bytes that were left, where both are told
+abbrev pub IfTold : Option Files → Option (List ℕ) → (Files → List ℕ → Type 0) → Type 0
+IfTold None left P = ⊤
+IfTold (Some files) None P = ⊤
+IfTold (Some files) (Some bytes) P = P files bytes
+
+-- neither the files nor the input was touched
+pub record IsUntouched (before now : Outside) : Type 0 where
+  pub counts : now.counts ≡ before.counts
+  pub left : now.left ≡ before.left
+  pub reads : now.reads ≡ before.reads

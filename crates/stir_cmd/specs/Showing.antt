@@ -1,0 +1,55 @@
+-- The command `show`: what it came to, and why.
+use Rattle.std.specs.Prelude.{◌≡◌, ⊤, ℕ, ◌≤◌, ◌<◌, ◌⊎◌, List, length, Option, Some, None, Result, Ok, Err, IfSome}
+use Rattle.std.specs.Io.KnownBytes.{Appends, Consumes, IsAtEnd}
+use Rattle.log_run.specs.Ending.{EndsAs}
+use Rattle.stir_outside.specs.Count.{Rose}
+use Rattle.stir_words.specs.Status.{status_number}
+use Rattle.x509_profile.specs.Chain.{Chain}
+use Rattle.x509_profile.specs.View.{CertView}
+use Rattle.stir_cmd.specs.Answer.{Reply, most_chain, shown, status_of, text_of}
+use Rattle.stir_cmd.specs.Around.{Outside}
+use Rattle.stir_cmd.specs.Show.{show}
+use Rattle.stir_cmd.specs.declared.answer.ShowFault.{ShowFault}
+use Rattle.stir_cmd.specs.declared.answer.ShowFault.TheVariants.{Read, Memory}
+
+-- at most so many bytes were taken
+pub record TakesAtMost (limit : ℕ) (left left_now : Option (List ℕ)) : Type 0 where
+  pub taken : List ℕ
+  pub from_front : Consumes left left_now taken
+  pub limited : length taken ≤ limit
+
+-- the answer to what the source had left, where it tells that, and else to some bytes
+abbrev pub IsAnswerTo : Option (List ℕ) → Reply → Type 0
+IsAnswerTo None reply = (bytes : List ℕ) × (reply ≡ shown bytes)
+IsAnswerTo (Some bytes) reply = reply ≡ shown bytes
+
+-- the cause of what the command came to
+abbrev pub HasReason : Option (List ℕ) → ℕ → ℕ → Result Reply ShowFault → Type 0
+HasReason left reads reads_now (Ok reply) = IsAnswerTo left reply
+HasReason left reads reads_now (Err Read) = Rose reads reads_now
+HasReason left reads reads_now (Err Memory) = ⊤
+
+-- what the command came to, why, and how it ended
+pub record RanShow (left : Option (List ℕ)) (reads reads_now : ℕ) (written written_now : Option (List ℕ)) (writes writes_now result : ℕ) : Type 0 where
+  pub outcome : Result Reply ShowFault
+  pub reason : HasReason left reads reads_now outcome
+  pub ends : EndsAs written written_now writes writes_now result (text_of outcome) (status_number (status_of outcome))
+
+-- The bytes are all that the source had left, where it tells that, and a chain of certificates within its limit, whose lines are the text.
+pub record Shows (left : Option (List ℕ)) (text : List ℕ) : Type 0 where
+  pub bytes : List ℕ
+  pub certificates : List CertView
+  pub all : IfSome left (λ known. known ≡ bytes)
+  pub size : length bytes ≤ most_chain
+  pub chain : Chain bytes certificates
+  pub lines : text ≡ show certificates
+
+-- these lines were written
+pub record Showed (left written written_now : Option (List ℕ)) : Type 0 where
+  pub text : List ℕ
+  pub shows : Shows left text
+  pub reported : Appends written written_now text
+
+-- the bytes are too many, or no chain of certificates
+abbrev pub IsNoChain : List ℕ → Type 0
+IsNoChain bytes = (most_chain < length bytes) ⊎ ((certificates : List CertView) → Chain bytes certificates → ⊥)
