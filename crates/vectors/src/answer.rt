@@ -1,14 +1,15 @@
 //! What a call answers, as the words of a line.
 
 use crate::table::Unread;
-use std::alloc::Global;
-use std::fmt::{Debug, Display};
+use std::alloc::{AllocError, Global};
+use std::fmt::{Debug, Display, Write};
 
-/// The words of a line, put one behind the other.
+/// The words of a line, put one behind the other. Where memory ran out on the way, [`Answer::line`] says so.
 #[derive(Drop)]
 pub struct Answer {
     alloc: Global,
     line: String,
+    is_whole: bool,
 }
 
 impl Answer {
@@ -17,21 +18,18 @@ impl Answer {
         Answer {
             alloc,
             line: String::new(alloc),
+            is_whole: true,
         }
     }
 
     /// A word that stands as it is, as `ok`, a fault's name or a number does.
-    pub fn word<D: Display + Drop>(mut self, word: D) -> Result<Answer, Unread> {
-        if !self.line.is_empty() {
-            self.line.push_str(" ")?;
-        }
-        let word = word.to_string(self.alloc)?;
-        self.line.push_str(word.as_str())?;
-        Ok(self)
+    pub fn word<D: Display + Drop>(mut self, word: D) -> Answer {
+        let put = self.put(&word);
+        self.keep(put)
     }
 
     /// A word, or `-` for None.
-    pub fn option<D: Display + Drop>(self, word: Option<D>) -> Result<Answer, Unread> {
+    pub fn option<D: Display + Drop>(self, word: Option<D>) -> Answer {
         match word {
             Some(word) => self.word(word),
             None => self.word("-"),
@@ -39,34 +37,75 @@ impl Answer {
     }
 
     /// A text, in which what isn't printable stands escaped. The empty text is `x:`.
-    pub fn text(self, text: &[u8]) -> Result<Answer, Unread> {
+    pub fn text(mut self, text: &[u8]) -> Answer {
         if text.is_empty() {
             return self.word("x:");
         }
-        let mut word = String::new(self.alloc);
-        for byte in text {
-            put_escaped(&mut word, *byte)?;
-        }
-        self.word(word.as_str())
+        let put = self.put_text(text);
+        self.keep(put)
     }
 
     /// Bytes, as `x:` and hex digits.
-    pub fn hex(self, bytes: &[u8]) -> Result<Answer, Unread> {
-        let digits = hex::encode(self.alloc, bytes)?;
-        let word = format!(in self.alloc; "x:{digits}")?;
-        self.word(word.as_str())
+    pub fn hex(mut self, bytes: &[u8]) -> Answer {
+        let put = self.put_hex(bytes);
+        self.keep(put)
     }
 
     /// The whole line.
-    pub fn line(self) -> String {
-        let Answer { alloc: _, line } = self;
-        line
+    pub fn line(self) -> Result<String, Unread> {
+        let Answer { line, is_whole, .. } = self;
+        if is_whole {
+            Ok(line)
+        } else {
+            Err(Unread::Memory)
+        }
+    }
+
+    /// The same words, of which the last was put so.
+    fn keep(mut self, put: Result<(), AllocError>) -> Answer {
+        if put.is_err() {
+            self.is_whole = false;
+        }
+        self
+    }
+
+    /// Puts a blank behind the words, where there are any.
+    fn begin(&mut self) -> Result<(), AllocError> {
+        if !self.line.is_empty() {
+            self.line.push(' ')?;
+        }
+        Ok(())
+    }
+
+    /// Puts a word as it is printed behind the others.
+    fn put<D: Display>(&mut self, word: &D) -> Result<(), AllocError> {
+        self.begin()?;
+        write!(self.line, "{word}")?;
+        Ok(())
+    }
+
+    /// Puts an escaped text behind the other words.
+    fn put_text(&mut self, text: &[u8]) -> Result<(), AllocError> {
+        self.begin()?;
+        for byte in text {
+            put_escaped(&mut self.line, *byte)?;
+        }
+        Ok(())
+    }
+
+    /// Puts bytes as hex digits behind the other words.
+    fn put_hex(&mut self, bytes: &[u8]) -> Result<(), AllocError> {
+        self.begin()?;
+        self.line.push_str("x:")?;
+        let digits = hex::encode(self.alloc, bytes)?;
+        self.line.push_str(digits.as_str())?;
+        Ok(())
     }
 }
 
 /// An answer of one word.
 pub fn word<D: Display + Drop>(alloc: Global, word: D) -> Result<String, Unread> {
-    Ok(Answer::new(alloc).word(word)?.line())
+    Answer::new(alloc).word(word).line()
 }
 
 /// An answer of one word, or `none`.
@@ -79,40 +118,71 @@ pub fn or_none<D: Display + Drop>(alloc: Global, found: Option<D>) -> Result<Str
 
 /// `fault`, its kind and its place.
 pub fn fault<D: Display + Drop>(alloc: Global, kind: u8, place: D) -> Result<String, Unread> {
-    let answer = Answer::new(alloc).word("fault")?;
-    Ok(answer.word(kind)?.word(place)?.line())
+    Answer::new(alloc)
+        .word("fault")
+        .word(kind)
+        .word(place)
+        .line()
 }
 
 /// `ok` and a word.
 pub fn ok<D: Display + Drop>(alloc: Global, found: D) -> Result<String, Unread> {
-    Ok(Answer::new(alloc).word("ok")?.word(found)?.line())
+    Answer::new(alloc).word("ok").word(found).line()
 }
 
 /// `line` and its number.
 pub fn line(alloc: Global, number: u32) -> Result<String, Unread> {
-    Ok(Answer::new(alloc).word("line")?.word(number)?.line())
+    Answer::new(alloc).word("line").word(number).line()
 }
 
 /// A value as it is printed: plainly, at the right of fifteen places, and for a programmer.
 pub fn shown<D: Display + Debug>(alloc: Global, value: &D) -> Result<String, Unread> {
-    let plain = format!(in alloc; "{value}")?;
-    let padded = format!(in alloc; "{value:>15}")?;
-    let debug = format!(in alloc; "{value:?}")?;
-    let answer = Answer::new(alloc).text(plain.as_bytes())?;
-    let answer = answer.text(padded.as_bytes())?;
-    Ok(answer.text(debug.as_bytes())?.line())
+    let plain = plain(alloc, value)?;
+    let padded = padded(alloc, value)?;
+    let debug = debug(alloc, value)?;
+    Answer::new(alloc)
+        .text(plain.as_bytes())
+        .text(padded.as_bytes())
+        .text(debug.as_bytes())
+        .line()
+}
+
+/// A value as it is printed plainly.
+fn plain<D: Display>(alloc: Global, value: &D) -> Result<String, AllocError> {
+    format!(in alloc; "{value}")
+}
+
+/// A value as it is printed at the right of fifteen places.
+fn padded<D: Display>(alloc: Global, value: &D) -> Result<String, AllocError> {
+    format!(in alloc; "{value:>15}")
+}
+
+/// A value as it is printed for a programmer.
+fn debug<D: Debug>(alloc: Global, value: &D) -> Result<String, AllocError> {
+    format!(in alloc; "{value:?}")
 }
 
 /// Puts a byte behind a text, escaped as the table's plain texts are where it isn't printable.
-fn put_escaped(out: &mut String, byte: u8) -> Result<(), Unread> {
-    match byte {
-        b' ' => out.push_str("\\s")?,
-        b'\n' => out.push_str("\\n")?,
-        b'\r' => out.push_str("\\r")?,
-        b'\t' => out.push_str("\\t")?,
-        b'\\' => out.push_str("\\\\")?,
-        b'!'..=b'~' => out.push(char::from(byte))?,
-        _ => write!(out, "\\x{byte:02x}")?,
+fn put_escaped(out: &mut String, byte: u8) -> Result<(), AllocError> {
+    if let Some(letter) = letter_of(byte) {
+        out.push('\\')?;
+        out.push(letter)?;
+    } else if byte.is_ascii_graphic() {
+        out.push(char::from(byte))?;
+    } else {
+        write!(out, "\\x{byte:02x}")?;
     }
     Ok(())
+}
+
+/// The letter that stands behind the backslash where a byte has an escape of its own.
+fn letter_of(byte: u8) -> Option<char> {
+    match byte {
+        b' ' => Some('s'),
+        b'\n' => Some('n'),
+        b'\r' => Some('r'),
+        b'\t' => Some('t'),
+        b'\\' => Some('\\'),
+        _ => None,
+    }
 }

@@ -2,30 +2,27 @@
 
 use crate::answer::{Answer, line, word};
 use crate::chains::{answers_of, numbers_of};
-use crate::table::{Unread, text};
+use crate::table::Unread;
 use crate::words::joined;
 use std::alloc::Global;
 use stir_outside::{AnswerFault, AnswerProvider, Answers, Provider};
 
 /// What a call answers.
-pub fn answer(alloc: Global, call: &str, words: &[Vec<u8>]) -> Result<String, Unread> {
-    match (call, words) {
-        ("read", words) => read(alloc, joined(alloc, words)?.as_slice()),
-        ("ask", [file, failing, calls @ ..]) => {
-            let answers = answers_of(alloc, file.as_slice())?;
-            let failing = numbers_of(alloc, failing.as_slice())?;
-            ask(alloc, &answers, failing.as_slice(), calls)
-        }
+pub fn answer(alloc: Global, call: &str, words: &[&[u8]]) -> Result<String, Unread> {
+    match call {
+        "read" => read(alloc, words),
+        "ask" => ask(alloc, words),
         _ => Err(Unread::Call),
     }
 }
 
 /// `ok`, or the first bad line of an answers file.
-fn read(alloc: Global, file: &[u8]) -> Result<String, Unread> {
+fn read(alloc: Global, words: &[&[u8]]) -> Result<String, Unread> {
+    let file = joined(alloc, words)?;
     if file.len() >= 4_000_000_000 {
         return Err(Unread::Value);
     }
-    match Answers::read(alloc, file) {
+    match Answers::read(alloc, file.as_slice()) {
         Ok(_) => word(alloc, "ok"),
         Err(AnswerFault::Line { line: bad }) => line(alloc, bad),
         Err(AnswerFault::Memory) => Err(Unread::Memory),
@@ -33,55 +30,93 @@ fn read(alloc: Global, file: &[u8]) -> Result<String, Unread> {
 }
 
 /// What a provider over an answers file answers to some calls, how many were made and how many failed.
-fn ask(
-    alloc: Global,
-    answers: &Answers,
-    failing: &[u64],
-    calls: &[Vec<u8>],
-) -> Result<String, Unread> {
-    let mut provider = answers.provider(failing)?;
-    let mut answer = Answer::new(alloc);
-    let mut rest = calls;
-    for _ in calls {
-        let [call, words @ ..] = rest else {
-            break;
-        };
-        let (next, behind) = asked(answer, &mut provider, text(call.as_slice())?, words)?;
-        answer = next;
-        rest = behind;
-    }
-    let answer = answer.word(provider.asks())?;
-    Ok(answer.word(provider.faults())?.line())
+fn ask(alloc: Global, words: &[&[u8]]) -> Result<String, Unread> {
+    let [file, failing, calls @ ..] = words else {
+        return Err(Unread::Call);
+    };
+    let answers = answers_of(alloc, file)?;
+    let failing = numbers_of(alloc, failing)?;
+    let mut provider = answers.provider(failing.as_slice())?;
+    let answer = put_answers(Answer::new(alloc), &mut provider, calls)?;
+    answer.word(provider.asks()).word(provider.faults()).line()
 }
 
-/// What a provider answers to the call of this name, and the words behind those that it takes.
-fn asked<'a>(
+/// Puts what a provider answers to some calls behind other words.
+fn put_answers(
     answer: Answer,
     provider: &mut AnswerProvider<'_>,
-    call: &str,
-    words: &'a [Vec<u8>],
-) -> Result<(Answer, &'a [Vec<u8>]), Unread> {
-    match (call, words) {
-        ("confirm", [key, digest, signature, behind @ ..]) => {
-            let key = bytes_of::<65>(key.as_slice())?;
-            let digest = bytes_of::<32>(digest.as_slice())?;
-            let signature = bytes_of::<64>(signature.as_slice())?;
-            let answer = match provider.confirm(key, digest, signature) {
-                Ok(good) => answer.word(good)?,
-                Err(_) => answer.word("failed")?,
-            };
-            Ok((answer, behind))
-        }
-        ("sign", [name, digest, behind @ ..]) => {
-            let digest = bytes_of::<32>(digest.as_slice())?;
-            let answer = match provider.sign(name.as_slice(), digest) {
-                Ok(Some(signature)) => answer.hex(&signature)?,
-                Ok(None) => answer.word("none")?,
-                Err(_) => answer.word("failed")?,
-            };
-            Ok((answer, behind))
-        }
+    calls: &[&[u8]],
+) -> Result<Answer, Unread> {
+    let mut answer = answer;
+    let mut place: usize = 0;
+    for _ in calls {
+        let Some([call, words @ ..]) = calls.get(place..) else {
+            break;
+        };
+        let taken = taken_by(call);
+        let Some(words) = words.get(..taken) else {
+            return Err(Unread::Call);
+        };
+        answer = asked(answer, provider, call, words)?;
+        place = place.saturating_add(taken).saturating_add(1);
+    }
+    Ok(answer)
+}
+
+/// How many words a call of a provider takes.
+fn taken_by(call: &[u8]) -> usize {
+    match call {
+        b"confirm" => 3,
+        _ => 2,
+    }
+}
+
+/// Puts what a provider answers to the call of this name behind other words.
+fn asked(
+    answer: Answer,
+    provider: &mut AnswerProvider<'_>,
+    call: &[u8],
+    words: &[&[u8]],
+) -> Result<Answer, Unread> {
+    match call {
+        b"confirm" => confirmed(answer, provider, words),
+        b"sign" => signed(answer, provider, words),
         _ => Err(Unread::Call),
+    }
+}
+
+/// Puts whether a provider confirms a signature behind other words.
+fn confirmed(
+    answer: Answer,
+    provider: &mut AnswerProvider<'_>,
+    words: &[&[u8]],
+) -> Result<Answer, Unread> {
+    let [key, digest, signature] = words else {
+        return Err(Unread::Call);
+    };
+    let key = bytes_of::<65>(key)?;
+    let digest = bytes_of::<32>(digest)?;
+    let signature = bytes_of::<64>(signature)?;
+    match provider.confirm(key, digest, signature) {
+        Ok(good) => Ok(answer.word(good)),
+        Err(_) => Ok(answer.word("failed")),
+    }
+}
+
+/// Puts the signature that a provider makes behind other words.
+fn signed(
+    answer: Answer,
+    provider: &mut AnswerProvider<'_>,
+    words: &[&[u8]],
+) -> Result<Answer, Unread> {
+    let [name, digest] = words else {
+        return Err(Unread::Call);
+    };
+    let digest = bytes_of::<32>(digest)?;
+    match provider.sign(name, digest) {
+        Ok(Some(signature)) => Ok(answer.hex(&signature)),
+        Ok(None) => Ok(answer.word("none")),
+        Err(_) => Ok(answer.word("failed")),
     }
 }
 

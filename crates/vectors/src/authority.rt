@@ -7,53 +7,76 @@ use std::alloc::Global;
 use tn_auth_list::{AuthList, Code, CodeTable, Entry, Grant, ListFault, TableFault};
 
 /// What a call answers.
-pub fn answer(alloc: Global, call: &str, words: &[Vec<u8>]) -> Result<String, Unread> {
-    match (call, words) {
-        ("code", [text]) => or_none(alloc, Code::new(text.as_slice())),
-        ("compare_codes", [left, right]) => compared(alloc, left.as_slice(), right.as_slice()),
-        ("show_code", [code]) => shown(alloc, &code_of(code.as_slice())?),
-        ("read", [bytes]) => read(alloc, bytes.as_slice()),
-        ("count", [bytes]) => count(alloc, AuthList::read(alloc, bytes.as_slice()).ok()),
-        ("write", [bytes]) => write(alloc, bytes.as_slice()),
-        ("build", [entries]) => {
-            count(
-                alloc,
-                AuthList::build(entries_of(alloc, entries.as_slice())?),
-            )
-        }
-        ("fault", [kind, place]) => says(alloc, kind.as_slice(), place.as_slice()),
-        _ => table_answer(alloc, call, words),
-    }
-}
-
-/// What a call of a code table answers.
-fn table_answer(alloc: Global, call: &str, words: &[Vec<u8>]) -> Result<String, Unread> {
-    match (call, words) {
-        ("table", [text]) => table(alloc, text.as_slice()),
-        ("table_fault", [line]) => table_says(alloc, line.as_slice()),
-        ("grant", [text, code, digits]) => {
-            let table = table_of(alloc, text.as_slice())?;
-            granted(alloc, &table, code.as_slice(), digits.as_slice())
-        }
+pub fn answer(alloc: Global, call: &str, words: &[&[u8]]) -> Result<String, Unread> {
+    match call {
+        "code" => code(alloc, words),
+        "compare_codes" => compared(alloc, words),
+        "show_code" => show(alloc, words),
+        "read" => read(alloc, words),
+        "count" => count(alloc, words),
+        "write" => write(alloc, words),
+        "build" => build(alloc, words),
+        "fault" => says(alloc, words),
+        "table" => table(alloc, words),
+        "table_fault" => table_says(alloc, words),
+        "grant" => grant(alloc, words),
         _ => Err(Unread::Call),
     }
 }
 
+/// The code that a text is, or `none`.
+fn code(alloc: Global, words: &[&[u8]]) -> Result<String, Unread> {
+    let [text] = words else {
+        return Err(Unread::Call);
+    };
+    or_none(alloc, Code::new(text))
+}
+
+/// A code as it is printed.
+fn show(alloc: Global, words: &[&[u8]]) -> Result<String, Unread> {
+    let [code] = words else {
+        return Err(Unread::Call);
+    };
+    shown(alloc, &code_of(code)?)
+}
+
 /// What a fault of a code table says.
-fn table_says(alloc: Global, line: &[u8]) -> Result<String, Unread> {
+fn table_says(alloc: Global, words: &[&[u8]]) -> Result<String, Unread> {
+    let [line] = words else {
+        return Err(Unread::Call);
+    };
     let line = number(line)?;
     word(alloc, TableFault::Line { line })
 }
 
 /// What a fault of a list says.
-fn says(alloc: Global, kind: &[u8], place: &[u8]) -> Result<String, Unread> {
+fn says(alloc: Global, words: &[&[u8]]) -> Result<String, Unread> {
+    let [kind, place] = words else {
+        return Err(Unread::Call);
+    };
     let kind = number(kind)?;
     let place = number(place)?;
     word(alloc, ListFault::At { kind, place })
 }
 
 /// How many entries a list has, or `none`.
-fn count(alloc: Global, list: Option<AuthList>) -> Result<String, Unread> {
+fn count(alloc: Global, words: &[&[u8]]) -> Result<String, Unread> {
+    let [bytes] = words else {
+        return Err(Unread::Call);
+    };
+    counted(alloc, AuthList::read(alloc, bytes).ok())
+}
+
+/// How many entries the list of these entries has, or `none`.
+fn build(alloc: Global, words: &[&[u8]]) -> Result<String, Unread> {
+    let [entries] = words else {
+        return Err(Unread::Call);
+    };
+    counted(alloc, AuthList::build(entries_of(alloc, entries)?))
+}
+
+/// How many entries a list has, or `none`.
+fn counted(alloc: Global, list: Option<AuthList>) -> Result<String, Unread> {
     match list {
         Some(list) => word(alloc, list.entries().len()),
         None => word(alloc, "none"),
@@ -61,7 +84,10 @@ fn count(alloc: Global, list: Option<AuthList>) -> Result<String, Unread> {
 }
 
 /// How one code stands to another.
-fn compared(alloc: Global, left: &[u8], right: &[u8]) -> Result<String, Unread> {
+fn compared(alloc: Global, words: &[&[u8]]) -> Result<String, Unread> {
+    let [left, right] = words else {
+        return Err(Unread::Call);
+    };
     word(alloc, ordering(code_of(left)?.cmp(&code_of(right)?)))
 }
 
@@ -71,39 +97,45 @@ fn code_of(text: &[u8]) -> Result<Code, Unread> {
 }
 
 /// The entries of a list in DER, or the fault.
-fn read(alloc: Global, bytes: &[u8]) -> Result<String, Unread> {
+fn read(alloc: Global, words: &[&[u8]]) -> Result<String, Unread> {
+    let [bytes] = words else {
+        return Err(Unread::Call);
+    };
     match AuthList::read(alloc, bytes) {
-        Ok(list) => Ok(put_entries(Answer::new(alloc).word("ok")?, &list)?.line()),
+        Ok(list) => put_entries(Answer::new(alloc).word("ok"), &list).line(),
         Err(ListFault::At { kind, place }) => fault(alloc, kind, place),
         Err(ListFault::Memory) => Err(Unread::Memory),
     }
 }
 
 /// Puts the entries of a list behind other words, as `code CODE`, `range START COUNT` and `single NUMBER`.
-pub fn put_entries(answer: Answer, list: &AuthList) -> Result<Answer, Unread> {
+pub fn put_entries(answer: Answer, list: &AuthList) -> Answer {
     let mut answer = answer;
     for entry in list.entries() {
-        answer = put_entry(answer, entry)?;
+        answer = put_entry(answer, entry);
     }
-    Ok(answer)
+    answer
 }
 
 /// Puts an entry behind other words.
-fn put_entry(answer: Answer, entry: &Entry) -> Result<Answer, Unread> {
+fn put_entry(answer: Answer, entry: &Entry) -> Answer {
     match entry {
-        Entry::Code(code) => answer.word("code")?.word(*code),
-        Entry::Range(span) => put_span(answer.word("range")?, span),
-        Entry::Single(number) => answer.word("single")?.word(*number),
+        Entry::Code(code) => answer.word("code").word(*code),
+        Entry::Range(span) => put_span(answer.word("range"), span),
+        Entry::Single(number) => answer.word("single").word(*number),
     }
 }
 
 /// The bytes that the list writes which is read from these.
-fn write(alloc: Global, bytes: &[u8]) -> Result<String, Unread> {
+fn write(alloc: Global, words: &[&[u8]]) -> Result<String, Unread> {
+    let [bytes] = words else {
+        return Err(Unread::Call);
+    };
     let Ok(list) = AuthList::read(alloc, bytes) else {
         return Err(Unread::Value);
     };
     let written = list.write(alloc)?;
-    Ok(Answer::new(alloc).hex(written.as_slice())?.line())
+    Answer::new(alloc).hex(written.as_slice()).line()
 }
 
 /// The list of entries `=NUMBER`, `START+COUNT` and `CODE`, with commas between.
@@ -140,7 +172,10 @@ fn entry_of(word: &str) -> Result<Entry, Unread> {
 }
 
 /// `ok`, or the first bad line of a code table.
-fn table(alloc: Global, text: &[u8]) -> Result<String, Unread> {
+fn table(alloc: Global, words: &[&[u8]]) -> Result<String, Unread> {
+    let [text] = words else {
+        return Err(Unread::Call);
+    };
     if text.len() >= 4_000_000_000 {
         return Err(Unread::Value);
     }
@@ -164,7 +199,11 @@ pub fn table_of(alloc: Global, text: &[u8]) -> Result<CodeTable, Unread> {
 }
 
 /// What a table grants a code: `nothing`, `all`, or whether a number is among those that it grants.
-fn granted(alloc: Global, table: &CodeTable, code: &[u8], digits: &[u8]) -> Result<String, Unread> {
+fn grant(alloc: Global, words: &[&[u8]]) -> Result<String, Unread> {
+    let [text, code, digits] = words else {
+        return Err(Unread::Call);
+    };
+    let table = table_of(alloc, text)?;
     match table.numbers(&code_of(code)?) {
         Grant::Nothing => word(alloc, "nothing"),
         Grant::All => word(alloc, "all"),

@@ -8,37 +8,48 @@ use tn_auth_list::AuthList;
 use x509_profile::{CertFault, Certificate, ChainFault, read_chain};
 
 /// What a call answers.
-pub fn answer(alloc: Global, call: &str, words: &[Vec<u8>]) -> Result<String, Unread> {
-    match (call, words) {
-        ("read", [bytes]) => read(alloc, bytes.as_slice()),
-        ("check", [bytes]) => check(alloc, bytes.as_slice()),
-        ("chain", [bytes]) => chain(alloc, bytes.as_slice()),
-        ("fault", [kind, place]) => says(alloc, kind.as_slice(), place.as_slice()),
-        ("chain_fault", [which, place]) => { chain_says(alloc, which.as_slice(), place.as_slice()) }
+pub fn answer(alloc: Global, call: &str, words: &[&[u8]]) -> Result<String, Unread> {
+    match call {
+        "read" => read(alloc, words),
+        "check" => check(alloc, words),
+        "chain" => chain(alloc, words),
+        "fault" => says(alloc, words),
+        "chain_fault" => chain_says(alloc, words),
         _ => Err(Unread::Call),
     }
 }
 
 /// What a fault of a certificate says.
-fn says(alloc: Global, kind: &[u8], place: &[u8]) -> Result<String, Unread> {
+fn says(alloc: Global, words: &[&[u8]]) -> Result<String, Unread> {
+    let [kind, place] = words else {
+        return Err(Unread::Call);
+    };
     let kind = number(kind)?;
     let place = number(place)?;
     word(alloc, CertFault::At { kind, place })
 }
 
 /// What a fault of a chain says.
-fn chain_says(alloc: Global, which: &[u8], place: &[u8]) -> Result<String, Unread> {
-    let number_in_chain = number(which)?;
-    let place = number(place)?;
-    let fault = ChainFault::At {
-        number: number_in_chain,
-        place,
+fn chain_says(alloc: Global, words: &[&[u8]]) -> Result<String, Unread> {
+    let [which, place] = words else {
+        return Err(Unread::Call);
     };
-    word(alloc, fault)
+    let which = number(which)?;
+    let place = number(place)?;
+    word(
+        alloc,
+        ChainFault::At {
+            number: which,
+            place,
+        },
+    )
 }
 
 /// `ok`, or the fault.
-fn check(alloc: Global, bytes: &[u8]) -> Result<String, Unread> {
+fn check(alloc: Global, words: &[&[u8]]) -> Result<String, Unread> {
+    let [bytes] = words else {
+        return Err(Unread::Call);
+    };
     match Certificate::read(alloc, bytes) {
         Ok(_) => word(alloc, "ok"),
         Err(CertFault::At { kind, place }) => fault(alloc, kind, place),
@@ -47,47 +58,44 @@ fn check(alloc: Global, bytes: &[u8]) -> Result<String, Unread> {
 }
 
 /// The values of a certificate, as [`put_values`] and [`put_extensions`] give them.
-fn read(alloc: Global, bytes: &[u8]) -> Result<String, Unread> {
+fn read(alloc: Global, words: &[&[u8]]) -> Result<String, Unread> {
+    let [bytes] = words else {
+        return Err(Unread::Call);
+    };
     let Ok(certificate) = Certificate::read(alloc, bytes) else {
         return Err(Unread::Value);
     };
-    let answer = Answer::new(alloc).word(certificate.whole() == bytes)?;
-    let answer = put_values(answer, &certificate)?;
-    Ok(put_extensions(answer, &certificate)?.line())
+    let answer = Answer::new(alloc).word(certificate.whole() == *bytes);
+    let answer = put_values(answer, &certificate);
+    put_extensions(answer, &certificate).line()
 }
 
 /// Puts issuer, subject, first and last second, key, digest and signature of a certificate behind other words.
-fn put_values(answer: Answer, certificate: &Certificate) -> Result<Answer, Unread> {
-    let answer = answer.hex(certificate.issuer())?;
-    let answer = answer.hex(certificate.subject())?;
-    let answer = answer.word(certificate.not_before())?;
-    let answer = answer.word(certificate.not_after())?;
-    let answer = answer.hex(certificate.key().as_slice())?;
-    let answer = answer.hex(certificate.digest().as_slice())?;
-    answer.hex(certificate.signature().as_slice())
+fn put_values(answer: Answer, certificate: &Certificate) -> Answer {
+    answer
+        .hex(certificate.issuer())
+        .hex(certificate.subject())
+        .word(certificate.not_before())
+        .word(certificate.not_after())
+        .hex(certificate.key().as_slice())
+        .hex(certificate.digest().as_slice())
+        .hex(certificate.signature().as_slice())
 }
 
 /// Puts what the extensions of a certificate say behind other words: whether it is an authority, path length and usage, the two
 /// key identifiers, and the entries of its list. What it lacks is `-`.
-fn put_extensions(answer: Answer, certificate: &Certificate) -> Result<Answer, Unread> {
-    let answer = answer.word(certificate.is_ca())?;
-    let answer = put_limits(answer, certificate.path_length(), certificate.usage())?;
-    let answer = hex_or_dash(answer, certificate.subject_key())?;
-    let answer = hex_or_dash(answer, certificate.authority_key())?;
+fn put_extensions(answer: Answer, certificate: &Certificate) -> Answer {
+    let answer = answer
+        .word(certificate.is_ca())
+        .option(certificate.path_length())
+        .option(certificate.usage());
+    let answer = hex_or_dash(answer, certificate.subject_key());
+    let answer = hex_or_dash(answer, certificate.authority_key());
     list_or_dash(answer, certificate.list())
 }
 
-/// Puts path length and usage behind other words.
-fn put_limits(
-    answer: Answer,
-    path_length: Option<u64>,
-    usage: Option<u16>,
-) -> Result<Answer, Unread> {
-    answer.option(path_length)?.option(usage)
-}
-
 /// Puts the entries of a list behind other words, or `-`.
-fn list_or_dash(answer: Answer, list: Option<&AuthList>) -> Result<Answer, Unread> {
+fn list_or_dash(answer: Answer, list: Option<&AuthList>) -> Answer {
     match list {
         Some(list) => put_entries(answer, list),
         None => answer.word("-"),
@@ -95,7 +103,7 @@ fn list_or_dash(answer: Answer, list: Option<&AuthList>) -> Result<Answer, Unrea
 }
 
 /// Puts bytes behind other words, or `-`.
-fn hex_or_dash(answer: Answer, bytes: Option<&[u8]>) -> Result<Answer, Unread> {
+fn hex_or_dash(answer: Answer, bytes: Option<&[u8]>) -> Answer {
     match bytes {
         Some(bytes) => answer.hex(bytes),
         None => answer.word("-"),
@@ -103,7 +111,10 @@ fn hex_or_dash(answer: Answer, bytes: Option<&[u8]>) -> Result<Answer, Unread> {
 }
 
 /// How many certificates a chain has, or the number and the place of the one that is refused.
-fn chain(alloc: Global, bytes: &[u8]) -> Result<String, Unread> {
+fn chain(alloc: Global, words: &[&[u8]]) -> Result<String, Unread> {
+    let [bytes] = words else {
+        return Err(Unread::Call);
+    };
     match read_chain(alloc, bytes) {
         Ok(certificates) => ok(alloc, certificates.len()),
         Err(ChainFault::At { number, place }) => fault(alloc, number, place),

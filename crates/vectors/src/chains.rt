@@ -5,110 +5,132 @@ use crate::authority::table_of;
 use crate::paths::anchors_of;
 use crate::table::{Unread, number, text};
 use cert_store::{Asked, ChainMap, Judged, MapFault, judge_chain};
-use std::alloc::Global;
-use stir_outside::{AnswerFault, Answers};
+use delegation::Anchors;
+use std::alloc::{AllocError, Global};
+use stir_outside::{AnswerFault, AnswerProvider, Answers};
 use tn_auth_list::CodeTable;
 
 /// What a call answers.
-pub fn answer(alloc: Global, call: &str, words: &[Vec<u8>]) -> Result<String, Unread> {
-    match (call, words) {
-        ("map", [text]) => map(alloc, text.as_slice()),
-        ("file", [text, x5u]) => {
-            let map = map_of(alloc, text.as_slice())?;
-            or_none(alloc, map.file(x5u.as_slice()))
-        }
-        ("map_fault", [line]) => map_says(alloc, line.as_slice()),
-        (_, [chain, anchors, table, answers, words @ ..]) => {
-            let table = table_of(alloc, table.as_slice())?;
-            let answers = answers_of(alloc, answers.as_slice())?;
-            let case = Case {
-                chain: chain.as_slice(),
-                anchors: anchors.as_slice(),
-                table: &table,
-                answers: &answers,
-            };
-            case.answer(alloc, call, words)
-        }
-        _ => Err(Unread::Call),
+pub fn answer(alloc: Global, call: &str, words: &[&[u8]]) -> Result<String, Unread> {
+    match call {
+        "map" => map(alloc, words),
+        "file" => file(alloc, words),
+        "map_fault" => map_says(alloc, words),
+        _ => chain_answer(alloc, call, words),
     }
 }
 
+/// The file of an x5u in a chain map, or `none`.
+fn file(alloc: Global, words: &[&[u8]]) -> Result<String, Unread> {
+    let [text, x5u] = words else {
+        return Err(Unread::Call);
+    };
+    let map = map_of(alloc, text)?;
+    or_none(alloc, map.file(x5u))
+}
+
 /// What a fault of a chain map says.
-fn map_says(alloc: Global, line: &[u8]) -> Result<String, Unread> {
+fn map_says(alloc: Global, words: &[&[u8]]) -> Result<String, Unread> {
+    let [line] = words else {
+        return Err(Unread::Call);
+    };
     let line = number(line)?;
     word(alloc, MapFault::Line { line })
+}
+
+/// What a call answers that judges a chain.
+fn chain_answer(alloc: Global, call: &str, words: &[&[u8]]) -> Result<String, Unread> {
+    let [chain, anchors, table, answers, words @ ..] = words else {
+        return Err(Unread::Call);
+    };
+    let anchors = anchors_of(alloc, anchors)?;
+    let table = table_of(alloc, table)?;
+    let answers = answers_of(alloc, answers)?;
+    let case = Case {
+        chain,
+        anchors: &anchors,
+        table: &table,
+        answers: &answers,
+    };
+    case.answer(alloc, call, words)
 }
 
 /// A chain and what it is judged by.
 #[derive(Clone, Copy)]
 struct Case<'a> {
     chain: &'a [u8],
-    anchors: &'a [u8],
+    anchors: &'a Anchors,
     table: &'a CodeTable,
     answers: &'a Answers,
 }
 
 impl Case<'_> {
-    /// What a call answers that judges the chain.
-    fn answer(self, alloc: Global, call: &str, words: &[Vec<u8>]) -> Result<String, Unread> {
-        match (call, words) {
-            ("judge", [failing]) => {
-                let failing = numbers_of(alloc, failing.as_slice())?;
-                let (judged, asks) = self.judge(alloc, failing.as_slice())?;
-                said(alloc, &judged, asks)
-            }
-            ("out_of_date", [moment]) => {
-                let moment = number(moment.as_slice())?;
-                let (judged, _) = self.judge(alloc, &[])?;
-                or_none(alloc, judged.out_of_date(moment))
-            }
-            ("leaf", []) => {
-                let (judged, _) = self.judge(alloc, &[])?;
-                leaf(alloc, &judged)
-            }
+    /// What a call answers.
+    fn answer(self, alloc: Global, call: &str, words: &[&[u8]]) -> Result<String, Unread> {
+        match call {
+            "judge" => self.said(alloc, words),
+            "out_of_date" => self.out_of_date(alloc, words),
+            "leaf" => self.leaf(alloc),
             _ => Err(Unread::Call),
         }
     }
 
-    /// What the rules say, where these calls of the provider fail, and how often it was asked.
-    fn judge(self, alloc: Global, failing: &[u64]) -> Result<(Judged, u64), Unread> {
-        let anchors = anchors_of(alloc, self.anchors)?;
-        let mut provider = self.answers.provider(failing)?;
-        let judged = judge_chain(alloc, self.chain, &anchors, self.table, &mut provider)?;
-        let asks = provider.asks();
-        Ok((judged, asks))
+    /// What the rules say.
+    fn judge(self, alloc: Global, provider: &mut AnswerProvider<'_>) -> Result<Judged, AllocError> {
+        judge_chain(alloc, self.chain, self.anchors, self.table, provider)
+    }
+
+    /// Where rules 11, 12 and 14 are broken, `-` where they aren't; how the signatures were answered for; how often was asked. The listed
+    /// calls of the provider fail.
+    fn said(self, alloc: Global, words: &[&[u8]]) -> Result<String, Unread> {
+        let [failing] = words else {
+            return Err(Unread::Call);
+        };
+        let failing = numbers_of(alloc, failing)?;
+        let mut provider = self.answers.provider(failing.as_slice())?;
+        let judged = self.judge(alloc, &mut provider)?;
+        put_judged(Answer::new(alloc), &judged)
+            .word(provider.asks())
+            .line()
+    }
+
+    /// Which certificate is out of date at a moment, or `none`.
+    fn out_of_date(self, alloc: Global, words: &[&[u8]]) -> Result<String, Unread> {
+        let [moment] = words else {
+            return Err(Unread::Call);
+        };
+        let mut provider = self.answers.provider(&[])?;
+        let judged = self.judge(alloc, &mut provider)?;
+        or_none(alloc, judged.out_of_date(number(moment)?))
+    }
+
+    /// The bytes of the leaf, or `none`.
+    fn leaf(self, alloc: Global) -> Result<String, Unread> {
+        let mut provider = self.answers.provider(&[])?;
+        let judged = self.judge(alloc, &mut provider)?;
+        match judged.leaf() {
+            Some(leaf) => Answer::new(alloc).hex(leaf.whole()).line(),
+            None => word(alloc, "none"),
+        }
     }
 }
 
-/// Where rules 11, 12 and 14 are broken, `-` where they aren't; how the signatures were answered for; how often was asked.
-fn said(alloc: Global, judged: &Judged, asks: u64) -> Result<String, Unread> {
-    let places = [judged.profile(), judged.shape(), judged.authority()];
-    let answer = put_asked(put_places(alloc, places)?, judged.asked())?;
-    Ok(answer.word(asks)?.line())
-}
-
-/// Three places, `-` where there is none.
-fn put_places(alloc: Global, places: [Option<u8>; 3]) -> Result<Answer, Unread> {
-    let [profile, shape, authority] = places;
-    let answer = Answer::new(alloc).option(profile)?.option(shape)?;
-    answer.option(authority)
+/// Puts where rules 11, 12 and 14 are broken, and how the signatures were answered for, behind other words.
+fn put_judged(answer: Answer, judged: &Judged) -> Answer {
+    let answer = answer
+        .option(judged.profile())
+        .option(judged.shape())
+        .option(judged.authority());
+    put_asked(answer, judged.asked())
 }
 
 /// Puts how the signatures were answered for behind other words.
-fn put_asked(answer: Answer, asked: Asked) -> Result<Answer, Unread> {
+fn put_asked(answer: Answer, asked: Asked) -> Answer {
     match asked {
         Asked::NotAsked => answer.word("unasked"),
         Asked::Yes => answer.word("yes"),
-        Asked::No { part } => answer.word("no")?.word(part),
-        Asked::Failed { part } => answer.word("failed")?.word(part),
-    }
-}
-
-/// The bytes of the leaf, or `none`.
-fn leaf(alloc: Global, judged: &Judged) -> Result<String, Unread> {
-    match judged.leaf() {
-        Some(leaf) => Ok(Answer::new(alloc).hex(leaf.whole())?.line()),
-        None => word(alloc, "none"),
+        Asked::No { part } => answer.word("no").word(part),
+        Asked::Failed { part } => answer.word("failed").word(part),
     }
 }
 
@@ -142,7 +164,10 @@ pub fn answers_of(alloc: Global, text: &[u8]) -> Result<Answers, Unread> {
 }
 
 /// `ok`, or the first bad line of a chain map.
-fn map(alloc: Global, text: &[u8]) -> Result<String, Unread> {
+fn map(alloc: Global, words: &[&[u8]]) -> Result<String, Unread> {
+    let [text] = words else {
+        return Err(Unread::Call);
+    };
     if text.len() >= 4_000_000_000 {
         return Err(Unread::Value);
     }

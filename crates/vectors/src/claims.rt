@@ -1,7 +1,7 @@
 //! The claims of a PASSporT: the calls of `passport_claims`.
 
 use crate::answer::{Answer, word};
-use crate::numbers::number_of;
+use crate::numbers::{number_of, put_numbers};
 use crate::table::{Unread, number, text};
 use crate::tokens::put_value;
 use passport_claims::{Attest, ClaimFault, Kind, Passport};
@@ -11,14 +11,11 @@ use text_grammar::is_uri;
 use tn_values::Number;
 
 /// What a call answers.
-pub fn answer(alloc: Global, call: &str, words: &[Vec<u8>]) -> Result<String, Unread> {
-    match (call, words) {
-        ("read", [ppt, info, header, payload]) => {
-            let token = token_of(alloc, header.as_slice(), payload.as_slice())?;
-            read(alloc, &token, text(ppt.as_slice())?, info.as_slice())
-        }
-        ("new", [kind, words @ ..]) => made(alloc, text(kind.as_slice())?, words),
-        ("fault", [name]) => said(alloc, fault_of(text(name.as_slice())?)?),
+pub fn answer(alloc: Global, call: &str, words: &[&[u8]]) -> Result<String, Unread> {
+    match call {
+        "read" => read(alloc, words),
+        "new" => made(alloc, words),
+        "fault" => said(alloc, words),
         _ => Err(Unread::Call),
     }
 }
@@ -47,68 +44,69 @@ fn token_of(alloc: Global, header: &[u8], payload: &[u8]) -> Result<Token, Unrea
 }
 
 /// What a token says, for a field of this type with this URI.
-fn read(alloc: Global, token: &Token, ppt: &str, info: &[u8]) -> Result<String, Unread> {
-    let read = match ppt {
-        "none" => Passport::from_token(alloc, token, None, info),
-        "shaken" => Passport::from_token(alloc, token, Some(b"shaken"), info),
-        "div" => Passport::from_token(alloc, token, Some(b"div"), info),
-        _ => return Err(Unread::Value),
+fn read(alloc: Global, words: &[&[u8]]) -> Result<String, Unread> {
+    let [ppt, info, header, payload] = words else {
+        return Err(Unread::Call);
     };
-    match read {
-        Ok(passport) => parts(alloc, &passport),
+    let token = token_of(alloc, header, payload)?;
+    match said_of(alloc, &token, ppt, info)? {
+        Ok(passport) => put_parts(Answer::new(alloc).word("ok"), &passport).line(),
         Err(fault) => word(alloc, name_of(fault)?),
     }
 }
 
-/// The type with what it adds, the URI, the time, the calling number and the called ones.
-fn parts(alloc: Global, passport: &Passport) -> Result<String, Unread> {
-    let answer = Answer::new(alloc).word("ok")?;
-    let answer = put_kind(answer, &passport.kind())?;
-    let answer = answer.text(passport.x5u())?.word(passport.iat())?;
-    let mut answer = answer.word(passport.orig())?;
-    for number in passport.dest() {
-        answer = answer.word(*number)?;
+/// What a token says, where the field's type is a word of these or `none`.
+fn said_of(
+    alloc: Global,
+    token: &Token,
+    ppt: &[u8],
+    info: &[u8],
+) -> Result<Result<Passport, ClaimFault>, Unread> {
+    match ppt {
+        b"none" => Ok(Passport::from_token(alloc, token, None, info)),
+        b"shaken" => Ok(Passport::from_token(alloc, token, Some(b"shaken"), info)),
+        b"div" => Ok(Passport::from_token(alloc, token, Some(b"div"), info)),
+        _ => Err(Unread::Value),
     }
-    Ok(answer.line())
 }
 
-/// The type with what it adds.
-fn put_kind(answer: Answer, kind: &Kind) -> Result<Answer, Unread> {
+/// Puts the type with what it adds, the URI, the time, the calling number and the called ones behind other words.
+fn put_parts(answer: Answer, passport: &Passport) -> Answer {
+    let answer = put_kind(answer, &passport.kind())
+        .text(passport.x5u())
+        .word(passport.iat())
+        .word(passport.orig());
+    put_numbers(answer, passport.dest())
+}
+
+/// Puts the type with what it adds behind other words.
+fn put_kind(answer: Answer, kind: &Kind) -> Answer {
     match kind {
         Kind::Base => answer.word("base"),
-        Kind::Shaken { attest, origid } => {
-            let answer = answer.word("shaken")?.word(attest.as_str())?;
-            answer.text(origid)
-        }
-        Kind::Div { div } => answer.word("div")?.word(*div),
+        Kind::Shaken { attest, origid } => answer.word("shaken").word(attest.as_str()).text(origid),
+        Kind::Div { div } => answer.word("div").word(*div),
     }
 }
 
 /// What making a PASSporT of its parts answers: its type with what this adds, and the other parts.
-fn made(alloc: Global, kind: &str, words: &[Vec<u8>]) -> Result<String, Unread> {
-    match (kind, words) {
-        ("base", parts) => made_of(alloc, Kind::Base, parts),
-        ("shaken", [attest, origid, parts @ ..]) => {
-            let kind = shaken(text(attest.as_slice())?, origid.as_slice())?;
-            made_of(alloc, kind, parts)
-        }
-        ("div", [div, parts @ ..]) => {
-            let div = number_of(div.as_slice())?;
-            made_of(alloc, Kind::Div { div }, parts)
-        }
+fn made(alloc: Global, words: &[&[u8]]) -> Result<String, Unread> {
+    match words {
+        [b"base", parts @ ..] => made_of(alloc, Kind::Base, parts),
+        [b"shaken", attest, origid, parts @ ..] => made_of(alloc, shaken(attest, origid)?, parts),
+        [b"div", div, parts @ ..] => made_of(alloc, diverted(div)?, parts),
         _ => Err(Unread::Call),
     }
 }
 
 /// Header and payload of a PASSporT of this type: the URI, the time, the calling number and the called ones.
-fn made_of(alloc: Global, kind: Kind, words: &[Vec<u8>]) -> Result<String, Unread> {
+fn made_of(alloc: Global, kind: Kind, words: &[&[u8]]) -> Result<String, Unread> {
     let [x5u, iat, orig, called @ ..] = words else {
         return Err(Unread::Call);
     };
-    let iat = number(iat.as_slice())?;
-    let orig = number_of(orig.as_slice())?;
+    let iat = number(iat)?;
+    let orig = number_of(orig)?;
     let called = numbers_of(alloc, called)?;
-    match Passport::new(alloc, kind, x5u.as_slice(), iat, orig, called.as_slice()) {
+    match Passport::new(alloc, kind, x5u, iat, orig, called.as_slice()) {
         Ok(passport) => values(alloc, &passport),
         Err(fault) => word(alloc, name_of(fault)?),
     }
@@ -117,19 +115,20 @@ fn made_of(alloc: Global, kind: Kind, words: &[Vec<u8>]) -> Result<String, Unrea
 /// Header and payload in their deterministic form.
 fn values(alloc: Global, passport: &Passport) -> Result<String, Unread> {
     let (header, payload) = passport.to_values(alloc)?;
-    let answer = Answer::new(alloc).word("ok")?;
+    let answer = Answer::new(alloc).word("ok");
     let answer = put_value(alloc, answer, &header)?;
-    Ok(put_value(alloc, answer, &payload)?.line())
+    put_value(alloc, answer, &payload)?.line()
+}
+
+/// `div` with a number.
+fn diverted(div: &[u8]) -> Result<Kind, Unread> {
+    let div = number_of(div)?;
+    Ok(Kind::Div { div })
 }
 
 /// `shaken` with an attestation and an identifier of 36 bytes.
-fn shaken(attest: &str, origid: &[u8]) -> Result<Kind, Unread> {
-    let attest = match attest {
-        "A" => Attest::A,
-        "B" => Attest::B,
-        "C" => Attest::C,
-        _ => return Err(Unread::Value),
-    };
+fn shaken(attest: &[u8], origid: &[u8]) -> Result<Kind, Unread> {
+    let attest = attest_of(attest)?;
     match origid.split_first_chunk::<36>() {
         Some((origid, [])) => Ok(Kind::Shaken {
             attest,
@@ -139,19 +138,32 @@ fn shaken(attest: &str, origid: &[u8]) -> Result<Kind, Unread> {
     }
 }
 
+/// The attestation of this letter.
+fn attest_of(letter: &[u8]) -> Result<Attest, Unread> {
+    match letter {
+        b"A" => Ok(Attest::A),
+        b"B" => Ok(Attest::B),
+        b"C" => Ok(Attest::C),
+        _ => Err(Unread::Value),
+    }
+}
+
 /// The telephone numbers that some words are.
-fn numbers_of(alloc: Global, words: &[Vec<u8>]) -> Result<Vec<Number>, Unread> {
+fn numbers_of(alloc: Global, words: &[&[u8]]) -> Result<Vec<Number>, Unread> {
     let mut numbers = Vec::new(alloc);
     for word in words {
-        numbers.push(number_of(word.as_slice())?)?;
+        numbers.push(number_of(word)?)?;
     }
     Ok(numbers)
 }
 
 /// The number of a fault, and how it is printed.
-fn said(alloc: Global, fault: ClaimFault) -> Result<String, Unread> {
-    let answer = Answer::new(alloc).option(fault.number())?;
-    Ok(answer.word(fault)?.line())
+fn said(alloc: Global, words: &[&[u8]]) -> Result<String, Unread> {
+    let [name] = words else {
+        return Err(Unread::Call);
+    };
+    let fault = fault_of(text(name)?)?;
+    Answer::new(alloc).option(fault.number()).word(fault).line()
 }
 
 /// The claim that a fault names.

@@ -2,40 +2,53 @@
 
 use crate::answer::{Answer, word};
 use crate::chains::numbers_of;
+use crate::numbers::put_local;
 use crate::table::{Unread, text};
+use crate::words::files_of;
 use std::alloc::Global;
 use stir_files::read_materials;
 use stir_outside::ShelfMem;
 use stir_words::{Judging, Order};
 
 /// What a call on words answers.
-pub fn words(alloc: Global, call: &str, words: &[Vec<u8>]) -> Result<String, Unread> {
-    if call != "order" {
-        return Err(Unread::Call);
-    }
-    let mut texts = Vec::new(alloc);
-    for word in words {
-        texts.push(text(word.as_slice())?)?;
-    }
-    match Order::of(texts.as_slice()) {
-        None => word(alloc, "refused"),
-        Some(Order::Show) => word(alloc, "show"),
-        Some(Order::Verify(judging)) => judged_by(alloc, &judging),
+pub fn words(alloc: Global, call: &str, words: &[&[u8]]) -> Result<String, Unread> {
+    match call {
+        "order" => order(alloc, words),
+        _ => Err(Unread::Call),
     }
 }
 
-/// The four names, the window, the country and the length of national numbers.
-fn judged_by(alloc: Global, judging: &Judging<'_>) -> Result<String, Unread> {
-    let answer = Answer::new(alloc).word("verify")?;
-    let answer = answer.text(judging.chains.as_bytes())?;
-    let answer = answer.text(judging.anchors.as_bytes())?;
-    let answer = answer.text(judging.table.as_bytes())?;
-    let answer = answer.text(judging.answers.as_bytes())?;
+/// What the words of a command line ask for.
+fn order(alloc: Global, words: &[&[u8]]) -> Result<String, Unread> {
+    let texts = texts_of(alloc, words)?;
+    match Order::of(texts.as_slice()) {
+        None => word(alloc, "refused"),
+        Some(Order::Show) => word(alloc, "show"),
+        Some(Order::Verify(judging)) => put_judging(
+            Answer::new(alloc).word("verify"),
+            &judging,
+        ).line(),
+    }
+}
+
+/// The texts that some words are.
+fn texts_of<'a>(alloc: Global, words: &[&'a [u8]]) -> Result<Vec<&'a str>, Unread> {
+    let mut texts = Vec::new(alloc);
+    for word in words {
+        texts.push(text(word)?)?;
+    }
+    Ok(texts)
+}
+
+/// Puts the four names, the window, the country and the length of national numbers behind other words.
+fn put_judging(answer: Answer, judging: &Judging<'_>) -> Answer {
+    let answer = answer
+        .text(judging.chains.as_bytes())
+        .text(judging.anchors.as_bytes())
+        .text(judging.table.as_bytes())
+        .text(judging.answers.as_bytes());
     let settings = judging.settings;
-    let answer = answer.word(settings.window)?;
-    let local = settings.local;
-    let answer = answer.word(local.country())?.word(local.national())?;
-    Ok(answer.line())
+    put_local(answer.word(settings.window), &settings.local)
 }
 
 /// The words that name the files which are read.
@@ -48,40 +61,37 @@ const NAMES: [&str; 5] = [
 ];
 
 /// What a call on named files answers.
-pub fn files(alloc: Global, call: &str, words: &[Vec<u8>]) -> Result<String, Unread> {
-    match (call, words, Order::of(&NAMES)) {
-        ("read", [failing, files @ ..], Some(Order::Verify(judging))) => {
-            let failing = numbers_of(alloc, failing.as_slice())?;
-            let mut shelf = ShelfMem::new(named(alloc, files)?, failing);
-            let answer = read(alloc, &mut shelf, &judging)?;
-            Ok(answer.word(shelf.reads())?.line())
+pub fn files(alloc: Global, call: &str, words: &[&[u8]]) -> Result<String, Unread> {
+    match call {
+        "read" => read(alloc, words),
+        _ => Err(Unread::Call),
+    }
+}
+
+/// What comes of reading the files, some of whose reads fail, and how many were read.
+fn read(alloc: Global, words: &[&[u8]]) -> Result<String, Unread> {
+    let [failing, files @ ..] = words else {
+        return Err(Unread::Call);
+    };
+    let failing = numbers_of(alloc, failing)?;
+    let mut shelf = ShelfMem::new(files_of(alloc, files)?, failing);
+    match Order::of(&NAMES) {
+        Some(Order::Verify(judging)) => {
+            let answer = put_read(alloc, &mut shelf, &judging)?;
+            answer.word(shelf.reads()).line()
         }
         _ => Err(Unread::Call),
     }
 }
 
-/// Files, each a name and a content.
-fn named(alloc: Global, words: &[Vec<u8>]) -> Result<Vec<(Vec<u8>, Vec<u8>)>, Unread> {
-    let mut files = Vec::new(alloc);
-    let mut rest = words;
-    for _ in words {
-        let [name, content, more @ ..] = rest else {
-            break;
-        };
-        files.push((name.clone()?, content.clone()?))?;
-        rest = more;
-    }
-    Ok(files)
-}
-
 /// `ok`, or the line and the status of the first file that can't be had.
-fn read(alloc: Global, shelf: &mut ShelfMem, judging: &Judging<'_>) -> Result<Answer, Unread> {
+fn put_read(alloc: Global, shelf: &mut ShelfMem, judging: &Judging<'_>) -> Result<Answer, Unread> {
     match read_materials(alloc, shelf, judging) {
-        Ok(_) => Answer::new(alloc).word("ok"),
+        Ok(_) => Ok(Answer::new(alloc).word("ok")),
         Err(stop) => {
             let line = stop.line(alloc)?;
-            let answer = Answer::new(alloc).text(line.as_bytes())?;
-            answer.word(stop.status().number())
+            let answer = Answer::new(alloc).text(line.as_bytes());
+            Ok(answer.word(stop.status().number()))
         }
     }
 }

@@ -4,51 +4,56 @@ use crate::answer::{Answer, word};
 use crate::table::Unread;
 use crate::words::joined;
 use identity_header::{Field, FieldFault};
-use std::alloc::Global;
+use std::alloc::{AllocError, Global};
 
 /// A length that no value may reach.
 const TOO_LONG: usize = 4_000_000_000;
 
 /// What a call answers.
-pub fn answer(alloc: Global, call: &str, words: &[Vec<u8>]) -> Result<String, Unread> {
-    match (call, words) {
-        ("read", value) => read(alloc, joined(alloc, value)?.as_slice()),
-        ("write", value) => write(alloc, joined(alloc, value)?.as_slice()),
-        ("new", [token, info, params @ ..]) => {
-            made(alloc, token.as_slice(), info.as_slice(), params)
-        }
+pub fn answer(alloc: Global, call: &str, words: &[&[u8]]) -> Result<String, Unread> {
+    match call {
+        "read" => read(alloc, words),
+        "write" => write(alloc, words),
+        "new" => made(alloc, words),
         _ => Err(Unread::Call),
     }
 }
 
 /// The parts of a value.
-fn read(alloc: Global, value: &[u8]) -> Result<String, Unread> {
+fn read(alloc: Global, words: &[&[u8]]) -> Result<String, Unread> {
+    let value = joined(alloc, words)?;
     if value.len() >= TOO_LONG {
         return Err(Unread::Value);
     }
-    match Field::read(value) {
+    match Field::read(value.as_slice()) {
         Ok(field) => parts(alloc, &field),
         Err(fault) => refused(alloc, fault),
     }
 }
 
 /// A value as it is written again.
-fn write(alloc: Global, value: &[u8]) -> Result<String, Unread> {
+fn write(alloc: Global, words: &[&[u8]]) -> Result<String, Unread> {
+    let value = joined(alloc, words)?;
     if value.len() >= TOO_LONG {
         return Err(Unread::Value);
     }
-    match Field::read(value) {
-        Ok(field) => {
-            let text = field.write(alloc)?;
-            let answer = Answer::new(alloc).word("ok")?;
-            Ok(answer.text(text.as_slice())?.line())
-        }
+    match Field::read(value.as_slice()) {
+        Ok(field) => written(alloc, &field),
         Err(fault) => refused(alloc, fault),
     }
 }
 
+/// A field as it is written.
+fn written(alloc: Global, field: &Field<'_>) -> Result<String, Unread> {
+    let text = field.write(alloc)?;
+    Answer::new(alloc).word("ok").text(text.as_slice()).line()
+}
+
 /// A field made of its parts, or `none`.
-fn made(alloc: Global, token: &[u8], info: &[u8], params: &[Vec<u8>]) -> Result<String, Unread> {
+fn made(alloc: Global, words: &[&[u8]]) -> Result<String, Unread> {
+    let [token, info, params @ ..] = words else {
+        return Err(Unread::Call);
+    };
     let alg = value_of(params, b"alg=")?;
     let ppt = value_of(params, b"ppt=")?;
     match Field::new(token, info, alg, ppt) {
@@ -58,9 +63,8 @@ fn made(alloc: Global, token: &[u8], info: &[u8], params: &[Vec<u8>]) -> Result<
 }
 
 /// The value of the first parameter that begins so, each of which is `alg=` or `ppt=` with a value.
-fn value_of<'a>(params: &'a [Vec<u8>], label: &[u8]) -> Result<Option<&'a [u8]>, Unread> {
+fn value_of<'a>(params: &[&'a [u8]], label: &[u8]) -> Result<Option<&'a [u8]>, Unread> {
     for param in params {
-        let param = param.as_slice();
         if !param.starts_with(b"alg=") && !param.starts_with(b"ppt=") {
             return Err(Unread::Value);
         }
@@ -73,30 +77,38 @@ fn value_of<'a>(params: &'a [Vec<u8>], label: &[u8]) -> Result<Option<&'a [u8]>,
 
 /// Token, URI, and the parameters that are given.
 fn parts(alloc: Global, field: &Field<'_>) -> Result<String, Unread> {
-    let answer = Answer::new(alloc).word("ok")?;
-    let answer = answer.text(field.token())?.text(field.info())?;
-    let answer = put(alloc, answer, b"alg=", field.alg())?;
-    let answer = put(alloc, answer, b"ppt=", field.ppt())?;
-    Ok(answer.line())
+    let alg = labelled(alloc, b"alg=", field.alg())?;
+    let ppt = labelled(alloc, b"ppt=", field.ppt())?;
+    let answer = Answer::new(alloc)
+        .word("ok")
+        .text(field.token())
+        .text(field.info());
+    put(put(answer, &alg), &ppt).line()
 }
 
-/// A parameter, where it is given.
-fn put(
+/// A parameter with its label, where it is given.
+fn labelled(
     alloc: Global,
-    answer: Answer,
     label: &[u8],
     value: Option<&[u8]>,
-) -> Result<Answer, Unread> {
+) -> Result<Option<Vec<u8>>, AllocError> {
     let Some(value) = value else {
-        return Ok(answer);
+        return Ok(None);
     };
     let mut text = Vec::from_slice(alloc, label)?;
     text.extend_from_slice(value)?;
-    answer.text(text.as_slice())
+    Ok(Some(text))
+}
+
+/// Puts a parameter, where it is given, behind other words.
+fn put(answer: Answer, parameter: &Option<Vec<u8>>) -> Answer {
+    match parameter {
+        Some(parameter) => answer.text(parameter.as_slice()),
+        None => answer,
+    }
 }
 
 /// Where a value stops being the beginning of one.
 fn refused(alloc: Global, fault: FieldFault) -> Result<String, Unread> {
-    let answer = Answer::new(alloc).word("fault")?;
-    Ok(answer.word(fault.place)?.line())
+    Answer::new(alloc).word("fault").word(fault.place).line()
 }

@@ -25,7 +25,7 @@ mod verdicts;
 mod words;
 
 use answer::Answer;
-use std::alloc::Global;
+use std::alloc::{AllocError, Global};
 use std::io;
 use std::process::ExitCode;
 use std::thread::Threads;
@@ -40,6 +40,7 @@ fn main(rt: HostRuntime) -> ExitCode {
     match run(&rt, &rt) {
         Ok(()) => ExitCode::SUCCESS,
         Err(Stop::Unread(number, reason)) => {
+            let reason = reason.reason();
             let _ = eprintln!(rt; "line {number} can't be read: {reason}");
             ExitCode::from(UNREAD)
         }
@@ -51,7 +52,7 @@ fn main(rt: HostRuntime) -> ExitCode {
 }
 
 /// Why a run ends before the table does.
-#[derive(Debug, Drop)]
+#[derive(Drop)]
 enum Stop {
     /// The line of this number can't be read.
     Unread(u64, Unread),
@@ -91,14 +92,15 @@ fn answered<T: Threads + Sync>(
         Line::Comment => Ok(String::from_str(alloc, line)?),
         Line::Definition { name, words } => {
             names.define(alloc, name, words)?;
-            Ok(Answer::new(alloc).word(name)?.word("=")?.line())
+            Answer::new(alloc).word(name).word("=").line()
         }
         Line::Call {
             subject,
             call,
             words,
         } => {
-            let words = names.arguments(alloc, words)?;
+            let arguments = names.arguments(alloc, words)?;
+            let words = slices(alloc, arguments.as_slice())?;
             if subject == "rounds" {
                 return rounds::answer(threads, alloc, call, words.as_slice());
             }
@@ -107,8 +109,17 @@ fn answered<T: Threads + Sync>(
     }
 }
 
+/// The same words, to look into.
+fn slices(alloc: Global, words: &[Vec<u8>]) -> Result<Vec<&[u8]>, AllocError> {
+    let mut slices = Vec::new(alloc);
+    for word in words {
+        slices.push(word.as_slice())?;
+    }
+    Ok(slices)
+}
+
 /// What a call answers.
-fn called(alloc: Global, subject: &str, call: &str, words: &[Vec<u8>]) -> Result<String, Unread> {
+fn called(alloc: Global, subject: &str, call: &str, words: &[&[u8]]) -> Result<String, Unread> {
     match subject {
         "text" => text::answer(alloc, call, words),
         "numbers" => numbers::answer(alloc, call, words),
@@ -116,13 +127,37 @@ fn called(alloc: Global, subject: &str, call: &str, words: &[Vec<u8>]) -> Result
         "authority" => authority::answer(alloc, call, words),
         "certificates" => certificates::answer(alloc, call, words),
         "paths" => paths::answer(alloc, call, words),
-        "chains" => chains::answer(alloc, call, words),
+        _ => called_of_messages(alloc, subject, call, words),
+    }
+}
+
+/// What a call answers about messages, their fields and their tokens.
+fn called_of_messages(
+    alloc: Global,
+    subject: &str,
+    call: &str,
+    words: &[&[u8]],
+) -> Result<String, Unread> {
+    match subject {
         "messages" => messages::answer(alloc, call, words),
         "identity" => identity::answer(alloc, call, words),
         "tokens" => tokens::answer(alloc, call, words),
         "claims" => claims::answer(alloc, call, words),
-        "answers" => answers::answer(alloc, call, words),
         "order" => order::answer(alloc, call, words),
+        _ => called_of_calls(alloc, subject, call, words),
+    }
+}
+
+/// What a call answers about calls, and what they are judged by.
+fn called_of_calls(
+    alloc: Global,
+    subject: &str,
+    call: &str,
+    words: &[&[u8]],
+) -> Result<String, Unread> {
+    match subject {
+        "chains" => chains::answer(alloc, call, words),
+        "answers" => answers::answer(alloc, call, words),
         "log" => log::answer(alloc, call, words),
         "rules" => rules::answer(alloc, call, words),
         "verdicts" => verdicts::answer(alloc, call, words),

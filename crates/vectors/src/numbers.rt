@@ -7,53 +7,90 @@ use std::cmp::Ordering;
 use tn_values::{Local, Number, NumberSet, Span};
 
 /// What a call answers.
-pub fn answer(alloc: Global, call: &str, words: &[Vec<u8>]) -> Result<String, Unread> {
-    match (call, words) {
-        ("exact", [digits]) => or_none(alloc, Number::exact(digits.as_slice())),
-        ("compare", [left, right]) => compared(alloc, left.as_slice(), right.as_slice()),
-        ("show", [digits]) => shown(alloc, &number_of(digits.as_slice())?),
-        ("span", [start, size]) => span(alloc, start.as_slice(), size.as_slice()),
-        ("set", [words]) => set(alloc, words.as_slice()),
-        ("parts", [words]) => word(alloc, set_of(alloc, words.as_slice())?.parts()),
-        ("has", [words, digits]) => has(alloc, words.as_slice(), digits.as_slice()),
-        ("within", [child, parent]) => within(alloc, child.as_slice(), parent.as_slice()),
-        ("local", [country, national]) => local(alloc, country.as_slice(), national.as_slice()),
-        (_, [country, national, words @ ..]) => {
-            let local = local_of(country.as_slice(), national.as_slice())?;
-            local_answer(alloc, call, &local, words)
-        }
-        _ => Err(Unread::Call),
+pub fn answer(alloc: Global, call: &str, words: &[&[u8]]) -> Result<String, Unread> {
+    match call {
+        "exact" => exact(alloc, words),
+        "compare" => compared(alloc, words),
+        "show" => show(alloc, words),
+        "span" => span(alloc, words),
+        "set" => set(alloc, words),
+        "parts" => parts(alloc, words),
+        "has" => has(alloc, words),
+        "within" => within(alloc, words),
+        "local" => local(alloc, words),
+        _ => local_answer(alloc, call, words),
     }
 }
 
 /// What a call answers that reads texts under a local numbering.
-fn local_answer(
-    alloc: Global,
-    call: &str,
-    local: &Local,
-    words: &[Vec<u8>],
-) -> Result<String, Unread> {
-    match (call, words) {
-        ("read", [text]) => or_none(alloc, Number::read(text.as_slice(), local)),
-        ("is_read_from", [digits, text]) => {
-            is_read_from(alloc, digits.as_slice(), text.as_slice(), local)
-        }
-        ("are_read_alike", [left, right]) => word(
-            alloc,
-            Number::are_read_alike(left.as_slice(), right.as_slice(), local),
-        ),
+fn local_answer(alloc: Global, call: &str, words: &[&[u8]]) -> Result<String, Unread> {
+    let [country, national, words @ ..] = words else {
+        return Err(Unread::Call);
+    };
+    let local = local_of(country, national)?;
+    match call {
+        "read" => read(alloc, &local, words),
+        "is_read_from" => is_read_from(alloc, &local, words),
+        "are_read_alike" => are_read_alike(alloc, &local, words),
         _ => Err(Unread::Call),
     }
 }
 
+/// The number that digits are, or `none`.
+fn exact(alloc: Global, words: &[&[u8]]) -> Result<String, Unread> {
+    let [digits] = words else {
+        return Err(Unread::Call);
+    };
+    or_none(alloc, Number::exact(digits))
+}
+
+/// How one number stands to another.
+fn compared(alloc: Global, words: &[&[u8]]) -> Result<String, Unread> {
+    let [left, right] = words else {
+        return Err(Unread::Call);
+    };
+    word(alloc, ordering(number_of(left)?.cmp(&number_of(right)?)))
+}
+
+/// The word of an order.
+pub fn ordering(order: Ordering) -> &'static str {
+    match order {
+        Ordering::Less => "less",
+        Ordering::Equal => "equal",
+        Ordering::Greater => "greater",
+    }
+}
+
+/// A number as it is printed.
+fn show(alloc: Global, words: &[&[u8]]) -> Result<String, Unread> {
+    let [digits] = words else {
+        return Err(Unread::Call);
+    };
+    shown(alloc, &number_of(digits)?)
+}
+
+/// The number that is read from a text, or `none`.
+fn read(alloc: Global, local: &Local, words: &[&[u8]]) -> Result<String, Unread> {
+    let [text] = words else {
+        return Err(Unread::Call);
+    };
+    or_none(alloc, Number::read(text, local))
+}
+
 /// Whether a number is read from a text.
-fn is_read_from(
-    alloc: Global,
-    digits: &[u8],
-    text: &[u8],
-    local: &Local,
-) -> Result<String, Unread> {
+fn is_read_from(alloc: Global, local: &Local, words: &[&[u8]]) -> Result<String, Unread> {
+    let [digits, text] = words else {
+        return Err(Unread::Call);
+    };
     word(alloc, number_of(digits)?.is_read_from(text, local))
+}
+
+/// Whether two texts are read alike.
+fn are_read_alike(alloc: Global, local: &Local, words: &[&[u8]]) -> Result<String, Unread> {
+    let [left, right] = words else {
+        return Err(Unread::Call);
+    };
+    word(alloc, Number::are_read_alike(left, right, local))
 }
 
 /// The number that a word is.
@@ -67,68 +104,81 @@ pub fn local_of(country: &[u8], national: &[u8]) -> Result<Local, Unread> {
 }
 
 /// The country and the national length of a local numbering, or `none`.
-fn local(alloc: Global, country: &[u8], national: &[u8]) -> Result<String, Unread> {
+fn local(alloc: Global, words: &[&[u8]]) -> Result<String, Unread> {
+    let [country, national] = words else {
+        return Err(Unread::Call);
+    };
     match Local::new(country, number(national)?) {
-        Some(local) => local_words(alloc, &local),
+        Some(local) => put_local(Answer::new(alloc), &local).line(),
         None => word(alloc, "none"),
     }
 }
 
-/// The country and the national length of a local numbering.
-fn local_words(alloc: Global, local: &Local) -> Result<String, Unread> {
-    let answer = Answer::new(alloc).word(local.country())?;
-    Ok(answer.word(local.national())?.line())
-}
-
-/// How one number stands to another.
-fn compared(alloc: Global, left: &[u8], right: &[u8]) -> Result<String, Unread> {
-    word(alloc, ordering(number_of(left)?.cmp(&number_of(right)?)))
-}
-
-/// The word of an order.
-pub fn ordering(order: Ordering) -> &'static str {
-    match order {
-        Ordering::Less => "less",
-        Ordering::Equal => "equal",
-        Ordering::Greater => "greater",
-    }
+/// Puts the country and the national length of a local numbering behind other words.
+pub fn put_local(answer: Answer, local: &Local) -> Answer {
+    answer.word(local.country()).word(local.national())
 }
 
 /// The start and the size of a span, or `none`.
-fn span(alloc: Global, start: &[u8], size: &[u8]) -> Result<String, Unread> {
+fn span(alloc: Global, words: &[&[u8]]) -> Result<String, Unread> {
+    let [start, size] = words else {
+        return Err(Unread::Call);
+    };
     match Span::new(number_of(start)?, number(size)?) {
-        Some(span) => Ok(put_span(Answer::new(alloc), &span)?.line()),
+        Some(span) => put_span(Answer::new(alloc), &span).line(),
         None => word(alloc, "none"),
     }
 }
 
 /// Puts the start and the size of a span behind other words.
-pub fn put_span(answer: Answer, span: &Span) -> Result<Answer, Unread> {
-    answer.word(span.start())?.word(span.size())
+pub fn put_span(answer: Answer, span: &Span) -> Answer {
+    answer.word(span.start()).word(span.size())
 }
 
 /// The spans and the single numbers of a set, in their order.
-fn set(alloc: Global, words: &[u8]) -> Result<String, Unread> {
+fn set(alloc: Global, words: &[&[u8]]) -> Result<String, Unread> {
+    let [words] = words else {
+        return Err(Unread::Call);
+    };
     let set = set_of(alloc, words)?;
-    let mut answer = Answer::new(alloc).word("spans")?;
+    let mut answer = Answer::new(alloc).word("spans");
     for span in set.spans() {
-        answer = put_span(answer, span)?;
+        answer = put_span(answer, span);
     }
-    answer = answer.word("singles")?;
-    for single in set.singles() {
-        answer = answer.word(*single)?;
+    put_numbers(answer.word("singles"), set.singles()).line()
+}
+
+/// Puts numbers behind other words.
+pub fn put_numbers(answer: Answer, numbers: &[Number]) -> Answer {
+    let mut answer = answer;
+    for number in numbers {
+        answer = answer.word(*number);
     }
-    Ok(answer.line())
+    answer
+}
+
+/// How many spans and single numbers a set has.
+fn parts(alloc: Global, words: &[&[u8]]) -> Result<String, Unread> {
+    let [words] = words else {
+        return Err(Unread::Call);
+    };
+    word(alloc, set_of(alloc, words)?.parts())
 }
 
 /// Whether a set has a number.
-fn has(alloc: Global, words: &[u8], digits: &[u8]) -> Result<String, Unread> {
+fn has(alloc: Global, words: &[&[u8]]) -> Result<String, Unread> {
+    let [words, digits] = words else {
+        return Err(Unread::Call);
+    };
     let set = set_of(alloc, words)?;
     word(alloc, set.has(&number_of(digits)?))
 }
 
 /// Whether a set lies within another.
-fn within(alloc: Global, child: &[u8], parent: &[u8]) -> Result<String, Unread> {
+fn within(alloc: Global, words: &[&[u8]]) -> Result<String, Unread> {
+    let [child, parent] = words else {
+        return Err(Unread::Call);
+    };
     let parent = set_of(alloc, parent)?;
     word(alloc, set_of(alloc, child)?.within(&parent))
 }

@@ -12,30 +12,36 @@ use std::alloc::Global;
 use tn_values::Number;
 
 /// What a call answers.
-pub fn answer(alloc: Global, call: &str, words: &[Vec<u8>]) -> Result<String, Unread> {
-    match (call, words) {
-        ("chain", [dests, called, links @ ..]) => {
-            let origin = origin_of(alloc, dests.as_slice())?;
-            let called = telephone(called.as_slice())?;
-            let links = links_of(alloc, links)?;
-            match chain(&origin, links.as_slice(), called) {
-                Ok(order) => turn(alloc, &order),
-                Err(found) => fault(alloc, found.kind, found.link),
-            }
-        }
+pub fn answer(alloc: Global, call: &str, words: &[&[u8]]) -> Result<String, Unread> {
+    match call {
+        "chain" => chain_answer(alloc, words),
         _ => Err(Unread::Call),
     }
 }
 
-/// `ok` and the numbers of the links, in the order in which the call went.
-fn turn(alloc: Global, order: &Order) -> Result<String, Unread> {
-    let mut answer = Answer::new(alloc).word("ok")?;
+/// The order of the links of an originating PASSporT and a called number, or the fault.
+fn chain_answer(alloc: Global, words: &[&[u8]]) -> Result<String, Unread> {
+    let [dests, called, links @ ..] = words else {
+        return Err(Unread::Call);
+    };
+    let origin = origin_of(alloc, dests)?;
+    let called = telephone(called)?;
+    let links = links_of(alloc, links)?;
+    match chain(&origin, links.as_slice(), called) {
+        Ok(order) => put_turn(Answer::new(alloc).word("ok"), &order).line(),
+        Err(found) => fault(alloc, found.kind, found.link),
+    }
+}
+
+/// Puts the numbers of the links, in the order in which the call went, behind other words.
+fn put_turn(answer: Answer, order: &Order) -> Answer {
+    let mut answer = answer;
     for (place, link) in order.turn.iter().enumerate() {
         if place < usize::from(order.length) {
-            answer = answer.word(*link)?;
+            answer = answer.word(*link);
         }
     }
-    Ok(answer.line())
+    answer
 }
 
 /// An originating PASSporT that calls these numbers, with commas between.
@@ -76,12 +82,12 @@ fn link_of(alloc: Global, word: &[u8]) -> Result<Passport, Unread>
 }
 
 /// The links of these words, in the order of the message.
-fn links_of(alloc: Global, words: &[Vec<u8>]) -> Result<Vec<Passport>, Unread>
+fn links_of(alloc: Global, words: &[&[u8]]) -> Result<Vec<Passport>, Unread>
     ensures { IfOk result (λ links. All IsLink links.items) }
 {
     let mut links = Vec::new(alloc);
     for word in words {
-        links.push(link_of(alloc, word.as_slice())?)?;
+        links.push(link_of(alloc, word)?)?;
     }
     Ok(links)
 }

@@ -6,72 +6,59 @@ use crate::numbers::number_of;
 use crate::table::{Unread, number};
 use delegation::{AnchorFault, Anchors, Authority, PathFault, Shape, covers, shape, within};
 use std::alloc::Global;
-use tn_auth_list::{AuthList, CodeTable};
+use tn_auth_list::AuthList;
 use x509_profile::{Certificate, read_chain};
 
 /// What a call answers.
-pub fn answer(alloc: Global, call: &str, words: &[Vec<u8>]) -> Result<String, Unread> {
-    match (call, words) {
-        ("covers", [list, digits, table]) => {
-            let table = table_of(alloc, table.as_slice())?;
-            covers_answer(alloc, list.as_slice(), digits.as_slice(), &table)
-        }
-        ("within", [child, parent, table]) => {
-            let table = table_of(alloc, table.as_slice())?;
-            within_answer(alloc, child.as_slice(), parent.as_slice(), &table)
-        }
-        ("shape", [chain, anchors]) => {
-            let anchors = anchors_of(alloc, anchors.as_slice())?;
-            shape_answer(alloc, chain.as_slice(), &anchors)
-        }
-        ("path_fault", [kind, place]) => path_says(alloc, kind.as_slice(), place.as_slice()),
-        _ => anchor_answer(alloc, call, words),
+pub fn answer(alloc: Global, call: &str, words: &[&[u8]]) -> Result<String, Unread> {
+    match call {
+        "covers" => covers_answer(alloc, words),
+        "within" => within_answer(alloc, words),
+        "shape" => shape_answer(alloc, words),
+        "path_fault" => path_says(alloc, words),
+        "anchors" => anchors(alloc, words),
+        "anchor" => anchor(alloc, words),
+        "contains" => contains(alloc, words),
+        "anchor_fault" => anchor_says(alloc, words),
+        _ => Err(Unread::Call),
     }
 }
 
 /// What a fault of a path says.
-fn path_says(alloc: Global, kind: &[u8], place: &[u8]) -> Result<String, Unread> {
+fn path_says(alloc: Global, words: &[&[u8]]) -> Result<String, Unread> {
+    let [kind, place] = words else {
+        return Err(Unread::Call);
+    };
     let kind = number(kind)?;
     let place = number(place)?;
     word(alloc, PathFault { kind, place })
 }
 
 /// Whether a list covers a number.
-fn covers_answer(
-    alloc: Global,
-    list: &[u8],
-    digits: &[u8],
-    table: &CodeTable,
-) -> Result<String, Unread> {
+fn covers_answer(alloc: Global, words: &[&[u8]]) -> Result<String, Unread> {
+    let [list, digits, table] = words else {
+        return Err(Unread::Call);
+    };
+    let table = table_of(alloc, table)?;
     let list = list_of(alloc, list)?;
-    word(alloc, covers(&list, &number_of(digits)?, table))
-}
-
-/// What a call of trust anchors answers.
-fn anchor_answer(alloc: Global, call: &str, words: &[Vec<u8>]) -> Result<String, Unread> {
-    match (call, words) {
-        ("anchors", [bytes]) => anchors(alloc, bytes.as_slice()),
-        ("anchor", [bytes, place]) => {
-            let anchors = anchors_of(alloc, bytes.as_slice())?;
-            anchor(alloc, &anchors, number(place.as_slice())?)
-        }
-        ("contains", [bytes, certificate]) => {
-            let anchors = anchors_of(alloc, bytes.as_slice())?;
-            contains(alloc, &anchors, certificate.as_slice())
-        }
-        ("anchor_fault", [place]) => anchor_says(alloc, place.as_slice()),
-        _ => Err(Unread::Call),
-    }
+    word(alloc, covers(&list, &number_of(digits)?, &table))
 }
 
 /// What a fault of trust anchors says.
-fn anchor_says(alloc: Global, place: &[u8]) -> Result<String, Unread> {
+fn anchor_says(alloc: Global, words: &[&[u8]]) -> Result<String, Unread> {
+    let [place] = words else {
+        return Err(Unread::Call);
+    };
     let place = number(place)?;
     word(alloc, AnchorFault::At { place })
 }
 
 /// Whether a certificate is one of the anchors.
-fn contains(alloc: Global, anchors: &Anchors, certificate: &[u8]) -> Result<String, Unread> {
+fn contains(alloc: Global, words: &[&[u8]]) -> Result<String, Unread> {
+    let [anchors, certificate] = words else {
+        return Err(Unread::Call);
+    };
+    let anchors = anchors_of(alloc, anchors)?;
     match Certificate::read(alloc, certificate) {
         Ok(certificate) => word(alloc, anchors.contains(&certificate)),
         Err(_) => Err(Unread::Value),
@@ -96,16 +83,17 @@ fn authority_of(list: &Option<AuthList>) -> Authority<'_> {
 }
 
 /// Whether one authority lies within another.
-fn within_answer(
-    alloc: Global,
-    child: &[u8],
-    parent: &[u8],
-    table: &CodeTable,
-) -> Result<String, Unread> {
+fn within_answer(alloc: Global, words: &[&[u8]]) -> Result<String, Unread> {
+    let [child, parent, table] = words else {
+        return Err(Unread::Call);
+    };
     let child = list_or_all(alloc, child)?;
     let parent = list_or_all(alloc, parent)?;
-    let is_within = within(alloc, &authority_of(&child), &authority_of(&parent), table)?;
-    word(alloc, is_within)
+    let table = table_of(alloc, table)?;
+    word(
+        alloc,
+        within(alloc, &authority_of(&child), &authority_of(&parent), &table)?,
+    )
 }
 
 /// The anchors that some bytes are.
@@ -118,31 +106,38 @@ pub fn anchors_of(alloc: Global, bytes: &[u8]) -> Result<Anchors, Unread> {
 }
 
 /// How many anchors there are, or the place of the first that is none.
-fn anchors(alloc: Global, bytes: &[u8]) -> Result<String, Unread> {
+fn anchors(alloc: Global, words: &[&[u8]]) -> Result<String, Unread> {
+    let [bytes] = words else {
+        return Err(Unread::Call);
+    };
     match Anchors::read(alloc, bytes) {
         Ok(anchors) => ok(alloc, anchors.count()),
-        Err(AnchorFault::At { place }) => place_of(alloc, place),
+        Err(AnchorFault::At { place }) => Answer::new(alloc).word("fault").word(place).line(),
         Err(AnchorFault::Memory) => Err(Unread::Memory),
     }
 }
 
-/// `fault` and its place.
-fn place_of(alloc: Global, place: u32) -> Result<String, Unread> {
-    Ok(Answer::new(alloc).word("fault")?.word(place)?.line())
-}
-
 /// The bytes of an anchor.
-fn anchor(alloc: Global, anchors: &Anchors, place: u16) -> Result<String, Unread> {
+fn anchor(alloc: Global, words: &[&[u8]]) -> Result<String, Unread> {
+    let [anchors, place] = words else {
+        return Err(Unread::Call);
+    };
+    let anchors = anchors_of(alloc, anchors)?;
+    let place = number(place)?;
     if place >= anchors.count() {
         return Err(Unread::Value);
     }
-    Ok(Answer::new(alloc).hex(anchors.get(place).whole())?.line())
+    Answer::new(alloc).hex(anchors.get(place).whole()).line()
 }
 
 /// The number of the anchor above the last certificate, `-` where this is itself an anchor, or the fault.
-fn shape_answer(alloc: Global, chain: &[u8], anchors: &Anchors) -> Result<String, Unread> {
+fn shape_answer(alloc: Global, words: &[&[u8]]) -> Result<String, Unread> {
+    let [chain, anchors] = words else {
+        return Err(Unread::Call);
+    };
+    let anchors = anchors_of(alloc, anchors)?;
     match read_chain(alloc, chain) {
-        Ok(chain) if chain.len() <= 6 => shape_words(alloc, shape(&chain, anchors)),
+        Ok(chain) if chain.len() <= 6 => shape_words(alloc, shape(&chain, &anchors)),
         _ => Err(Unread::Value),
     }
 }
@@ -150,12 +145,7 @@ fn shape_answer(alloc: Global, chain: &[u8], anchors: &Anchors) -> Result<String
 /// What a path comes to.
 fn shape_words(alloc: Global, found: Result<Shape, PathFault>) -> Result<String, Unread> {
     match found {
-        Ok(
-            Shape {
-                anchor: Some(anchor),
-            },
-        ) => ok(alloc, anchor),
-        Ok(Shape { anchor: None }) => ok(alloc, "-"),
+        Ok(shape) => Answer::new(alloc).word("ok").option(shape.anchor).line(),
         Err(found) => fault(alloc, found.kind, found.place),
     }
 }

@@ -6,6 +6,7 @@ use crate::chains::{answers_of, map_of, numbers_of};
 use crate::numbers::local_of;
 use crate::paths::anchors_of;
 use crate::table::Unread;
+use crate::words::files_of;
 use std::alloc::Global;
 use std::thread::Threads;
 use stir_outside::{AnswerProvider, NoGate, ShelfMem, SourceMem};
@@ -17,21 +18,27 @@ pub fn answer<R: Threads + Sync>(
     rt: &R,
     alloc: Global,
     call: &str,
-    words: &[Vec<u8>],
+    words: &[&[u8]],
 ) -> Result<String, Unread> {
-    match (call, words) {
-        ("report", [answers, questions, reads, rounds, log, world @ ..]) => {
-            let answers = answers_of(alloc, answers.as_slice())?;
-            let questions = numbers_of(alloc, questions.as_slice())?;
-            let reads = numbers_of(alloc, reads.as_slice())?;
-            let rounds = numbers_of(alloc, rounds.as_slice())?;
-            let provider = answers.provider(questions.as_slice())?;
-            let mut case = Case::new(alloc, world, reads, provider)?;
-            let log = Vec::from_slice(alloc, log.as_slice())?;
-            case.report(rt, alloc, log, rounds.as_slice())
-        }
+    match call {
+        "report" => report(rt, alloc, words),
         _ => Err(Unread::Call),
     }
+}
+
+/// The report of a log, cut into rounds, where some calls of the provider and some reads of the shelf fail.
+fn report<R: Threads + Sync>(rt: &R, alloc: Global, words: &[&[u8]]) -> Result<String, Unread> {
+    let [answers, questions, reads, rounds, log, world @ ..] = words else {
+        return Err(Unread::Call);
+    };
+    let answers = answers_of(alloc, answers)?;
+    let questions = numbers_of(alloc, questions)?;
+    let reads = numbers_of(alloc, reads)?;
+    let rounds = numbers_of(alloc, rounds)?;
+    let provider = answers.provider(questions.as_slice())?;
+    let mut case = Case::new(alloc, world, reads, provider)?;
+    let log = Vec::from_slice(alloc, log)?;
+    case.report(rt, alloc, log, rounds.as_slice())
 }
 
 /// A service with its one worker, and a shelf.
@@ -46,7 +53,7 @@ impl<'a> Case<'a> {
     /// The case of a chain map, anchors, a code table, and files behind them, each a name and a content; these reads of the shelf fail.
     fn new(
         alloc: Global,
-        words: &[Vec<u8>],
+        words: &[&[u8]],
         reads: Vec<u64>,
         provider: AnswerProvider<'a>,
     ) -> Result<Case<'a>, Unread> {
@@ -54,9 +61,9 @@ impl<'a> Case<'a> {
             return Err(Unread::Call);
         };
         let world = World {
-            chains: map_of(alloc, map.as_slice())?,
-            anchors: anchors_of(alloc, anchors.as_slice())?,
-            table: table_of(alloc, table.as_slice())?,
+            chains: map_of(alloc, map)?,
+            anchors: anchors_of(alloc, anchors)?,
+            table: table_of(alloc, table)?,
         };
         let service = service_of(alloc, world)?;
         let mut workers = Vec::new(alloc);
@@ -85,7 +92,7 @@ impl<'a> Case<'a> {
             let outcomes = self.round(rt, alloc, calls.as_slice())?;
             put_lines(alloc, &mut report, calls.as_slice(), outcomes.as_slice())?;
         }
-        Ok(Answer::new(alloc).text(report.as_slice())?.line())
+        Answer::new(alloc).text(report.as_slice()).line()
     }
 
     /// What comes of the calls of a round.
@@ -111,22 +118,6 @@ fn service_of(alloc: Global, world: World) -> Result<Service, Unread> {
     let local = local_of(b"1", b"10")?;
     let settings = Settings { local, window: 60 };
     Ok(Service::new(alloc, settings, world)?)
-}
-
-/// The files of a shelf, each a name and a content.
-fn files_of(alloc: Global, words: &[Vec<u8>]) -> Result<Vec<(Vec<u8>, Vec<u8>)>, Unread> {
-    let mut files = Vec::new(alloc);
-    let mut rest = words;
-    for _ in words {
-        let [name, content, behind @ ..] = rest else {
-            break;
-        };
-        let name = Vec::from_slice(alloc, name.as_slice())?;
-        let content = Vec::from_slice(alloc, content.as_slice())?;
-        files.push((name, content))?;
-        rest = behind;
-    }
-    Ok(files)
 }
 
 /// The next so many calls of a log.

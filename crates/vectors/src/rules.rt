@@ -5,59 +5,72 @@ use crate::numbers::local_of;
 use crate::table::{Unread, number};
 use crate::words::joined;
 use std::alloc::Global;
-use verify_rules::{Refusal, ScreenFault, Screened, Settings, code, screen};
+use verify_rules::{Place, Refusal, ScreenFault, Screened, Settings, code, screen};
 
 /// The most that a window may be, in seconds.
 const MOST_WINDOW: u64 = 86_400;
 
 /// What a call answers.
-pub fn answer(alloc: Global, call: &str, words: &[Vec<u8>]) -> Result<String, Unread> {
-    match (call, words) {
-        ("screen", [country, national, window, moment, message @ ..]) => {
-            let local = local_of(country.as_slice(), national.as_slice())?;
-            let window = number(window.as_slice())?;
-            let settings = Settings { local, window };
-            let moment = number(moment.as_slice())?;
-            let message = joined(alloc, message)?;
-            screened(alloc, message.as_slice(), moment, &settings)
-        }
-        ("code", [rule]) => word(alloc, code(number(rule.as_slice())?)),
+pub fn answer(alloc: Global, call: &str, words: &[&[u8]]) -> Result<String, Unread> {
+    match call {
+        "screen" => screened(alloc, words),
+        "code" => code_answer(alloc, words),
         _ => Err(Unread::Call),
     }
 }
 
+/// The response code of a rule.
+fn code_answer(alloc: Global, words: &[&[u8]]) -> Result<String, Unread> {
+    let [rule] = words else {
+        return Err(Unread::Call);
+    };
+    word(alloc, code(number(rule)?))
+}
+
 /// What is said of a message that came at a moment.
-fn screened(
-    alloc: Global,
-    message: &[u8],
-    moment: u64,
-    settings: &Settings,
-) -> Result<String, Unread> {
+fn screened(alloc: Global, words: &[&[u8]]) -> Result<String, Unread> {
+    let [country, national, window, moment, message @ ..] = words else {
+        return Err(Unread::Call);
+    };
+    let settings = settings_of(country, national, window)?;
+    let moment = number(moment)?;
+    let message = joined(alloc, message)?;
     if settings.window > MOST_WINDOW {
         return Err(Unread::Value);
     }
-    match screen(alloc, message, moment, settings) {
-        Ok(screened) => passed(alloc, &screened),
-        Err(ScreenFault::Refused(refusal)) => refused(alloc, refusal),
+    match screen(alloc, message.as_slice(), moment, &settings) {
+        Ok(screened) => put_screened(Answer::new(alloc).word("screened"), &screened).line(),
+        Err(ScreenFault::Refused(refusal)) => put_refusal(Answer::new(alloc), refusal).line(),
         Err(ScreenFault::Memory) => Err(Unread::Memory),
     }
 }
 
-/// `screened`, the fields of the judged PASSporTs in chain order, the last second, and the ticket.
-fn passed(alloc: Global, screened: &Screened) -> Result<String, Unread> {
-    let mut answer = Answer::new(alloc).word("screened")?;
-    for place in 0..screened.count() {
-        answer = answer.word(screened.field(place))?;
-    }
-    let answer = answer.word(screened.last())?;
-    Ok(answer.hex(screened.ticket())?.line())
+/// The settings of these words.
+fn settings_of(country: &[u8], national: &[u8], window: &[u8]) -> Result<Settings, Unread> {
+    let local = local_of(country, national)?;
+    let window = number(window)?;
+    Ok(Settings { local, window })
 }
 
-/// `refused`, the response code, the rule, and where it is broken.
-fn refused(alloc: Global, refusal: Refusal) -> Result<String, Unread> {
-    let answer = Answer::new(alloc)
-        .word("refused")?
-        .word(code(refusal.rule))?;
-    let answer = answer.word(refusal.rule)?.word(refusal.place.field)?;
-    Ok(answer.word(refusal.place.part)?.line())
+/// Puts the fields of the judged PASSporTs in chain order, the last second, and the ticket behind other words.
+fn put_screened(answer: Answer, screened: &Screened) -> Answer {
+    let mut answer = answer;
+    for place in 0..screened.count() {
+        answer = answer.word(screened.field(place));
+    }
+    answer.word(screened.last()).hex(screened.ticket())
+}
+
+/// Puts `refused`, the response code, the rule, and where it is broken behind other words.
+pub fn put_refusal(answer: Answer, refusal: Refusal) -> Answer {
+    let answer = answer
+        .word("refused")
+        .word(code(refusal.rule))
+        .word(refusal.rule);
+    put_place(answer, refusal.place)
+}
+
+/// Puts a place behind other words.
+pub fn put_place(answer: Answer, place: Place) -> Answer {
+    answer.word(place.field).word(place.part)
 }

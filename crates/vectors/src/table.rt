@@ -5,26 +5,33 @@ use std::alloc::{AllocError, AllocFailed, Global};
 use std::collections::BTreeMap;
 use std::str;
 use std::str::FromStr;
-use thiserror::Error;
 
 /// Why a line can't be read.
-#[derive(Clone, Copy, Debug, PartialEq, Eq, Drop, Error)]
+#[derive(Clone, Copy)]
 pub enum Unread {
     /// Its first word isn't a call that takes so many words.
-    #[error("no call that takes so many words")]
     Call,
     /// A name stands for nothing.
-    #[error("a name that stands for nothing")]
     Name,
     /// A word isn't written as words are.
-    #[error("a word that isn't written as words are")]
     Word,
     /// A word is no value that the call takes.
-    #[error("a word that is no value of the call's")]
     Value,
     /// Memory ran out, in the call or before it.
-    #[error("memory ran out")]
     Memory,
+}
+
+impl Unread {
+    /// The same in words.
+    pub fn reason(self) -> &'static str {
+        match self {
+            Unread::Call => "no call that takes so many words",
+            Unread::Name => "a name that stands for nothing",
+            Unread::Word => "a word that isn't written as words are",
+            Unread::Value => "a word that is no value of the call's",
+            Unread::Memory => "memory ran out",
+        }
+    }
 }
 
 impl From<AllocError> for Unread {
@@ -40,7 +47,7 @@ impl<T: Drop> From<AllocFailed<T>> for Unread {
 }
 
 /// A line of the table.
-#[derive(Clone, Copy, Debug)]
+#[derive(Clone, Copy)]
 pub enum Line<'a> {
     /// An empty line, or one that begins with `#`.
     Comment,
@@ -228,11 +235,19 @@ fn put_text(text: &str, out: &mut Vec<u8>) -> Result<(), Unread> {
 fn escaped(text: &[u8]) -> Result<(u8, &[u8]), Unread> {
     match text {
         [b'x', high, low, behind @ ..] => Ok((hex_byte([*high, *low])?, behind)),
-        [b's', behind @ ..] => Ok((b' ', behind)),
-        [b'n', behind @ ..] => Ok((b'\n', behind)),
-        [b'r', behind @ ..] => Ok((b'\r', behind)),
-        [b't', behind @ ..] => Ok((b'\t', behind)),
-        [b'\\', behind @ ..] => Ok((b'\\', behind)),
+        [letter, behind @ ..] => Ok((byte_of(*letter)?, behind)),
+        _ => Err(Unread::Word),
+    }
+}
+
+/// The byte that this letter stands for behind a backslash.
+fn byte_of(letter: u8) -> Result<u8, Unread> {
+    match letter {
+        b's' => Ok(b' '),
+        b'n' => Ok(b'\n'),
+        b'r' => Ok(b'\r'),
+        b't' => Ok(b'\t'),
+        b'\\' => Ok(b'\\'),
         _ => Err(Unread::Word),
     }
 }

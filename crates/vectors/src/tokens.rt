@@ -9,75 +9,94 @@ use std::alloc::Global;
 use text_grammar::is_uri;
 
 /// What a call answers.
-pub fn answer(alloc: Global, call: &str, words: &[Vec<u8>]) -> Result<String, Unread> {
+pub fn answer(alloc: Global, call: &str, words: &[&[u8]]) -> Result<String, Unread> {
     match call {
         "read" => read(alloc, words),
         "signed" => signed(alloc, words),
         "fault" => said(alloc, words),
         "is_uri" => word(alloc, is_uri(joined(alloc, words)?.as_slice())),
-        "ticket" => {
-            let ticket = ticket(joined(alloc, words)?.as_slice());
-            Ok(Answer::new(alloc).hex(&ticket)?.line())
-        }
-        _ => json_answer(alloc, call, words),
-    }
-}
-
-/// What a call about JSON texts answers.
-fn json_answer(alloc: Global, call: &str, words: &[Vec<u8>]) -> Result<String, Unread> {
-    match (call, words) {
-        ("deterministic", words) => {
-            let value = value_of(alloc, joined(alloc, words)?.as_slice())?;
-            Ok(put_value(alloc, Answer::new(alloc), &value)?.line())
-        }
-        ("is_writable", [arrays, words @ ..]) => {
-            let value = value_of(alloc, joined(alloc, words)?.as_slice())?;
-            let value = nested(alloc, value, number(arrays.as_slice())?)?;
-            word(alloc, is_writable(&value))
-        }
-        ("signing_input", [header, payload]) => {
-            let text = signing_input(alloc, header.as_slice(), payload.as_slice())?;
-            Ok(Answer::new(alloc).text(text.as_slice())?.line())
-        }
+        "ticket" => ticket_answer(alloc, words),
+        "deterministic" => deterministic_answer(alloc, words),
+        "is_writable" => writable_answer(alloc, words),
+        "signing_input" => signing_answer(alloc, words),
         _ => Err(Unread::Call),
     }
 }
 
-/// A token's form, when it was issued, its header and its payload.
-fn read(alloc: Global, words: &[Vec<u8>]) -> Result<String, Unread> {
-    let token = match token_of(alloc, words)? {
-        Ok(token) => token,
-        Err(fault) => return refused(alloc, fault),
+/// The ticket of a signing input.
+fn ticket_answer(alloc: Global, words: &[&[u8]]) -> Result<String, Unread> {
+    let ticket = ticket(joined(alloc, words)?.as_slice());
+    Answer::new(alloc).hex(&ticket).line()
+}
+
+/// The deterministic form of a JSON text, or `unwritable`.
+fn deterministic_answer(alloc: Global, words: &[&[u8]]) -> Result<String, Unread> {
+    let value = value_of(alloc, joined(alloc, words)?.as_slice())?;
+    put_value(alloc, Answer::new(alloc), &value)?.line()
+}
+
+/// Whether the value of a JSON text within so many arrays can be written.
+fn writable_answer(alloc: Global, words: &[&[u8]]) -> Result<String, Unread> {
+    let [arrays, words @ ..] = words else {
+        return Err(Unread::Call);
     };
+    let value = value_of(alloc, joined(alloc, words)?.as_slice())?;
+    let value = nested(alloc, value, number(arrays)?)?;
+    word(alloc, is_writable(&value))
+}
+
+/// What is signed of a header and a payload.
+fn signing_answer(alloc: Global, words: &[&[u8]]) -> Result<String, Unread> {
+    let [header, payload] = words else {
+        return Err(Unread::Call);
+    };
+    let text = signing_input(alloc, header, payload)?;
+    Answer::new(alloc).text(text.as_slice()).line()
+}
+
+/// A token's form, when it was issued, its header and its payload.
+fn read(alloc: Global, words: &[&[u8]]) -> Result<String, Unread> {
+    match token_of(alloc, words)? {
+        Ok(token) => parts(alloc, &token),
+        Err(fault) => refused(alloc, fault),
+    }
+}
+
+/// What [`read`] says of a token.
+fn parts(alloc: Global, token: &Token) -> Result<String, Unread> {
     let form = if token.compact() { "compact" } else { "full" };
-    let answer = Answer::new(alloc).word("ok")?.word(form)?;
-    let answer = answer.option(token.issued_at())?;
+    let answer = Answer::new(alloc)
+        .word("ok")
+        .word(form)
+        .option(token.issued_at());
     let answer = put_value(alloc, answer, token.header())?;
-    let answer = put_value(alloc, answer, token.payload())?;
-    Ok(answer.line())
+    put_value(alloc, answer, token.payload())?.line()
 }
 
 /// What was signed, and the signature.
-fn signed(alloc: Global, words: &[Vec<u8>]) -> Result<String, Unread> {
-    let token = match token_of(alloc, words)? {
-        Ok(token) => token,
-        Err(fault) => return refused(alloc, fault),
-    };
-    let answer = Answer::new(alloc).word("ok")?.text(token.signing())?;
-    Ok(answer.hex(token.signature())?.line())
+fn signed(alloc: Global, words: &[&[u8]]) -> Result<String, Unread> {
+    match token_of(alloc, words)? {
+        Ok(token) => put_signed(Answer::new(alloc).word("ok"), &token).line(),
+        Err(fault) => refused(alloc, fault),
+    }
+}
+
+/// Puts what was signed, and the signature, behind other words.
+fn put_signed(answer: Answer, token: &Token) -> Answer {
+    answer.text(token.signing()).hex(token.signature())
 }
 
 /// What reading a token comes to: five words are what the message says, the others the token's text.
-fn token_of(alloc: Global, words: &[Vec<u8>]) -> Result<Result<Token, TokenFault>, Unread> {
+fn token_of(alloc: Global, words: &[&[u8]]) -> Result<Result<Token, TokenFault>, Unread> {
     let [iat, orig, dest, info, ppt, bytes @ ..] = words else {
         return Err(Unread::Call);
     };
     let view = View {
-        iat: seconds(iat.as_slice())?,
-        orig: telephone(orig.as_slice())?,
-        dest: telephone(dest.as_slice())?,
-        info: info.as_slice(),
-        ppt: given(ppt.as_slice()),
+        iat: seconds(iat)?,
+        orig: telephone(orig)?,
+        dest: telephone(dest)?,
+        info,
+        ppt: given(ppt),
     };
     if !is_uri(view.info) {
         return Err(Unread::Value);
@@ -100,18 +119,17 @@ fn refused(alloc: Global, fault: TokenFault) -> Result<String, Unread> {
 
 /// A fault of a part.
 fn of_part(alloc: Global, name: &str, part: u8) -> Result<String, Unread> {
-    Ok(Answer::new(alloc).word(name)?.word(part)?.line())
+    Answer::new(alloc).word(name).word(part).line()
 }
 
 /// The number of a fault, and how it is printed.
-fn said(alloc: Global, words: &[Vec<u8>]) -> Result<String, Unread> {
+fn said(alloc: Global, words: &[&[u8]]) -> Result<String, Unread> {
     let fault = match words {
-        [name] => fault_of(text(name.as_slice())?)?,
-        [name, part] => fault_of_part(text(name.as_slice())?, number(part.as_slice())?)?,
+        [name] => fault_of(text(name)?)?,
+        [name, part] => fault_of_part(text(name)?, number(part)?)?,
         _ => return Err(Unread::Call),
     };
-    let answer = Answer::new(alloc).option(fault.number())?;
-    Ok(answer.word(fault)?.line())
+    Answer::new(alloc).option(fault.number()).word(fault).line()
 }
 
 /// The fault of this name.
@@ -153,11 +171,11 @@ fn nested(alloc: Global, value: Value, arrays: u8) -> Result<Value, Unread> {
     Ok(value)
 }
 
-/// The deterministic form of a value, or `unwritable`.
+/// Puts the deterministic form of a value, or `unwritable`, behind other words.
 pub fn put_value(alloc: Global, answer: Answer, value: &Value) -> Result<Answer, Unread> {
     if !is_writable(value) {
-        return answer.word("unwritable");
+        return Ok(answer.word("unwritable"));
     }
     let text = deterministic(alloc, value)?;
-    answer.text(text.as_slice())
+    Ok(answer.text(text.as_slice()))
 }

@@ -8,48 +8,53 @@ use crate::authority::table_of;
 use crate::chains::{answers_of, numbers_of};
 use crate::numbers::local_of;
 use crate::paths::anchors_of;
+use crate::rules::{put_place, put_refusal};
 use crate::table::{Unread, number};
 use cert_store::{Judged, judge_chain};
 use delegation::Anchors;
 use std::alloc::Global;
 use stir_outside::AnswerProvider;
 use tn_auth_list::CodeTable;
-use verify_rules::{
-    ChainState, Chains, Place, Refusal, Screened, Settings, Verdict, code, finish, screen,
-};
+use verify_rules::{ChainState, Chains, Screened, Settings, Verdict, finish, screen};
 
 /// What a call answers.
-pub fn answer(alloc: Global, call: &str, words: &[Vec<u8>]) -> Result<String, Unread> {
-    match (call, words) {
-        (
-            "finish",
-            [
-                moment,
-                anchors,
-                table,
-                answers,
-                failing,
-                message,
-                files @ ..,
-            ],
-        ) => {
-            let anchors = anchors_of(alloc, anchors.as_slice())?;
-            let table = table_of(alloc, table.as_slice())?;
-            let answers = answers_of(alloc, answers.as_slice())?;
-            let failing = numbers_of(alloc, failing.as_slice())?;
-            let moment = number(moment.as_slice())?;
-            let screened = screened(alloc, message.as_slice(), moment)?;
-            let case = Case {
-                anchors: &anchors,
-                table: &table,
-                files,
-            };
-            let mut provider = answers.provider(failing.as_slice())?;
-            let verdict = case.judge(alloc, &screened, moment, &mut provider)?;
-            said(alloc, verdict, provider.asks())
-        }
+pub fn answer(alloc: Global, call: &str, words: &[&[u8]]) -> Result<String, Unread> {
+    match call {
+        "finish" => finish_answer(alloc, words),
         _ => Err(Unread::Call),
     }
+}
+
+/// What rules 10 to 17 come to at a moment, where some calls of the provider fail.
+fn finish_answer(alloc: Global, words: &[&[u8]]) -> Result<String, Unread> {
+    let [
+        moment,
+        anchors,
+        table,
+        answers,
+        failing,
+        message,
+        files @ ..,
+    ] = words
+    else {
+        return Err(Unread::Call);
+    };
+    let anchors = anchors_of(alloc, anchors)?;
+    let table = table_of(alloc, table)?;
+    let answers = answers_of(alloc, answers)?;
+    let failing = numbers_of(alloc, failing)?;
+    let moment = number(moment)?;
+    let screened = screened(alloc, message, moment)?;
+    let case = Case {
+        anchors: &anchors,
+        table: &table,
+        files,
+    };
+    let mut provider = answers.provider(failing.as_slice())?;
+    let verdict = case.judge(alloc, &screened, moment, &mut provider)?;
+    put_verdict(Answer::new(alloc), verdict)
+        .word(provider.asks())
+        .line()
 }
 
 /// A call that breaks none of the rules 1 to 9, with country 1, national numbers of ten digits and a window of 60 seconds.
@@ -113,7 +118,7 @@ impl Chains for KnownChains {
 struct Case<'a> {
     anchors: &'a Anchors,
     table: &'a CodeTable,
-    files: &'a [Vec<u8>],
+    files: &'a [&'a [u8]],
 }
 
 impl<'a> Case<'a> {
@@ -145,8 +150,8 @@ impl<'a> Case<'a> {
             let [name, file, behind @ ..] = rest else {
                 break;
             };
-            if name.as_slice() == x5u {
-                return file.as_slice();
+            if *name == x5u {
+                return file;
             }
             rest = behind;
         }
@@ -169,25 +174,12 @@ impl<'a> Case<'a> {
     }
 }
 
-/// A verdict, where it stands, and how often the provider was asked.
-fn said(alloc: Global, verdict: Verdict, asks: u64) -> Result<String, Unread> {
-    let answer = Answer::new(alloc);
-    let answer = match verdict {
-        Verdict::Passed => answer.word("passed")?,
-        Verdict::Refused(refusal) => put_refusal(answer, refusal)?,
-        Verdict::Unread(place) => put_place(answer.word("unread")?, place)?,
-        Verdict::Unasked(place) => put_place(answer.word("unasked")?, place)?,
-    };
-    Ok(answer.word(asks)?.line())
-}
-
-/// Puts `refused`, the response code, the rule, and where it is broken behind other words.
-fn put_refusal(answer: Answer, refusal: Refusal) -> Result<Answer, Unread> {
-    let answer = answer.word("refused")?.word(code(refusal.rule))?;
-    put_place(answer.word(refusal.rule)?, refusal.place)
-}
-
-/// Puts a place behind other words.
-fn put_place(answer: Answer, place: Place) -> Result<Answer, Unread> {
-    answer.word(place.field)?.word(place.part)
+/// Puts a verdict and where it stands behind other words.
+fn put_verdict(answer: Answer, verdict: Verdict) -> Answer {
+    match verdict {
+        Verdict::Passed => answer.word("passed"),
+        Verdict::Refused(refusal) => put_refusal(answer, refusal),
+        Verdict::Unread(place) => put_place(answer.word("unread"), place),
+        Verdict::Unasked(place) => put_place(answer.word("unasked"), place),
+    }
 }
