@@ -15,6 +15,10 @@ mod large;
 #[cfg(test)]
 mod numbers;
 #[cfg(test)]
+mod rows;
+#[cfg(test)]
 mod runs;
 #[cfg(test)]
 mod transfers;
+#[cfg(test)]
+mod world;

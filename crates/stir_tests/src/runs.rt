@@ -5,7 +5,7 @@ use crate::devices::{run_on, run_over, shelf_of};
 use std::test::Fail;
 
 /// To judge a log by four files.
-const VERIFY: &[&str] = &[
+pub const VERIFY: &[&str] = &[
     "verify",
     "--chains=c",
     "--anchors=a",
