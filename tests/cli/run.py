@@ -25,7 +25,7 @@ A piece is `[COUNT*]TEXT`, and a text is `$NAME`, `x:HEX`, or plain text in whic
 one entry of a call log with that message. A line that can't be read fails the run.
 
 The program runs in a folder of its own and must write nothing to standard error. Needs the standard
-library alone. The last line counts the cases.
+library alone. The last line counts the cases. One case more stands here: a log of 100,000 calls.
 """
 import os
 import pathlib
@@ -136,11 +136,23 @@ def rows(program, path):
             yield f'{path.name}:{number}', *file.case(program, line)
 
 
+LONG_LOG = 100_000
+
+
+def long_log_case(program):
+    """A log of many calls, each of an empty message: a line for each, in its order."""
+    words = [b'verify', b'--chains=c', b'--anchors=a', b'--table=t', b'--answers=w']
+    got = run(program, words, b'@1 0\n' * LONG_LOG, dict.fromkeys('catw', b''))
+    wanted = b''.join(b'%d refused 400 1 0.0\n' % number for number in range(1, LONG_LOG + 1))
+    return (1, wanted, b''), got
+
+
 def cases(program):
     for case in sorted(path for path in HERE.iterdir() if (path / 'status').exists()):
         yield case.name, *folder_case(program, case)
     for path in sorted(HERE.glob('*.rows')):
         yield from rows(program, path)
+    yield 'long log', *long_log_case(program)
 
 
 def main():
@@ -150,7 +162,7 @@ def main():
         count += 1
         if wanted != got:
             failed += 1
-            print(f'{name}: wanted {wanted}, got {got}')
+            print(f'{name}: wanted {str(wanted)[:4000]}, got {str(got)[:4000]}')
     print(f'cli: {count - failed} passed, {failed} failed')
     return 0 if count and not failed else 1
 
