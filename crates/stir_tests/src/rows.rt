@@ -46,7 +46,15 @@ fn leaves_a_front_of_the_line_at_each_write(rt: HostRuntime) -> Result<(), Fail>
         assert_eq!(rt; done.status, 4, "{call}");
         assert_eq!(rt; done.sink.bytes(), &REPORT[..call - 1], "{call}");
         let shelf = world(rt.alloc(), &[])?;
-        let done = run_over(&rt, rt.alloc(), VERIFY, shelf, DIVERTED, &[], &[call as u64])?;
+        let done = run_over(
+            &rt,
+            rt.alloc(),
+            VERIFY,
+            shelf,
+            DIVERTED,
+            &[],
+            &[call as u64],
+        )?;
         assert_eq!(rt; done.status, 4, "{call}");
         assert_eq!(rt; done.sink.bytes(), &REPORT[..call - 1], "{call}");
     }
