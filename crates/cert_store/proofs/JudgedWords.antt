@@ -13,7 +13,8 @@ use Rattle.delegation.specs.Path.{IsAnchor, Path, anchor_of, issuer_of, shape_of
 use Rattle.delegation.proofs.PathLaws.{path_again, path_found}
 use Rattle.cert_store.specs.declared.judged.Asked.{Asked}
 use Rattle.cert_store.specs.declared.judged.Asked.TheVariants.{NotAsked, Yes, No, Failed}
-use Rattle.stir_outside.specs.Count.{Rose, last_count}
+use Rattle.stir_outside.proofs.CountLaws.{not_rose}
+use Rattle.stir_outside.specs.Count.{last_count}
 use Rattle.cert_store.specs.Asking.{FailedWithCause, SoFar, asked_by}
 use Rattle.cert_store.specs.Judged.{IsJudged, JudgedAs, JudgedView, QuietIs, asked_where, judged_of, out_of_date}
 use Rattle.cert_store.specs.Links.{by_number, chain_in, first_or, links_from, links_of, path_of, path_up_to, read_file, read_or_nothing}
@@ -225,21 +226,16 @@ keys_are anchors table says bytes judged j anchor path =
 
 -- ---- where nothing failed
 
-no_rise : (faults faults_now : ℕ) → faults_now ≡ faults → faults ≢ last_count → Rose faults faults_now → ⊥
-no_rise faults faults_now same below rose =
-    let higher : faults < faults_now = rose (λ e. below (sym same ∙ e)) in
-    omega (arith, higher, same)
-
 told_all : (faults faults_now : ℕ) (truth asked : Asked) → faults_now ≡ faults → faults ≢ last_count → SoFar truth asked → FailedWithCause faults faults_now asked → asked ≡ truth
 told_all faults faults_now truth NotAsked same below s c = sym s
 told_all faults faults_now truth Yes same below s c = sym s
 told_all faults faults_now truth (No part) same below s c = sym s
-told_all faults faults_now truth (Failed part) same below s c = absurd (no_rise faults faults_now same below c.1)
+told_all faults faults_now truth (Failed part) same below s c = absurd (not_rose faults faults_now (record { same = same; below_last = below }) c.1)
 
 unfailed_by : (faults faults_now : ℕ) (asked : Asked) → faults_now ≡ faults → faults ≢ last_count → FailedWithCause faults faults_now asked → (part : ℕ) → asked ≢ Failed part
 unfailed_by faults faults_now asked same below c part is =
     let failed : FailedWithCause faults faults_now (Failed part) = subst (FailedWithCause faults faults_now) is c in
-    no_rise faults faults_now same below failed.1
+    not_rose faults faults_now (record { same = same; below_last = below }) failed.1
 
 abbrev with_answer : JudgedView → Asked → JudgedView
 with_answer truth asked = record truth { asked = asked }

@@ -1,9 +1,8 @@
 -- A text is read as a chain map's rows exactly where its lines say these rows, none lists what one before it lists, and they are not
 -- too many.
-use Rattle.std.proofs.Common.{◌≡◌, ℕ, ◌<◌, ◌≤◌, ◌⊎◌, inl, inr, Bool, true, false, nat_le, cond, List, [], ◌∷◌, ◌++◌, length, map, Option, Some, None, option_and_then, Result, Ok, Err, ◌↔◌, refl, sym, ap, ◌∙◌, subst, append_assoc, append-nil, arith}
+use Rattle.std.proofs.Common.{◌≡◌, ℕ, ◌<◌, ◌≤◌, ◌⊎◌, inl, inr, Bool, true, false, nat_le, cond, List, [], length, map, Some, Result, Ok, Err, ◌↔◌, refl, sym, ap, ◌∙◌, subst, arith}
 use Rattle.std.proofs.lemmas.Bool.Decides.{nat_tests}
 use Rattle.text_file.specs.FileLines.{file_lines}
-use Rattle.text_file.specs.Reading.{go_on, read_lines}
 use Rattle.text_file.proofs.ReadingLaws.{refuses_found, refuses_again}
 use Rattle.cert_store.specs.ChainMap.{Row, row_of, is_repeated, add_row, first_lines, first_rows, within_limit, map_rows, ListsOnce, MapText, FirstBad}
 use Rattle.text_file.proofs.RowLaws.{rows_found, rows_again}
@@ -54,7 +53,7 @@ map_is text rows = (
   λ h.
       let k = few (length (file_lines text)) 50000 50001 (first_rows text) rows h in
       let s = rows_found row_of is_repeated (first_lines text) [] rows k.0 in
-      record { lines = s.say ∙ ap (map Some) (sym s.all); once = let P : List Row → Type 0 = λ rs. ListsOnce [] rs in subst P (sym s.all) s.once; count = k.1 },
+      record { lines = s.say ∙ ap (map Some) (sym s.all); once = let P : List Row → Type 0 = λ rs. ListsOnce [] rs in subst P (sym s.all) s.fits; count = k.1 },
   λ t. ap (within_limit text) (rows_again row_of is_repeated (first_lines text) [] rows t.lines t.once) ∙ few_again (length (file_lines text)) 50000 50001 rows t.count,
 )
 

@@ -1,9 +1,10 @@
 -- The chain map (this project's own rule): which file has the certificates of which x5u, the header parameter of RFC 7515,
 -- section 4.1.5. A line is `X5U FILE`, and a map has at most 50,000 lines, those that are passed over too.
-use Rattle.std.specs.Prelude.{◌≡◌, ℕ, ◌<◌, ◌≤◌, ◌⊎◌, Bool, false, ◌&&◌, nat_le, List, [], ◌∷◌, ◌++◌, length, map, filter, is_some, Option, Some, None, option_and_then, Result, Ok, Err, if◌then◌else◌}
+use Rattle.std.specs.Prelude.{◌≡◌, ℕ, ◌<◌, ◌≤◌, ◌⊎◌, Bool, ◌&&◌, nat_le, List, [], ◌∷◌, length, map, filter, is_some, Option, Some, None, option_and_then, Result, Ok, Err, if◌then◌else◌}
 use Rattle.std.specs.List.{list_all}
 use Rattle.std.specs.Map.{lookup}
 use Rattle.std.specs.Str.{bytes_eq}
+use Rattle.lists.specs.Given.{IsFaultOf}
 use Rattle.text_file.specs.FileLines.{file_lines, text_lines}
 use Rattle.text_file.specs.LineWords.{line_words}
 use Rattle.text_file.specs.Reading.{read_lines, Refuses}
@@ -11,7 +12,7 @@ use Rattle.text_grammar.specs.Bytes.{is_uri_byte, is_visible}
 use Rattle.cert_store.specs.Files.{Files}
 use Rattle.cert_store.specs.declared.map.MapFault.{MapFault}
 use Rattle.cert_store.specs.declared.map.MapFault.TheVariants.{Line, Memory}
-use Rattle.text_file.specs.Rows.{one_row, EachOnce}
+use Rattle.text_file.specs.Rows.{one_row, EachFits}
 
 -- ---- a line
 
@@ -82,7 +83,7 @@ map_rows text = within_limit text (first_rows text)
 
 -- no row lists the x5u of one before it
 abbrev pub ListsOnce : List Row → List Row → Type 0
-ListsOnce = EachOnce is_repeated
+ListsOnce = EachFits is_repeated
 
 -- the text is a chain map with these rows
 pub record MapText (text : List ℕ) (rows : List Row) : Type 0 where
@@ -112,7 +113,11 @@ pub record MapOf (text : List ℕ) (held : Files) : Type 0 where
   pub read : map_rows text ≡ Ok rows
   pub files : (x5u : List ℕ) → listed held x5u ≡ file_in rows x5u
 
+-- the line of a fault other than want of memory
+abbrev pub line_of : MapFault → Option ℕ
+line_of (Line number) = Some number
+line_of Memory = None
+
 -- the fault names the first bad line
 abbrev pub FaultOf : List ℕ → MapFault → Type 0
-FaultOf text (Line number) = map_rows text ≡ Err number
-FaultOf text Memory = Unit {0}
+FaultOf text fault = IsFaultOf (line_of fault) (map_rows text)

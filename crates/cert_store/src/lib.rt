@@ -1,4 +1,4 @@
-//! Certificate chains by x5u, the header parameter that says where the certificates of a signed token are (RFC 7515
+//! Certificate chains by x5u, the header parameter that says where the certificates of a signed token are (RFC 7515,
 //! section 4.1.5): which file has the chain of an x5u, and what the rules on a chain say of it.
 //!
 //! A [`ChainMap`] says which file has the certificates of which x5u. [`judge_chain`] judges the bytes of such a file once: all

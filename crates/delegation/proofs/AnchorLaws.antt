@@ -1,36 +1,20 @@
 -- Laws of reading anchors: it gives those that the bytes are, and those that they are are what it gives.
 use Rattle.std.proofs.Common.{◌≡◌, ℕ, zero, suc, ◌-◌, ◌<◌, ◌≤◌, ◌==◌, Bool, true, false, cond, List, [], ◌∷◌, ◌++◌, length, Result, Ok, Err, refl, sym, ap, subst, ◌∙◌, length-append, arith}
 use Rattle.std.proofs.lemmas.Bool.Decides.{nat_tests}
+use Rattle.lists.specs.Steps.{◌>>=◌}
+use Rattle.lists.proofs.Bytes.{no_byte}
+use Rattle.lists.proofs.StepLaws.{came, inside}
 use Rattle.der_reader.specs.declared.fault.DerFault.{DerFault}
 use Rattle.der_reader.specs.Elem.{AllBytes, BeginsWith, Element}
 use Rattle.der_reader.specs.Next.{next_at}
-use Rattle.der_reader.proofs.NextLaws.{next_found, next_again, parts_are_bytes}
+use Rattle.der_reader.proofs.NextLaws.{all_front, next_found, next_again, parts_are_bytes}
 use Rattle.x509_profile.specs.View.{CertView}
 use Rattle.x509_profile.specs.Cert.{Cert}
 use Rattle.x509_profile.specs.Read.{read_certificate}
 use Rattle.x509_profile.proofs.CertLaws.{cert_found, cert_again}
 use Rattle.delegation.specs.declared.fault.AnchorFault.{AnchorFault}
-use Rattle.delegation.specs.declared.fault.AnchorFault.TheVariants.{At, Memory}
 use Rattle.delegation.specs.Usage.{may_certify}
-use Rattle.delegation.specs.Anchors.{AnchorText, AreAnchors, Gives, ◌>>=◌, anchor_at, anchor_of, anchors_at, anchors_in, as_anchor}
-
--- an equation of two answers that are Ok is one of what they hold
-inside : {X E : Type 0} (x y : X) → ◌≡◌ {A = Result X E} (Ok x) (Ok y) → x ≡ y
-inside x y e = cc
-
--- an answer behind a step comes from what the step gave
-came : {A B : Type 0} (r : Result A ℕ) (f : A → Result B ℕ) (b : B) → r >>= f ≡ Ok b → (a : A) × (r ≡ Ok a) × (f a ≡ Ok b)
-came (Ok a) f b e = (a, refl, e)
-came (Err x) f b e = cc
-
-no_byte : (l : List ℕ) → length l == 0 ≡ true → l ≡ []
-no_byte [] e = refl
-no_byte (x ∷ xs) e = absurd (grind (arith, nat_tests))
-
-front_bytes : (xs ys : List ℕ) → AllBytes (xs ++ ys) → AllBytes xs
-front_bytes [] ys b i = omega arith
-front_bytes (x ∷ xs) ys b zero = b 0
-front_bytes (x ∷ xs) ys b (suc i) = front_bytes xs ys (λ i. b (suc i)) i
+use Rattle.delegation.specs.Anchors.{AnchorText, AreAnchors, Gives, anchor_at, anchor_of, anchors_at, anchors_in, as_anchor}
 
 -- an anchor that stands there, and what is behind it
 record Standing (bytes : List ℕ) (c : CertView) (behind : List ℕ) : Type 0 where
@@ -66,7 +50,7 @@ anchor_found place bytes next b e = of (next_at bytes) refl e
     of (Ok found) is e =
         let begins : BeginsWith bytes found.0 found.1 = next_found bytes found b is in
         read found (read_certificate found.0.whole) begins
-        (λ c k. cert_found found.0.whole c (front_bytes found.0.whole found.1 (subst AllBytes begins.split b)) k) e
+        (λ c k. cert_found found.0.whole c (all_front found.0.whole found.1 (subst AllBytes begins.split b)) k) e
     of (Err x) is e = cc
 
 anchor_again : (place : ℕ) (c : CertView) (behind : List ℕ) → Cert c.whole c → may_certify c ≡ true
@@ -141,6 +125,4 @@ one_list bytes a b x y = inside a b (sym (anchors_again bytes a x) ∙ anchors_a
 pub answer_only : (bytes : List ℕ) (r : Result (List CertView) AnchorFault) (anchors : List CertView)
     → Gives {X = List CertView} {Y = List CertView} (λ a. a) r (anchors_in bytes) → AnchorText bytes anchors
     → Gives {X = List CertView} {Y = List CertView} (λ a. a) r (Ok anchors)
-answer_only bytes (Ok found) anchors e t = sym (anchors_again bytes anchors t) ∙ e
-answer_only bytes (Err (At place)) anchors e t = sym (anchors_again bytes anchors t) ∙ e
-answer_only bytes (Err Memory) anchors e t = tt
+answer_only bytes r anchors e t = subst (Gives {X = List CertView} {Y = List CertView} (λ a. a) r) (anchors_again bytes anchors t) e

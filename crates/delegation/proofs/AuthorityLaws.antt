@@ -3,6 +3,8 @@ use Rattle.std.proofs.Common.{◌≡◌, ◌↔◌, ℕ, suc, true, false, Bool,
 use Rattle.std.specs.Cmp.Derive.{both_true}
 use Rattle.std.specs.List.{fold, list_any}
 use Rattle.std.specs.Prelude.{IfOk}
+use Rattle.lists.proofs.Bytes.{bytes_same, same_bytes}
+use Rattle.std.proofs.lemmas.Bool.{and_parts, or_cases, or_left, or_right, or_parts}
 use Rattle.tn_values.specs.Number.{is_number}
 use Rattle.tn_values.specs.NumberSet.{SetView, SetHolds, IsWithin, Outside}
 use Rattle.tn_auth_list.specs.CodeTable.{SomeOf}
@@ -13,7 +15,6 @@ use Rattle.tn_auth_list.specs.declared.entries.Entry.{Entry}
 use Rattle.tn_auth_list.specs.declared.entries.Entry.TheVariants.{Code, Range, Single}
 use Rattle.delegation.specs.Coverage.{Table, In, Owns, Covers, CoveredBy, NamesCode, ListWithin, Within}
 use Rattle.delegation.specs.Gathered.{is_code, names_code, has_code_of, has_codes_of, is_all, stands_for_all, no_numbers, with_own, with_code}
-use Rattle.delegation.proofs.Lists.{both, bytes_same, same_bytes, either_true, or_first, or_second, neither}
 use Rattle.delegation.proofs.SetLaws.{Grants, owns_found, owns_added, codes_found, codes_kept, codes_added}
 
 -- ---- codes
@@ -29,21 +30,21 @@ is_the_code entry code h = ap (is_code code) h ∙ same_bytes code
 names : (entries : List Entry) (code : List ℕ) → names_code entries code ≡ true → NamesCode entries code
 names [] code h = absurd cc
 names (entry ∷ entries) code h =
-    elim (either_true (is_code code entry) (names_code entries code) h)
+    elim (or_cases (is_code code entry) (names_code entries code) h)
     [ inl here ↦ inl (code_is entry code here) | inr more ↦ inr (names entries code more) ]
 
 named : (entries : List Entry) (code : List ℕ) → NamesCode entries code → names_code entries code ≡ true
 named [] code h = absurd h
-named (entry ∷ entries) code (inl same) = or_first (is_code code entry) (names_code entries code) (is_the_code entry code same)
-named (entry ∷ entries) code (inr more) = or_second (is_code code entry) (names_code entries code) (named entries code more)
+named (entry ∷ entries) code (inl same) = or_left (is_code code entry) (names_code entries code) (is_the_code entry code same)
+named (entry ∷ entries) code (inr more) = or_right (is_code code entry) (names_code entries code) (named entries code more)
 
 pub codes_had : (parent child : List Entry) → has_codes_of parent child ≡ true → (code : List ℕ) → NamesCode child code → NamesCode parent code
 codes_had parent [] h code p = absurd p
 codes_had parent (entry ∷ child) h code (inl same) =
-    let each = both (has_code_of parent entry) (has_codes_of parent child) h in
+    let each = and_parts (has_code_of parent entry) (has_codes_of parent child) h in
     names parent code (sym (ap (has_code_of parent) same) ∙ each.0)
 codes_had parent (entry ∷ child) h code (inr more) =
-    let each = both (has_code_of parent entry) (has_codes_of parent child) h in
+    let each = and_parts (has_code_of parent entry) (has_codes_of parent child) h in
     codes_had parent child each.1 code more
 
 had_by : (parent : List Entry) (entry : Entry) → ((code : List ℕ) → entry ≡ Code code → NamesCode parent code) → has_code_of parent entry ≡ true
@@ -71,7 +72,7 @@ stands table (Single own) number h = absurd cc
 all_covered : (table : Table) (entries : List Entry) (number : List ℕ) → list_any (stands_for_all table) entries ≡ true → Covers entries table number
 all_covered table [] number h = absurd cc
 all_covered table (entry ∷ entries) number h =
-    elim (either_true (stands_for_all table entry) (list_any (stands_for_all table) entries) h)
+    elim (or_cases (stands_for_all table entry) (list_any (stands_for_all table) entries) h)
     [ inl here ↦ inl (stands table entry number here) | inr more ↦ inr (all_covered table entries number more) ]
 
 -- ---- lists
@@ -128,9 +129,9 @@ own_or_code : (entries : List Entry) (table : Table) (number : List ℕ) → lis
     → SomeOf (Owns number) entries ⊎ ByCode entries table number
 own_or_code [] table number some h = absurd h
 own_or_code (entry ∷ entries) table number some (inl here) =
-    by_entry entry entries table number (neither (stands_for_all table entry) (list_any (stands_for_all table) entries) some).0 here
+    by_entry entry entries table number (or_parts (stands_for_all table entry) (list_any (stands_for_all table) entries) some).0 here
 own_or_code (entry ∷ entries) table number some (inr more) =
-    elim (own_or_code entries table number (neither (stands_for_all table entry) (list_any (stands_for_all table) entries) some).1 more) [
+    elim (own_or_code entries table number (or_parts (stands_for_all table entry) (list_any (stands_for_all table) entries) some).1 more) [
       | inl owned ↦ inl (inr owned)
       | inr code ↦ inr (record { code = code.code; named = inr code.named; some = code.some; granted = code.granted })
     ]

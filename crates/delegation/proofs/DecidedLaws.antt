@@ -1,6 +1,7 @@
 -- The test of lying within decides it.
 use Rattle.std.proofs.Common.{◌≡◌, ◌↔◌, ℕ, zero, suc, Bool, true, false, cond, ◌||◌, inl, inr, List, [], ◌∷◌, Option, Some, None, Result, Ok, Err, refl, sym, ap, ◌∙◌, subst, arith}
-use Rattle.std.proofs.lemmas.Bool.{true_from_ne_false}
+use Rattle.lists.proofs.Bytes.{bytes_same, same_bytes}
+use Rattle.std.proofs.lemmas.Bool.{true_from_ne_false, and_parts, or_cases, or_left, or_right}
 use Rattle.std.proofs.lemmas.Bool.Decides.{same_from_decides}
 use Rattle.std.specs.Cmp.Derive.{both_true}
 use Rattle.std.specs.List.{list_all, list_any}
@@ -21,7 +22,6 @@ use Rattle.tn_auth_list.specs.declared.entries.Entry.TheVariants.{Code, Range, S
 use Rattle.delegation.specs.Coverage.{Table, In, Owns, Covers, ListWithin, Within}
 use Rattle.delegation.specs.Gathered.{has_codes_of, no_numbers}
 use Rattle.delegation.specs.Decided.{is_owned, is_granted, is_in, owns_number, covers_number, keeps_number, is_list_within, is_within}
-use Rattle.delegation.proofs.Lists.{both, bytes_same, same_bytes, either_true, or_first, or_second}
 use Rattle.delegation.proofs.SetLaws.{owns_added}
 use Rattle.delegation.proofs.AuthorityLaws.{codes_had, itself, without_code}
 
@@ -31,13 +31,13 @@ use Rattle.delegation.proofs.AuthorityLaws.{codes_had, itself, without_code}
 some_found : {X : Type 0} (P : X → Type 0) (test : X → Bool) → ((x : X) → test x ≡ true → P x) → (xs : List X) → list_any test xs ≡ true → SomeOf P xs
 some_found P test means [] h = absurd cc
 some_found P test means (x ∷ xs) h =
-    elim (either_true (test x) (list_any test xs) h) [ inl here ↦ inl (means x here) | inr more ↦ inr (some_found P test means xs more) ]
+    elim (or_cases (test x) (list_any test xs) h) [ inl here ↦ inl (means x here) | inr more ↦ inr (some_found P test means xs more) ]
 
 -- where some entry is what a test means, some entry passes it
 some_tested : {X : Type 0} (P : X → Type 0) (test : X → Bool) → ((x : X) → P x → test x ≡ true) → (xs : List X) → SomeOf P xs → list_any test xs ≡ true
 some_tested P test tests [] p = absurd p
-some_tested P test tests (x ∷ xs) (inl p) = or_first (test x) (list_any test xs) (tests x p)
-some_tested P test tests (x ∷ xs) (inr more) = or_second (test x) (list_any test xs) (some_tested P test tests xs more)
+some_tested P test tests (x ∷ xs) (inl p) = or_left (test x) (list_any test xs) (tests x p)
+some_tested P test tests (x ∷ xs) (inr more) = or_right (test x) (list_any test xs) (some_tested P test tests xs more)
 
 -- ---- one number
 
@@ -56,7 +56,7 @@ one_span span number (inr (k, inside, is)) = absurd (omega (arith, inside))
 owned_means : (number : List ℕ) (entry : Entry) → is_owned number entry ≡ true → Owns number entry
 owned_means number (Code code) h = absurd cc
 owned_means number (Range span) h =
-    one_span span number (has_means (set_of (span ∷ []) []) number (or_first (spans_have (span ∷ []) number) false h))
+    one_span span number (has_means (set_of (span ∷ []) []) number (or_left (spans_have (span ∷ []) number) false h))
 owned_means number (Single own) h = bytes_same own number h
 
 means_owned : (number : List ℕ) (entry : Entry) → Owns number entry → is_owned number entry ≡ true
@@ -128,7 +128,7 @@ means_keeps child parent table number covers =
 list_means : (child parent : List Entry) (table : Table) → is_list_within child parent table ≡ true → ListWithin child parent table
 unfolding is_list_within
 list_means child parent table h =
-    let each = both (has_codes_of parent child) (list_all (keeps_number child parent table) every_number) h in
+    let each = and_parts (has_codes_of parent child) (list_all (keeps_number child parent table) every_number) h in
     record {
       codes = codes_had parent child each.0;
       numbers = λ number is owned. keeps_means child parent table number (all_tested (keeps_number child parent table) each.1 number is) owned;

@@ -1,10 +1,7 @@
 -- What holds of some entry of a list, by its place and at the ends of lists.
-use Rattle.std.proofs.Common.{◌≡◌, ℕ, zero, suc, ◌<◌, ◌≤◌, true, false, Bool, ◌&&◌, ◌||◌, ◌==◌, ◌⊎◌, inl, inr, List, [], ◌∷◌, ◌++◌, length, drop, Any, arith, refl, sym, subst}
-use Rattle.std.proofs.lemmas.Bool.Decides.{nat_tests}
+use Rattle.std.proofs.Common.{◌≡◌, ℕ, zero, suc, ◌<◌, ◌≤◌, ◌⊎◌, inl, inr, List, [], ◌∷◌, ◌++◌, length, drop, Any, arith, sym, subst}
 use Rattle.std.proofs.lemmas.List.Elements.{Contains-append_left, Contains-append_right, Contains-append_cases, Contains-push_cases}
-use Rattle.std.specs.Cmp.Derive.{both_true}
 use Rattle.std.specs.List.{slice_index_or}
-use Rattle.std.specs.Str.{bytes_eq}
 use Rattle.tn_auth_list.specs.CodeTable.{SomeOf}
 
 -- ---- by place
@@ -43,39 +40,3 @@ any_cases P xs ys (k, x, inside, is, p) =
 pub any_push_cases : {X : Type 0} (P : X → Type 0) (xs : List X) (y : X) → Any P (xs ++ y ∷ []) → Any P xs ⊎ P y
 any_push_cases P xs y (k, x, inside, is, p) =
     elim (Contains-push_cases xs y x (k, inside, is)) [ inl c ↦ inl (c.0, x, c.1, c.2, p) | inr same ↦ inr (subst P (sym same) p) ]
-
--- ---- tests
-
-pub both : (a b : Bool) → (a && b) ≡ true → (a ≡ true) × (b ≡ true)
-both true b h = (refl, h)
-both false b h = cc
-
-pub bytes_same : (a b : List ℕ) → bytes_eq a b ≡ true → a ≡ b
-bytes_same [] [] h = refl
-bytes_same [] (y ∷ b) h = cc
-bytes_same (x ∷ a) [] h = cc
-bytes_same (x ∷ a) (y ∷ b) h =
-    let each = both (x == y) (bytes_eq a b) h in
-    let first : x ≡ y = grind (arith, nat_tests, each.0) in
-    let others = bytes_same a b each.1 in
-    cc
-
-pub same_bytes : (a : List ℕ) → bytes_eq a a ≡ true
-same_bytes [] = refl
-same_bytes (x ∷ a) = let first : (x == x) ≡ true = grind (arith, nat_tests) in both_true first (same_bytes a)
-
-pub either_true : (a b : Bool) → (a || b) ≡ true → (a ≡ true) ⊎ (b ≡ true)
-either_true true b h = inl refl
-either_true false b h = inr h
-
-pub or_first : (a b : Bool) → a ≡ true → (a || b) ≡ true
-or_first true b h = refl
-or_first false b h = cc
-
-pub or_second : (a b : Bool) → b ≡ true → (a || b) ≡ true
-or_second true b h = refl
-or_second false b h = h
-
-pub neither : (a b : Bool) → (a || b) ≡ false → (a ≡ false) × (b ≡ false)
-neither true b h = absurd cc
-neither false b h = (refl, h)

@@ -3,23 +3,16 @@ use Rattle.std.proofs.Common.{◌≡◌, ℕ, zero, suc, ◌+◌, ◌-◌, ◌<�
 use Rattle.std.specs.List.{slice_get}
 use Rattle.std.specs.Result.{IsOkAnd}
 use Rattle.std.specs.Str.{bytes_eq}
+use Rattle.std.proofs.lemmas.Option.{same_Some}
 use Rattle.std.proofs.lemmas.Slice.Eq.{bytes_eq-Decides}
+use Rattle.lists.specs.Steps.{◌>>=◌}
+use Rattle.lists.proofs.StepLaws.{came, inside}
 use Rattle.x509_profile.specs.View.{CertView}
 use Rattle.delegation.specs.declared.fault.PathFault.{PathFault}
 use Rattle.delegation.specs.declared.found.Shape.{Shape}
 use Rattle.delegation.specs.Usage.{may_certify, may_sign}
-use Rattle.delegation.specs.Path.{◌>>=◌, IsAnchor, Issues, Path, fault_at, find_anchor, first_from, fits, is_listed, is_long_enough, last_of, link_at, shape_of, some_anchor}
+use Rattle.delegation.specs.Path.{IsAnchor, Issues, Path, fault_at, find_anchor, first_from, fits, is_listed, is_long_enough, last_of, link_at, shape_of, some_anchor}
 use Rattle.delegation.specs.Seen.{shape_view}
-
-inside : {X E : Type 0} (x y : X) → ◌≡◌ {A = Result X E} (Ok x) (Ok y) → x ≡ y
-inside x y e = cc
-
-inside_some : {X : Type 0} (x y : X) → Some x ≡ Some y → x ≡ y
-inside_some x y e = cc
-
-came : {A B : Type 0} (r : Result A PathFault) (f : A → Result B PathFault) (b : B) → r >>= f ≡ Ok b → (a : A) × (r ≡ Ok a) × (f a ≡ Ok b)
-came (Ok a) f b e = (a, refl, e)
-came (Err x) f b e = cc
 
 -- ---- one certificate above another
 
@@ -57,7 +50,7 @@ linked_one i below k c b e f = cc
 linked_more : (i : ℕ) (below c : CertView) (cs : List CertView) → Issues i c below → Linked (suc i) (c ∷ cs) → Linked i (below ∷ c ∷ cs)
 linked_more i below c cs s l zero d b e f =
     let same : i ≡ i + 0 = omega arith in
-    subst (λ n. Issues n d b) same (subst (λ d. Issues i d b) (inside_some c d e) (subst (λ b. Issues i c b) (inside_some below b f) s))
+    subst (λ n. Issues n d b) same (subst (λ d. Issues i d b) (same_Some c d e) (subst (λ b. Issues i c b) (same_Some below b f) s))
 linked_more i below c cs s l (suc k) d b e f =
     let same : suc i + k ≡ i + suc k = omega arith in
     subst (λ n. Issues n d b) same (l k d b e f)
@@ -87,7 +80,7 @@ last_again : (i : ℕ) (below last : CertView) (cs : List CertView) → slice_ge
     → last_of i below cs ≡ Ok last
 unfolding last_of
 last_again i below last [] e l =
-    let same : below ≡ last = inside_some below last e in
+    let same : below ≡ last = same_Some below last e in
     ap (λ (c : CertView). let r : Result CertView PathFault = Ok c in r) same
 last_again i below last (c ∷ cs) e l =
     let link : link_at i below c ≡ Ok c = link_again i below c (linked_first i below c cs l) in
@@ -108,7 +101,7 @@ first_later : (test : CertView → Bool) (c : CertView) (cs : List CertView) (k 
 first_later test c cs k t f = record { found = f.found; there = f.there; fits = f.fits; before = passed }
   where
     passed : (j : ℕ) (other : CertView) → j < suc k → slice_get (c ∷ cs) j ≡ Some other → test other ≡ false
-    passed zero other l e = ap test (sym (inside_some c other e)) ∙ t
+    passed zero other l e = ap test (sym (same_Some c other e)) ∙ t
     passed (suc j) other l e = f.before j other (omega (arith, l)) e
 
 first_found : (test : CertView → Bool) (i j : ℕ) (cs : List CertView) → first_from test i cs ≡ Some j → (k : ℕ) × (j ≡ i + k) × First test cs k
@@ -119,7 +112,7 @@ first_found test i j (c ∷ cs) e = of (λ e. first_found test (suc i) j cs e) (
     of : (first_from test (suc i) cs ≡ Some j → (k : ℕ) × (j ≡ suc i + k) × First test cs k)
         → (t : Bool) → test c ≡ t → cond t (Some i) (first_from test (suc i) cs) ≡ Some j → (k : ℕ) × (j ≡ i + k) × First test (c ∷ cs) k
     of again true t e =
-        let same : i ≡ j = inside_some i j e in
+        let same : i ≡ j = same_Some i j e in
         (zero, omega (arith, same), first_here test c cs t)
     of again false t e =
         let f = again e in
@@ -130,7 +123,7 @@ first_again : (test : CertView → Bool) (i k : ℕ) (cs : List CertView) → Fi
 unfolding first_from
 first_again test i k [] f = let e = f.there in cc
 first_again test i zero (c ∷ cs) f =
-    let t : test c ≡ true = ap test (inside_some c f.found f.there) ∙ f.fits in
+    let t : test c ≡ true = ap test (same_Some c f.found f.there) ∙ f.fits in
     let same : i ≡ i + 0 = omega arith in
     rw t (ap Some same)
 first_again test i (suc k) (c ∷ cs) f =
@@ -197,7 +190,7 @@ pub path_again : (chain anchors : List CertView) (a : Option ℕ) → Path chain
 unfolding shape_of
 path_again [] anchors a p = let e = p.is_leaf in cc
 path_again (leaf ∷ above) anchors a p =
-    let same : leaf ≡ p.leaf = inside_some leaf p.leaf p.is_leaf in
+    let same : leaf ≡ p.leaf = same_Some leaf p.leaf p.is_leaf in
     let signs : may_sign leaf ≡ true = ap may_sign same ∙ p.leaf_use in
     let count = p.count in
     let size : p.below ≡ length above = omega (arith, count) in

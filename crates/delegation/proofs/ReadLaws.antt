@@ -5,7 +5,8 @@ use Rattle.std.specs.Borrow.{Bor}
 use Rattle.x509_profile.specs.View.{CertView}
 use Rattle.delegation.specs.declared.fault.AnchorFault.{AnchorFault}
 use Rattle.delegation.specs.declared.fault.AnchorFault.TheVariants.{At, Memory}
-use Rattle.delegation.specs.Anchors.{◌>>=◌, Gives, anchor_at, anchors_at, anchors_in}
+use Rattle.lists.specs.Steps.{◌>>=◌}
+use Rattle.delegation.specs.Anchors.{Gives, anchor_at, anchors_at, anchors_in}
 
 -- anchors that were found before those that are left
 abbrev pub continued : List CertView → Result (List CertView) ℕ → Result (List CertView) ℕ

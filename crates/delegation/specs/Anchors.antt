@@ -1,5 +1,7 @@
 -- Trust anchors, as a file of certificates one after another (RFC 5280, section 6.1.1 (d)).
-use Rattle.std.specs.Prelude.{◌≡◌, ℕ, zero, suc, ◌-◌, ◌==◌, ◌≤◌, List, [], ◌∷◌, ◌++◌, length, true, Result, Ok, Err, ⊤, if◌then◌else◌}
+use Rattle.std.specs.Prelude.{◌≡◌, ℕ, zero, suc, ◌-◌, ◌==◌, ◌≤◌, List, [], ◌∷◌, ◌++◌, length, true, Option, Some, None, Result, Ok, Err, ⊤, if◌then◌else◌}
+use Rattle.lists.specs.Given as given
+use Rattle.lists.specs.Steps.{◌>>=◌}
 use Rattle.der_reader.specs.declared.fault.DerFault.{DerFault}
 use Rattle.der_reader.specs.Elem.{Element}
 use Rattle.der_reader.specs.Next.{next_at}
@@ -22,12 +24,6 @@ pub record AnchorText (bytes : List ℕ) (anchors : List CertView) : Type 0 wher
   pub each : AreAnchors anchors bytes
 
 -- ---- what reading them gives: the anchors, or the offset of the first that is none
-
--- the next step of a reading, at what was read before it
-infixl 10 ◌>>=◌
-abbrev pub ◌>>=◌ : {A B : Type 0} → Result A ℕ → (A → Result B ℕ) → Result B ℕ
-Ok x >>= f = f x
-Err place >>= f = Err place
 
 -- a certificate that may certify others, and what stands behind it
 abbrev pub as_anchor : {E : Type 0} → ℕ → List ℕ → Result CertView E → Result (CertView × List ℕ) ℕ
@@ -55,11 +51,14 @@ anchors_at all (suc room) rest =
 abbrev pub anchors_in : List ℕ → Result (List CertView) ℕ
 anchors_in bytes = anchors_at bytes 256 bytes
 
+-- a fault other than want of memory
+abbrev pub fault_seen : AnchorFault → Option ℕ
+fault_seen (At place) = Some place
+fault_seen Memory = None
+
 -- The code gives what is read, or its place; want of memory is free.
 abbrev pub Gives : {X Y : Type 0} → (X → Y) → Result X AnchorFault → Result Y ℕ → Type 0
-Gives seen (Ok x) read = read ≡ Ok (seen x)
-Gives seen (Err (At place)) read = read ≡ Err place
-Gives seen (Err Memory) read = ⊤
+Gives seen result read = given.Gives fault_seen seen result read
 
 -- a fault's place is no further than this
 abbrev pub IsPlacedUpTo : {X : Type 0} → ℕ → Result X AnchorFault → Type 0

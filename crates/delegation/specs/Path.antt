@@ -3,6 +3,7 @@
 use Rattle.std.specs.Prelude.{◌≡◌, ℕ, suc, ◌+◌, ◌-◌, ◌<◌, nat_lt, Bool, true, false, List, [], ◌∷◌, length, Option, Some, None, Result, Ok, Err, if◌then◌else◌}
 use Rattle.std.specs.List.{list_any, slice_get}
 use Rattle.std.specs.Str.{bytes_eq}
+use Rattle.lists.specs.Steps.{◌>>=◌}
 use Rattle.x509_profile.specs.View.{CertView}
 use Rattle.delegation.specs.declared.fault.PathFault.{PathFault}
 use Rattle.delegation.specs.Usage.{may_certify, may_sign}
@@ -76,12 +77,6 @@ issuer_of chain anchors anchor i =
     if nat_lt i (length chain) then slice_get chain i else anchor_of chain anchors anchor
 
 -- ---- the path's anchor, or the first fault
-
--- the next step
-infixl 10 ◌>>=◌
-abbrev pub ◌>>=◌ : {A B : Type 0} → Result A PathFault → (A → Result B PathFault) → Result B PathFault
-Ok x >>= f = f x
-Err fault >>= f = Err fault
 
 -- certificate i, where it is the issuer of the one before it
 unfoldable pub link_at : ℕ → CertView → CertView → Result CertView PathFault

@@ -40,7 +40,7 @@ impl Anchors {
     /// The anchors that the bytes are.
     ///
     /// The bytes are at most 256 certificates of the profile one after another, each of which may certify
-    /// others: it is a certificate authority's, and has keyCertSign where it has key usages (RFC 5280
+    /// others: it is a certificate authority's, and has keyCertSign where it has key usages (RFC 5280,
     /// sections 4.2.1.3 and 4.2.1.9). The place of a fault is the offset of the first that isn't such a
     /// certificate, or of the 257th. No bytes are no anchors.
     pub fn read(alloc: Global, bytes: &[u8]) -> Result<Anchors, AnchorFault>

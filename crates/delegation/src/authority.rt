@@ -59,6 +59,7 @@ pub fn within(
     }
 }
 
+/// Whether the list of a certificate lies within that of its issuer.
 fn list_within(
     alloc: Global,
     child: &[Entry],
@@ -85,6 +86,7 @@ fn has_codes_of(parent: &[Entry], child: &[Entry]) -> bool
     child.iter().all(|entry| has_code_of(parent, entry))
 }
 
+/// Whether the entry is a code of the parent, or no code.
 fn has_code_of(parent: &[Entry], entry: &Entry) -> bool
     ensures { result ≡ has_code_of parent.now entry.now }
 {
@@ -94,12 +96,14 @@ fn has_code_of(parent: &[Entry], entry: &Entry) -> bool
     }
 }
 
+/// Whether the entries name the code.
 fn names_code(entries: &[Entry], code: &Code) -> bool
     ensures { result ≡ names_code entries.now code.now }
 {
     entries.iter().any(|entry| is_code(entry, code))
 }
 
+/// Whether the entry is this code.
 fn is_code(entry: &Entry, code: &Code) -> bool
     ensures { result ≡ is_code code.now entry.now }
 {
@@ -116,6 +120,7 @@ fn some_stands_for_all(entries: &[Entry], table: &CodeTable) -> bool
     entries.iter().any(|entry| stands_for_all(entry, table))
 }
 
+/// Whether the entry is a code for which the table has every number.
 fn stands_for_all(entry: &Entry, table: &CodeTable) -> bool
     ensures { result ≡ stands_for_all table.now entry.now }
 {
@@ -125,6 +130,7 @@ fn stands_for_all(entry: &Entry, table: &CodeTable) -> bool
     }
 }
 
+/// Whether the grant is of every number.
 fn is_all(grant: Grant<'_>) -> bool
     ensures { result ≡ is_all (grant_view grant.entry) }
 {

@@ -21,6 +21,7 @@ pub fn covers(list: &AuthList, number: &Number, table: &CodeTable) -> bool
     some_holds(list.entries(), number, table)
 }
 
+/// Whether some entry holds the number.
 fn some_holds(entries: &[Entry], number: &Number, table: &CodeTable) -> bool
     ensures { IsTrue result ↔ Covers entries.now table.now number.now }
 {
@@ -32,6 +33,7 @@ fn some_holds(entries: &[Entry], number: &Number, table: &CodeTable) -> bool
     false
 }
 
+/// Whether the entry holds the number; a code holds what the table grants it.
 fn holds(entry: &Entry, number: &Number, table: &CodeTable) -> bool
     ensures { IsTrue result ↔ In table.now number.now entry.now }
 {
@@ -42,6 +44,7 @@ fn holds(entry: &Entry, number: &Number, table: &CodeTable) -> bool
     }
 }
 
+/// Whether the number is among what is granted.
 fn is_granted(grant: Grant<'_>, number: &Number) -> bool
     ensures { IsTrue result ↔ GrantHolds (grant_view grant.entry) number.now }
 {

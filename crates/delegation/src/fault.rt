@@ -64,6 +64,7 @@ impl PathFault {
     /// The leaf's key may not sign (RFC 5280, section 4.2.1.3).
     pub const LEAF_USE: u8 = 6;
 
+    /// A fault of this kind at the certificate of this number.
     pub(crate) fn new(kind: u8, place: u8) -> PathFault
         ensures { result ≡ fault_at kind place }
     {

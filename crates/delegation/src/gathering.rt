@@ -32,6 +32,7 @@ impl Model for Gathered {
 }
 
 impl Gathered {
+    /// No numbers yet.
     fn new(alloc: Global) -> Gathered
         ensures { result ≡ no_numbers }
     {
@@ -41,6 +42,7 @@ impl Gathered {
         }
     }
 
+    /// Adds the range or the number that the entry is; a code has none of its own.
     fn add_own(&mut self, entry: &Entry) -> Result<(), Memory>
         ensures { OnOk result (self.new ≡ with_own self.old entry.now) }
     {
@@ -52,6 +54,7 @@ impl Gathered {
         Ok(())
     }
 
+    /// Adds what a code is granted, where that is a set.
     fn add_granted(&mut self, grant: Grant<'_>) -> Result<(), Memory>
         ensures { OnOk result (self.new ≡ with_held self.old (grant_view grant.entry)) }
     {
@@ -61,6 +64,7 @@ impl Gathered {
         }
     }
 
+    /// Adds the spans and singles of a set.
     fn add_set(&mut self, set: &NumberSet) -> Result<(), Memory>
         ensures { OnOk result (self.new ≡ with_set self.old set.now) }
     {
@@ -69,6 +73,7 @@ impl Gathered {
         Ok(())
     }
 
+    /// The set of all that was gathered.
     fn finish(self) -> Result<NumberSet, Memory>
         ensures { IfOk result (λ set. (number : List ℕ) → SetHolds set number ↔ SetHolds self number) }
     {
@@ -98,6 +103,7 @@ pub(crate) fn covered_numbers(
     gathered_codes(own, &codes, table)?.finish()
 }
 
+/// The ranges and numbers of the entries.
 fn gathered_own(alloc: Global, entries: &[Entry]) -> Result<Gathered, Memory>
     ensures { IfOk result (λ gathered. gathered ≡ fold with_own no_numbers entries.now) }
 {
@@ -108,6 +114,7 @@ fn gathered_own(alloc: Global, entries: &[Entry]) -> Result<Gathered, Memory>
     Ok(gathered)
 }
 
+/// What was gathered, with what the table grants each code.
 fn gathered_codes(own: Gathered, codes: &[Code], table: &CodeTable) -> Result<Gathered, Memory>
     ensures { IfOk result (λ gathered. gathered ≡ fold (with_code table.now) own codes.now) }
 {

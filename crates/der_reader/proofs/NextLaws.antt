@@ -20,7 +20,7 @@ record HeaderText (bytes : List ℕ) (h : Header) : Type 0 where
   some : 0 < h.size
   text : take h.size bytes ≡ h.tag ∷ length_text h.content_size
 
-short_text : (n : ℕ) → n < 128 → length_text n ≡ n ∷ []
+pub short_text : (n : ℕ) → n < 128 → length_text n ≡ n ∷ []
 unfolding length_text
 short_text n l = grind (arith, nat_tests)
 
@@ -321,10 +321,16 @@ all_behind : (xs ys : List ℕ) → AllBytes (xs ++ ys) → AllBytes ys
 all_behind [] ys b = b
 all_behind (x ∷ xs) ys b = all_behind xs ys (λ i. b (suc i))
 
-all_front : (xs ys : List ℕ) → AllBytes (xs ++ ys) → AllBytes xs
+pub all_front : (xs ys : List ℕ) → AllBytes (xs ++ ys) → AllBytes xs
 all_front [] ys b i = omega arith
 all_front (x ∷ xs) ys b zero = b 0
 all_front (x ∷ xs) ys b (suc i) = all_front xs ys (λ i. b (suc i)) i
+
+pub take_bytes : (n : ℕ) (xs : List ℕ) → AllBytes xs → AllBytes (take n xs)
+take_bytes zero xs b i = omega arith
+take_bytes (suc n) [] b i = omega arith
+take_bytes (suc n) (x ∷ xs) b zero = b 0
+take_bytes (suc n) (x ∷ xs) b (suc i) = take_bytes n xs (λ i. b (suc i)) i
 
 -- What an element and its rest are made of are bytes too.
 pub parts_are_bytes : (bytes : List ℕ) (element : Element) (rest : List ℕ) → AllBytes bytes → BeginsWith bytes element rest

@@ -6,7 +6,7 @@ use Rattle.der_reader.specs.declared.element.Der.{Der}
 abbrev pub AllBytes : List ℕ → Type 0
 AllBytes bytes = (i : ℕ) → slice_index bytes i < 0x100
 
--- The one minimal length of so many bytes (X.690 8.1.3.3 to 8.1.3.5 and 10.1): one byte below 0x80,
+-- The one minimal length of so many bytes (X.690, sections 8.1.3.3 to 8.1.3.5 and 10.1): one byte below 0x80,
 -- or 81 and a byte, or 82 and two bytes, the higher first.
 unfoldable pub length_text : ℕ → List ℕ
 length_text size =
@@ -19,7 +19,7 @@ abbrev pub element_text : ℕ → List ℕ → List ℕ
 element_text tag content = tag ∷ (length_text (length content) ++ content)
 
 -- The bytes are the element of this tag and content: the tag byte, whose low five bits aren't all set
--- (X.690 8.1.2.2), the one minimal length of the content, and the content, at most 65,535 bytes.
+-- (X.690, section 8.1.2.2), the one minimal length of the content, and the content, at most 65,535 bytes.
 pub record Elem (bytes : List ℕ) (tag : ℕ) (content : List ℕ) : Type 0 where
   pub low_tag : bit_and tag 0x1F ≢ 0x1F
   pub size : length content < 0x10000

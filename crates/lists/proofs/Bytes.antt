@@ -1,5 +1,5 @@
 -- Byte texts: when two are one, and what holds of all bytes of one.
-use Rattle.std.proofs.Common.{◌≡◌, ℕ, ◌<◌, Bool, true, ◌==◌, List, [], ◌∷◌, ◌++◌, reverse, refl, ap, ◌∙◌, arith}
+use Rattle.std.proofs.Common.{◌≡◌, ℕ, ◌<◌, Bool, true, ◌==◌, List, [], ◌∷◌, ◌++◌, length, reverse, refl, ap, ◌∙◌, arith}
 use Rattle.std.specs.List.{list_all}
 use Rattle.std.specs.Str.{IsAscii, bytes_eq}
 use Rattle.std.proofs.lemmas.Bool.{and_parts}
@@ -21,6 +21,11 @@ bytes_same a b e = (bytes_eq-Decides a b).0 e
 -- a text is equal to itself
 pub same_bytes : (a : List ℕ) → bytes_eq a a ≡ true
 same_bytes a = (bytes_eq-Decides a a).1 refl
+
+-- a text that the test finds empty has no bytes
+pub no_byte : (text : List ℕ) → length text == 0 ≡ true → text ≡ []
+no_byte [] e = refl
+no_byte (b ∷ bs) e = absurd (grind (arith, nat_tests))
 
 -- ---- all bytes of a text
 

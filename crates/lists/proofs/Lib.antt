@@ -1,3 +1,4 @@
 pub mod Bytes
+pub mod GivenLaws
 pub mod Options
 pub mod StepLaws

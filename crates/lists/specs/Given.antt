@@ -11,3 +11,13 @@ IsFaultOf (Some fault) read = read ≡ Err fault
 abbrev pub Gives : {X Y E F : Type 0} → (E → Option F) → (X → Y) → Result X E → Result Y F → Type 0
 Gives fault_seen seen (Ok x) read = read ≡ Ok (seen x)
 Gives fault_seen seen (Err fault) read = IsFaultOf (fault_seen fault) read
+
+-- no fault that the definition has: memory was wanting
+abbrev pub IsMemory : {F : Type 0} → Option F → Type 0
+IsMemory None = Unit {0}
+IsMemory (Some fault) = ⊥
+
+-- a value with this property came; or memory was wanting
+abbrev pub IsOkUnlessMemory : {X E F : Type 0} → (E → Option F) → Result X E → (X → Type 0) → Type 0
+IsOkUnlessMemory fault_seen (Ok value) P = P value
+IsOkUnlessMemory fault_seen (Err fault) P = IsMemory (fault_seen fault)

@@ -15,7 +15,7 @@ use Rattle.log_run.specs.Reading.{ReadCalls}
 use Rattle.log_run.specs.Rounds.{Round, calls_in}
 use Rattle.replay_law.specs.Held.{nothing}
 use Rattle.replay_law.specs.Law.{FirstOfAll, LegalTogether}
-use Rattle.stir_outside.specs.Count.{NotRisen, Rose}
+use Rattle.stir_outside.proofs.CountLaws.{not_rose}
 use Rattle.verify_service.specs.declared.outcome.Outcome.{Outcome}
 
 -- ---- the log of all bytes that were left
@@ -60,6 +60,7 @@ are_judged : LegalTogether → FirstOfAll → (judged : Entry → Outcome → Ty
     → AreJudged judged bench before.standing now.standing rounds
 are_judged legal first judged bench before now rounds mid empty b = record {
   cut = b.cut;
+  each = b.stands.each;
   legal = legal_of legal judged bench (first_at before) mid rounds empty b.stands;
   first_wins = λ one apart. first_of first judged bench rounds (legal_of legal judged bench (first_at before) mid rounds empty b.stands apart) (b.stands.in_order one);
   aside = aside_on bench before.standing mid.standing now.standing rounds b.stands.shelf_stays b.shelf_stays b.stands.provider_stays b.provider_stays b.stands.aside;
@@ -216,9 +217,6 @@ causes legal first judged bench before now status empty r =
 
 -- ---- which status comes
 
-rose_not : (before now : ℕ) → Rose before now → NotRisen before now → ⊥
-rose_not before now r n = omega (arith, n.same, r (λ e. n.below_last (sym n.same ∙ e)))
-
 not_faulty : OneLog → (judged : Entry → Outcome → Type 0) (bench : Bench) (before now : Around) (status : ℕ) (bytes : List ℕ) (calls : List Entry) → before.left ≡ Some bytes → LogText (start 0 0) bytes calls [] → EndedFaulty judged bench before now status → ⊥
 not_faulty law judged bench before now status bytes calls is whole e =
     let p = part_log e.mid.passed bytes e.mid.left (calls_in e.rounds) e.place (subst (λ l. ReadCalls (start 0 0) l e.mid.left e.mid.passed (calls_in e.rounds)) is e.base.stands.read) e.faulty in
@@ -233,15 +231,15 @@ not_whole law judged bench before now status bytes rest calls is part some e =
 answers_whole : OneLog → (judged : Entry → Outcome → Type 0) (bench : Bench) (before now : Around) (status : ℕ) → Ended judged bench before now status → AnswersWhole before now status
 answers_whole law judged bench before now status (inl e) bytes calls is whole reads writes = inl (omega (arith, e.said, low_status e.mid.all_good))
 answers_whole law judged bench before now status (inr (inl e)) bytes calls is whole reads writes = absurd (not_faulty law judged bench before now status bytes calls is whole e)
-answers_whole law judged bench before now status (inr (inr (inl e))) bytes calls is whole reads writes = absurd (rose_not before.outside.reads now.outside.reads e.rose reads)
-answers_whole law judged bench before now status (inr (inr (inr (inl e)))) bytes calls is whole reads writes = absurd (rose_not before.outside.writes now.outside.writes e.rose writes)
+answers_whole law judged bench before now status (inr (inr (inl e))) bytes calls is whole reads writes = absurd (not_rose before.outside.reads now.outside.reads reads e.rose)
+answers_whole law judged bench before now status (inr (inr (inr (inl e)))) bytes calls is whole reads writes = absurd (not_rose before.outside.writes now.outside.writes writes e.rose)
 answers_whole law judged bench before now status (inr (inr (inr (inr e)))) bytes calls is whole reads writes = inr e.said
 
 answers_faulty : OneLog → (judged : Entry → Outcome → Type 0) (bench : Bench) (before now : Around) (status : ℕ) → Ended judged bench before now status → AnswersFaulty before now status
 answers_faulty law judged bench before now status (inl e) bytes rest calls is part some reads writes = absurd (not_whole law judged bench before now status bytes rest calls is part some e)
 answers_faulty law judged bench before now status (inr (inl e)) bytes rest calls is part some reads writes = inl e.said
-answers_faulty law judged bench before now status (inr (inr (inl e))) bytes rest calls is part some reads writes = absurd (rose_not before.outside.reads now.outside.reads e.rose reads)
-answers_faulty law judged bench before now status (inr (inr (inr (inl e)))) bytes rest calls is part some reads writes = absurd (rose_not before.outside.writes now.outside.writes e.rose writes)
+answers_faulty law judged bench before now status (inr (inr (inl e))) bytes rest calls is part some reads writes = absurd (not_rose before.outside.reads now.outside.reads reads e.rose)
+answers_faulty law judged bench before now status (inr (inr (inr (inl e)))) bytes rest calls is part some reads writes = absurd (not_rose before.outside.writes now.outside.writes writes e.rose)
 answers_faulty law judged bench before now status (inr (inr (inr (inr e)))) bytes rest calls is part some reads writes = inr e.said
 
 pub complete : OneLog → (judged : Entry → Outcome → Type 0) (bench : Bench) (before now : Around) (status : ℕ) → LogRan judged bench before now status → IsComplete before now status

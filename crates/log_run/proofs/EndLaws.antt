@@ -1,5 +1,5 @@
 -- How a run ends, by each of its statuses.
-use Rattle.std.proofs.Common.{◌≡◌, ℕ, ◌≤◌, ◌⊎◌, inl, inr, Bool, true, List, [], ◌++◌, Option, Some, None, Ok, Err, refl, sym, ◌∙◌, ap, subst, arith, append-nil}
+use Rattle.std.proofs.Common.{◌≡◌, ℕ, ◌≤◌, ◌⊎◌, inl, inr, Bool, true, List, [], ◌++◌, Option, Some, None, Ok, Err, refl, sym, ◌∙◌, ap, subst, append-nil}
 use Rattle.std.specs.Io.KnownBytes.{Appends}
 use Rattle.std.proofs.KnownBytes.{Appends-trans}
 use Rattle.call_log.specs.Entry.{Entry}
@@ -7,6 +7,7 @@ use Rattle.call_log.specs.HandsOut.{HandsOutOf}
 use Rattle.call_log.specs.Log.{LogText, Passed, start}
 use Rattle.call_log.specs.declared.fault.LogFault.TheVariants.{Grammar, Backward, Many, Source, Memory}
 use Rattle.log_run.proofs.RunLaws.{front_behind}
+use Rattle.stir_outside.proofs.CountLaws.{then_rose}
 use Rattle.log_run.specs.Bench.{Bench}
 use Rattle.log_run.specs.Clauses.{Around, IsEndLine, IsFaulty, LogRan}
 use Rattle.log_run.specs.Ending.{EndsAlone, EndsAs, EndsBy, EndsRefused, failed_line, memory_line, refused_line, report_status}
@@ -86,9 +87,6 @@ Ended judged bench before now status =
 
 -- ---- which end it is
 
-rose_on : (a b c : ℕ) → a ≤ b → Rose b c → Rose a c
-rose_on a b c h r = λ e. omega (arith, h, r e)
-
 base_of : (judged : Entry → Outcome → Type 0) (bench : Bench) (before now : Around) (passed : Passed) (good : Bool) (between : Streams) (ended : RunEnd)
     → (r : RunsOut judged bench (first_at before) (at passed now.left now.standing good) before.outside between ended) → Base judged bench before now r.rounds r.mid
 base_of judged bench before now passed good between ended r = record { stands = r.stands; cut = r.cut; shelf_stays = r.shelf_stays; provider_stays = r.provider_stays }
@@ -101,7 +99,7 @@ front_end judged bench before now status passed good between ended line r may wr
   rounds = r.rounds;
   mid = r.mid;
   base = base_of judged bench before now passed good between ended r;
-  rose = rose_on before.outside.writes between.writes now.outside.writes r.stay.writes e.1;
+  rose = then_rose before.outside.writes between.writes now.outside.writes r.stay.writes e.1;
   line = line;
   may_end = may;
   front = front_behind before.outside.written between.written now.outside.written (lines_behind (first_at before) r.rounds) line wrote e.2;

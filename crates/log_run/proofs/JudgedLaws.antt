@@ -3,7 +3,7 @@ use Rattle.std.proofs.Common.{◌≡◌, ℕ, ◌+◌, ◌≤◌, Bool, true, fa
 use Rattle.call_log.specs.Entry.{Entry}
 use Rattle.call_log.specs.Log.{Passed}
 use Rattle.log_run.proofs.ReadLaws.{numbered, read_both, read_nothing}
-use Rattle.log_run.proofs.RoundLaws.{as_many, calls_both, each_as, each_both, good_both, most_both, most_on, not_risen_before, not_risen_behind, order_both, outcomes_both, pairs_both, rows_both, unasked_both, unread_both}
+use Rattle.log_run.proofs.RoundLaws.{as_many, calls_both, each_as, each_both, good_both, order_both, outcomes_both, pairs_both, rows_both, unasked_both, unread_both}
 use Rattle.log_run.specs.AllValid.{all_valid}
 use Rattle.log_run.specs.Bench.{Bench, Implies, Moves, RoundJudged, Standing}
 use Rattle.log_run.specs.Judged.{At, Judged, SetAside}
@@ -11,6 +11,7 @@ use Rattle.log_run.specs.Reading.{ReadCalls}
 use Rattle.log_run.specs.Rounds.{Round, calls_in, outcomes_in, row_rounds, unread_pairs}
 use Rattle.replay_law.specs.Law.{MoreRounds}
 use Rattle.replay_law.specs.Round.{Rounds}
+use Rattle.stir_outside.proofs.CountLaws.{at_most_then, both_at_most, not_risen_before, not_risen_behind}
 use Rattle.stir_outside.specs.Count.{AtMost}
 use Rattle.verify_service.specs.Causes.{NoneUnasked, NoneUnread, unread_texts}
 use Rattle.verify_service.specs.Rows.{IsOwed}
@@ -28,7 +29,7 @@ aside_none bench standing = record {
 pub aside_both : (bench : Bench) (a b c : Standing) (xs ys : List Round) → a.shelf ≤ b.shelf → b.shelf ≤ c.shelf → a.provider ≤ b.provider → b.provider ≤ c.provider
     → SetAside bench a b xs → SetAside bench b c ys → SetAside bench a c (xs ++ ys)
 aside_both bench a b c xs ys s t p q f g = record {
-  unread = subst (λ n. AtMost n a.shelf c.shelf) (sym (pairs_both bench xs ys)) (most_both (unread_pairs bench xs) (unread_pairs bench ys) a.shelf b.shelf c.shelf f.unread g.unread t);
+  unread = subst (λ n. AtMost n a.shelf c.shelf) (sym (pairs_both bench xs ys)) (both_at_most (unread_pairs bench xs) (unread_pairs bench ys) a.shelf b.shelf c.shelf f.unread g.unread);
   quiet_shelf = λ n. subst NoneUnread (sym (outcomes_both xs ys)) (unread_both (outcomes_in xs) (outcomes_in ys) (f.quiet_shelf (not_risen_before a.shelf b.shelf c.shelf s t n)) (g.quiet_shelf (not_risen_behind a.shelf b.shelf c.shelf s t n)));
   quiet_provider = λ n. subst NoneUnasked (sym (outcomes_both xs ys)) (unasked_both (outcomes_in xs) (outcomes_in ys) (f.quiet_provider (not_risen_before a.provider b.provider c.provider p q n)) (g.quiet_provider (not_risen_behind a.provider b.provider c.provider p q n)));
 }
@@ -36,7 +37,7 @@ aside_both bench a b c xs ys s t p q f g = record {
 -- more faults may be counted later
 pub aside_on : (bench : Bench) (a b c : Standing) (rounds : List Round) → a.shelf ≤ b.shelf → b.shelf ≤ c.shelf → a.provider ≤ b.provider → b.provider ≤ c.provider → SetAside bench a b rounds → SetAside bench a c rounds
 aside_on bench a b c rounds s t p q f = record {
-  unread = most_on (unread_pairs bench rounds) a.shelf b.shelf c.shelf f.unread t;
+  unread = at_most_then (unread_pairs bench rounds) a.shelf b.shelf c.shelf f.unread t;
   quiet_shelf = λ n. f.quiet_shelf (not_risen_before a.shelf b.shelf c.shelf s t n);
   quiet_provider = λ n. f.quiet_provider (not_risen_before a.provider b.provider c.provider p q n);
 }

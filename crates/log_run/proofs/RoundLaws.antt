@@ -1,11 +1,10 @@
 -- Rounds behind one another.
-use Rattle.std.proofs.Common.{◌≡◌, ℕ, ◌+◌, ◌≤◌, inl, inr, Bool, true, false, ◌&&◌, ◌||◌, List, [], ◌∷◌, ◌++◌, length, refl, sym, ◌∙◌, ap, arith, append_assoc, length-append}
+use Rattle.std.proofs.Common.{◌≡◌, ◌+◌, Bool, true, false, ◌&&◌, ◌||◌, List, [], ◌∷◌, ◌++◌, length, refl, sym, ◌∙◌, ap, arith, append_assoc, length-append}
 use Rattle.std.specs.List.{list_any}
 use Rattle.call_log.specs.Entry.{Entry}
 use Rattle.log_run.specs.AllValid.{all_valid, is_valid}
 use Rattle.log_run.specs.Bench.{Bench}
 use Rattle.log_run.specs.Rounds.{AllFull, AllInOrder, InEach, IsCut, Round, calls_in, outcomes_in, row_round, row_rounds, unread_pairs}
-use Rattle.stir_outside.specs.Count.{AtMost, NotRisen}
 use Rattle.verify_service.specs.Causes.{NoneUnasked, NoneUnread, is_unasked, is_unread}
 use Rattle.verify_service.specs.Judging.{EachPair}
 use Rattle.verify_service.specs.declared.outcome.Outcome.{Outcome}
@@ -97,18 +96,3 @@ unasked_both xs ys a b = none_both is_unasked xs ys a b
 pub pairs_both : (bench : Bench) (xs ys : List Round) → unread_pairs bench (xs ++ ys) ≡ unread_pairs bench xs + unread_pairs bench ys
 pairs_both bench [] ys = omega arith
 pairs_both bench (x ∷ xs) ys = omega (arith, pairs_both bench xs ys)
-
-pub most_both : (n m a b c : ℕ) → AtMost n a b → AtMost m b c → b ≤ c → AtMost (n + m) a c
-most_both n m a b c (inl p) (inl q) h = inl (omega (arith, p, q))
-most_both n m a b c (inl p) (inr q) h = inr q
-most_both n m a b c (inr p) q h = inr (omega (arith, p, h))
-
-pub most_on : (n a b c : ℕ) → AtMost n a b → b ≤ c → AtMost n a c
-most_on n a b c (inl p) h = inl (omega (arith, p, h))
-most_on n a b c (inr p) h = inr (omega (arith, p, h))
-
-pub not_risen_before : (a b c : ℕ) → a ≤ b → b ≤ c → NotRisen a c → NotRisen a b
-not_risen_before a b c h k n = record { same = omega (arith, h, k, n.same); below_last = n.below_last }
-
-pub not_risen_behind : (a b c : ℕ) → a ≤ b → b ≤ c → NotRisen a c → NotRisen b c
-not_risen_behind a b c h k n = let e : b ≡ a = omega (arith, h, k, n.same) in record { same = omega (arith, e, n.same); below_last = λ f. n.below_last (sym e ∙ f) }

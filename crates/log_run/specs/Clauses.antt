@@ -9,7 +9,7 @@ use Rattle.log_run.specs.Bench.{Bench, Standing}
 use Rattle.log_run.specs.Ending.{EndsBy, failed_line, memory_line, refused_line, report_status}
 use Rattle.log_run.specs.Judged.{SetAside, at}
 use Rattle.log_run.specs.Reading.{ReadCalls}
-use Rattle.log_run.specs.Rounds.{FirstWinsIn, IsApart, IsCut, Legal, Round, calls_in, outcomes_in}
+use Rattle.log_run.specs.Rounds.{FirstWinsIn, InEach, IsApart, IsCut, Legal, Round, calls_in, outcomes_in}
 use Rattle.log_run.specs.Running.{RunEnd, RunsOut, Streams, streams}
 use Rattle.stir_outside.specs.Count.{NotRisen, Rose}
 use Rattle.stir_outside.specs.Told.{AppendsFront}
@@ -37,10 +37,11 @@ pub record LogRan (judged : Entry → Outcome → Type 0) (bench : Bench) (befor
 
 -- ---- the calls that were judged
 
--- Rounds of 256 calls, but the last. Where the log is apart, their outcomes are legal, and on one worker the first call that passes with a
--- ticket is the valid one. Calls were set aside only for faults that were counted.
+-- Rounds of 256 calls, but the last, and each outcome may stand for its call. Where the log is apart, the outcomes are legal, and on one
+-- worker the first call that passes with a ticket is the valid one. Calls were set aside only for faults that were counted.
 pub record AreJudged (judged : Entry → Outcome → Type 0) (bench : Bench) (before now : Standing) (rounds : List Round) : Type 0 where
   pub cut : IsCut rounds
+  pub each : InEach judged rounds
   pub legal : IsApart bench (calls_in rounds) → Legal judged bench rounds
   pub first_wins : bench.workers ≡ 1 → IsApart bench (calls_in rounds) → FirstWinsIn bench rounds
   pub aside : SetAside bench before now rounds
@@ -102,7 +103,8 @@ pub record AreFirst (left : Option (List ℕ)) (calls : List Entry) : Type 0 whe
   pub behind : Option (List ℕ)
   pub read : ReadCalls (start 0 0) left behind passed calls
 
--- The log ended; its calls were judged; their report was written, and nothing else; and the status says whether all are valid.
+-- The first calls of the log were judged; their report was written, and nothing else; and the status says whether all of them are valid. That
+-- the log was read to its end is `HasEnded`.
 pub record DoneReport (judged : Entry → Outcome → Type 0) (bench : Bench) (before now : Around) (status : ℕ) : Type 0 where
   pub rounds : List Round
   pub first : AreFirst before.left (calls_in rounds)

@@ -13,7 +13,7 @@ use Rattle.passport_claims.specs.Members.{HasText, called_in, number_in, text_in
 use Rattle.passport_claims.specs.Origid.{IsOrigid, is_origid}
 use Rattle.passport_claims.specs.Passport.{ClaimsView, IsKind, IsPassport, most_called}
 use Rattle.passport_claims.specs.Read.{checked_header, checked_kind, has_text, has_text_where, origid_of, read_claims, shaken_in, div_in}
-use Rattle.passport_claims.specs.Reading.{Gives, IsOkUnlessMemory, or_fault}
+use Rattle.passport_claims.specs.Reading.{Gives, IsOkUnlessMemory, fault_seen, or_fault}
 use Rattle.lists.specs.Steps.{◌>>=◌}
 use Rattle.passport_claims.specs.declared.fault.ClaimFault.{ClaimFault}
 use Rattle.passport_claims.specs.declared.fault.ClaimFault.TheVariants as faults
@@ -22,6 +22,7 @@ use Rattle.passport_claims.specs.declared.kind.Kind.{Kind}
 use Rattle.passport_claims.specs.declared.kind.Kind.TheVariants as kinds
 use Rattle.passport_claims.proofs.MemberLaws.{attest_again, attest_only, called_again, called_only, found_text, number_again, number_only, text_again, text_found, where_again, where_found}
 use Rattle.passport_claims.proofs.OrigidLaws.{origid_again, origid_tells}
+use Rattle.lists.proofs.GivenLaws.{only_given}
 use Rattle.lists.proofs.StepLaws.{came}
 
 -- ---- steps
@@ -210,30 +211,11 @@ pub claims_found : (header payload : Data) (ppt : Option (List ℕ)) (info : Lis
 claims_found header payload ppt info (Ok claims) known gives = claims_only header payload ppt info claims known gives
 claims_found header payload ppt info (Err broken) known gives = tt
 
-refused : (read : Result ClaimsView ClaimFault) (claims : ClaimsView) (broken : ClaimFault) → read ≡ Ok claims → read ≡ Err broken → ⊥
-refused read claims broken ok err = let e : ◌≡◌ {A = Result ClaimsView ClaimFault} (Ok claims) (Err broken) = sym ok ∙ err in absurd cc
-
-only_of : (result read : Result ClaimsView ClaimFault) → Gives (λ claims. claims) result read → (claims : ClaimsView) → read ≡ Ok claims
-    → IsOkUnlessMemory result (λ found. found ≡ claims)
-only_of (Ok found) read gives claims ok =
-    let e : ◌≡◌ {A = Result ClaimsView ClaimFault} (Ok found) (Ok claims) = sym gives ∙ ok in cc
-only_of (Err faults.Kind) read gives claims ok = absurd (refused read claims faults.Kind ok gives)
-only_of (Err faults.Alg) read gives claims ok = absurd (refused read claims faults.Alg ok gives)
-only_of (Err faults.Ppt) read gives claims ok = absurd (refused read claims faults.Ppt ok gives)
-only_of (Err faults.X5u) read gives claims ok = absurd (refused read claims faults.X5u ok gives)
-only_of (Err faults.Iat) read gives claims ok = absurd (refused read claims faults.Iat ok gives)
-only_of (Err faults.Orig) read gives claims ok = absurd (refused read claims faults.Orig ok gives)
-only_of (Err faults.Dest) read gives claims ok = absurd (refused read claims faults.Dest ok gives)
-only_of (Err faults.Attest) read gives claims ok = absurd (refused read claims faults.Attest ok gives)
-only_of (Err faults.Origid) read gives claims ok = absurd (refused read claims faults.Origid ok gives)
-only_of (Err faults.Div) read gives claims ok = absurd (refused read claims faults.Div ok gives)
-only_of (Err faults.Memory) read gives claims ok = tt
-
 pub claims_only_of : (header payload : Data) (ppt : Option (List ℕ)) (info : List ℕ) (result : Result ClaimsView ClaimFault)
     → Gives (λ claims. claims) result (read_claims header payload ppt info) → (claims : ClaimsView) → Claims header payload ppt info claims
     → IsOkUnlessMemory result (λ found. found ≡ claims)
 claims_only_of header payload ppt info result gives claims c =
-    only_of result (read_claims header payload ppt info) gives claims (claims_again header payload ppt info claims c)
+    only_given fault_seen (λ claims. claims) result (read_claims header payload ppt info) claims gives (claims_again header payload ppt info claims c)
 
 pub claims_unique : (header payload : Data) (ppt : Option (List ℕ)) (info : List ℕ) (one other : ClaimsView) → Claims header payload ppt info one
     → Claims header payload ppt info other → one ≡ other

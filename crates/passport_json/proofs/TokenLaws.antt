@@ -1,5 +1,6 @@
 -- The checks in their order give what the relation says of a text.
-use Rattle.std.proofs.Common.{◌≡◌, ◌≢◌, ℕ, false, List, [], ◌∷◌, length, None, Result, Ok, Err, refl, sym, subst, ◌∙◌}
+use Rattle.std.proofs.Common.{◌≡◌, ◌≢◌, ℕ, false, List, [], ◌∷◌, length, None, Result, Ok, refl, sym, subst, ◌∙◌}
+use Rattle.lists.proofs.GivenLaws.{only_given}
 use Rattle.base64.proofs.EngineFacts.{decode_of-encode_of}
 use Rattle.base64.specs.Engines.{url_safe_no_pad}
 use Rattle.base64.specs.GeneralPurpose.{encode_of}
@@ -8,11 +9,10 @@ use Rattle.serde_json.proofs.OnLiterals.{serde_json_on_literals}
 use Rattle.serde_json.specs.Data.{Data}
 use Rattle.serde_json.specs.Read.{read}
 use Rattle.passport_json.specs.declared.fault.TokenFault.{TokenFault}
-use Rattle.passport_json.specs.declared.fault.TokenFault.TheVariants.{Parts, Base64, Json, SignatureLength, Compact, Memory}
 use Rattle.passport_json.specs.Base64.{IsBase64}
 use Rattle.passport_json.specs.Object.{IsObjectText}
 use Rattle.passport_json.specs.Parts.{PartTexts, AreParts, one_is_empty, signing_of}
-use Rattle.passport_json.specs.Reading.{Gives, IsOkUnlessMemory}
+use Rattle.passport_json.specs.Reading.{Gives, IsOkUnlessMemory, fault_seen}
 use Rattle.passport_json.specs.Token.{FullText, checked_parts, checked_base64, checked_signature, read_full}
 use Rattle.passport_json.specs.View.{TokenView}
 use Rattle.passport_json.proofs.ObjectLaws.{json_again}
@@ -47,22 +47,9 @@ token_again text token t =
       ← t.is_full,
     ) refl
 
-refused : (given : Result TokenView TokenFault) (token : TokenView) (fault : TokenFault) → given ≡ Ok token → given ≡ Err fault → ⊥
-refused given token fault ok e =
-    let same : ◌≡◌ {A = Result TokenView TokenFault} (Ok token) (Err fault) = sym ok ∙ e in
-    absurd cc
-
 pub only_of : (result given : Result TokenView TokenFault) → Gives (λ token. token) result given
     → (token : TokenView) → given ≡ Ok token → IsOkUnlessMemory result (λ read. read ≡ token)
-only_of (Ok read) given gives token ok =
-    let e : ◌≡◌ {A = Result TokenView TokenFault} (Ok read) (Ok token) = sym gives ∙ ok in
-    cc
-only_of (Err Parts) given gives token ok = absurd (refused given token Parts ok gives)
-only_of (Err (Base64 part)) given gives token ok = absurd (refused given token (Base64 part) ok gives)
-only_of (Err (Json part)) given gives token ok = absurd (refused given token (Json part) ok gives)
-only_of (Err SignatureLength) given gives token ok = absurd (refused given token SignatureLength ok gives)
-only_of (Err Compact) given gives token ok = absurd (refused given token Compact ok gives)
-only_of (Err Memory) given gives token ok = tt
+only_of result given gives token ok = only_given fault_seen (λ token. token) result given token gives ok
 
 no_bytes : (bytes : List ℕ) → [] ≡ encode_of url_safe_no_pad bytes → bytes ≡ []
 unfolding encode_symbols

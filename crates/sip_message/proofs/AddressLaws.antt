@@ -1,7 +1,8 @@
 -- The scan for a `<` outside of quoted strings finds the one that the pieces of the value say.
-use Rattle.std.proofs.Common.{◌≡◌, ℕ, Bool, true, false, not, ◌==◌, ◌||◌, ◌&&◌, cond, List, [], ◌∷◌, ◌++◌, Option, Some, None, refl, ap, ◌∙◌, sym, append_assoc, arith, subst}
+use Rattle.std.proofs.Common.{◌≡◌, ℕ, Bool, true, false, not, ◌==◌, ◌||◌, cond, List, [], ◌∷◌, ◌++◌, Option, Some, None, refl, ap, ◌∙◌, sym, append_assoc, arith, subst}
 use Rattle.std.specs.List.{list_all}
 use Rattle.std.specs.Option.{option_map_or}
+use Rattle.std.proofs.lemmas.Option.{same_Some}
 use Rattle.std.proofs.lemmas.Bool.Decides.{nat_tests}
 use Rattle.sip_message.specs.declared.address.Quoting.{Quoting}
 use Rattle.sip_message.specs.declared.address.Quoting.TheVariants.{Outside, Inside, Escaped}
@@ -68,14 +69,11 @@ close more rest q =
       text = ap (λ x. 34 ∷ x) (q.text_is ∙ ap (λ x. quotes_text q.quotes ++ 34 ∷ x) b.text ∙ sym (append_assoc (quotes_text q.quotes) (34 ∷ pieces_text b.pieces) (60 ∷ rest)));
     }
 
-some_same : (x y : List ℕ) → Some x ≡ Some y → x ≡ y
-some_same x y e = cc
-
 outside_by : (b : ℕ) (more rest : List ℕ) (s t : Bool) → (b == 60) ≡ s → (b == 34) ≡ t → ((q : Quoting) → bracket_from q more ≡ Some rest → Found q more rest)
     → cond s (Some more) (bracket_from (cond t Inside Outside) more) ≡ Some rest → IsBracketed (b ∷ more) rest
 outside_by b more rest true t es et below h =
     let e : b ≡ 60 = grind (arith, nat_tests) in
-    record { pieces = []; pieces_ok = refl; text = ap (λ x. x ∷ more) e ∙ ap (λ x. 60 ∷ x) (some_same more rest h) }
+    record { pieces = []; pieces_ok = refl; text = ap (λ x. x ∷ more) e ∙ ap (λ x. 60 ∷ x) (same_Some more rest h) }
 outside_by b more rest false true es et below h =
     let e : b ≡ 34 = grind (arith, nat_tests) in
     let k = close more rest (below Inside h) in

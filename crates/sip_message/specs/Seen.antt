@@ -1,5 +1,6 @@
 -- How contracts see the values of the code.
 use Rattle.std.specs.Prelude.{◌≡◌, ℕ, List, map, Option, Some, None, Result, Ok, Err}
+use Rattle.lists.specs.Given as given
 use Rattle.sip_message.specs.declared.fault.FormFault.{FormFault}
 use Rattle.sip_message.specs.declared.fault.MessageFault.{MessageFault}
 use Rattle.sip_message.specs.declared.fault.MessageFault.TheVariants.{Form, Memory}
@@ -34,11 +35,14 @@ parts_seen parts = record { method = parts.method.now; uri = parts.uri.now; fiel
 
 -- ---- results, in which want of memory is free
 
+-- a fault other than want of memory
+abbrev pub fault_seen : MessageFault → Option FormFault
+fault_seen (Form fault) = Some fault
+fault_seen Memory = None
+
 -- the code gives what is read, or its fault
 abbrev pub Gives : {X Y : Type 0} → (X → Y) → Result X MessageFault → Result Y FormFault → Type 0
-Gives seen (Ok x) read = read ≡ Ok (seen x)
-Gives seen (Err (Form fault)) read = read ≡ Err fault
-Gives seen (Err Memory) read = Unit {0}
+Gives seen result read = given.Gives fault_seen seen result read
 
 -- the code gives what is there, or the fault where it isn't
 abbrev pub GivesOr : {X Y : Type 0} → (X → Y) → FormFault → Result X MessageFault → Option Y → Type 0

@@ -13,8 +13,10 @@ use crate::lines::{Line, Lines};
 use crate::value::read_value;
 use std::alloc::Global;
 
+/// The kind of a fault of a header line.
 const HEADER_LINE: u8 = 3;
 
+/// The kind of a head without an empty line at its end.
 const NO_END: u8 = 4;
 
 /// The fields of a head and the offset of the empty line that ends it.

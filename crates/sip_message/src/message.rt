@@ -20,16 +20,22 @@ use std::alloc::Global;
 use std::marker::Model;
 use tn_values::{Local, Number};
 
+/// The most bytes of a message.
 const MOST_BYTES: usize = 65_535;
 
+/// The kind of a fault of the size.
 const SIZE: u8 = 1;
 
+/// The kind of a fault of the start line.
 const START_LINE: u8 = 2;
 
+/// The kind of a head without an empty line at its end.
 const NO_END: u8 = 4;
 
+/// The kind of a head that has not exactly one From.
 const FROM: u8 = 5;
 
+/// The kind of a head that has not exactly one To.
 const TO: u8 = 6;
 
 /// The head of a SIP request (RFC 3261, section 7): its method, its URI and its header fields in their order.

@@ -1,14 +1,15 @@
 -- What a run promises, by what its words order.
-use Rattle.std.proofs.Common.{◌≡◌, ℕ, ◌≤◌, ◌⊎◌, inl, inr, List, codes, Option, Some, None, refl, sym, ◌∙◌, ap, subst, arith}
+use Rattle.std.proofs.Common.{◌≡◌, ℕ, ◌≤◌, inl, inr, List, codes, Option, Some, None, refl, arith}
 use Rattle.std.specs.Io.KnownBytes.{IsAtEnd}
 use Rattle.log_run.specs.Ending.{EndsAs}
-use Rattle.stir_outside.specs.Count.{NotRisen, Rose}
 use Rattle.stir_words.specs.Order.{OrderView, ShowCertificates, VerifyBy}
 use Rattle.stir_cmd.specs.Around.{Outside}
-use Rattle.stir_cmd.specs.Causes.{HasCauses, IsComplete, Ran, Refused}
+use Rattle.stir_cmd.specs.Causes.{HasCauses, IsComplete, Ran}
 use Rattle.stir_cmd.specs.Headline.{Headline}
 use Rattle.stir_cmd.specs.Showing.{Showed}
+use Rattle.stir_cmd.proofs.ShowLaws.{ReadsChain}
 use Rattle.stir_cmd.proofs.ShowLaws as showing
+use Rattle.stir_cmd.proofs.StopLaws.{ends_quiet}
 use Rattle.stir_cmd.proofs.VerifyLaws as verifying
 
 pub headline : (order : Option OrderView) (before now : Outside) (status : ℕ) → Ran order before now status → Headline order before now status
@@ -36,23 +37,16 @@ refused_by before now status (inr ends) = record {
   memory = λ h. absurd (omega (arith, ends.0, h));
 }
 
-pub causes : (order : Option OrderView) (before now : Outside) (status : ℕ) → Ran order before now status → HasCauses order before now status
-causes None before now status ran = refused_by before now status ran.ends
-causes (Some ShowCertificates) before now status ran = showing.causes before now status ran
-causes (Some (VerifyBy judging)) before now status ran = verifying.causes judging before now status ran
+pub causes : ReadsChain → (order : Option OrderView) (before now : Outside) (status : ℕ) → Ran order before now status → HasCauses order before now status
+causes law None before now status ran = refused_by before now status ran.ends
+causes law (Some ShowCertificates) before now status ran = showing.causes law before now status ran
+causes law (Some (VerifyBy judging)) before now status ran = verifying.causes judging before now status ran
 
-rose_not : (before now : ℕ) → Rose before now → NotRisen before now → ⊥
-rose_not before now rose q = omega (arith, q.same, rose (λ e. q.below_last (sym q.same ∙ e)))
-
-two : (before now : Outside) (status : ℕ) (line : List ℕ) → EndsAs before.written now.written before.writes now.writes status line 2 → NotRisen before.writes now.writes → status ≡ 2
-two before now status line (inl ends) q = ends.0
-two before now status line (inr ends) q = absurd (rose_not before.writes now.writes ends.1 q)
-
-pub complete : (order : Option OrderView) (before now : Outside) (status : ℕ) → Ran order before now status
+pub complete : ReadsChain → (order : Option OrderView) (before now : Outside) (status : ℕ) → Ran order before now status
     → ((order ≡ Some ShowCertificates) → status ≤ 1 → Showed before.left before.written now.written) → IsComplete order before now status
-complete None before now status ran showed = λ q. two before now status _ ran.ends q
-complete (Some ShowCertificates) before now status ran showed = showing.complete before now status ran (showed refl)
-complete (Some (VerifyBy judging)) before now status ran showed = verifying.complete judging before now status ran
+complete law None before now status ran showed = λ q. ends_quiet before now status 2 _ q ran.ends
+complete law (Some ShowCertificates) before now status ran showed = showing.complete law before now status ran (showed refl)
+complete law (Some (VerifyBy judging)) before now status ran showed = verifying.complete judging before now status ran
 
 none_low : (before now : Outside) (status : ℕ) (line : List ℕ) → EndsAs before.written now.written before.writes now.writes status line 2 → status ≤ 1 → ⊥
 none_low before now status line (inl ends) low = omega (arith, ends.0, low)

@@ -3,18 +3,18 @@ use Rattle.std.proofs.Common.{◌≡◌, ℕ, ◌<◌, ◌≤◌, ◌⊎◌, inl
 use Rattle.std.specs.Io.KnownBytes.{Appends, IsAtEnd}
 use Rattle.std.proofs.lemmas.Bool.Decides.{nat_tests}
 use Rattle.log_run.specs.Ending.{EndsAs}
+use Rattle.stir_outside.proofs.CountLaws.{not_rose}
 use Rattle.stir_outside.specs.Count.{NotRisen, Rose}
 use Rattle.stir_outside.specs.Told.{Takes}
 use Rattle.stir_words.specs.Order.{ShowCertificates}
 use Rattle.stir_words.specs.Status.{status_number}
-use Rattle.stir_words.specs.declared.status.Status.{Status}
 use Rattle.x509_profile.specs.Chain.{Chain, RefusedCertificate, certificates_in}
-use Rattle.x509_profile.proofs.ChainLaws.{chain_again}
 use Rattle.x509_profile.specs.View.{CertView}
-use Rattle.stir_cmd.specs.Answer.{Reply, fault_status, long_input, refused_input, shown, shown_reply, status_of, text_of}
+use Rattle.stir_cmd.specs.Answer.{Reply, fault_status, long_input, shown, shown_reply, status_of, text_of}
 use Rattle.stir_cmd.specs.Around.{Outside}
-use Rattle.stir_cmd.specs.Causes.{AnswersChain, AnswersNoChain, Front, HasCauses, IsShown, ShowComplete, Showing}
-use Rattle.stir_cmd.specs.Showing.{HasReason, IsAnswerTo, IsNoChain, RanShow, Showed, Shows, TakesAtMost}
+use Rattle.stir_cmd.specs.Causes.{AnswersChain, AnswersNoChain, HasCauses, IsShown, ShowComplete, Showing}
+use Rattle.stir_cmd.specs.Stopping.{Front}
+use Rattle.stir_cmd.specs.Showing.{HasReason, IsAnswerTo, IsNoChain, Showed, Shows, TakesAtMost}
 use Rattle.stir_cmd.specs.declared.answer.ShowFault.{ShowFault}
 use Rattle.stir_cmd.specs.declared.answer.ShowFault.TheVariants.{Read, Memory}
 
@@ -95,9 +95,13 @@ fault_high Memory low = omega (arith, low)
 
 -- ---- the causes
 
-no_chain : (bytes : List ℕ) (refused : RefusedCertificate) → certificates_in bytes ≡ Err refused → (certificates : List CertView) → Chain bytes certificates → ⊥
-no_chain bytes refused e certificates chain =
-    let k : ◌≡◌ {A = Result (List CertView) RefusedCertificate} (Ok certificates) (Err refused) = sym (chain_again bytes certificates chain) ∙ e in absurd cc
+-- certificates are read of the bytes that are their chain
+abbrev pub ReadsChain : Type 0
+ReadsChain = (bytes : List ℕ) (certificates : List CertView) → Chain bytes certificates → certificates_in bytes ≡ Ok certificates
+
+no_chain : ReadsChain → (bytes : List ℕ) (refused : RefusedCertificate) → certificates_in bytes ≡ Err refused → (certificates : List CertView) → Chain bytes certificates → ⊥
+no_chain law bytes refused e certificates chain =
+    let k : ◌≡◌ {A = Result (List CertView) RefusedCertificate} (Ok certificates) (Err refused) = sym (law bytes certificates chain) ∙ e in absurd cc
 
 -- of bytes: the status of their answer, and what it says
 record Statuses (bytes : List ℕ) (status : ℕ) : Type 0 where
@@ -105,29 +109,29 @@ record Statuses (bytes : List ℕ) (status : ℕ) : Type 0 where
   pub shown_if : (certificates : List CertView) → length bytes ≤ 49152 → Chain bytes certificates → status ≡ 0
   pub refused : status ≡ 5 → IsNoChain bytes
 
-of_chain : (bytes : List ℕ) (k : Result (List CertView) RefusedCertificate) → certificates_in bytes ≡ k → Statuses bytes (status_number (shown_reply k).status)
-of_chain bytes (Ok certificates) e = record { each = inl refl; shown_if = λ c short chain. refl; refused = λ h. absurd (omega (arith, h)) }
-of_chain bytes (Err refused) e = record { each = inr refl; shown_if = λ c short chain. absurd (no_chain bytes refused e c chain); refused = λ h. inr (no_chain bytes refused e) }
+of_chain : ReadsChain → (bytes : List ℕ) (k : Result (List CertView) RefusedCertificate) → certificates_in bytes ≡ k → Statuses bytes (status_number (shown_reply k).status)
+of_chain law bytes (Ok certificates) e = record { each = inl refl; shown_if = λ c short chain. refl; refused = λ h. absurd (omega (arith, h)) }
+of_chain law bytes (Err refused) e = record { each = inr refl; shown_if = λ c short chain. absurd (no_chain law bytes refused e c chain); refused = λ h. inr (no_chain law bytes refused e) }
 
-of_length : (bytes : List ℕ) (t : Bool) → nat_lt 49152 (length bytes) ≡ t → Statuses bytes (status_number (shown bytes).status)
-of_length bytes true e =
+of_length : ReadsChain → (bytes : List ℕ) (t : Bool) → nat_lt 49152 (length bytes) ≡ t → Statuses bytes (status_number (shown bytes).status)
+of_length law bytes true e =
     let long : 49152 < length bytes = grind (arith, nat_tests) in
     subst (λ (x : Reply). Statuses bytes (status_number x.status)) (sym (shown_long bytes long))
     (record { each = inr refl; shown_if = λ c short chain. absurd (omega (arith, short, long)); refused = λ h. inl long })
-of_length bytes false e =
-    subst (λ (x : Reply). Statuses bytes (status_number x.status)) (sym (shown_short bytes (grind (arith, nat_tests)))) (of_chain bytes (certificates_in bytes) refl)
+of_length law bytes false e =
+    subst (λ (x : Reply). Statuses bytes (status_number x.status)) (sym (shown_short bytes (grind (arith, nat_tests)))) (of_chain law bytes (certificates_in bytes) refl)
 
-statuses : (bytes : List ℕ) → Statuses bytes (status_number (shown bytes).status)
-statuses bytes = of_length bytes (nat_lt 49152 (length bytes)) refl
+statuses : ReadsChain → (bytes : List ℕ) → Statuses bytes (status_number (shown bytes).status)
+statuses law bytes = of_length law bytes (nat_lt 49152 (length bytes)) refl
 
 -- the same of the answer to what was left
 abbrev StatusOf : Option (List ℕ) → ℕ → Type 0
 StatusOf None status = (status ≡ 0) ⊎ (status ≡ 5)
 StatusOf (Some bytes) status = Statuses bytes status
 
-status_of_answer : (left : Option (List ℕ)) (reply : Reply) → IsAnswerTo left reply → StatusOf left (status_number reply.status)
-status_of_answer None reply reason = subst (λ (x : Reply). (status_number x.status ≡ 0) ⊎ (status_number x.status ≡ 5)) (sym reason.1) (statuses reason.0).each
-status_of_answer (Some bytes) reply reason = subst (λ (x : Reply). Statuses bytes (status_number x.status)) (sym reason) (statuses bytes)
+status_of_answer : ReadsChain → (left : Option (List ℕ)) (reply : Reply) → IsAnswerTo left reply → StatusOf left (status_number reply.status)
+status_of_answer law None reply reason = subst (λ (x : Reply). (status_number x.status ≡ 0) ⊎ (status_number x.status ≡ 5)) (sym reason.1) (statuses law reason.0).each
+status_of_answer law (Some bytes) reply reason = subst (λ (x : Reply). Statuses bytes (status_number x.status)) (sym reason) (statuses law bytes)
 
 each_of : (left : Option (List ℕ)) (status : ℕ) → StatusOf left status → (status ≡ 0) ⊎ (status ≡ 5)
 each_of None status s = s
@@ -169,39 +173,36 @@ faulted before now status low high input read write memory = record {
   memory = memory;
 }
 
-causes_by : (before now : Outside) (status : ℕ) (outcome : Result Reply ShowFault) → HasReason before.left before.reads now.reads outcome
+causes_by : ReadsChain → (before now : Outside) (status : ℕ) (outcome : Result Reply ShowFault) → HasReason before.left before.reads now.reads outcome
     → EndsAs before.written now.written before.writes now.writes status (text_of outcome) (status_number (status_of outcome)) → HasCauses (Some ShowCertificates) before now status
-causes_by before now status (Ok reply) reason (inl ends) =
-    let s = subst (StatusOf before.left) (sym ends.0) (status_of_answer before.left reply reason) in
+causes_by law before now status (Ok reply) reason (inl ends) =
+    let s = subst (StatusOf before.left) (sym ends.0) (status_of_answer law before.left reply reason) in
     answered before now status (each_of before.left status s) (refused_of before.left status s)
-causes_by before now status (Err Read) reason (inl ends) =
+causes_by law before now status (Err Read) reason (inl ends) =
     faulted before now status (omega (arith, ends.0)) (omega (arith, ends.0)) (λ h. omega (arith, ends.0, h)) (λ h. reason) (λ h. absurd (omega (arith, ends.0, h))) (λ h. absurd (omega (arith, ends.0, h)))
-causes_by before now status (Err Memory) reason (inl ends) =
+causes_by law before now status (Err Memory) reason (inl ends) =
     faulted before now status (omega (arith, ends.0)) (omega (arith, ends.0)) (λ h. omega (arith, ends.0, h)) (λ h. absurd (omega (arith, ends.0, h))) (λ h. absurd (omega (arith, ends.0, h))) (λ h. ends.1)
-causes_by before now status outcome reason (inr ends) =
+causes_by law before now status outcome reason (inr ends) =
     faulted before now status (omega (arith, ends.0)) (omega (arith, ends.0)) (λ h. omega (arith, ends.0, h)) (λ h. absurd (omega (arith, ends.0, h)))
     (λ h. record { rose = ends.1; line = text_of outcome; says = (outcome, reason, refl); front = ends.2 }) (λ h. absurd (omega (arith, ends.0, h)))
 
-pub causes : (before now : Outside) (status : ℕ) → Showing before now status → HasCauses (Some ShowCertificates) before now status
-causes before now status showing = causes_by before now status showing.ran.outcome showing.ran.reason showing.ran.ends
+pub causes : ReadsChain → (before now : Outside) (status : ℕ) → Showing before now status → HasCauses (Some ShowCertificates) before now status
+causes law before now status showing = causes_by law before now status showing.ran.outcome showing.ran.reason showing.ran.ends
 
 -- ---- which status comes
 
-rose_not : (before now : ℕ) → Rose before now → NotRisen before now → ⊥
-rose_not before now rose q = omega (arith, q.same, rose (λ e. q.below_last (sym q.same ∙ e)))
-
-chain_by : (before now : Outside) (status : ℕ) (bytes : List ℕ) (certificates : List CertView) (outcome : Result Reply ShowFault) → HasReason (Some bytes) before.reads now.reads outcome
+chain_by : ReadsChain → (before now : Outside) (status : ℕ) (bytes : List ℕ) (certificates : List CertView) (outcome : Result Reply ShowFault) → HasReason (Some bytes) before.reads now.reads outcome
     → EndsAs before.written now.written before.writes now.writes status (text_of outcome) (status_number (status_of outcome)) → length bytes ≤ 49152 → Chain bytes certificates
     → NotRisen before.reads now.reads → NotRisen before.writes now.writes → (status ≡ 0) ⊎ (status ≡ 6)
-chain_by before now status bytes certificates (Ok reply) reason (inl ends) short chain reads writes =
-    inl (ends.0 ∙ (status_of_answer (Some bytes) reply reason).shown_if certificates short chain)
-chain_by before now status bytes certificates (Err Read) reason (inl ends) short chain reads writes = absurd (rose_not before.reads now.reads reason reads)
-chain_by before now status bytes certificates (Err Memory) reason (inl ends) short chain reads writes = inr ends.0
-chain_by before now status bytes certificates outcome reason (inr ends) short chain reads writes = absurd (rose_not before.writes now.writes ends.1 writes)
+chain_by law before now status bytes certificates (Ok reply) reason (inl ends) short chain reads writes =
+    inl (ends.0 ∙ (status_of_answer law (Some bytes) reply reason).shown_if certificates short chain)
+chain_by law before now status bytes certificates (Err Read) reason (inl ends) short chain reads writes = absurd (not_rose before.reads now.reads reads reason)
+chain_by law before now status bytes certificates (Err Memory) reason (inl ends) short chain reads writes = inr ends.0
+chain_by law before now status bytes certificates outcome reason (inr ends) short chain reads writes = absurd (not_rose before.writes now.writes writes ends.1)
 
-chain : (before now : Outside) (status : ℕ) → Showing before now status → AnswersChain before now status
-chain before now status showing bytes certificates told short is reads writes =
-    chain_by before now status bytes certificates showing.ran.outcome (subst (λ (x : Option (List ℕ)). HasReason x before.reads now.reads showing.ran.outcome) told showing.ran.reason)
+chain : ReadsChain → (before now : Outside) (status : ℕ) → Showing before now status → AnswersChain before now status
+chain law before now status showing bytes certificates told short is reads writes =
+    chain_by law before now status bytes certificates showing.ran.outcome (subst (λ (x : Option (List ℕ)). HasReason x before.reads now.reads showing.ran.outcome) told showing.ran.reason)
     showing.ran.ends short is reads writes
 
 none_shown : (bytes : List ℕ) (left : Option (List ℕ)) (text : List ℕ) → left ≡ Some bytes → IsNoChain bytes → Shows left text → ⊥
@@ -213,26 +214,26 @@ none_shown bytes left text told none shows =
     by_none (inl long) = omega (arith, long, shows.size)
     by_none (inr other) = other shows.certificates shows.chain
 
-no_chain_by : (before now : Outside) (status : ℕ) (bytes : List ℕ) (outcome : Result Reply ShowFault) → HasReason (Some bytes) before.reads now.reads outcome
+no_chain_by : ReadsChain → (before now : Outside) (status : ℕ) (bytes : List ℕ) (outcome : Result Reply ShowFault) → HasReason (Some bytes) before.reads now.reads outcome
     → EndsAs before.written now.written before.writes now.writes status (text_of outcome) (status_number (status_of outcome)) → (status ≡ 0 → ⊥)
     → NotRisen before.reads now.reads → NotRisen before.writes now.writes → (status ≡ 5) ⊎ (status ≡ 6)
-no_chain_by before now status bytes (Ok reply) reason (inl ends) shown reads writes =
-    five (subst (λ (x : ℕ). (x ≡ 0) ⊎ (x ≡ 5)) (sym ends.0) (status_of_answer (Some bytes) reply reason).each)
+no_chain_by law before now status bytes (Ok reply) reason (inl ends) shown reads writes =
+    five (subst (λ (x : ℕ). (x ≡ 0) ⊎ (x ≡ 5)) (sym ends.0) (status_of_answer law (Some bytes) reply reason).each)
   where
     five : (status ≡ 0) ⊎ (status ≡ 5) → (status ≡ 5) ⊎ (status ≡ 6)
     five (inl zero_status) = absurd (shown zero_status)
     five (inr e) = inl e
-no_chain_by before now status bytes (Err Read) reason (inl ends) shown reads writes = absurd (rose_not before.reads now.reads reason reads)
-no_chain_by before now status bytes (Err Memory) reason (inl ends) shown reads writes = inr ends.0
-no_chain_by before now status bytes outcome reason (inr ends) shown reads writes = absurd (rose_not before.writes now.writes ends.1 writes)
+no_chain_by law before now status bytes (Err Read) reason (inl ends) shown reads writes = absurd (not_rose before.reads now.reads reads reason)
+no_chain_by law before now status bytes (Err Memory) reason (inl ends) shown reads writes = inr ends.0
+no_chain_by law before now status bytes outcome reason (inr ends) shown reads writes = absurd (not_rose before.writes now.writes writes ends.1)
 
-no_chain_answered : (before now : Outside) (status : ℕ) → Showing before now status → (status ≤ 1 → Showed before.left before.written now.written) → AnswersNoChain before now status
-no_chain_answered before now status showing showed bytes told none reads writes =
-    no_chain_by before now status bytes showing.ran.outcome (subst (λ (x : Option (List ℕ)). HasReason x before.reads now.reads showing.ran.outcome) told showing.ran.reason)
+no_chain_answered : ReadsChain → (before now : Outside) (status : ℕ) → Showing before now status → (status ≤ 1 → Showed before.left before.written now.written) → AnswersNoChain before now status
+no_chain_answered law before now status showing showed bytes told none reads writes =
+    no_chain_by law before now status bytes showing.ran.outcome (subst (λ (x : Option (List ℕ)). HasReason x before.reads now.reads showing.ran.outcome) told showing.ran.reason)
     showing.ran.ends (λ e. let s = showed (omega (arith, e)) in none_shown bytes before.left s.text told none s.shows) reads writes
 
-pub complete : (before now : Outside) (status : ℕ) → Showing before now status → (status ≤ 1 → Showed before.left before.written now.written) → ShowComplete before now status
-complete before now status showing showed = record {
-  chain = chain before now status showing;
-  no_chain = no_chain_answered before now status showing showed;
+pub complete : ReadsChain → (before now : Outside) (status : ℕ) → Showing before now status → (status ≤ 1 → Showed before.left before.written now.written) → ShowComplete before now status
+complete law before now status showing showed = record {
+  chain = chain law before now status showing;
+  no_chain = no_chain_answered law before now status showing showed;
 }

@@ -1,13 +1,12 @@
 -- What `verify` came to, from what its steps came to.
-use Rattle.std.proofs.Common.{◌≡◌, ℕ, ◌≤◌, ◌⊎◌, inl, inr, List, [], Option, Some, None, Ok, Err, refl, sym, ◌∙◌, subst, arith}
+use Rattle.std.proofs.Common.{◌≡◌, ℕ, ◌≤◌, inl, inr, List, Option, None, Ok, refl, subst, arith}
 use Rattle.log_run.specs.Bench.{Standing}
-use Rattle.replay_law.specs.Held.{Held as Kept, nothing}
+use Rattle.replay_law.specs.Held.{nothing}
 use Rattle.log_run.specs.Steps.{StandsAtFirst}
 use Rattle.replay_desk.specs.Past.{found}
-use Rattle.stir_files.specs.Materials.{MaterialsOf, Truly, files_of, stop_of}
-use Rattle.stir_files.specs.Named.{CausedBy, Stop, StopsAt}
+use Rattle.stir_files.specs.Materials.{MaterialsOf, files_of}
+use Rattle.stir_files.specs.Stop.{Truly}
 use Rattle.stir_files.specs.declared.materials.Materials.{Materials}
-use Rattle.stir_files.specs.declared.stop.FileStop.{FileStop}
 use Rattle.stir_outside.specs.Files.{Counts, CountsGoOn, Files}
 use Rattle.stir_words.specs.Order.{JudgingView}
 use Rattle.verify_rules.specs.declared.settings.Settings.{Settings}
@@ -17,13 +16,10 @@ use Rattle.verify_service.specs.declared.materials.World.{World as Told}
 use Rattle.stir_cmd.specs.Around.{Outside, outside}
 use Rattle.stir_cmd.specs.Calls.{settings_by}
 use Rattle.stir_cmd.specs.Standing.{materials_by, standing_by}
-use Rattle.stir_cmd.specs.Verifying.{EndsAtStop, HaveNoFault, IsFirstFault, LogBy, LogSays, NoMemory, RanBy, RanVerify, around_by}
+use Rattle.stir_cmd.specs.Verifying.{LogSays, RanBy, RanVerify, around_by}
+use Rattle.stir_cmd.proofs.StopSteps.{no_fault}
 
 -- ---- the files were read
-
-none_at_fault : (files : Option Files) (judging : JudgingView) (materials : Materials) → Truly files (files_of judging) (Ok materials) → HaveNoFault files judging
-none_at_fault None judging materials h = tt
-none_at_fault (Some files) judging materials h = h
 
 pub from_files : (judging : JudgingView) (materials : Materials) (files files_now : Option Files) (counts counts_now : Counts) (left : Option (List ℕ)) (reads : ℕ) (written : Option (List ℕ)) (writes : ℕ)
     (now : Outside) (status : ℕ) → MaterialsOf files judging materials → Truly files (files_of judging) (Ok materials) → files_now ≡ files → CountsGoOn counts counts_now
@@ -32,7 +28,7 @@ pub from_files : (judging : JudgingView) (materials : Materials) (files files_no
 from_files judging materials files files_now counts counts_now left reads written writes now status stands truly same goes (inl log) = inl (record {
   materials = materials;
   stands = stands;
-  no_fault = none_at_fault files judging materials truly;
+  no_fault = no_fault files (files_of judging) materials truly;
   standing = log.standing;
   standing_now = log.standing_now;
   shelf = omega (arith, goes.faults.never_falls, log.shelf);
@@ -45,24 +41,6 @@ from_files judging materials files files_now counts counts_now left reads writte
 })
 from_files judging materials files files_now counts counts_now left reads written writes now status stands truly same goes (inr none) =
     inr (inr (record { stays = record { left = none.stays.left; reads = none.stays.reads }; ends = none.ends }))
-
--- ---- a file stopped it
-
-is_first : (files : Option Files) (judging : JudgingView) (stop : FileStop) → Truly files (files_of judging) (Err stop) → IsFirstFault files judging (stop_of stop)
-is_first None judging stop h = tt
-is_first (Some files) judging stop h = h
-
-pub stopped : (judging : JudgingView) (stop : FileStop) (files files_now : Option Files) (counts counts_now : Counts) (left : Option (List ℕ)) (reads : ℕ) (written written_now : Option (List ℕ)) (writes writes_now : ℕ)
-    (status : ℕ) → StopsAt files (files_of judging) (stop_of stop) → Truly files (files_of judging) (Err stop) → CausedBy counts counts_now stop.fault
-    → EndsAtStop (stop_of stop) written written_now writes writes_now status
-    → RanVerify judging (outside files counts left reads written writes) (outside files_now counts_now left reads written_now writes_now) status
-stopped judging stop files files_now counts counts_now left reads written written_now writes writes_now status stands truly cause (inl ends) = inr (inl (record {
-  stop = stop_of stop;
-  at = record { stands = stands; first = is_first files judging stop truly; cause = cause; stays = record { left = refl; reads = refl } };
-  ends = ends;
-}))
-stopped judging stop files files_now counts counts_now left reads written written_now writes writes_now status stands truly cause (inr ends) =
-    inr (inr (record { stays = record { left = refl; reads = refl }; ends = ends }))
 
 -- ---- a new service stands at first
 

@@ -4,14 +4,11 @@ use Rattle.std.specs.Io.KnownBytes.{Appends}
 use Rattle.call_log.specs.Entry.{Entry}
 use Rattle.call_log.specs.Log.{LogText, start}
 use Rattle.log_run.specs.Clauses.{DoneReport, FailedReport, FrontReport, PartReport, ShortReport}
-use Rattle.log_run.specs.Ending.{EndsAs, memory_line}
-use Rattle.stir_files.specs.Event.{event_line}
+use Rattle.log_run.specs.Ending.{EndsAs}
 use Rattle.stir_files.specs.Materials.{files_of}
-use Rattle.stir_files.specs.Named.{IsOutside, Stop, first_fault}
-use Rattle.stir_files.specs.declared.fault.FileFault.TheVariants as faults
+use Rattle.stir_files.specs.Named.{first_fault}
 use Rattle.stir_outside.specs.Count.{NotRisen, Rose}
 use Rattle.stir_outside.specs.Files.{Files}
-use Rattle.stir_outside.specs.Told.{AppendsFront}
 use Rattle.x509_profile.specs.Chain.{Chain}
 use Rattle.x509_profile.specs.View.{CertView}
 use Rattle.stir_cmd.specs.Answer.{Reply, most_chain, text_of}
@@ -19,7 +16,8 @@ use Rattle.stir_words.specs.Order.{JudgingView, OrderView, VerifyBy, ShowCertifi
 use Rattle.stir_cmd.specs.Around.{IsUntouched, Outside}
 use Rattle.stir_cmd.specs.Calls.{AnswersBy, bench_by, settings_by}
 use Rattle.stir_cmd.specs.Showing.{HasReason, IsNoChain, RanShow, TakesAtMost}
-use Rattle.stir_cmd.specs.Verifying.{ByFiles, InputStays, RanVerify, StopsAtFile}
+use Rattle.stir_cmd.specs.Stopping.{AnswersFault, Early, FileFailed, FileRefused, Front, IsEarly, IsQuiet}
+use Rattle.stir_cmd.specs.Verifying.{ByFiles, RanVerify}
 use Rattle.stir_cmd.specs.declared.answer.ShowFault.{ShowFault}
 
 -- the words are refused, and nothing was read
@@ -41,15 +39,7 @@ Ran (Some (VerifyBy judging)) before now status = RanVerify judging before now s
 
 -- ---- the causes
 
--- a named file stopped the run before the input was read, and its line is all that was written
-pub record FileStops (judging : JudgingView) (before now : Outside) (stop : Stop) : Type 0 where
-  pub at : StopsAtFile judging before now stop
-  pub reported : Appends before.written now.written (event_line stop.name stop.fault)
-
 -- 3: a named file couldn't be read; or the input couldn't, and the calls before were judged and reported
-abbrev pub FileFailed : JudgingView → Outside → Outside → Type 0
-FileFailed judging before now = (stop : Stop) × (stop.fault ≡ faults.Failed) × Rose before.counts.faults now.counts.faults × FileStops judging before now stop
-
 abbrev pub LogFailed : JudgingView → Outside → Outside → Type 0
 LogFailed judging before now = ByFiles judging before now (λ materials stands stands_now.
     FailedReport (AnswersBy materials (settings_by judging.settings) before.files) (bench_by (settings_by judging.settings)) stands stands_now)
@@ -57,21 +47,12 @@ LogFailed judging before now = ByFiles judging before now (λ materials stands s
 abbrev pub ReadCause : Option OrderView → Outside → Outside → Type 0
 ReadCause None before now = ⊥
 ReadCause (Some ShowCertificates) before now = Rose before.reads now.reads
-ReadCause (Some (VerifyBy judging)) before now = FileFailed judging before now ⊎ LogFailed judging before now
+ReadCause (Some (VerifyBy judging)) before now = FileFailed (files_of judging) before now ⊎ LogFailed judging before now
 
 -- 4: the output couldn't be written, and a front of what was to be written was: of the line that refuses the words; of what `show` answers; of the
 -- line that ends `verify` before the input is read; or of the report of the first calls and a last line
-pub record Front (before now : Outside) (Line : List ℕ → Type 0) : Type 0 where
-  pub rose : Rose before.writes now.writes
-  pub line : List ℕ
-  pub says : Line line
-  pub front : AppendsFront before.written now.written line
-
 abbrev pub IsShown : Outside → Outside → List ℕ → Type 0
 IsShown before now line = (outcome : Result Reply ShowFault) × HasReason before.left before.reads now.reads outcome × (line ≡ text_of outcome)
-
-abbrev pub IsEarly : JudgingView → Outside → Outside → List ℕ → Type 0
-IsEarly judging before now line = InputStays before now × ((line ≡ memory_line) ⊎ ((stop : Stop) × StopsAtFile judging before now stop × (line ≡ event_line stop.name stop.fault)))
 
 abbrev pub LogFront : JudgingView → Outside → Outside → Type 0
 LogFront judging before now = ByFiles judging before now (λ materials stands stands_now.
@@ -80,12 +61,9 @@ LogFront judging before now = ByFiles judging before now (λ materials stands st
 abbrev pub WriteCause : Option OrderView → Outside → Outside → Type 0
 WriteCause None before now = Front before now (λ line. line ≡ codes "words refused\n")
 WriteCause (Some ShowCertificates) before now = Front before now (IsShown before now)
-WriteCause (Some (VerifyBy judging)) before now = Front before now (IsEarly judging before now) ⊎ LogFront judging before now
+WriteCause (Some (VerifyBy judging)) before now = Front before now (IsEarly (files_of judging) before now) ⊎ LogFront judging before now
 
 -- 5: a named file is missing, too long or outside its grammar; or the input is outside its grammar, and the calls before were judged and reported
-abbrev pub FileRefused : JudgingView → Outside → Outside → Type 0
-FileRefused judging before now = (stop : Stop) × (IsOutside stop.fault → ⊥) × FileStops judging before now stop
-
 abbrev pub LogRefused : JudgingView → Outside → Outside → Type 0
 LogRefused judging before now = ByFiles judging before now (λ materials stands stands_now.
     IfSome stands.left (PartReport (AnswersBy materials (settings_by judging.settings) before.files) (bench_by (settings_by judging.settings)) stands stands_now))
@@ -93,14 +71,9 @@ LogRefused judging before now = ByFiles judging before now (λ materials stands 
 abbrev pub InputCause : Option OrderView → Outside → Outside → Type 0
 InputCause None before now = ⊥
 InputCause (Some ShowCertificates) before now = IfSome before.left IsNoChain
-InputCause (Some (VerifyBy judging)) before now = FileRefused judging before now ⊎ LogRefused judging before now
+InputCause (Some (VerifyBy judging)) before now = FileRefused (files_of judging) before now ⊎ LogRefused judging before now
 
 -- 6: memory was wanting, and a line says so; of `verify`, before the input is read, or the first calls were judged and reported
-pub record Early (judging : JudgingView) (before now : Outside) : Type 0 where
-  pub line : List ℕ
-  pub says : IsEarly judging before now line
-  pub reported : Appends before.written now.written line
-
 abbrev pub LogShort : JudgingView → Outside → Outside → Type 0
 LogShort judging before now = ByFiles judging before now (λ materials stands stands_now.
     ShortReport (AnswersBy materials (settings_by judging.settings) before.files) (bench_by (settings_by judging.settings)) stands stands_now)
@@ -108,7 +81,7 @@ LogShort judging before now = ByFiles judging before now (λ materials stands st
 abbrev pub MemoryCause : Option OrderView → Outside → Outside → Type 0
 MemoryCause None before now = ⊥
 MemoryCause (Some ShowCertificates) before now = Appends before.written now.written (codes "want of memory\n")
-MemoryCause (Some (VerifyBy judging)) before now = Early judging before now ⊎ LogShort judging before now
+MemoryCause (Some (VerifyBy judging)) before now = Early (files_of judging) before now ⊎ LogShort judging before now
 
 -- 0 and 1, whether the input is told or not: the report is whole; only `verify` ends with 1
 abbrev pub DoneCause : Option OrderView → Outside → Outside → ℕ → Type 0
@@ -129,29 +102,19 @@ pub record HasCauses (order : Option OrderView) (before now : Outside) (status :
 
 -- ---- which status comes
 
--- the sink never failed, and no read of a file or of the input did
-pub record IsQuiet (before now : Outside) : Type 0 where
-  pub files : NotRisen before.counts.faults now.counts.faults
-  pub reads : NotRisen before.reads now.reads
-  pub writes : NotRisen before.writes now.writes
-
 -- Where the named files have no fault, and the bytes are a whole log, the whole report comes.
 abbrev pub AnswersWhole : JudgingView → Outside → Outside → ℕ → Type 0
 AnswersWhole judging before now status = (files : Files) (bytes : List ℕ) (calls : List Entry) → before.files ≡ Some files → first_fault files (files_of judging) ≡ None
     → before.left ≡ Some bytes → LogText (start 0 0) bytes calls [] → IsQuiet before now → (status ≤ 1) ⊎ (status ≡ 6)
 
--- where a named file has a fault, or the bytes aren't a whole log, they are refused
-abbrev pub AnswersFault : JudgingView → Outside → Outside → ℕ → Type 0
-AnswersFault judging before now status = (files : Files) (stop : Stop) → before.files ≡ Some files → first_fault files (files_of judging) ≡ Some stop → IsQuiet before now
-    → (status ≡ 5) ⊎ (status ≡ 6)
-
+-- where the bytes aren't a whole log, they are refused
 abbrev pub AnswersPart : JudgingView → Outside → Outside → ℕ → Type 0
 AnswersPart judging before now status = (files : Files) (bytes rest : List ℕ) (calls : List Entry) → before.files ≡ Some files → first_fault files (files_of judging) ≡ None
     → before.left ≡ Some bytes → LogText (start 0 0) bytes calls rest → rest ≢ [] → IsQuiet before now → (status ≡ 5) ⊎ (status ≡ 6)
 
 pub record VerifyComplete (judging : JudgingView) (before now : Outside) (status : ℕ) : Type 0 where
   pub whole : AnswersWhole judging before now status
-  pub fault : AnswersFault judging before now status
+  pub fault : AnswersFault (files_of judging) before now status
   pub part : AnswersPart judging before now status
 
 -- where the bytes are a chain within the limit, they are shown, and else refused

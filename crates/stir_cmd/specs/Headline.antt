@@ -1,10 +1,10 @@
 -- What a run promises for the words of `verify` where shelf and input are told: each call gets the code of the first rule that it breaks, and a
 -- call that breaks none is valid, save that each last PASSporT lets exactly one such call pass.
 use Rattle.std.specs.Prelude.{◌≡◌, ℕ, ◌≤◌, List, [], Option, Some, None}
-use Rattle.std.specs.Io.KnownBytes.{Appends, IsAtEnd}
+use Rattle.std.specs.Io.KnownBytes.{Appends}
 use Rattle.call_log.specs.Log.{LogText, start}
 use Rattle.log_run.specs.Ending.{report_status}
-use Rattle.log_run.specs.Rounds.{FirstWinsIn, IsApart, IsCut, Legal, Round, calls_in, outcomes_in, unread_pairs}
+use Rattle.log_run.specs.Rounds.{FirstWinsIn, InEach, IsApart, IsCut, Legal, Round, calls_in, outcomes_in, unread_pairs}
 use Rattle.log_run.specs.AllValid.{all_valid}
 use Rattle.stir_files.specs.Materials.{MaterialsOf}
 use Rattle.stir_files.specs.declared.materials.Materials.{Materials}
@@ -17,12 +17,13 @@ use Rattle.verify_service.specs.Report.{report}
 use Rattle.stir_cmd.specs.Around.{IfTold, Outside}
 use Rattle.stir_cmd.specs.Calls.{Answers, bench_by, settings_by, world_by}
 
--- Rounds of 256 calls, but the last, judged by what the files say. Where no two signing inputs of last PASSporTs have one digest, the outcomes
--- are legal: each call is answered by the first rule that it breaks; and of those that break none and have one last PASSporT exactly one is
+-- Rounds of 256 calls, but the last, judged by what the files say: each call is answered by the first rule that it breaks. Where no two signing
+-- inputs of last PASSporTs have one digest, the outcomes are legal: of the calls that break no rule and have one last PASSporT exactly one is
 -- valid, which is the first, and each other is a replay of it. Calls are set aside for certificates alone: at most as often, counting pairs of
 -- a round and an x5u text, as the shelf's failed reads rose, and not at all where they didn't.
 pub record AreJudged (settings : Settings) (materials : Materials) (files : Files) (before now : Outside) (rounds : List Round) : Type 0 where
   pub cut : IsCut rounds
+  pub each : InEach (Answers (world_by materials files) settings) rounds
   pub legal : IsApart (bench_by settings) (calls_in rounds) → Legal (Answers (world_by materials files) settings) (bench_by settings) rounds
   pub first_wins : IsApart (bench_by settings) (calls_in rounds) → FirstWinsIn (bench_by settings) rounds
   pub unread : AtMost (unread_pairs (bench_by settings) rounds) before.counts.faults now.counts.faults

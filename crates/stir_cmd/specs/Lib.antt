@@ -4,6 +4,7 @@ pub mod Calls
 pub mod Show
 pub mod Showing
 pub mod Standing
+pub mod Stopping
 pub mod Verifying
 pub mod Headline
 pub mod Causes

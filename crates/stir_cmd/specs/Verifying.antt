@@ -1,63 +1,15 @@
 -- The command `verify`: what it came to. A named file can't be had; or the log was judged by what the files say; or memory was wanting between.
-use Rattle.std.specs.Prelude.{◌≡◌, ◌⊎◌, ℕ, ◌≤◌, List, Option, Some, None}
+use Rattle.std.specs.Prelude.{◌≡◌, ◌⊎◌, ℕ, ◌≤◌, Option}
 use Rattle.log_run.specs.Bench.{Standing}
 use Rattle.log_run.specs.Clauses.{Around, Fails, HasCauses, HasEnded, Headline, IsComplete, LogRan, Refuses, around}
-use Rattle.log_run.specs.Ending.{EndsAs, memory_line}
-use Rattle.stir_files.specs.Event.{event_line, fault_status}
 use Rattle.stir_files.specs.Materials.{MaterialsOf, files_of}
-use Rattle.stir_files.specs.Named.{CausedBy, IsOutside, Stop, StopsAt, first_fault}
 use Rattle.stir_files.specs.declared.materials.Materials.{Materials}
-use Rattle.stir_outside.specs.Files.{Counts, Files}
+use Rattle.stir_outside.specs.Files.{Files}
 use Rattle.stir_words.specs.Order.{JudgingView}
-use Rattle.stir_words.specs.Status.{status_number}
 use Rattle.verify_rules.specs.declared.settings.Settings.{Settings}
 use Rattle.stir_cmd.specs.Around.{Outside}
 use Rattle.stir_cmd.specs.Calls.{AnswersBy, bench_by, settings_by}
-
--- nothing of the input was read
-pub record InputStays (before now : Outside) : Type 0 where
-  pub left : now.left ≡ before.left
-  pub reads : now.reads ≡ before.reads
-
--- a line was written and its status answered, or the sink failed
-abbrev pub Ends : Outside → Outside → ℕ → List ℕ → ℕ → Type 0
-Ends before now status line said = EndsAs before.written now.written before.writes now.writes status line said
-
--- ---- a named file can't be had
-
--- where the files are told, this is the first fault of those that are named, but for what is outside
-abbrev pub IsFirstFault : Option Files → JudgingView → Stop → Type 0
-IsFirstFault None judging stop = Unit {0}
-IsFirstFault (Some files) judging stop = (first_fault files (files_of judging) ≡ Some stop) ⊎ IsOutside stop.fault
-
--- where they are told, none of those that are named has a fault
-abbrev pub HaveNoFault : Option Files → JudgingView → Type 0
-HaveNoFault None judging = Unit {0}
-HaveNoFault (Some files) judging = first_fault files (files_of judging) ≡ None
-
--- The first named file that can't be had, and why.
-pub record StopsAtFile (judging : JudgingView) (before now : Outside) (stop : Stop) : Type 0 where
-  pub stands : StopsAt before.files (files_of judging) stop
-  pub first : IsFirstFault before.files judging stop
-  pub cause : CausedBy before.counts now.counts stop.fault
-  pub stays : InputStays before now
-
--- the line of the fault is all that was written
-pub record Stopped (judging : JudgingView) (before now : Outside) (status : ℕ) : Type 0 where
-  pub stop : Stop
-  pub at : StopsAtFile judging before now stop
-  pub ends : Ends before now status (event_line stop.name stop.fault) (status_number (fault_status stop.fault))
-
--- the line of the fault was written, or that of want of memory
-abbrev pub EndsAtStop : Stop → Option (List ℕ) → Option (List ℕ) → ℕ → ℕ → ℕ → Type 0
-EndsAtStop stop written written_now writes writes_now status =
-    EndsAs written written_now writes writes_now status (event_line stop.name stop.fault) (status_number (fault_status stop.fault))
-    ⊎ EndsAs written written_now writes writes_now status memory_line 6
-
--- memory was wanting before the log was begun
-pub record NoMemory (before now : Outside) (status : ℕ) : Type 0 where
-  pub stays : InputStays before now
-  pub ends : Ends before now status memory_line 6
+use Rattle.stir_cmd.specs.Stopping.{EndsEarly, HaveNoFault, NoMemory}
 
 -- ---- the log was judged
 
@@ -80,7 +32,7 @@ pub record LogSays (materials : Materials) (settings : Settings) (files : Option
 pub record ByFiles (judging : JudgingView) (before now : Outside) (Says : Materials → Around → Around → Type 0) : Type 0 where
   pub materials : Materials
   pub stands : MaterialsOf before.files judging materials
-  pub no_fault : HaveNoFault before.files judging
+  pub no_fault : HaveNoFault before.files (files_of judging)
   pub standing : Standing
   pub standing_now : Standing
   pub shelf : before.counts.faults ≤ standing.shelf
@@ -112,4 +64,4 @@ RanBy materials settings before now status = LogBy materials settings before now
 
 -- what `verify` came to
 abbrev pub RanVerify : JudgingView → Outside → Outside → ℕ → Type 0
-RanVerify judging before now status = RanLog judging before now status ⊎ (Stopped judging before now status ⊎ NoMemory before now status)
+RanVerify judging before now status = RanLog judging before now status ⊎ EndsEarly (files_of judging) before now status

@@ -15,6 +15,7 @@ use std::alloc::Global;
 use std::thread::Threads;
 use stir_outside::{Shelf, Sink, Source};
 use stir_words::{Order, Status};
+use x509_profile::chain_law;
 
 /// The program: takes the words after its name, reads the named files and the input, writes what the command says, and gives the status with
 /// which the program ends.
@@ -57,6 +58,7 @@ pub fn run<R: Threads + Sync, S: Shelf, I: Source, O: Sink>(
     // Where `show` ends with 0, the input is a chain of certificates, and their lines were written.
     ensures showed { (order_of (texts words.now) ≡ Some ShowCertificates) → result ≡ 0 → Showed (I.left input.old) (O.written sink.old) (O.written sink.new) }
 {
+    chain_law();
     carry_out(rt, alloc, words, shelf, input, sink)
 }
 

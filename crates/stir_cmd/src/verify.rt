@@ -1,8 +1,9 @@
 //! The command `verify`: the judgement of the calls of a log.
 ghost use Rattle.std.specs.Prelude.{◌≡◌, ◌≤◌};
 ghost use Rattle.stir_cmd.specs.Around.{outside};
-ghost use Rattle.stir_cmd.specs.Verifying.{EndsAtStop, RanBy, RanVerify};
-ghost use Rattle.stir_files.specs.Materials.{stop_of};
+ghost use Rattle.stir_cmd.specs.Stopping.{EndsAtStop};
+ghost use Rattle.stir_cmd.specs.Verifying.{RanBy, RanVerify};
+ghost use Rattle.stir_files.specs.Stop.{stop_of};
 ghost use Rattle.stir_words.specs.Seen.{judging_view};
 
 use crate::bench::Bench;

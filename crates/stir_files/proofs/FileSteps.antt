@@ -1,6 +1,6 @@
 -- The steps of reading one file after another.
-use Rattle.std.proofs.Common.{◌≡◌, ℕ, ◌<◌, ◌≤◌, ◌⊎◌, inl, inr, List, [], ◌∷◌, length, Option, Some, None, Result, Ok, Err, refl, sym, ◌∙◌, ap, subst, arith}
-use Rattle.stir_outside.specs.Count.{GoesOn, Rose}
+use Rattle.std.proofs.Common.{◌≡◌, ℕ, ◌≤◌, inl, inr, List, [], ◌∷◌, length, Option, Some, None, Result, Ok, Err, refl, ◌∙◌, ap, subst}
+use Rattle.stir_outside.proofs.CountLaws.{then_rose}
 use Rattle.stir_outside.specs.Files.{Counts, CountsGoOn, Files, OfFile}
 use Rattle.stir_outside.specs.Held.{AnswersOf, Held}
 use Rattle.tn_auth_list.specs.Grant.{TableOf}
@@ -8,7 +8,7 @@ use Rattle.tn_auth_list.specs.declared.table_groups.Held.{Held as Granted}
 use Rattle.x509_profile.specs.View.{CertView}
 use Rattle.cert_store.specs.ChainMap.{MapOf}
 use Rattle.cert_store.specs.Files.{Files as MapFiles}
-use Rattle.stir_files.specs.Named.{AnchorsOf, CausedBy, FaultSays, NamedFile, Passes, ReadOf, ShelfSays, Stop, StopsAt, anchor_file, answers_file, chain_map, code_table, place_of}
+use Rattle.stir_files.specs.Named.{AnchorsOf, CausedBy, FaultSays, NamedFile, Passes, ReadOf, ShelfSays, StopsAt, anchor_file, answers_file, chain_map, code_table, place_of}
 use Rattle.stir_files.specs.declared.fault.FileFault.{FileFault}
 use Rattle.stir_files.specs.declared.fault.FileFault.TheVariants.{Missing, Long, Failed, Refused, Memory}
 
@@ -35,26 +35,12 @@ no_place read x h = ap place_of h
 
 -- ---- counts over several reads
 
-rose_later : (before mid now : ℕ) → GoesOn before mid → Rose mid now → Rose before now
-rose_later before mid now goes rose = λ below. let later : mid < now = rose below in omega (arith, later, goes.never_falls)
-
 pub caused_later : (before mid now : Counts) (fault : FileFault) → CountsGoOn before mid → CausedBy mid now fault → CausedBy before now fault
-caused_later before mid now Missing goes cause = rose_later before.misses mid.misses now.misses goes.misses cause
-caused_later before mid now Long goes cause = rose_later before.longs mid.longs now.longs goes.longs cause
-caused_later before mid now Failed goes cause = rose_later before.faults mid.faults now.faults goes.faults cause
-caused_later before mid now (Refused place) goes cause = rose_later before.reads mid.reads now.reads goes.reads cause
+caused_later before mid now Missing goes cause = then_rose before.misses mid.misses now.misses goes.misses.never_falls cause
+caused_later before mid now Long goes cause = then_rose before.longs mid.longs now.longs goes.longs.never_falls cause
+caused_later before mid now Failed goes cause = then_rose before.faults mid.faults now.faults goes.faults.never_falls cause
+caused_later before mid now (Refused place) goes cause = then_rose before.reads mid.reads now.reads goes.reads.never_falls cause
 caused_later before mid now Memory goes cause = tt
-
-one_goes_on : (before mid now : ℕ) → GoesOn before mid → GoesOn mid now → GoesOn before now
-one_goes_on before mid now a b = record { never_falls = omega (arith, a.never_falls, b.never_falls); within = omega (arith, a.within, b.within) }
-
-pub goes_on : (before mid now : Counts) → CountsGoOn before mid → CountsGoOn mid now → CountsGoOn before now
-goes_on before mid now a b = record {
-  reads = one_goes_on before.reads mid.reads now.reads a.reads b.reads;
-  misses = one_goes_on before.misses mid.misses now.misses a.misses b.misses;
-  longs = one_goes_on before.longs mid.longs now.longs a.longs b.longs;
-  faults = one_goes_on before.faults mid.faults now.faults a.faults b.faults;
-}
 
 -- ---- one file after another
 

@@ -1,11 +1,12 @@
 -- Where a shelf tells its files, the reading ends at the first fault of these.
-use Rattle.std.proofs.Common.{◌≡◌, ℕ, ◌<◌, ◌≤◌, ◌⊎◌, inl, inr, Bool, true, false, nat_lt, List, [], ◌∷◌, length, Option, Some, None, Ok, Err, refl, sym, ◌∙◌, ap, arith}
+use Rattle.std.proofs.Common.{◌≡◌, ℕ, ◌≤◌, ◌⊎◌, inl, inr, true, false, nat_lt, List, [], ◌∷◌, length, Option, Some, None, Ok, Err, refl, sym, ◌∙◌, ap, arith}
 use Rattle.std.proofs.lemmas.Bool.Decides.{nat_tests}
 use Rattle.std.specs.Option.{option_map, option_or}
 use Rattle.stir_outside.specs.Files.{Files, IsLonger, file}
 use Rattle.stir_words.specs.Order.{JudgingView}
 use Rattle.stir_files.specs.Named.{FaultSays, IsOutside, NamedFile, Passes, Stop, StopsAt, anchor_file, answers_file, chain_map, code_table, fault_in, first_fault, stop_in}
-use Rattle.stir_files.specs.Materials.{MaterialsOf, Truly, TrulyOf, files_of, stop_of}
+use Rattle.stir_files.specs.Materials.{MaterialsOf, files_of}
+use Rattle.stir_files.specs.Stop.{Truly, stop_of}
 use Rattle.stir_files.specs.declared.fault.FileFault.{FileFault}
 use Rattle.stir_files.specs.declared.fault.FileFault.TheVariants.{Missing, Long, Failed, Refused, Memory}
 use Rattle.stir_files.specs.declared.materials.Materials.{Materials}
@@ -57,9 +58,9 @@ told_stop files [] stop h = absurd h
 told_stop files (first ∷ others) stop (inl h) = here files first others stop h.0 (says_truly files first stop.fault h.1)
 told_stop files (first ∷ others) stop (inr h) = behind files first others stop h.0 (told_stop files others stop h.1)
 
-pub truly_stopped : (files : Option Files) (named : List NamedFile) (stop : FileStop) → StopsAt files named (stop_of stop) → Truly files named (Err stop)
-truly_stopped None named stop h = tt
-truly_stopped (Some files) named stop h = told_stop files named (stop_of stop) h
+pub truly_stopped : (X : Type 0) (files : Option Files) (named : List NamedFile) (stop : FileStop) → StopsAt files named (stop_of stop) → Truly {X = X} files named (Err stop)
+truly_stopped X None named stop h = tt
+truly_stopped X (Some files) named stop h = told_stop files named (stop_of stop) h
 
 pub truly_read : (files : Option Files) (judging : JudgingView) (materials : Materials) → MaterialsOf files judging materials → Truly files (files_of judging) (Ok materials)
 truly_read None judging materials m = tt

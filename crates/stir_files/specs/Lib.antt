@@ -1,3 +1,4 @@
 pub mod Event
 pub mod Named
+pub mod Stop
 pub mod Materials

@@ -1,8 +1,9 @@
 //! The four files of `verify`.
 ghost use Rattle.std.specs.Prelude.{◌≡◌, IfOk, IfErr};
 ghost use Rattle.stir_outside.specs.Files.{CountsGoOn};
-ghost use Rattle.stir_files.specs.Materials.{MaterialsOf, Truly, files_of, stop_of};
+ghost use Rattle.stir_files.specs.Materials.{MaterialsOf, files_of};
 ghost use Rattle.stir_files.specs.Named.{CausedBy, StopsAt};
+ghost use Rattle.stir_files.specs.Stop.{Truly, stop_of};
 ghost use Rattle.stir_words.specs.Seen.{judging_view};
 
 use crate::anchors::read_anchors;
@@ -53,7 +54,7 @@ pub fn read_materials<'a, S: Shelf>(
 }
 
 /// The four files, one after another.
-#[tactic(auto, using(crate::proofs::FileSteps::stop_chains, crate::proofs::FileSteps::stop_anchors, crate::proofs::FileSteps::stop_table, crate::proofs::FileSteps::stop_answers, crate::proofs::FileSteps::read_then, crate::proofs::FileSteps::caused_later, crate::proofs::FileSteps::goes_on))]
+#[tactic(auto, using(crate::proofs::FileSteps::stop_chains, crate::proofs::FileSteps::stop_anchors, crate::proofs::FileSteps::stop_table, crate::proofs::FileSteps::stop_answers, crate::proofs::FileSteps::read_then, crate::proofs::FileSteps::caused_later, stir_outside::proofs::CountLaws::go_on))]
 fn read_all<'a, S: Shelf>(
     alloc: Global,
     shelf: &mut S,

@@ -1,12 +1,11 @@
 -- A text is read as an answers file's rows exactly where its lines say these rows, and none signs what one before it signs.
-use Rattle.std.proofs.Common.{◌≡◌, ℕ, Bool, true, false, cond, List, [], ◌∷◌, ◌++◌, map, Option, Some, None, option_and_then, IfSome, Ok, Err, ◌↔◌, refl, sym, ap, ◌∙◌, subst, append_assoc, append-nil}
+use Rattle.std.proofs.Common.{◌≡◌, ℕ, Bool, true, false, cond, List, [], ◌∷◌, map, Option, Some, None, option_and_then, IfSome, Ok, Err, ◌↔◌, refl, sym, ap, ◌∙◌, subst}
 use Rattle.std.specs.Option.{option_map}
 use Rattle.std.specs.Str.{bytes_eq}
 use Rattle.std.specs.Cmp.Lexicographic.{bytes_decides}
 use Rattle.std.specs.Prelude.{codes}
 use Rattle.text_file.specs.FileLines.{text_lines}
 use Rattle.text_file.specs.LineWords.{line_words}
-use Rattle.text_file.specs.Reading.{go_on, read_lines}
 use Rattle.text_file.proofs.ReadingLaws.{refuses_found, refuses_again}
 use Rattle.stir_outside.specs.KeyName.{is_name}
 use Rattle.stir_outside.specs.AnswersText.{bytes_of, confirm_of, sign_of, row_of_words, row_of, signature_in, signs, is_repeated, add_row, answer_rows, SignsOnce, AnswersText, FirstBad}
@@ -17,7 +16,7 @@ use Rattle.text_file.proofs.RowLaws.{rows_found, rows_again}
 pub answers_are : (text : List ℕ) (rows : List Row) → (answer_rows text ≡ Ok rows) ↔ AnswersText text rows
 unfolding answer_rows
 answers_are text rows = (
-  λ h. let s = rows_found row_of is_repeated (text_lines text) [] rows h in record { lines = s.say ∙ ap (map Some) (sym s.all); once = let P : List Row → Type 0 = λ rs. SignsOnce [] rs in subst P (sym s.all) s.once },
+  λ h. let s = rows_found row_of is_repeated (text_lines text) [] rows h in record { lines = s.say ∙ ap (map Some) (sym s.all); once = let P : List Row → Type 0 = λ rs. SignsOnce [] rs in subst P (sym s.all) s.fits },
   λ t. rows_again row_of is_repeated (text_lines text) [] rows t.lines t.once,
 )
 

@@ -1,15 +1,13 @@
 -- Files hold bytes where the first does, and the others.
 use Rattle.std.proofs.Common.{◌≡◌, ℕ, ◌+◌, ◌<◌, ◌≤◌, Bool, true, false, List, ◌∷◌, map, length, get_or, drop, Some, refl, sym, ap, ◌∙◌, subst}
+use Rattle.std.proofs.lemmas.Option.{same_Some}
 use Rattle.std.proofs.lemmas.List.{drop_more, drop_all}
 use Rattle.std.specs.Str.{bytes_eq}
 use Rattle.stir_outside.specs.Files.{AreBytes, Files, file, HoldBytes}
 
-one : (xs ys : List ℕ) → Some xs ≡ Some ys → xs ≡ ys
-one xs ys e = cc
-
 -- the file of a name is the first, or one of the others
 found : (files : Files) (name own held content : List ℕ) (t : Bool) → bytes_eq name own ≡ t → AreBytes held → HoldBytes files → file name ((own, held) ∷ files) ≡ Some content → AreBytes content
-found files name own held content true e bytes others there = let same : Some held ≡ Some content = rw e at there in subst AreBytes (one held content same) bytes
+found files name own held content true e bytes others there = let same : Some held ≡ Some content = rw e at there in subst AreBytes (same_Some held content same) bytes
 found files name own held content false e bytes others there = let same : file name files ≡ Some content = rw e at there in others name content same
 
 pub first_too : (files : Files) (own held : List ℕ) → AreBytes held → HoldBytes files → HoldBytes ((own, held) ∷ files)

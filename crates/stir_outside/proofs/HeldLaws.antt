@@ -1,5 +1,5 @@
 -- What is held, with one row more.
-use Rattle.std.proofs.Common.{◌≡◌, ℕ, Bool, true, false, not, ◌&&◌, ◌||◌, cond, List, [], ◌∷◌, ◌++◌, Option, Some, None, is_some, Ok, Err, refl, sym, ap, ◌∙◌}
+use Rattle.std.proofs.Common.{◌≡◌, ℕ, Bool, true, false, not, ◌||◌, cond, List, [], ◌∷◌, ◌++◌, Option, Some, None, is_some, Ok, Err, refl, sym, ap, ◌∙◌}
 use Rattle.std.specs.Bool.{MatchBool}
 use Rattle.std.specs.List.{list_any}
 use Rattle.std.specs.Map.{lookup}
@@ -13,7 +13,8 @@ use Rattle.stir_outside.specs.Held.{Held, same_triple, same_order, held_for, Hol
 use Rattle.stir_outside.specs.KeyName.{is_name}
 use Rattle.stir_outside.proofs.AnswerLaws.{none_for_other}
 use Rattle.text_file.specs.FileLines.{text_lines}
-use Rattle.text_file.specs.Reading.{go_on, read_lines}
+use Rattle.text_file.specs.Reading.{read_lines}
+use Rattle.text_file.proofs.ReachedLaws as reached_laws
 use Rattle.stir_outside.specs.declared.answers.rows.Triple.{Triple}
 use Rattle.stir_outside.specs.declared.answers.rows.Order.{Order}
 use Rattle.stir_outside.specs.declared.answers.rows.Row.{Row}
@@ -109,34 +110,22 @@ pub none_read : (text : List ℕ) (lines : List (ℕ × List ℕ)) (held : Held)
 unfolding answer_rows
 none_read text lines held e holds = record { rows = []; holds = holds; reads = ap (λ (ls : List (ℕ × List ℕ)). read_lines add_row ls []) e }
 
-abbrev Line : Type 0
-Line = ℕ × List ℕ
-
--- what is left gives the same behind a line that was added
-reads_on : (text : List ℕ) (lines more : List Line) (line : Line) (rows : List Row) (k : Option (List Row)) → lines ≡ line ∷ more → add_row rows line.1 ≡ k
-    → read_lines add_row lines rows ≡ answer_rows text → go_on k line.0 (λ next. read_lines add_row more next) ≡ answer_rows text
-reads_on text lines more line rows k e a h =
-    sym (ap (λ (ls : List Line). read_lines add_row ls rows) e ∙ ap (λ (o : Option (List Row)). go_on o line.0 (λ next. read_lines add_row more next)) a) ∙ h
-
-pub one_more : (text : List ℕ) (lines more : List Line) (number : ℕ) (line : List ℕ) (old new : Held) → lines ≡ (number, line) ∷ more
+pub one_more : (text : List ℕ) (lines more : List (ℕ × List ℕ)) (number : ℕ) (line : List ℕ) (old new : Held) → lines ≡ (number, line) ∷ more
     → AddsLine old new line true → Reached text lines old → Reached text more new
-one_more text lines more number line old new e adds reached =
-    let a = adds reached.rows reached.holds in
-    record { rows = a.more; holds = a.holds; reads = reads_on text lines more (number, line) reached.rows (Some a.more) e a.added reached.reads }
+one_more text lines more number line old new e adds reached = reached_laws.one_more add_row HoldsRows (answer_rows text) lines more number line old new e adds reached
 
-pub bad_line : (text : List ℕ) (lines more : List Line) (number : ℕ) (line : List ℕ) (old new : Held) → lines ≡ (number, line) ∷ more
+pub bad_line : (text : List ℕ) (lines more : List (ℕ × List ℕ)) (number : ℕ) (line : List ℕ) (old new : Held) → lines ≡ (number, line) ∷ more
     → AddsLine old new line false → Reached text lines old → answer_rows text ≡ Err number
-bad_line text lines more number line old new e adds reached =
-    sym (reads_on text lines more (number, line) reached.rows None e (adds reached.rows reached.holds) reached.reads)
+bad_line text lines more number line old new e adds reached = reached_laws.bad_line add_row HoldsRows (answer_rows text) lines more number line old new e adds reached
 
 signed_by : (text : List ℕ) (rows : List Row) (held : Held) (name digest : List ℕ) (t : Bool) → is_name name ≡ t → answer_rows text ≡ Ok rows → HoldsRows rows held
     → cond t (held_for held name digest) None ≡ signs rows name digest
 signed_by text rows held name digest true e read holds = holds.signs name digest
 signed_by text rows held name digest false e read holds = sym (none_for_other text rows name digest read e)
 
-pub all_read : (text : List ℕ) (lines : List Line) (held : Held) → lines ≡ [] → Reached text lines held → AnswersOf text held
+pub all_read : (text : List ℕ) (lines : List (ℕ × List ℕ)) (held : Held) → lines ≡ [] → Reached text lines held → AnswersOf text held
 all_read text lines held e reached =
-    let read : answer_rows text ≡ Ok reached.rows = sym reached.reads ∙ ap (λ (ls : List Line). read_lines add_row ls reached.rows) e in
+    let read : answer_rows text ≡ Ok reached.rows = reached_laws.all_given add_row HoldsRows (answer_rows text) lines held e reached in
     record {
       rows = reached.rows;
       read = read;

@@ -2,5 +2,4 @@ pub mod AnswerLaws
 pub mod CountLaws
 pub mod FileLaws
 pub mod HeldLaws
-pub mod KeyNames
 pub mod Transfers

@@ -1,7 +1,7 @@
 -- The answers file (this project's own rule): signatures that were confirmed and made beforehand. A line is
 -- `confirm KEY DIGEST SIGNATURE` or `sign NAME DIGEST SIGNATURE`. KEY, DIGEST and SIGNATURE are 65, 32 and 64 bytes in hex
 -- digits of either case; KEY is an uncompressed point, so its first byte is 04 (SEC 1, section 2.3.3).
-use Rattle.std.specs.Prelude.{◌≡◌, ℕ, Bool, false, ◌&&◌, ◌==◌, List, [], ◌∷◌, ◌++◌, slice_index, is_some, codes, map, Option, Some, None, option_and_then, Result, if◌then◌else◌}
+use Rattle.std.specs.Prelude.{◌≡◌, ℕ, Bool, false, ◌&&◌, ◌==◌, List, [], ◌∷◌, slice_index, is_some, codes, map, Option, Some, None, option_and_then, Result, if◌then◌else◌}
 use Rattle.std.specs.List.{list_any}
 use Rattle.std.specs.Option.{option_map, option_or}
 use Rattle.std.specs.Result.{result_ok}
@@ -13,7 +13,7 @@ use Rattle.text_file.specs.Reading.{read_lines, Refuses}
 use Rattle.stir_outside.specs.KeyName.{name_of}
 use Rattle.stir_outside.specs.declared.answers.rows.Row.{Row}
 use Rattle.stir_outside.specs.declared.answers.rows.Row.TheVariants.{Confirm, Sign}
-use Rattle.text_file.specs.Rows.{one_row, EachOnce}
+use Rattle.text_file.specs.Rows.{one_row, EachFits}
 
 -- ---- a line
 
@@ -90,7 +90,7 @@ answer_rows text = read_lines add_row (text_lines text) []
 
 -- no row signs what one before it signs
 abbrev pub SignsOnce : List Row → List Row → Type 0
-SignsOnce = EachOnce is_repeated
+SignsOnce = EachFits is_repeated
 
 -- the text is an answers file with these rows
 pub record AnswersText (text : List ℕ) (rows : List Row) : Type 0 where

@@ -1,5 +1,5 @@
 -- What an answers file says, as it is kept: its triples, and its signatures by what they sign, in no order that a contract names.
-use Rattle.std.specs.Prelude.{◌≡◌, ℕ, Bool, true, false, ◌&&◌, List, [], ◌∷◌, ◌++◌, Option, Some, None, Ok, Err, if◌then◌else◌}
+use Rattle.std.specs.Prelude.{◌≡◌, ℕ, Bool, ◌&&◌, List, Option, Some, None, Ok, if◌then◌else◌}
 use Rattle.std.specs.List.{list_any}
 use Rattle.std.specs.Map.{lookup}
 use Rattle.std.specs.Str.{bytes_eq}
@@ -7,7 +7,7 @@ use Rattle.stir_outside.specs.AnswersText.{says, signs, is_repeated, add_row, an
 use Rattle.stir_outside.specs.KeyName.{is_name}
 use Rattle.stir_outside.specs.declared.answers.held.AnswerFault.{AnswerFault}
 use Rattle.stir_outside.specs.declared.answers.held.AnswerFault.TheVariants.{Line, Memory}
-use Rattle.text_file.specs.Reading.{read_lines}
+use Rattle.lists.specs.Given.{IsFaultOf}
 use Rattle.text_file.specs.Rows as file
 use Rattle.stir_outside.specs.declared.answers.rows.Triple.{Triple}
 use Rattle.stir_outside.specs.declared.answers.rows.Order.{Order}
@@ -41,10 +41,14 @@ pub record AnswersOf (text : List ℕ) (held : Held) : Type 0 where
   pub says : held_says held ≡ says rows
   pub signs : held_signs held ≡ signs rows
 
+-- the line of a fault other than want of memory
+abbrev pub line_of : AnswerFault → Option ℕ
+line_of (Line number) = Some number
+line_of Memory = None
+
 -- the fault names the first bad line
 abbrev pub FaultOf : List ℕ → AnswerFault → Type 0
-FaultOf text (Line number) = answer_rows text ≡ Err number
-FaultOf text Memory = Unit {0}
+FaultOf text fault = IsFaultOf (line_of fault) (answer_rows text)
 
 -- each look-up gives what the rows read so far say
 pub record HoldsRows (rows : List Row) (held : Held) : Type 0 where
@@ -60,7 +64,5 @@ abbrev pub AddsLine : Held → Held → List ℕ → Bool → Type 0
 AddsLine = file.AddsLine add_row HoldsRows
 
 -- the rows read so far are held, and the lines that are left lead on from them to what the whole text gives
-pub record Reached (text : List ℕ) (lines : List (ℕ × List ℕ)) (held : Held) : Type 0 where
-  pub rows : List Row
-  pub holds : HoldsRows rows held
-  pub reads : read_lines add_row lines rows ≡ answer_rows text
+abbrev pub Reached : List ℕ → List (ℕ × List ℕ) → Held → Type 0
+Reached text lines held = file.Reached add_row HoldsRows (answer_rows text) lines held

@@ -1,5 +1,5 @@
 -- The name of a signing key (this project's own rule).
-use Rattle.std.specs.Prelude.{ℕ, Bool, not, ◌&&◌, ◌||◌, ◌==◌, ◌-◌, ◌++◌, nat_le, List, length, replicate, Option, Some, None, if◌then◌else◌}
+use Rattle.std.specs.Prelude.{ℕ, Bool, not, ◌&&◌, ◌||◌, ◌==◌, nat_le, List, length, Option, Some, None, if◌then◌else◌}
 use Rattle.std.specs.List.{list_all}
 
 -- a visible ASCII character other than `;`, `,`, `"`, `<`, `>` and backslash
@@ -13,7 +13,3 @@ is_name text = nat_le 1 (length text) && nat_le (length text) 64 && list_all is_
 -- the name that a text is, byte for byte, where it is one
 abbrev pub name_of : List ℕ → Option (List ℕ)
 name_of text = if is_name text then Some text else None
-
--- the bytes of a name and zeros, 64 in all: how a name lies in memory
-abbrev pub filled : List ℕ → List ℕ
-filled text = text ++ replicate (64 - length text) 0

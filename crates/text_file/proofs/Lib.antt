@@ -1,5 +1,6 @@
 pub mod LineLaws
 pub mod Parts
+pub mod ReachedLaws
 pub mod ReadingLaws
 pub mod RowLaws
 pub mod WordLaws

@@ -6,6 +6,8 @@ use Rattle.std.specs.Cmp.Lexicographic.{slice_cmp, texts_ties, nat_list_eq_equiv
 use Rattle.std.specs.Set.{is_member, distinct_count}
 use Rattle.std.specs.BTreeMap.{BTreeMap, get, keys, IsOrdered, btree_map_len}
 use Rattle.std.specs.Str.{bytes_eq}
+use Rattle.std.proofs.lemmas.Bool.{and_parts}
+use Rattle.std.proofs.Math.Bool.{or-false, or-true}
 use Rattle.std.proofs.lemmas.Bool.Decides.{nat_tests}
 use Rattle.std.proofs.lemmas.List.{length-map, length-append}
 use Rattle.std.proofs.lemmas.List.Folds.{list_any-append}
@@ -14,22 +16,13 @@ use Rattle.std.proofs.lemmas.Slice.Eq.{bytes_eq-Decides}
 use Rattle.std.proofs.lemmas.Map.Keys.{IsDistinct-from_sorted, IsDistinct-push}
 use Rattle.std.proofs.lemmas.Map.Made.{length-from_keys, is_some-lookup}
 use Rattle.std.proofs.lemmas.Map.Steps.{list_any_congr}
-use Rattle.tn_auth_list.specs.CodeTable.{code_count, given_count, is_all, is_within}
+use Rattle.tn_auth_list.specs.CodeTable.{code_count, given_count, is_all, is_past, is_within}
 use Rattle.tn_auth_list.specs.CodeGroups.{IsGroups, PutsRow, is_named, group_of, no_group, with_gives, has_room, has_room_for, has_room_for_code}
 use Rattle.tn_auth_list.specs.GroupView.{GroupView}
 use Rattle.tn_auth_list.specs.declared.table_rows.Row.{Row}
 use Rattle.tn_auth_list.specs.declared.table_groups.Groups.{Groups}
 use Rattle.tn_auth_list.proofs.GroupLaws.{group_push}
 use Rattle.std.specs.declared.alloc.Global.{Global}
-use Rattle.tn_values.proofs.Conjunction.{both}
-
-or_false : (a : Bool) → (a || false) ≡ a
-or_false true = refl
-or_false false = refl
-
-or_true : (a : Bool) → (a || true) ≡ true
-or_true true = refl
-or_true false = refl
 
 -- ---- the order of codes and their equality are one test
 
@@ -84,13 +77,13 @@ counted : (rows : List Row) (row : Row) (ks : List (List ℕ)) → IsDistinct by
     → ((code : List ℕ) → is_member bytes_eq ks code ≡ is_member bytes_eq (codes_of rows ++ row.code ∷ []) code) → code_count (rows ++ row ∷ []) ≡ length ks
 counted rows row ks d same = ap (distinct_count bytes_eq) (codes_push rows row) ∙ sym (length-from_keys nat_list_eq_equiv ks (codes_of rows ++ row.code ∷ []) d same)
 
-member_push : (cs : List (List ℕ)) (c code : List ℕ) → is_member bytes_eq (cs ++ c ∷ []) code ≡ (is_member bytes_eq cs code || (bytes_eq code c || false))
+pub member_push : (cs : List (List ℕ)) (c code : List ℕ) → is_member bytes_eq (cs ++ c ∷ []) code ≡ (is_member bytes_eq cs code || (bytes_eq code c || false))
 member_push cs c code = list_any-append (bytes_eq code) cs (c ∷ [])
 
 known_by : (cs : List (List ℕ)) (c code : List ℕ) (t : Bool) → bytes_eq code c ≡ t → is_member bytes_eq cs c ≡ true
     → is_member bytes_eq cs code ≡ (is_member bytes_eq cs code || (t || false))
 known_by cs c code true e known = let here : is_member bytes_eq cs code ≡ true = list_any_congr nat_list_eq_equiv code c cs e ∙ known in rw here refl
-known_by cs c code false e known = sym (or_false (is_member bytes_eq cs code))
+known_by cs c code false e known = sym (or-false (is_member bytes_eq cs code))
 
 -- a code that was named before isn't counted again
 known : (cs : List (List ℕ)) (c code : List ℕ) → is_member bytes_eq cs c ≡ true → is_member bytes_eq cs code ≡ is_member bytes_eq (cs ++ c ∷ []) code
@@ -123,16 +116,16 @@ pub record Within (rows : List Row) : Type 0 where
 
 pub within_parts : (rows : List Row) → is_within rows ≡ true → Within rows
 unfolding is_within
-within_parts rows h = let parts = both (nat_le (code_count rows) 20000) (nat_le (given_count rows) 200000) h in
+within_parts rows h = let parts = and_parts (nat_le (code_count rows) 20000) (nat_le (given_count rows) 200000) h in
     record { codes = grind (arith, nat_tests, parts.0); given = grind (arith, nat_tests, parts.1) }
 
 code_room_by : (rows : List Row) (row : Row) (m : ByCode) (n : Bool) → is_named rows row.code ≡ n → IsOrdered (slice_cmp nat_cmp) m → Holds rows m → btree_map_len m ≤ 20000
     → (nat_lt (btree_map_len m) 20000 || n) ≡ nat_le (code_count (rows ++ row ∷ [])) 20000
 code_room_by rows row m true e o h small =
     let fits : nat_le (btree_map_len m) 20000 ≡ true = grind (arith, nat_tests) in
-    or_true (nat_lt (btree_map_len m) 20000) ∙ sym (ap (λ k. nat_le k 20000) (count_named rows row m o h e) ∙ fits)
+    or-true (nat_lt (btree_map_len m) 20000) ∙ sym (ap (λ k. nat_le k 20000) (count_named rows row m o h e) ∙ fits)
 code_room_by rows row m false e o h small =
-    or_false (nat_lt (btree_map_len m) 20000) ∙ sym (ap (λ k. nat_le k 20000) (count_new rows row m o h e) ∙ next_fits (btree_map_len m) 20000)
+    or-false (nat_lt (btree_map_len m) 20000) ∙ sym (ap (λ k. nat_le k 20000) (count_new rows row m o h e) ∙ next_fits (btree_map_len m) 20000)
 
 given_push : (rows : List Row) (row : Row) → given_count (rows ++ row ∷ []) ≡ given_count rows + (0 + cond (not (is_all row.gives)) 1 0)
 given_push rows row = sum_by-append (λ (r : Row). cond (not (is_all r.gives)) 1 0) rows (row ∷ [])
@@ -189,3 +182,7 @@ groups_push rows row old alloc by_code given is o room put count = record {
   given = omega (arith, count, is.given, given_push rows row);
   within = sym (room_is rows row old is o) ∙ room;
 }
+
+-- a row that was added passes no limit
+pub added : (rows : List Row) (row : Row) (new : Groups) → IsGroups (rows ++ row ∷ []) new → (is_past rows row ≡ false) × IsGroups (rows ++ row ∷ []) new
+added rows row new is = (ap not is.within, is)

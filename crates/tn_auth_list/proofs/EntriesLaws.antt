@@ -3,7 +3,8 @@ use Rattle.std.proofs.Common.{◌≡◌, ℕ, zero, suc, ◌-◌, ◌<◌, ◌�
 use Rattle.std.proofs.lemmas.Bool.Decides.{nat_tests}
 use Rattle.tn_auth_list.specs.declared.entries.Entry.{Entry}
 use Rattle.tn_auth_list.specs.declared.faults.Fault.{Fault}
-use Rattle.tn_auth_list.specs.Fault.{◌>>=◌, past_limit_at}
+use Rattle.lists.specs.Steps.{◌>>=◌}
+use Rattle.tn_auth_list.specs.Fault.{past_limit_at}
 use Rattle.tn_auth_list.specs.Read.{PartView, EntryView, entry_at, entries_at}
 
 -- entries that were found before those that are left

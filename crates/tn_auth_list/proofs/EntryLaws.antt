@@ -8,7 +8,6 @@ use Rattle.der_reader.proofs.IntegerLaws.{unsigned_found}
 use Rattle.tn_values.specs.Digit.{are_digits}
 use Rattle.tn_values.specs.Number.{exact, is_number}
 use Rattle.tn_values.specs.Span.{SpanView, span_of}
-use Rattle.tn_auth_list.specs.declared.faults.Fault.{Fault}
 use Rattle.tn_auth_list.specs.declared.entries.Entry.{Entry}
 use Rattle.tn_auth_list.specs.declared.entries.Entry.TheVariants.{Code, Range, Single}
 use Rattle.tn_auth_list.specs.Code.{code_of, is_code}
@@ -17,7 +16,8 @@ use Rattle.tn_auth_list.specs.Fault.{no_code_at, no_number_at, no_count_at}
 use Rattle.tn_auth_list.specs.ListText.{integer_content, string_text, integer_text, entry_text}
 use Rattle.tn_auth_list.specs.Read.{PartView, ItemView, EntryView, item_at, element_at, or_fault, code_in, single_in, start_of, counted, span_in, range_in, entry_in, entry_at}
 use Rattle.tn_auth_list.proofs.IntegerLaws.{integer_text_is}
-use Rattle.tn_auth_list.proofs.ReadLaws.{came, there, ended, Begins, item_found, element_found}
+use Rattle.lists.proofs.StepLaws.{came, inside}
+use Rattle.tn_auth_list.proofs.ReadLaws.{there, ended, Begins, item_found, element_found}
 
 -- ---- an entry's tag and what is in it
 
@@ -202,6 +202,3 @@ entry_at_found part found b e =
       is = entry.2;
       behind_bytes = begins.behind_bytes;
     })
-  where
-    inside : (x y : EntryView) → ◌≡◌ {A = Result EntryView Fault} (Ok x) (Ok y) → x ≡ y
-    inside x y e = cc

@@ -1,5 +1,6 @@
 -- The text of an entry is read as that entry.
-use Rattle.std.proofs.Common.{◌≡◌, ◌≢◌, ℕ, ◌+◌, ◌<◌, ◌≤◌, ◌^◌, nat_le, nat_lt, true, false, List, [], ◌∷◌, ◌++◌, length, bit_and, Some, Ok, refl, sym, ap, ◌∙◌, append-nil, length-append, arith}
+use Rattle.std.proofs.Common.{◌≡◌, ◌≢◌, ℕ, ◌+◌, ◌<◌, ◌≤◌, ◌^◌, nat_le, nat_lt, true, false, List, [], ◌++◌, length, bit_and, Some, Ok, refl, sym, ap, ◌∙◌, append-nil, length-append, arith}
+use Rattle.der_reader.proofs.NextLaws.{short_text}
 use Rattle.std.proofs.lemmas.Bool.Decides.{nat_tests}
 use Rattle.der_reader.specs.Elem.{element_text, length_text}
 use Rattle.der_reader.proofs.IntegerLaws.{unsigned_again}
@@ -15,19 +16,16 @@ use Rattle.tn_auth_list.specs.ListText.{integer_content, string_text, integer_te
 use Rattle.tn_auth_list.specs.Read.{PartView, ItemView, item_at, element_at, code_in, single_in, start_of, counted, span_in, range_in, entry_in, entry_at}
 use Rattle.tn_auth_list.proofs.CodeFacts.{code_parts}
 use Rattle.tn_auth_list.proofs.IntegerLaws.{integer_is_text, integer_short}
-use Rattle.tn_auth_list.proofs.ReadLaws.{after, ends, standing, item_again, element_again}
+use Rattle.lists.proofs.StepLaws.{after}
+use Rattle.tn_auth_list.proofs.ReadLaws.{ends, standing, item_again, element_again}
 use Rattle.tn_auth_list.proofs.EntryLaws.{entry_tag, inner_text, entry_text_is}
 
 -- ---- how long texts are
 
-short_length : (n : ℕ) → n < 128 → length_text n ≡ n ∷ []
-unfolding length_text
-short_length n l = grind (arith, nat_tests)
-
 -- an element of few bytes has two more
 pub element_length : (tag : ℕ) (content : List ℕ) → length content < 128 → length (element_text tag content) ≡ 2 + length content
 element_length tag content l =
-    omega (arith, ap length (short_length (length content) l), length-append (length_text (length content)) content)
+    omega (arith, ap length (short_text (length content) l), length-append (length_text (length content)) content)
 
 -- what an entry of a range is
 pub record IsRange (span : SpanView) : Type 0 where

@@ -2,10 +2,10 @@
 use Rattle.std.proofs.Common.{◌≡◌, ℕ, zero, suc, ◌<◌, ◌⊎◌, inl, inr, Bool, true, false, ◌&&◌, ◌||◌, cond, List, [], ◌∷◌, length, Option, Some, None, Any, Contains, refl, sym, ap, subst, arith}
 use Rattle.std.specs.List.{list_any, slice_index_or, cons_option}
 use Rattle.std.specs.Str.{bytes_eq}
+use Rattle.std.proofs.lemmas.Bool.{and_parts, or_parts, or_right}
 use Rattle.std.proofs.lemmas.Slice.Eq.{bytes_eq-Decides}
 use Rattle.tn_values.specs.Span.{SpanView, SpanHolds}
 use Rattle.tn_values.specs.NumberSet.{SetHolds, set_of}
-use Rattle.tn_values.proofs.Conjunction.{both}
 use Rattle.tn_auth_list.specs.CodeTable.{is_all, SomeOf, HoldsNumber, Names, SaysAll, Grants}
 use Rattle.tn_auth_list.specs.CodeGroups.{HeldFrom, is_named, says_all, range_in, single_in, spans_of, singles_of, group_of}
 use Rattle.tn_auth_list.specs.Grant.{GrantOf}
@@ -58,14 +58,10 @@ some_from_test : (p : Row → Bool) (P : Row → Type 0) → ((row : Row) → p 
 some_from_test p P f [] h = absurd cc
 some_from_test p P f (row ∷ rows) h = tested_by P row rows (p row) (list_any p rows) (f row) (some_from_test p P f rows) h
 
-or_second : (a b : Bool) → b ≡ true → (a || b) ≡ true
-or_second true b h = refl
-or_second false b h = h
-
 test_from_some : (p : Row → Bool) (P : Row → Type 0) → ((row : Row) → P row → p row ≡ true) → (rows : List Row) → SomeOf P rows → list_any p rows ≡ true
 test_from_some p P f [] s = absurd s
 test_from_some p P f (row ∷ rows) (inl q) = rw (f row q) refl
-test_from_some p P f (row ∷ rows) (inr s) = or_second (p row) (list_any p rows) (test_from_some p P f rows s)
+test_from_some p P f (row ∷ rows) (inr s) = or_right (p row) (list_any p rows) (test_from_some p P f rows s)
 
 same_code : (code own : List ℕ) → bytes_eq code own ≡ true → own ≡ code
 same_code code own h = sym ((bytes_eq-Decides code own).0 h)
@@ -89,7 +85,7 @@ all_test gives e = ap is_all e
 
 pub all_rows : (rows : List Row) (code : List ℕ) → says_all rows code ≡ true → SaysAll rows code
 all_rows rows code h = some_from_test (λ row. bytes_eq code row.code && is_all row.gives) (λ row. (row.code ≡ code) × (row.gives ≡ All))
-    (λ row t. let parts = both (bytes_eq code row.code) (is_all row.gives) t in (same_code code row.code parts.0, all_from row.gives parts.1)) rows h
+    (λ row t. let parts = and_parts (bytes_eq code row.code) (is_all row.gives) t in (same_code code row.code parts.0, all_from row.gives parts.1)) rows h
 
 pub said_all : (rows : List Row) (code : List ℕ) → SaysAll rows code → says_all rows code ≡ true
 said_all rows code s = test_from_some (λ row. bytes_eq code row.code && is_all row.gives) (λ row. (row.code ≡ code) × (row.gives ≡ All))
@@ -130,10 +126,6 @@ granted_by_single (row ∷ rows) code number s =
     elim (head_single code row.code number row.gives (singles_of rows code) (bytes_eq code row.code) refl s)
     [ inl p ↦ inl p | inr more ↦ inr (granted_by_single rows code number more) ]
 
-neither : (a b : Bool) → (a || b) ≡ false → (a ≡ false) × (b ≡ false)
-neither true b h = absurd cc
-neither false b h = (refl, h)
-
 -- the numbers that rows give, none of which gives the code all numbers
 abbrev InLists : List SpanView → List (List ℕ) → List ℕ → Type 0
 InLists spans singles number = SomeOf (λ span. SpanHolds span number) spans ⊎ SomeOf (λ single. single ≡ number) singles
@@ -161,10 +153,10 @@ first_by code number row false spans singles e a g = let here : bytes_eq code ro
 listed : (rows : List Row) (code number : List ℕ) → says_all rows code ≡ false → Grants rows code number → InLists (spans_of rows code) (singles_of rows code) number
 listed [] code number a g = absurd g
 listed (row ∷ rows) code number a (inl g) =
-    let parts = neither (bytes_eq code row.code && is_all row.gives) (says_all rows code) a in
+    let parts = or_parts (bytes_eq code row.code && is_all row.gives) (says_all rows code) a in
     first_by code number row (bytes_eq code row.code) (spans_of rows code) (singles_of rows code) refl parts.0 g
 listed (row ∷ rows) code number a (inr g) =
-    let parts = neither (bytes_eq code row.code && is_all row.gives) (says_all rows code) a in
+    let parts = or_parts (bytes_eq code row.code && is_all row.gives) (says_all rows code) a in
     later number (cond (bytes_eq code row.code) (range_in row.gives) None) (cond (bytes_eq code row.code) (single_in row.gives) None) (spans_of rows code) (singles_of rows code)
     (listed rows code number parts.1 g)
 

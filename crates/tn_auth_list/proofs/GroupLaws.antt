@@ -2,6 +2,7 @@
 use Rattle.std.proofs.Common.{◌≡◌, ℕ, Bool, true, false, ◌&&◌, ◌||◌, cond, List, [], ◌∷◌, ◌++◌, Option, Some, None, unwrap_or, refl, ap, ◌∙◌, append-nil}
 use Rattle.std.specs.List.{cons_option}
 use Rattle.std.specs.Str.{bytes_eq}
+use Rattle.std.proofs.Math.Bool.{or-false, or-true}
 use Rattle.std.proofs.lemmas.List.Folds.{list_any-append}
 use Rattle.std.proofs.lemmas.List.Elements.{filter_map-append}
 use Rattle.tn_values.specs.Span.{SpanView}
@@ -12,23 +13,15 @@ use Rattle.tn_auth_list.specs.declared.table_rows.Gives.{Gives}
 use Rattle.tn_auth_list.specs.declared.table_rows.Gives.TheVariants.{All, Range, Single}
 use Rattle.tn_auth_list.specs.declared.table_rows.Row.{Row}
 
-or_false : (a : Bool) → (a || false) ≡ a
-or_false true = refl
-or_false false = refl
-
-or_true : (a : Bool) → (a || true) ≡ true
-or_true true = refl
-or_true false = refl
-
 abbrev group : Bool → List SpanView → List (List ℕ) → GroupView
 group a s g = record { all = a; spans = s; singles = g }
 
 -- a row added to a group
 add_to : (a : Bool) (s : List SpanView) (g : List (List ℕ)) (gives : Gives)
     → group (a || (is_all gives || false)) (s ++ cons_option (range_in gives) []) (g ++ cons_option (single_in gives) []) ≡ with_gives (group a s g) gives
-add_to a s g All = rw (or_true a, append-nil s, append-nil g) refl
-add_to a s g (Range span) = rw (or_false a, append-nil g) refl
-add_to a s g (Single number) = rw (or_false a, append-nil s) refl
+add_to a s g All = rw (or-true a, append-nil s, append-nil g) refl
+add_to a s g (Range span) = rw (or-false a, append-nil g) refl
+add_to a s g (Single number) = rw (or-false a, append-nil s) refl
 
 -- a code that no row names is given nothing
 record Nothing (rows : List Row) (code : List ℕ) : Type 0 where
@@ -70,7 +63,7 @@ push_by : (rows : List Row) (row : Row) (code : List ℕ) (t n : Bool) → bytes
     → group_of (rows ++ row ∷ []) code ≡ cond t (Some (with_gives (unwrap_or (group_of rows code) no_group) row.gives)) (group_of rows code)
 push_by rows row code false n e m =
     let k = more rows row code false e in
-    rw (k.named, k.all, k.spans, k.singles, or_false (is_named rows code), or_false (says_all rows code), append-nil (spans_of rows code), append-nil (singles_of rows code)) refl
+    rw (k.named, k.all, k.spans, k.singles, or-false (is_named rows code), or-false (says_all rows code), append-nil (spans_of rows code), append-nil (singles_of rows code)) refl
 push_by rows row code true true e m =
     let k = more rows row code true e in
     rw (k.named, k.all, k.spans, k.singles, m) (ap (λ (g : GroupView). Some g) (add_to (says_all rows code) (spans_of rows code) (singles_of rows code) row.gives))

@@ -1,6 +1,7 @@
 -- The content of an INTEGER: the fewest bytes of a number are one text, and no other.
 use Rattle.std.proofs.Common.{◌≡◌, ℕ, zero, suc, ◌+◌, ◌*◌, ◌/◌, ◌%◌, ◌^◌, ◌<◌, ◌≤◌, ◌⊎◌, inl, inr, true, false, nat_lt, List, [], ◌∷◌, ◌++◌, length, get_or, take, refl, sym, ap, ◌∙◌, append_assoc, length-append, length-take, arith}
 use Rattle.std.specs.Prelude.{fold}
+use Rattle.der_reader.proofs.NextLaws.{take_bytes}
 use Rattle.std.proofs.Math.Nat.{pow-succ'}
 use Rattle.std.proofs.lemmas.Bool.Decides.{nat_tests}
 use Rattle.der_reader.specs.Elem.{AllBytes}
@@ -136,12 +137,6 @@ front_text (suc m) (x ∷ y ∷ rest) n e b t =
       omega (arith, value, below),
     )
 
-front_bytes : (k : ℕ) (bytes : List ℕ) → AllBytes bytes → AllBytes (take k bytes)
-front_bytes zero bytes b i = omega arith
-front_bytes (suc k) [] b i = omega arith
-front_bytes (suc k) (x ∷ xs) b zero = b 0
-front_bytes (suc k) (x ∷ xs) b (suc i) = front_bytes k xs (λ i. b (suc i)) i
-
 -- a text of several bytes is of a number of 128 at least
 large_text : (m : ℕ) (bytes : List ℕ) (n : ℕ) → length bytes ≡ suc (suc m) → AllBytes bytes → IntegerText bytes n → 128 ≤ n
 large_text m [] n e b t = absurd (omega arith)
@@ -162,7 +157,7 @@ large_text zero (x ∷ y ∷ rest) n e b t =
 large_text (suc m) (x ∷ y ∷ rest) n e b t =
     let f = front_text (suc m) (x ∷ y ∷ rest) n e b t in
     let size : length (x ∷ y ∷ take m rest) ≡ suc (suc m) = omega (arith, e, length-take m rest) in
-    let part : 128 ≤ n / 256 = large_text m (x ∷ y ∷ take m rest) (n / 256) size (front_bytes (suc (suc m)) (x ∷ y ∷ rest) b) f.0 in
+    let part : 128 ≤ n / 256 = large_text m (x ∷ y ∷ take m rest) (n / 256) size (take_bytes (suc (suc m)) (x ∷ y ∷ rest) b) f.0 in
     omega (arith, part)
 
 text_is : (m k : ℕ) (bytes : List ℕ) (n : ℕ) → length bytes ≡ suc m → AllBytes bytes → IntegerText bytes n → n ≤ k
@@ -181,7 +176,7 @@ text_is (suc m) (suc k) (x ∷ xs) n e b t l =
     let front : List ℕ = take (suc m) (x ∷ xs) in
     let size : length front ≡ suc m = omega (arith, e, length-take m xs) in
     let same : front ≡ integer_within k (n / 256) =
-    text_is m k front (n / 256) size (front_bytes (suc m) (x ∷ xs) b) f.0 (omega (arith, l, large)) in
+    text_is m k front (n / 256) size (take_bytes (suc m) (x ∷ xs) b) f.0 (omega (arith, l, large)) in
     cut_last (suc m) (x ∷ xs) e ∙ ap (λ l. l ++ get_or (x ∷ xs) (suc m) 0 ∷ []) same
     ∙ ap (λ last. integer_within k (n / 256) ++ last ∷ []) (sym f.1) ∙ sym (large_is k n large)
 

@@ -4,6 +4,7 @@ pub mod GrantLaws
 pub mod GroupLaws
 pub mod HeldLaws
 pub mod TableLaws
+pub mod TableSteps
 pub mod PartLaws
 pub mod EntriesLaws
 pub mod IntegerLaws

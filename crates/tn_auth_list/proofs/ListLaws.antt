@@ -1,19 +1,22 @@
 -- Laws of reading a list: it gives the entries whose text the bytes are, and no others.
 use Rattle.std.proofs.Common.{◌≡◌, ℕ, zero, suc, ◌*◌, ◌<◌, ◌≤◌, ◌==◌, not, nat_le, Bool, true, false, cond, List, [], ◌∷◌, ◌++◌, length, Result, Ok, Err, refl, sym, ap, subst, ◌∙◌, append-nil, length-append, arith}
+use Rattle.std.proofs.lemmas.Bool.{and_parts}
 use Rattle.std.proofs.lemmas.Bool.Decides.{nat_tests}
 use Rattle.std.specs.Cmp.Derive.{both_true}
 use Rattle.std.specs.List.{list_all, flat_map}
 use Rattle.der_reader.specs.Elem.{AllBytes, element_text}
-use Rattle.tn_values.proofs.Conjunction.{both}
 use Rattle.tn_auth_list.specs.declared.faults.Fault.{Fault}
 use Rattle.tn_auth_list.specs.declared.entries.Entry.{Entry}
 use Rattle.tn_auth_list.specs.declared.entries.Entry.TheVariants.{Code, Range, Single}
 use Rattle.tn_auth_list.specs.declared.faults.ListFault.{ListFault}
 use Rattle.tn_auth_list.specs.Entry.{is_entry, is_range_of_one, is_list}
-use Rattle.tn_auth_list.specs.Fault.{◌>>=◌, Gives, no_entry, past_limit_at}
+use Rattle.lists.specs.Steps.{◌>>=◌}
+use Rattle.lists.proofs.Bytes.{no_byte}
+use Rattle.lists.proofs.StepLaws.{after, came, inside}
+use Rattle.tn_auth_list.specs.Fault.{Gives, no_entry, past_limit_at}
 use Rattle.tn_auth_list.specs.ListText.{ListText, entry_text}
 use Rattle.tn_auth_list.specs.Read.{PartView, whole, element_at, entry_at, entries_at, content_entries, read_list}
-use Rattle.tn_auth_list.proofs.ReadLaws.{came, after, ended, ends, no_byte, element_found, standing, element_again}
+use Rattle.tn_auth_list.proofs.ReadLaws.{ended, ends, element_found, standing, element_again}
 use Rattle.tn_auth_list.proofs.EntryLaws.{entry_at_found, entry_text_is, known}
 use Rattle.tn_auth_list.proofs.EntryTexts.{part_at, entry_at_again, entry_length}
 
@@ -24,9 +27,6 @@ record Holds (left : List ℕ) (room : ℕ) (entries : List Entry) : Type 0 wher
   text : left ≡ flat_map entry_text entries
   most : length entries ≤ room
   each : list_all is_entry entries ≡ true
-
-inside : (xs ys : List Entry) → ◌≡◌ {A = Result (List Entry) Fault} (Ok xs) (Ok ys) → xs ≡ ys
-inside xs ys e = cc
 
 none : (left : List ℕ) (room : ℕ) (entries : List Entry) → length left == 0 ≡ true → ◌≡◌ {A = Result (List Entry) Fault} (Ok []) (Ok entries)
     → Holds left room entries
@@ -103,7 +103,7 @@ entries_again [] zero place l e = refl
 entries_again [] (suc room) place l e = refl
 entries_again (x ∷ xs) zero place l e = absurd (omega (arith, l))
 entries_again (x ∷ xs) (suc room) place l e =
-    let each = both (is_entry x) (list_all is_entry xs) e in
+    let each = and_parts (is_entry x) (list_all is_entry xs) e in
     rw (some_bytes x (flat_map entry_text xs))
     (after (entry_at (part_at (entry_text x ++ flat_map entry_text xs) place)) _ _ _ (entry_at_again x (flat_map entry_text xs) place each.0)
     (after (entries_at room (part_at (flat_map entry_text xs) _)) xs _ _ (entries_again xs room _ (omega (arith, l)) each.1) refl))
@@ -111,7 +111,7 @@ entries_again (x ∷ xs) (suc room) place l e =
 pub entries_length : (entries : List Entry) → list_all is_entry entries ≡ true → length (flat_map entry_text entries) ≤ 36 * length entries
 entries_length [] e = omega arith
 entries_length (x ∷ xs) e =
-    let each = both (is_entry x) (list_all is_entry xs) e in
+    let each = and_parts (is_entry x) (list_all is_entry xs) e in
     omega (arith, entry_length x each.0, entries_length xs each.1, length-append (entry_text x) (flat_map entry_text xs))
 
 -- what is read of a list's content
@@ -148,7 +148,7 @@ not_of_one (Single number) e = refl
 none_of_one : (entries : List Entry) → list_all is_entry entries ≡ true → list_all (λ entry. not (is_range_of_one entry)) entries ≡ true
 none_of_one [] e = refl
 none_of_one (x ∷ xs) e =
-    let each = both (is_entry x) (list_all is_entry xs) e in
+    let each = and_parts (is_entry x) (list_all is_entry xs) e in
     both_true (not_of_one x each.0) (none_of_one xs each.1)
 
 -- what a text has is a list

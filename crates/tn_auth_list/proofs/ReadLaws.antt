@@ -1,43 +1,26 @@
 -- Laws of the readers of a list's elements: each gives what stands there, and what stands there is what it gives.
-use Rattle.std.proofs.Common.{◌≡◌, ◌≢◌, ℕ, ◌+◌, ◌-◌, ◌<◌, ◌==◌, Bool, true, false, cond, List, [], ◌∷◌, ◌++◌, length, bit_and, Option, Some, None, Result, Ok, Err, refl, sym, ap, subst, ◌∙◌, arith}
+use Rattle.std.proofs.Common.{◌≡◌, ◌≢◌, ℕ, ◌+◌, ◌-◌, ◌<◌, ◌==◌, true, List, [], ◌++◌, length, bit_and, Option, Some, None, Result, Ok, Err, refl, sym, ap, subst, ◌∙◌, arith}
 use Rattle.std.proofs.lemmas.Bool.Decides.{nat_tests}
 use Rattle.der_reader.specs.declared.fault.DerFault.{DerFault}
 use Rattle.der_reader.specs.Elem.{AllBytes, Element, BeginsWith, element_text}
 use Rattle.der_reader.specs.Next.{next_at}
 use Rattle.der_reader.proofs.NextLaws.{next_found, next_again, parts_are_bytes}
 use Rattle.tn_auth_list.specs.declared.faults.Fault.{Fault}
-use Rattle.tn_auth_list.specs.Fault.{◌>>=◌, der_at}
+use Rattle.lists.proofs.Bytes.{no_byte}
+use Rattle.lists.proofs.StepLaws.{after, came, inside, taken}
+use Rattle.tn_auth_list.specs.Fault.{der_at}
 use Rattle.tn_auth_list.specs.Read.{PartView, ItemView, item_from, item_at, element_at, end_at, or_fault}
 
 -- ---- one step of a reader
-
--- an answer behind a step comes from what the step gave
-pub came : {A B : Type 0} (r : Result A Fault) (f : A → Result B Fault) (b : B) → r >>= f ≡ Ok b
-    → (a : A) × (r ≡ Ok a) × (f a ≡ Ok b)
-came (Ok a) f b e = (a, refl, e)
-came (Err x) f b e = cc
-
--- a step that gives something goes on with it
-pub after : {A B : Type 0} (r : Result A Fault) (a : A) (f : A → Result B Fault) (z : Result B Fault) → r ≡ Ok a → f a ≡ z → r >>= f ≡ z
-after r a f z e k = ap (λ r. r >>= f) e ∙ k
-
--- an answer behind a test
-pub taken : {A : Type 0} (t : Bool) (fault : Fault) (v w : A) → ◌≡◌ {A = Result A Fault} (cond t (Ok v) (Err fault)) (Ok w) → (t ≡ true) × (v ≡ w)
-taken true fault v w e = (refl, cc)
-taken false fault v w e = cc
 
 -- a value that there is
 pub there : {A : Type 0} (o : Option A) (fault : Fault) (v : A) → or_fault o fault ≡ Ok v → o ≡ Some v
 there (Some x) fault v e = let is : x ≡ v = cc in ap Some is
 there None fault v e = cc
 
-pub no_byte : (l : List ℕ) → length l == 0 ≡ true → l ≡ []
-no_byte [] e = refl
-no_byte (x ∷ xs) e = absurd (grind (arith, nat_tests))
-
 -- nothing is left over
 pub ended : {A : Type 0} (part : PartView) (v w : A) → end_at part v ≡ Ok w → (part.left ≡ []) × (v ≡ w)
-ended part v w e = let t = taken (length part.left == 0) (der_at part.place) v w e in (no_byte part.left t.0, t.1)
+ended part v w e = let t = taken (length part.left == 0) v w (der_at part.place) e in (no_byte part.left t.0, t.1)
 
 pub ends : {A : Type 0} (part : PartView) (v : A) → part.left ≡ [] → end_at part v ≡ Ok v
 ends part v e = let test : length part.left == 0 ≡ true = ap (λ l. length l == 0) e in rw test refl
@@ -49,9 +32,6 @@ pub record Begins (left : List ℕ) (tag : ℕ) (content behind : List ℕ) : Ty
   pub text : left ≡ element_text tag content ++ behind
   pub content_bytes : AllBytes content
   pub behind_bytes : AllBytes behind
-
-inside : (x y : ItemView) → ◌≡◌ {A = Result ItemView Fault} (Ok x) (Ok y) → x ≡ y
-inside x y e = cc
 
 pub item_found : (part : PartView) (item : ItemView) → AllBytes part.left → item_at part ≡ Ok item
     → Begins part.left item.tag item.content.left item.behind.left
@@ -77,7 +57,7 @@ pub element_found : (tag : ℕ) (part : PartView) (item : ItemView) → AllBytes
 unfolding element_at
 element_found tag part item b e =
     let a = came (item_at part) _ item e in
-    let t = taken (a.0.tag == tag) (der_at a.0.place) a.0 item a.2 in
+    let t = taken (a.0.tag == tag) a.0 item (der_at a.0.place) a.2 in
     let is : a.0.tag ≡ tag = grind (arith, nat_tests, t.0) in
     let tagged : item.tag ≡ tag = sym (ap (λ (i : ItemView). i.tag) t.1) ∙ is in
     let P : ItemView → Type 0 = λ i. Begins part.left i.tag i.content.left i.behind.left in

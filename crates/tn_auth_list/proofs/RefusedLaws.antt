@@ -1,18 +1,20 @@
 -- Laws of the faults that a list as a whole has.
 use Rattle.std.proofs.Common.{◌≡◌, ℕ, zero, suc, ◌+◌, ◌-◌, ◌<◌, ◌≤◌, ◌==◌, true, false, List, [], ◌∷◌, ◌++◌, length, Result, Ok, Err, refl, ap, subst, ◌∙◌, append_assoc, length-append, arith}
+use Rattle.std.proofs.lemmas.Bool.{and_parts}
 use Rattle.std.proofs.lemmas.Bool.Decides.{nat_tests}
 use Rattle.std.specs.List.{list_all, flat_map}
 use Rattle.der_reader.specs.Elem.{element_text, length_text}
-use Rattle.tn_values.proofs.Conjunction.{both}
 use Rattle.tn_auth_list.specs.declared.faults.Fault.{Fault}
 use Rattle.tn_auth_list.specs.declared.faults.ListFault.{ListFault}
 use Rattle.tn_auth_list.specs.declared.entries.Entry.{Entry}
 use Rattle.tn_auth_list.specs.Entry.{is_entry}
-use Rattle.tn_auth_list.specs.Fault.{◌>>=◌, Gives, der_at, no_entry, past_limit_at}
+use Rattle.lists.specs.Steps.{◌>>=◌}
+use Rattle.lists.proofs.StepLaws.{after}
+use Rattle.tn_auth_list.specs.Fault.{Gives, der_at, no_entry, past_limit_at}
 use Rattle.tn_auth_list.specs.ListText.{entry_text, list_text}
 use Rattle.tn_auth_list.specs.Read.{whole, element_at, end_at, entry_at, entries_at, content_entries, read_list}
 use Rattle.tn_auth_list.specs.Refused.{IsLeftOver, IsPastLimit}
-use Rattle.tn_auth_list.proofs.ReadLaws.{after, standing, element_again}
+use Rattle.tn_auth_list.proofs.ReadLaws.{standing, element_again}
 use Rattle.tn_auth_list.proofs.EntryLaws.{entry_tag, inner_text, entry_text_is}
 use Rattle.tn_auth_list.proofs.EntryTexts.{part_at, entry_at_again}
 use Rattle.tn_auth_list.proofs.EntriesLaws.{continued, no_room}
@@ -72,7 +74,7 @@ entries_then [] total room more place end t p e =
     ap (λ total. entries_at total (part_at more place)) same ∙ ap (λ place. entries_at room (part_at more place)) here ∙ none_before _
 entries_then (x ∷ xs) zero room more place end t p e = absurd (omega (arith, t))
 entries_then (x ∷ xs) (suc total) room more place end t p e =
-    let each = both (is_entry x) (list_all is_entry xs) e in
+    let each = and_parts (is_entry x) (list_all is_entry xs) e in
     let rest : List ℕ = flat_map entry_text xs ++ more in
     let next : ℕ = place + length (element_text (entry_tag x) (inner_text x)) in
     let ends : end ≡ next + length (flat_map entry_text xs) =

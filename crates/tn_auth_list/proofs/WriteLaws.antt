@@ -1,5 +1,6 @@
 -- Laws of writing entry after entry.
 use Rattle.std.proofs.Common.{◌≡◌, ℕ, suc, ◌+◌, ◌*◌, ◌<◌, ◌≤◌, ◌^◌, ◌&&◌, nat_le, nat_lt, not, Bool, true, false, List, [], ◌∷◌, ◌++◌, length, drop, drop-cons, get_or, Some, None, cond, refl, sym, ap, subst, ◌∙◌, append_assoc, append-nil, length-append, arith}
+use Rattle.std.proofs.lemmas.Bool.{and_parts}
 use Rattle.std.proofs.Math.Seq.{drop-length}
 use Rattle.std.proofs.lemmas.Bool.Decides.{nat_tests}
 use Rattle.std.specs.Cmp.Derive.{both_true}
@@ -9,7 +10,6 @@ use Rattle.der_reader.specs.Put.{AddsElement}
 use Rattle.tn_values.specs.Digit.{are_digits}
 use Rattle.tn_values.specs.Number.{is_number}
 use Rattle.tn_values.specs.Span.{SpanView, span_of}
-use Rattle.tn_values.proofs.Conjunction.{both}
 use Rattle.tn_auth_list.specs.declared.entries.Entry.{Entry}
 use Rattle.tn_auth_list.specs.declared.entries.Entry.TheVariants.{Code, Range, Single}
 use Rattle.tn_auth_list.specs.Entry.{is_entry, is_typed, is_range_of_one, is_list}
@@ -30,7 +30,7 @@ pub span_typed : (span : SpanView) → is_number span.start ≡ true → span_of
     → is_typed (Range span) ≡ true
 span_typed span n e l =
     let test : are_digits span.start && nat_le 1 span.size ≡ true = some _ _ span e in
-    let each = both (are_digits span.start) (nat_le 1 span.size) test in
+    let each = and_parts (are_digits span.start) (nat_le 1 span.size) test in
     let below : nat_lt span.size (2 ^ 64) ≡ true = grind (arith, nat_tests, l) in
     both_true (both_true (both_true n each.0) each.1) below
   where
@@ -85,30 +85,30 @@ all_counted : (entries : List Entry) → list_all (λ entry. not (is_range_of_on
     → list_all is_entry entries ≡ true
 all_counted [] n t = refl
 all_counted (x ∷ xs) n t =
-    let some = both (not (is_range_of_one x)) (list_all (λ entry. not (is_range_of_one entry)) xs) n in
-    let typed = both (is_typed x) (list_all is_typed xs) t in
+    let some = and_parts (not (is_range_of_one x)) (list_all (λ entry. not (is_range_of_one entry)) xs) n in
+    let typed = and_parts (is_typed x) (list_all is_typed xs) t in
     both_true (counted x some.0 typed.0) (all_counted xs some.1 typed.1)
 
 pub list_short : (entries : List Entry) → is_list entries ≡ true → length entries ≤ 1000
 unfolding is_list
 list_short entries l =
-    let tests = both (nat_le 1 (length entries) && nat_le (length entries) 1000) _ l in
-    let ends = both (nat_le 1 (length entries)) (nat_le (length entries) 1000) tests.0 in
+    let tests = and_parts (nat_le 1 (length entries) && nat_le (length entries) 1000) _ l in
+    let ends = and_parts (nat_le 1 (length entries)) (nat_le (length entries) 1000) tests.0 in
     grind (arith, nat_tests, ends.1)
 
 pub list_some : (entries : List Entry) → is_list entries ≡ true → 1 ≤ length entries
 unfolding is_list
 list_some entries l =
-    let tests = both (nat_le 1 (length entries) && nat_le (length entries) 1000) _ l in
-    let ends = both (nat_le 1 (length entries)) (nat_le (length entries) 1000) tests.0 in
+    let tests = and_parts (nat_le 1 (length entries) && nat_le (length entries) 1000) _ l in
+    let ends = and_parts (nat_le 1 (length entries)) (nat_le (length entries) 1000) tests.0 in
     grind (arith, nat_tests, ends.0)
 
 pub text_written : (text : List ℕ) (entries : List Entry) → is_list entries ≡ true → text ≡ list_text entries → list_all is_typed entries ≡ true
     → ListText text entries
 unfolding is_list
 text_written text entries l e t =
-    let tests = both (nat_le 1 (length entries) && nat_le (length entries) 1000) _ l in
-    let ends = both (nat_le 1 (length entries)) (nat_le (length entries) 1000) tests.0 in
+    let tests = and_parts (nat_le 1 (length entries) && nat_le (length entries) 1000) _ l in
+    let ends = and_parts (nat_le 1 (length entries)) (nat_le (length entries) 1000) tests.0 in
     record {
       text = e;
       some = grind (arith, nat_tests, ends.0);

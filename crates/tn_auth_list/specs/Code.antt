@@ -1,6 +1,6 @@
 -- Service provider codes: `ServiceProviderCode` of RFC 8226, section 9, an IA5String. That it is visible ASCII, without a
 -- blank and at most 32 bytes long, is this project's own rule.
-use Rattle.std.specs.Prelude.{ℕ, Bool, ◌&&◌, ◌-◌, ◌++◌, nat_le, List, length, replicate, Option, Some, None, if◌then◌else◌}
+use Rattle.std.specs.Prelude.{ℕ, Bool, ◌&&◌, nat_le, List, length, Option, Some, None, if◌then◌else◌}
 use Rattle.std.specs.List.{list_all}
 
 -- a visible ASCII character, from `!` to `~`
@@ -14,7 +14,3 @@ is_code text = nat_le 1 (length text) && nat_le (length text) 32 && list_all is_
 -- the code that a text is, byte for byte, where it is one
 abbrev pub code_of : List ℕ → Option (List ℕ)
 code_of text = if is_code text then Some text else None
-
--- the bytes of a code and zeros, 32 in all: how a code lies in memory
-abbrev pub filled : List ℕ → List ℕ
-filled text = text ++ replicate (32 - length text) 0

@@ -8,6 +8,7 @@ use Rattle.text_grammar.specs.Decimal.{number_up_to}
 use Rattle.text_file.specs.FileLines.{text_lines}
 use Rattle.text_file.specs.LineWords.{line_words}
 use Rattle.text_file.specs.Reading.{read_lines, Refuses}
+use Rattle.text_file.specs.Rows.{one_row}
 use Rattle.tn_values.specs.Number.{exact}
 use Rattle.tn_values.specs.Span.{SpanHolds, span_of}
 use Rattle.tn_auth_list.specs.Code.{code_of}
@@ -62,9 +63,13 @@ given_count rows = count_by (λ row. not (is_all row.gives)) rows
 unfoldable pub is_within : List Row → Bool
 is_within rows = nat_le (code_count rows) 20000 && nat_le (given_count rows) 200000
 
+-- with the row the table passes a limit
+abbrev pub is_past : List Row → Row → Bool
+is_past rows row = not (is_within (rows ++ row ∷ []))
+
 -- one row more, within the limits
 abbrev pub add_row : List Row → List ℕ → Option (List Row)
-add_row rows line = option_and_then (λ row. if is_within (rows ++ row ∷ []) then Some (rows ++ row ∷ []) else None) (row_of line)
+add_row = one_row row_of is_past
 
 -- the rows of a table in order, or the number of its first bad line: it says nothing, or passes a limit
 unfoldable pub table_rows : List ℕ → Result (List Row) ℕ

@@ -1,5 +1,6 @@
 -- The faults of an authority list, by kind and place: this project's own rule. A place counts from the list's first byte.
-use Rattle.std.specs.Prelude.{◌≡◌, ◌≤◌, ℕ, Result, Ok, Err, ⊤}
+use Rattle.std.specs.Prelude.{◌≤◌, ℕ, Option, Some, None, Result, Ok, Err, ⊤}
+use Rattle.lists.specs.Given as given
 use Rattle.tn_auth_list.specs.declared.faults.Fault.{Fault}
 use Rattle.tn_auth_list.specs.declared.faults.ListFault.{ListFault}
 use Rattle.tn_auth_list.specs.declared.faults.ListFault.TheVariants.{At, Memory}
@@ -28,17 +29,14 @@ no_count_at place = record { kind = 5; place = place }
 abbrev pub past_limit_at : ℕ → Fault
 past_limit_at place = record { kind = 6; place = place }
 
--- one step after another, up to the first fault
-infixl 10 ◌>>=◌
-abbrev pub ◌>>=◌ : {A B : Type 0} → Result A Fault → (A → Result B Fault) → Result B Fault
-Ok x >>= f = f x
-Err fault >>= f = Err fault
+-- a fault other than want of memory
+abbrev pub fault_seen : ListFault → Option Fault
+fault_seen (At kind place) = Some (record { kind = kind; place = place })
+fault_seen Memory = None
 
 -- the result, as it is seen, is what was read, or its fault; want of memory is free
 abbrev pub GivesSeen : {A B : Type 0} → (A → B) → Result A ListFault → Result B Fault → Type 0
-GivesSeen seen (Ok x) read = read ≡ Ok (seen x)
-GivesSeen seen (Err (At kind place)) read = read ≡ Err (record { kind = kind; place = place })
-GivesSeen seen (Err Memory) read = ⊤
+GivesSeen seen result read = given.Gives fault_seen seen result read
 
 abbrev pub Gives : {A : Type 0} → Result A ListFault → Result A Fault → Type 0
 Gives result read = GivesSeen (λ x. x) result read

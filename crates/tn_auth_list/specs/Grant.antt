@@ -1,7 +1,8 @@
 -- What a code table that was read grants a code.
-use Rattle.std.specs.Prelude.{◌≡◌, ℕ, ◌↔◌, List, Option, Some, None, IsSome, Ok, Err}
+use Rattle.std.specs.Prelude.{◌≡◌, ℕ, ◌↔◌, List, Option, Some, None, IsSome, Ok}
 use Rattle.std.specs.Map.{lookup}
 use Rattle.std.specs.Str.{bytes_eq}
+use Rattle.lists.specs.Given.{IsFaultOf}
 use Rattle.tn_values.specs.NumberSet.{SetHolds}
 use Rattle.tn_auth_list.specs.CodeTable.{table_rows, Names, SaysAll, Grants}
 use Rattle.tn_auth_list.specs.declared.table_rows.Row.{Row}
@@ -34,10 +35,14 @@ pub record TableOf (text : List ℕ) (table : List (List ℕ × Held)) : Type 0 
   pub read : table_rows text ≡ Ok rows
   pub grants : (code : List ℕ) → GrantOf rows code (grant_in table code)
 
+-- the line of a fault other than want of memory
+abbrev pub line_of : TableFault → Option ℕ
+line_of (Line number) = Some number
+line_of Memory = None
+
 -- the fault names the first bad line
 abbrev pub FaultOf : List ℕ → TableFault → Type 0
-FaultOf text (Line number) = table_rows text ≡ Err number
-FaultOf text Memory = Unit {0}
+FaultOf text fault = IsFaultOf (line_of fault) (table_rows text)
 
 abbrev pub grant_view : Grant → Option Held
 grant_view Nothing = None

@@ -11,7 +11,8 @@ use Rattle.tn_auth_list.specs.declared.faults.Fault.{Fault}
 use Rattle.tn_auth_list.specs.declared.entries.Entry.{Entry}
 use Rattle.tn_auth_list.specs.declared.entries.Entry.TheVariants.{Code, Range, Single}
 use Rattle.tn_auth_list.specs.Code.{code_of}
-use Rattle.tn_auth_list.specs.Fault.{◌>>=◌, der_at, no_entry, no_code_at, no_number_at, no_count_at, past_limit_at}
+use Rattle.lists.specs.Steps.{◌>>=◌}
+use Rattle.tn_auth_list.specs.Fault.{der_at, no_entry, no_code_at, no_number_at, no_count_at, past_limit_at}
 
 -- the bytes that are left up to the end of the element around them, and the place of the first of them in the whole list
 pub record PartView : Type 0 where

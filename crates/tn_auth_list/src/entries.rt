@@ -21,6 +21,7 @@ pub enum Entry {
 }
 
 impl Entry {
+    /// Whether the entry is a range of a single number.
     fn is_range_of_one(&self) -> bool
         ensures { result ≡ is_range_of_one self.now }
     {
@@ -42,6 +43,7 @@ pub(crate) fn is_list(entries: &[Entry]) -> bool
     }
 }
 
+/// Whether none of the entries is a range of a single number.
 fn have_no_range_of_one(entries: &[Entry]) -> bool
     ensures { result ≡ list_all (λ entry. not (is_range_of_one entry)) entries.now }
 {

@@ -46,6 +46,7 @@ impl fmt::Display for ListFault {
     }
 }
 
+/// What a fault of this kind is, in words.
 fn reason(kind: u8) -> &'static str {
     match kind {
         ListFault::DER => "the bytes aren't in the list's DER form",
@@ -86,6 +87,7 @@ pub(crate) struct Fault {
 }
 
 impl Fault {
+    /// An element at this place can't be read or has another tag, or bytes that stand here are left over.
     pub(crate) fn der(place: u32) -> Fault
         ensures { result ≡ der_at place }
     {
@@ -95,6 +97,7 @@ impl Fault {
         }
     }
 
+    /// The list has no entry.
     pub(crate) fn empty() -> Fault
         ensures { result ≡ no_entry }
     {
@@ -104,6 +107,7 @@ impl Fault {
         }
     }
 
+    /// The IA5String at this place is no code.
     pub(crate) fn code(place: u32) -> Fault
         ensures { result ≡ no_code_at place }
     {
@@ -113,6 +117,7 @@ impl Fault {
         }
     }
 
+    /// The IA5String at this place is no number, or no start of a range.
     pub(crate) fn number(place: u32) -> Fault
         ensures { result ≡ no_number_at place }
     {
@@ -122,6 +127,7 @@ impl Fault {
         }
     }
 
+    /// The INTEGER at this place is no count of a range.
     pub(crate) fn count(place: u32) -> Fault
         ensures { result ≡ no_count_at place }
     {
@@ -131,6 +137,7 @@ impl Fault {
         }
     }
 
+    /// An entry past the last that a list may have begins at this place.
     pub(crate) fn limit(place: u32) -> Fault
         ensures { result ≡ past_limit_at place }
     {

@@ -119,6 +119,7 @@ fn entry_at<'a>(part: &Part<'a>) -> Result<Found<'a>, Fault>
     })
 }
 
+/// The entry that an element is, by its tag.
 #[tactic(auto, unfolding(crate::specs::Read::entry_in))]
 fn entry_in(item: &Item) -> Result<Entry, Fault>
     ensures exact { result ≡ entry_in (item_of item.now) }
@@ -132,6 +133,7 @@ fn entry_in(item: &Item) -> Result<Entry, Fault>
     }
 }
 
+/// The code in the content of an element.
 #[tactic(auto, unfolding(crate::specs::Read::code_in))]
 fn code_in(part: &Part) -> Result<Entry, Fault>
     ensures exact { result ≡ code_in (part_of part.now) }
@@ -144,6 +146,7 @@ fn code_in(part: &Part) -> Result<Entry, Fault>
     string.behind.end(Entry::Code(code))
 }
 
+/// The single number in the content of an element.
 #[tactic(auto, unfolding(crate::specs::Read::single_in))]
 fn single_in(part: &Part) -> Result<Entry, Fault>
     ensures exact { result ≡ single_in (part_of part.now) }
@@ -156,6 +159,7 @@ fn single_in(part: &Part) -> Result<Entry, Fault>
     string.behind.end(Entry::Single(number))
 }
 
+/// The range in the content of an element.
 #[tactic(auto, unfolding(crate::specs::Read::range_in))]
 fn range_in(part: &Part) -> Result<Entry, Fault>
     ensures exact { result ≡ range_in (part_of part.now) }
@@ -166,6 +170,7 @@ fn range_in(part: &Part) -> Result<Entry, Fault>
     sequence.behind.end(Entry::Range(span))
 }
 
+/// The start and the count of a range.
 #[tactic(auto, unfolding(crate::specs::Read::span_in))]
 fn span_in(part: &Part) -> Result<Span, Fault>
     ensures exact { result ≡ span_in (part_of part.now) }
@@ -193,6 +198,7 @@ fn start_of(text: &[u8]) -> Option<Number>
     }
 }
 
+/// Whether all bytes are digits.
 fn are_digits(text: &[u8]) -> bool
     ensures { result ≡ are_digits text.now }
 {

@@ -7,7 +7,6 @@ ghost use Rattle.std.specs.Option.{option_copied};
 
 use crate::codes::Code;
 use crate::table_groups::{Groups, Held};
-use crate::table_rows::row_of;
 use std::alloc::{AllocError, Global};
 use std::collections::BTreeMap;
 use std::error::Error;
@@ -101,6 +100,7 @@ impl CodeTable {
         self.grant(code)
     }
 
+    /// What is held for the code, as a grant.
     fn grant(&self, code: &Code) -> Grant<'_>
         ensures { grant_view result ≡ grant_in self.now code.now }
     {
@@ -111,6 +111,7 @@ impl CodeTable {
         }
     }
 
+    /// What is held for the code.
     #[tactic(auto, using(crate::proofs::HeldLaws::get_by_bytes))]
     fn held_for(&self, code: &Code) -> Option<&Held>
         ensures { option_copied result ≡ grant_in self.now code.now }
@@ -119,6 +120,8 @@ impl CodeTable {
     }
 }
 
+/// Reads the lines one by one, up to the first bad one.
+#[tactic(auto, using(crate::proofs::TableSteps::one_more, crate::proofs::TableSteps::bad_line))]
 fn read_table(alloc: Global, text: &[u8]) -> Result<CodeTable, TableFault>
     requires { length text.now < 4294967295 }
     ensures table { IfOk result (TableOf text.now) }
@@ -127,12 +130,8 @@ fn read_table(alloc: Global, text: &[u8]) -> Result<CodeTable, TableFault>
     let mut groups = Groups::new(alloc);
     let mut lines = Lines::new(text);
     while let Some(line) = lines.next() {
-        let bad = TableFault::Line { line: line.number };
-        let Some(row) = row_of(line.text) else {
-            return Err(bad);
-        };
-        if !groups.add(row)? {
-            return Err(bad);
+        if !groups.add_line(line.text)? {
+            return Err(TableFault::Line { line: line.number });
         }
     }
     let held = groups.finish()?;

@@ -1,14 +1,14 @@
 //! What each code is given, as it is kept while the table is read.
-ghost use Rattle.std.specs.Prelude.{◌≡◌, ◌∷◌, ◌++◌, [], List, true, false, length, IsTrue, IfOk, OnOk, MatchBool, ◌↔◌, ◌≤◌};
-ghost use Rattle.tn_auth_list.specs.CodeTable.{is_within};
+ghost use Rattle.std.specs.Prelude.{◌≡◌, ◌∷◌, ◌++◌, [], List, true, false, length, IsTrue, IfOk, OnOk, ◌↔◌, ◌≤◌};
 ghost use Rattle.std.specs.BTreeMap.{IsOrdered};
 ghost use Rattle.std.specs.Ordering.{nat_cmp};
 ghost use Rattle.std.specs.Cmp.Lexicographic.{slice_cmp};
 ghost use Rattle.tn_auth_list.specs.CodeGroups.{HeldByCode, HeldFor, IsGroups, PutsHeld, PutsRow, has_room, has_room_for, has_room_for_code, no_group, with_gives};
+ghost use Rattle.tn_auth_list.specs.TableReading.{Adds, AddsLine};
 
 use crate::Memory;
 use crate::codes::Code;
-use crate::table_rows::{Gives, Row};
+use crate::table_rows::{Gives, Row, row_of};
 use std::alloc::Global;
 use std::collections::BTreeMap;
 use std::marker::Model;
@@ -37,6 +37,7 @@ impl Model for Group {
 }
 
 impl Group {
+    /// Nothing yet.
     fn new(alloc: Global) -> Group
         ensures { result ≡ no_group }
     {
@@ -47,6 +48,7 @@ impl Group {
         }
     }
 
+    /// Adds what a line gives.
     fn add(&mut self, gives: Gives) -> Result<(), Memory>
         ensures { OnOk result (self.new ≡ with_gives self.old gives) }
     {
@@ -58,6 +60,7 @@ impl Group {
         Ok(())
     }
 
+    /// What the lines give together: all numbers, or a set of them.
     fn held(self) -> Result<Held, Memory>
         ensures { IfOk result (HeldFor self) }
     {
@@ -84,6 +87,7 @@ pub(crate) struct Groups {
 }
 
 impl Groups {
+    /// The groups of no lines.
     pub(crate) fn new(alloc: Global) -> Groups
         ensures { IsGroups [] result }
     {
@@ -94,10 +98,19 @@ impl Groups {
         }
     }
 
-    /// Adds what a line gives, unless it passes a limit of the table; says whether it was added.
-    pub(crate) fn add(&mut self, row: Row) -> Result<bool, Memory>
-        ensures { IfOk result (λ added. (rows : List Row) → IsGroups rows self.old → MatchBool added
-            (IsGroups (rows ++ row ∷ []) self.new) (is_within (rows ++ row ∷ []) ≡ false)) }
+    /// Adds what a line says; false where the line is bad.
+    pub(crate) fn add_line(&mut self, line: &[u8]) -> Result<bool, Memory>
+        ensures { IfOk result (AddsLine self.old self.new line.now) }
+    {
+        match row_of(line) {
+            Some(row) => self.add(row),
+            None => Ok(false),
+        }
+    }
+
+    /// Adds what a row gives; false where it passes a limit of the table.
+    fn add(&mut self, row: Row) -> Result<bool, Memory>
+        ensures { IfOk result (Adds self.old self.new row) }
     {
         if !self.has_room(&row) {
             return Ok(false);
@@ -117,6 +130,7 @@ impl Groups {
         self.has_room_for_code(&row.code) && self.has_room_for(&row.gives)
     }
 
+    /// Whether the code is named already, or the table may name one more.
     fn has_room_for_code(&self, code: &Code) -> bool
         ensures room { result ≡ has_room_for_code self.now code.now }
         ensures ordered { IsOrdered (slice_cmp nat_cmp) self.now.by_code }
@@ -124,6 +138,7 @@ impl Groups {
         self.by_code.len() < MOST_CODES || self.by_code.contains_key(code)
     }
 
+    /// Whether the line gives all numbers, or the table may have one more that gives a number or a range.
     fn has_room_for(&self, gives: &Gives) -> bool
         ensures { result ≡ has_room_for self.now gives.now }
     {
@@ -150,6 +165,7 @@ fn put(alloc: Global, by_code: &mut BTreeMap<Code, Group>, row: Row) -> Result<(
     group.add(row.gives)
 }
 
+/// Keeps what the code is given.
 fn put_held(held_by_code: &mut BTreeMap<Code, Held>, code: Code, held: Held) -> Result<(), Memory>
     ensures { OnOk result (PutsHeld held_by_code.old held_by_code.new code held) }
 {

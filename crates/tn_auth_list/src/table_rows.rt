@@ -23,6 +23,7 @@ pub(crate) struct Row {
 }
 
 impl Gives {
+    /// Whether the line gives all numbers.
     pub(crate) fn is_all(&self) -> bool
         ensures { result ≡ is_all self.now }
     {
@@ -42,6 +43,7 @@ pub(crate) fn row_of(line: &[u8]) -> Option<Row>
     }
 }
 
+/// The row of a code and what it is given, where both are such.
 fn with_code(code: &[u8], gives: Option<Gives>) -> Option<Row>
     ensures { result ≡ with_code code.now gives }
 {
@@ -51,6 +53,7 @@ fn with_code(code: &[u8], gives: Option<Gives>) -> Option<Row>
     }
 }
 
+/// The second of two words: `*` is all numbers, and any other is a number.
 fn given_of(word: &[u8]) -> Option<Gives>
     ensures { result ≡ given_of word.now }
 {
@@ -63,6 +66,7 @@ fn given_of(word: &[u8]) -> Option<Gives>
     }
 }
 
+/// The numbers of the range that the words START and COUNT write.
 fn range_of(start: &[u8], count: &[u8]) -> Option<Gives>
     ensures { result ≡ range_of start.now count.now }
 {

@@ -1,12 +1,12 @@
 -- Laws of the canonical number.
 use Rattle.std.proofs.Common.{◌≡◌, ℕ, Bool, true, false, cond, not, ◌==◌, List, [], ◌∷◌, ◌++◌, Some, None, arith, refl, sym, ◌∙◌, ap}
+use Rattle.std.proofs.lemmas.Bool.{and_parts}
 use Rattle.std.proofs.lemmas.Bool.Decides.{nat_tests}
 use Rattle.std.specs.List.{list_all}
 use Rattle.std.specs.Option.{option_map}
 use Rattle.tn_values.specs.Number.{is_number_byte, is_number, exact}
 use Rattle.tn_values.specs.Local.{LocalView}
 use Rattle.tn_values.specs.Canon.{is_separator, plus, without_separators, is_national, with_country, number_of_kept, Canon, StandsFor, international, plain, national}
-use Rattle.tn_values.proofs.Conjunction.{both}
 use Rattle.tn_values.proofs.NumberFacts.{number_parts}
 
 -- ---- what a number keeps
@@ -17,7 +17,7 @@ stays byte h = grind (arith, nat_tests)
 bytes_stay : (text : List ℕ) → list_all is_number_byte text ≡ true → without_separators text ≡ text
 bytes_stay [] h = refl
 bytes_stay (byte ∷ rest) h =
-    let each = both (is_number_byte byte) (list_all is_number_byte rest) h in
+    let each = and_parts (is_number_byte byte) (list_all is_number_byte rest) h in
     ap (λ b. cond b (byte ∷ without_separators rest) (without_separators rest)) (stays byte each.0)
     ∙ ap (λ kept. byte ∷ kept) (bytes_stay rest each.1)
 
@@ -35,7 +35,7 @@ unfolding is_number
 without_plus [] local h = refl
 without_plus (first ∷ rest) local h =
     let bytes = (number_parts (first ∷ rest) h).bytes in
-    let each = both (is_number_byte first) (list_all is_number_byte rest) bytes in
+    let each = and_parts (is_number_byte first) (list_all is_number_byte rest) bytes in
     ap (λ b. cond b (exact rest) (option_map (with_country local) (exact (first ∷ rest)))) (no_plus first each.0)
 
 exact_number : (number : List ℕ) → is_number number ≡ true → exact number ≡ Some number

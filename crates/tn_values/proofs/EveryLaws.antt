@@ -1,6 +1,6 @@
 -- What is asked of each of the list of all numbers is asked of every number.
 use Rattle.std.proofs.Common.{◌≡◌, ℕ, zero, suc, ◌<◌, ◌≤◌, Bool, true, not, ◌&&◌, ◌⊎◌, inl, inr, List, [], ◌∷◌, map, length, Contains, arith, refl, sym, ap, ◌∙◌}
-use Rattle.std.proofs.lemmas.Bool.{cases_Bool, cases_lt}
+use Rattle.std.proofs.lemmas.Bool.{cases_Bool, cases_lt, and_parts}
 use Rattle.std.proofs.lemmas.Bool.Decides.{nat_tests}
 use Rattle.std.proofs.lemmas.List.Folds.{list_all-append, list_all-map}
 use Rattle.std.proofs.lemmas.List.Recursion.{and_at}
@@ -10,7 +10,6 @@ use Rattle.std.specs.List.{flat_map, list_all, slice_index_or}
 use Rattle.std.specs.Str.{bytes_eq}
 use Rattle.tn_values.specs.Number.{is_number_byte, is_number}
 use Rattle.tn_values.specs.Every.{number_bytes, texts_of, texts_up_to, every_number}
-use Rattle.tn_values.proofs.Conjunction.{both}
 use Rattle.tn_values.proofs.NumberFacts.{number_parts}
 
 -- ---- the bytes
@@ -24,7 +23,7 @@ all_by : (test other : ℕ → Bool) (bytes : List ℕ) → list_all other bytes
     → list_all test bytes ≡ true
 all_by test other [] h passes = refl
 all_by test other (byte ∷ bytes) h passes =
-    let each = both (other byte) (list_all other bytes) h in
+    let each = and_parts (other byte) (list_all other bytes) h in
     both_true (passes byte each.0) (all_by test other bytes each.1 passes)
 
 -- a test of all texts with one of the bytes in front is a test of each byte
@@ -41,11 +40,11 @@ fronts test (byte ∷ bytes) texts =
 at_text : (n : ℕ) (test : List ℕ → Bool) (text : List ℕ) → list_all test (texts_of n) ≡ true → length text ≡ n
     → list_all is_number_byte text ≡ true → test text ≡ true
 unfolding texts_of
-at_text zero test [] h long bytes = (both (test []) true h).0
+at_text zero test [] h long bytes = (and_parts (test []) true h).0
 at_text zero test (byte ∷ text) h long bytes = absurd (omega (arith, long))
 at_text (suc n) test [] h long bytes = absurd (omega (arith, long))
 at_text (suc n) test (byte ∷ text) h long bytes =
-    let each = both (is_number_byte byte) (list_all is_number_byte text) bytes in
+    let each = and_parts (is_number_byte byte) (list_all is_number_byte text) bytes in
     let behind = at_byte (λ byte. list_all (λ text. test (byte ∷ text)) (texts_of n)) byte (sym (fronts test number_bytes (texts_of n)) ∙ h) each.0 in
     at_text n (λ text. test (byte ∷ text)) text behind (omega (arith, long)) each.1
 
@@ -67,7 +66,7 @@ at_most : (n : ℕ) (test : List ℕ → Bool) (text : List ℕ) → list_all te
 unfolding texts_up_to
 at_most zero test text h some short bytes = absurd (omega (arith, some, short))
 at_most (suc n) test text h some short bytes =
-    let each = both (list_all test (texts_up_to n)) (list_all test (texts_of (suc n))) (sym (list_all-append test (texts_up_to n) (texts_of (suc n))) ∙ h) in
+    let each = and_parts (list_all test (texts_up_to n)) (list_all test (texts_of (suc n))) (sym (list_all-append test (texts_up_to n) (texts_of (suc n))) ∙ h) in
     elim (cases_lt n (length text)) [
       | inl above ↦ at_text (suc n) test text each.1 (omega (arith, above, short)) bytes
       | inr below ↦ at_most n test text each.0 some below bytes

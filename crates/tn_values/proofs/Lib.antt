@@ -1,4 +1,3 @@
-pub mod Conjunction
 pub mod NumberFacts
 pub mod LocalFacts
 pub mod KeptFacts

@@ -1,12 +1,12 @@
 -- Facts on the local numbering.
 use Rattle.std.proofs.Common.{◌≡◌, ℕ, ◌+◌, ◌≤◌, true, List, [], ◌∷◌, length, arith, refl}
+use Rattle.std.proofs.lemmas.Bool.{and_parts}
 use Rattle.std.proofs.lemmas.Bool.Decides.{nat_tests}
 use Rattle.std.specs.Cmp.Derive.{both_true}
 use Rattle.std.specs.List.{list_all}
 use Rattle.tn_values.specs.Digit.{is_digit, are_digits}
 use Rattle.tn_values.specs.Number.{is_number_byte, is_number}
 use Rattle.tn_values.specs.Local.{is_local}
-use Rattle.tn_values.proofs.Conjunction.{both}
 
 digit_stands : (byte : ℕ) → is_digit byte ≡ true → is_number_byte byte ≡ true
 digit_stands byte h = grind (arith, nat_tests)
@@ -15,7 +15,7 @@ digit_stands byte h = grind (arith, nat_tests)
 pub digits_stand : (text : List ℕ) → are_digits text ≡ true → list_all is_number_byte text ≡ true
 digits_stand [] h = refl
 digits_stand (byte ∷ rest) h =
-    let each = both (is_digit byte) (are_digits rest) h in
+    let each = and_parts (is_digit byte) (are_digits rest) h in
     let first : is_number_byte byte ≡ true = digit_stands byte each.0 in
     let others : list_all is_number_byte rest ≡ true = digits_stand rest each.1 in
     both_true first others

@@ -1,6 +1,7 @@
 -- Laws of a set as it is kept: one span has all numbers of a span that the set has, a number that is missing, and sets of the same
 -- numbers are kept alike.
 use Rattle.std.proofs.Common.{◌≡◌, ℕ, suc, ◌-◌, ◌^◌, ◌<◌, ◌≤◌, Bool, true, false, cond, Some, None, ◌&&◌, nat_le, inl, inr, List, [], ◌∷◌, length, Contains, arith, refl, sym, subst}
+use Rattle.std.proofs.lemmas.Bool.{and_parts}
 use Rattle.std.proofs.lemmas.Bool.Decides.{nat_tests}
 use Rattle.std.proofs.lemmas.List.Elements.{All-contains}
 use Rattle.tn_values.specs.Digit.{are_digits}
@@ -9,7 +10,6 @@ use Rattle.tn_values.specs.Number.{is_number}
 use Rattle.tn_values.specs.NumberSet.{Gap, IsWithin, OneSpanHolds, SetHolds, SetView}
 use Rattle.tn_values.specs.Span.{SpanView, SpanHolds, is_span, span_of}
 use Rattle.tn_values.proofs.ApartLaws.{Reaches, none_behind, one_span, same_spans}
-use Rattle.tn_values.proofs.Conjunction.{both}
 use Rattle.tn_values.proofs.RankLaws.{HasRank, InSpan, InSpans, begins, digits_held, first_in, in_span, in_spans, number_at, span_holds, spans_hold}
 use Rattle.tn_values.proofs.TextLaws.{same_texts}
 use Rattle.tn_values.proofs.ValueLaws.{digits_of_value}
@@ -72,7 +72,7 @@ span_reached span own (from, behind) number h =
 
 pub span_from : (span : SpanView) → is_number span.start ≡ true → is_span span.start span.size ≡ true → IsSpan span
 span_from span number is =
-    let parts = both (are_digits span.start) (nat_le 1 span.size) is in
+    let parts = and_parts (are_digits span.start) (nat_le 1 span.size) is in
     record { number = number; digits = parts.0; some = grind (arith, nat_tests, parts.1) }
 
 span_rank : (set : SetView) (span : SpanView) → IsMerged set → IsSpan span → ((number : List ℕ) → SpanHolds span number → SetHolds set number)

@@ -1,8 +1,9 @@
 -- What the tests of a set say: which numbers it holds.
-use Rattle.std.proofs.Common.{◌≡◌, ℕ, ◌^◌, ◌<◌, Bool, true, false, cond, ◌||◌, ◌&&◌, ◌==◌, nat_le, nat_lt, ◌⊎◌, inl, inr, List, [], ◌∷◌, length, Any, Contains, arith, refl, sym, ◌∙◌, ap, subst, Some, None}
+use Rattle.std.proofs.Common.{◌≡◌, ℕ, ◌^◌, ◌<◌, Bool, true, false, cond, ◌&&◌, ◌==◌, nat_le, nat_lt, inl, inr, List, length, Any, Contains, arith, refl, sym, ◌∙◌, ap, subst, Some, None}
+use Rattle.lists.proofs.Bytes.{bytes_same, same_bytes}
+use Rattle.std.proofs.lemmas.Bool.{and_parts, or_cases, or_left, or_right}
 use Rattle.std.proofs.lemmas.Bool.Decides.{nat_tests}
 use Rattle.std.proofs.lemmas.List.Folds.{Any-from_list_any, list_any-from_Any}
-use Rattle.std.specs.Cmp.Derive.{both_true}
 use Rattle.std.specs.List.{list_any, slice_index_or}
 use Rattle.std.specs.Str.{bytes_eq}
 use Rattle.tn_values.specs.Digit.{are_digits}
@@ -10,25 +11,12 @@ use Rattle.tn_values.specs.Span.{SpanView, SpanHolds, value_of, end_of}
 use Rattle.tn_values.specs.NumberSet.{SetView, SetHolds}
 use Rattle.tn_values.specs.Place.{place_in, place_of, covers, spans_have, set_has}
 use Rattle.tn_values.specs.declared.places.Place.{Place}
-use Rattle.tn_values.proofs.Conjunction.{both}
 use Rattle.tn_values.proofs.ValueLaws.{value_below}
-
-pub either_true : (x y : Bool) → (x || y) ≡ true → (x ≡ true) ⊎ (y ≡ true)
-either_true true y h = inl refl
-either_true false y h = inr h
-
-pub or_first : (x y : Bool) → x ≡ true → (x || y) ≡ true
-or_first true y h = refl
-or_first false y h = cc
-
-or_second : (x y : Bool) → y ≡ true → (x || y) ≡ true
-or_second true y h = refl
-or_second false y h = h
 
 covers_holds : (span : SpanView) (number : List ℕ) → are_digits number ≡ true → covers span (place_in number) ≡ true → SpanHolds span number
 covers_holds span number d h =
-    let ends = both (length span.start == length number && nat_le (value_of span.start) (value_of number)) (nat_lt (value_of number) (end_of span)) h in
-    let begins = both (length span.start == length number) (nat_le (value_of span.start) (value_of number)) ends.0 in
+    let ends = and_parts (length span.start == length number && nat_le (value_of span.start) (value_of number)) (nat_lt (value_of number) (end_of span)) h in
+    let begins = and_parts (length span.start == length number) (nat_le (value_of span.start) (value_of number)) ends.0 in
     let above : value_of number < end_of span = grind (arith, nat_tests, ends.1) in
     record {
       digits = d;
@@ -88,20 +76,6 @@ held_spans spans number (k, span, inside, is, h) =
 
 -- ---- the singles
 
-bytes_same : (a b : List ℕ) → bytes_eq a b ≡ true → a ≡ b
-bytes_same [] [] h = refl
-bytes_same [] (y ∷ b) h = cc
-bytes_same (x ∷ a) [] h = cc
-bytes_same (x ∷ a) (y ∷ b) h =
-    let each = both (x == y) (bytes_eq a b) h in
-    let first : x ≡ y = grind (arith, nat_tests, each.0) in
-    let others = bytes_same a b each.1 in
-    cc
-
-same_bytes : (a : List ℕ) → bytes_eq a a ≡ true
-same_bytes [] = refl
-same_bytes (x ∷ a) = let first : (x == x) ≡ true = grind (arith, nat_tests) in both_true first (same_bytes a)
-
 singles_hold : (singles : List (List ℕ)) (number : List ℕ) → list_any (λ single. bytes_eq single number) singles ≡ true → Contains singles number
 singles_hold singles number h =
     let found = Any-from_list_any (λ single. bytes_eq single number) singles h in
@@ -117,9 +91,9 @@ held_singles singles number (k, inside, is) =
 
 pub has_means : (set : SetView) (number : List ℕ) → set_has set number ≡ true → SetHolds set number
 has_means set number h =
-    elim (either_true (spans_have set.spans number) (list_any (λ single. bytes_eq single number) set.singles) h)
+    elim (or_cases (spans_have set.spans number) (list_any (λ single. bytes_eq single number) set.singles) h)
     [ inl s ↦ inl (spans_hold set.spans number s) | inr s ↦ inr (singles_hold set.singles number s) ]
 
 pub means_has : (set : SetView) (number : List ℕ) → SetHolds set number → set_has set number ≡ true
-means_has set number (inl s) = or_first (spans_have set.spans number) (list_any (λ single. bytes_eq single number) set.singles) (held_spans set.spans number s)
-means_has set number (inr s) = or_second (spans_have set.spans number) (list_any (λ single. bytes_eq single number) set.singles) (held_singles set.singles number s)
+means_has set number (inl s) = or_left (spans_have set.spans number) (list_any (λ single. bytes_eq single number) set.singles) (held_spans set.spans number s)
+means_has set number (inr s) = or_right (spans_have set.spans number) (list_any (λ single. bytes_eq single number) set.singles) (held_singles set.singles number s)

@@ -1,5 +1,6 @@
 -- Laws of the decimal value of digits: it is below the power of ten, it tells the digits, and each value below the power has its digits.
 use Rattle.std.proofs.Common.{◌≡◌, ℕ, zero, suc, ◌+◌, ◌-◌, ◌*◌, ◌/◌, ◌%◌, ◌^◌, ◌<◌, ◌≤◌, true, List, [], ◌∷◌, ◌++◌, length, take, get_or, arith, refl, length-append}
+use Rattle.std.proofs.lemmas.Bool.{and_parts}
 use Rattle.std.proofs.Math.Nat.{pow-le-pow_right, pow-suc}
 use Rattle.std.proofs.lemmas.Bool.Decides.{nat_tests}
 use Rattle.std.proofs.lemmas.Grind.{common_steps}
@@ -9,7 +10,6 @@ use Rattle.std.specs.Cmp.Derive.{both_true}
 use Rattle.std.specs.Str.Parse.{digits_value_after, AllDigits}
 use Rattle.tn_values.specs.Digit.{is_digit, are_digits}
 use Rattle.tn_values.specs.Span.{value_of}
-use Rattle.tn_values.proofs.Conjunction.{both}
 
 pub digit_value_is : (byte : ℕ) → is_digit byte ≡ true → digit_value byte + 48 ≡ byte
 digit_value_is byte h = grind (arith, nat_tests)
@@ -20,7 +20,7 @@ digit_small byte h = grind (arith, nat_tests)
 all_digits : (text : List ℕ) → are_digits text ≡ true → AllDigits 10 text
 all_digits [] h = tt
 all_digits (byte ∷ rest) h =
-    let each = both (is_digit byte) (are_digits rest) h in
+    let each = and_parts (is_digit byte) (are_digits rest) h in
     (digit_small byte each.0, all_digits rest each.1)
 
 pub value_below : (text : List ℕ) → are_digits text ≡ true → value_of text < 10 ^ length text
@@ -30,15 +30,15 @@ value_below text h = digits_value-lt 10 text (all_digits text h)
 
 pub digit_at : (text : List ℕ) (i : ℕ) → are_digits text ≡ true → i < length text → is_digit (get_or text i 0) ≡ true
 digit_at [] i h inside = absurd (omega arith)
-digit_at (byte ∷ rest) zero h inside = (both (is_digit byte) (are_digits rest) h).0
-digit_at (byte ∷ rest) (suc i) h inside = digit_at rest i (both (is_digit byte) (are_digits rest) h).1 (omega arith)
+digit_at (byte ∷ rest) zero h inside = (and_parts (is_digit byte) (are_digits rest) h).0
+digit_at (byte ∷ rest) (suc i) h inside = digit_at rest i (and_parts (is_digit byte) (are_digits rest) h).1 (omega arith)
 
 pub front_digits : (text : List ℕ) (i : ℕ) → are_digits text ≡ true → are_digits (take i text) ≡ true
 front_digits [] zero h = refl
 front_digits (byte ∷ rest) zero h = refl
 front_digits [] (suc i) h = refl
 front_digits (byte ∷ rest) (suc i) h =
-    let each = both (is_digit byte) (are_digits rest) h in
+    let each = and_parts (is_digit byte) (are_digits rest) h in
     both_true each.0 (front_digits rest i each.1)
 
 length_front : (text : List ℕ) (i : ℕ) → i ≤ length text → length (take i text) ≡ i
@@ -80,8 +80,8 @@ same_after n m [] [] da db l h = (h, refl)
 same_after n m [] (d ∷ b) da db l h = absurd (omega arith)
 same_after n m (c ∷ a) [] da db l h = absurd (omega arith)
 same_after n m (c ∷ a) (d ∷ b) da db l h =
-    let first = both (is_digit c) (are_digits a) da in
-    let second = both (is_digit d) (are_digits b) db in
+    let first = and_parts (is_digit c) (are_digits a) da in
+    let second = and_parts (is_digit d) (are_digits b) db in
     let rest = same_after (n * 10 + digit_value c) (m * 10 + digit_value d) a b first.1 second.1 (omega arith) h in
     let heads : c ≡ d = omega (arith, rest.0, digit_value_is c first.0, digit_value_is d second.0, digit_small c first.0, digit_small d second.0) in
     let tails : a ≡ b = rest.1 in
@@ -105,7 +105,7 @@ pub record IsText (count value : ℕ) (text : List ℕ) : Type 0 where
 are_digits_push : (text : List ℕ) (byte : ℕ) → are_digits text ≡ true → is_digit byte ≡ true → are_digits (text ++ byte ∷ []) ≡ true
 are_digits_push [] byte h b = both_true b refl
 are_digits_push (first ∷ rest) byte h b =
-    let each = both (is_digit first) (are_digits rest) h in
+    let each = and_parts (is_digit first) (are_digits rest) h in
     both_true each.0 (are_digits_push rest byte each.1 b)
 
 last_digit : (value : ℕ) → is_digit (48 + value % 10) ≡ true

@@ -1,5 +1,5 @@
 -- Telephone numbers: `TelephoneNumber` of RFC 8226, section 9, which is also the canonical form of RFC 8224, section 8.3.
-use Rattle.std.specs.Prelude.{ℕ, Bool, ◌&&◌, ◌||◌, ◌==◌, ◌-◌, ◌++◌, nat_le, List, length, replicate, Option, Some, None, if◌then◌else◌}
+use Rattle.std.specs.Prelude.{ℕ, Bool, ◌&&◌, ◌||◌, ◌==◌, nat_le, List, length, Option, Some, None, if◌then◌else◌}
 use Rattle.std.specs.List.{list_all}
 use Rattle.tn_values.specs.Digit.{is_digit}
 
@@ -14,7 +14,3 @@ is_number text = nat_le 1 (length text) && nat_le (length text) 15 && list_all i
 -- the number that a text is, byte for byte, where it is one
 abbrev pub exact : List ℕ → Option (List ℕ)
 exact text = if is_number text then Some text else None
-
--- the bytes of a number and zeros, 15 in all: how a number lies in memory
-abbrev pub filled : List ℕ → List ℕ
-filled text = text ++ replicate (15 - length text) 0

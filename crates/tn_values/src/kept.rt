@@ -26,6 +26,7 @@ impl Model for Kept {
 }
 
 impl Kept {
+    /// A buffer that keeps nothing.
     pub(crate) fn new() -> Kept
         ensures { result ≡ [] }
     {
@@ -35,12 +36,14 @@ impl Kept {
         }
     }
 
+    /// Whether 16 bytes are kept.
     fn is_full(&self) -> bool
         ensures { IsTrue result ↔ (16 ≤ length self.now) }
     {
         self.count >= CAPACITY
     }
 
+    /// Keeps one byte more.
     fn push(&mut self, byte: u8)
         requires { length self.old < 16 }
         ensures { self.new ≡ self.old ++ byte ∷ [] }
@@ -49,6 +52,7 @@ impl Kept {
         self.count += 1;
     }
 
+    /// Keeps these bytes too.
     pub(crate) fn extend(&mut self, bytes: &[u8])
         requires { length self.old + length bytes.now ≤ 16 }
         ensures { self.new ≡ self.old ++ bytes.now }
@@ -58,6 +62,7 @@ impl Kept {
         }
     }
 
+    /// The bytes that are kept.
     pub(crate) fn bytes(&self) -> &[u8]
         ensures { result.now ≡ self.now }
     {

@@ -35,6 +35,7 @@ impl Model for Ranked {
 }
 
 impl Ranked {
+    /// The span with its rank.
     fn new(span: Span) -> Ranked
         ensures { result ≡ span }
     {
@@ -42,12 +43,14 @@ impl Ranked {
         Ranked { span, rank }
     }
 
+    /// The span.
     fn span(&self) -> &Span
         ensures { result.now ≡ self.now }
     {
         &self.span
     }
 
+    /// The rank of its start.
     fn rank(&self) -> u64
         ensures { result ≡ rank_of self.now.start }
     {
@@ -72,6 +75,7 @@ pub(crate) fn with_ranks(
     Ok(all)
 }
 
+/// The spans with their ranks.
 fn ranked_spans(alloc: Global, spans: &[Span]) -> Result<Vec<Ranked>, Memory>
     ensures { IfOk result (λ all. all.items ≡ spans.now) }
 {

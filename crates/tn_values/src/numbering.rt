@@ -61,6 +61,7 @@ impl Local {
     }
 }
 
+/// Whether there is a local numbering of this country and so many digits.
 #[tactic(auto, unfolding(crate::specs::Local::is_local))]
 fn is_local(country: &[u8], national: u8) -> bool
     ensures { result ≡ is_local country.now national }

@@ -1,50 +1,36 @@
 //! A telephone number.
-ghost use Rattle.std.specs.Prelude.{◌≡◌, ◌≤◌, ◌↔◌, ◌∷◌, length, false, IsTrue, IfSome, Some, nat_eq, refl};
-ghost use Rattle.std.specs.Ordering.{nat_cmp};
-ghost use Rattle.std.specs.Hash as fed;
-ghost use Rattle.std.specs.Cmp.Lexicographic.{slice_cmp, nat_list_eq_equiv, nat_list_cmp_total, texts_ties, texts_po};
-ghost use Rattle.std.specs.Cmp.{partial_equiv_from_equiv};
-ghost use Rattle.std.specs.Cmp.Rules.{hashing};
+ghost use Rattle.std.specs.Prelude.{◌≡◌, ◌≤◌, ◌↔◌, ◌∷◌, length, false, IsTrue, IfSome, Some};
 ghost use Rattle.std.specs.Fmt.{padded};
-ghost use Rattle.std.specs.Str.{bytes_eq};
-ghost use Rattle.std.proofs.Common.{rules};
-ghost use Rattle.tn_values.specs.Number.{exact, filled, is_number};
+ghost use Rattle.tn_values.specs.Number.{exact, is_number};
 ghost use Rattle.tn_values.specs.Canon.{Canon, is_national, plus, without_separators, StandsFor};
 
 use crate::alphabet::is_number;
 use crate::numbering::Local;
 use crate::reading::{canonical, is_read_as};
-use std::cmp::Ordering;
-use std::hash::{Hash, Hasher};
+use short_text::ShortText;
 use std::marker::Model;
 use std::{fmt, str};
 
-/// The most bytes of a number (RFC 8226, section 9, ITU-T E.164).
-const LONGEST: usize = 15;
-
 /// A telephone number: 1 to 15 bytes of `0-9 * #` (`TelephoneNumber` of RFC 8226, section 9).
 ///
-/// A contract sees it as the list of its bytes, and equality, order, hash and `{}` are those of this list.
-#[derive(Clone, Copy)]
+/// A contract sees it as the list of its bytes, and equality, order, hash and `{}` are those of this list: `12`
+/// stands before `123`, and `123` before `13`.
+#[derive(Clone, Copy, PartialEq, Eq, PartialOrd, Ord, Hash)]
 pub struct Number {
-    bytes: [u8; LONGEST],
-    len: u8,
+    text: ShortText<15>,
 }
 
 impl Model for Number {
-    ghost use Rattle.std.specs.Prelude.{ℕ, List, ◌≡◌, take, length, IsTrue, refl};
-    ghost use Rattle.tn_values.specs.Number.{filled, is_number};
+    ghost use Rattle.std.specs.Prelude.{ℕ, List, IsTrue};
+    ghost use Rattle.tn_values.specs.Number.{is_number};
 
     ghost Value = { List ℕ };
 
-    ghost view = { λ n. take n.len n.bytes };
+    ghost view = { λ n. n.text };
 
-    ghost invariant = { λ n. IsTrue (is_number (take n.len n.bytes)) × (length (take n.len n.bytes) ≡ n.len)
-        × (filled (take n.len n.bytes) ≡ n.bytes) };
+    ghost invariant = { λ n. IsTrue (is_number n.text) };
 
-    ghost inverse = { λ text. record { bytes = filled text; len = length text } };
-
-    ghost inverse_ok = { λ n h. Prim.rw (h.2, h.1) refl };
+    ghost inverse = { λ text. record { text = text } };
 }
 
 impl Number {
@@ -57,8 +43,7 @@ impl Number {
             return None;
         }
         Some(Number {
-            bytes: filled(text),
-            len: text.len() as u8,
+            text: ShortText::new(text),
         })
     }
 
@@ -105,7 +90,7 @@ impl Number {
         ensures short { length self.now ≤ 15 }
         ensures again { exact self.now ≡ Some self.now }
     {
-        &self.bytes[..usize::from(self.len)]
+        self.text.bytes()
     }
 
     /// The number as text, 1 to 15 characters of `0-9 * #`.
@@ -117,55 +102,6 @@ impl Number {
             Ok(text) => text,
             Err(_) => unreachable!(),
         }
-    }
-}
-
-impl PartialEq for Number {
-    ghost eq = { bytes_eq };
-
-    ghost laws = { partial_equiv_from_equiv nat_list_eq_equiv };
-
-    fn eq(&self, other: &Number) -> bool {
-        self.bytes() == other.bytes()
-    }
-}
-
-impl Eq for Number {
-    ghost laws = { nat_list_eq_equiv };
-}
-
-impl PartialOrd for Number {
-    ghost partial_cmp = { λ a b. Some (slice_cmp nat_cmp a b) };
-
-    ghost laws = { texts_po };
-
-    fn partial_cmp(&self, other: &Number) -> Option<Ordering> {
-        Some(self.cmp(other))
-    }
-}
-
-/// By the bytes, as slices are ordered: `12` stands before `123`, and `123` before `13`.
-impl Ord for Number {
-    ghost cmp = { slice_cmp nat_cmp };
-
-    ghost total = { nat_list_cmp_total };
-
-    ghost matches_partial_cmp = { λ a b. refl };
-
-    ghost matches_eq = { texts_ties };
-
-    fn cmp(&self, other: &Number) -> Ordering {
-        self.bytes().cmp(&other.bytes())
-    }
-}
-
-impl Hash for Number {
-    ghost hash_input = { fed.slice fed.u8 };
-
-    ghost respects_eq = { Prim.search (hashing, rules) };
-
-    fn hash<H: Hasher>(&self, state: &mut H) {
-        self.bytes().hash(state);
     }
 }
 
@@ -183,13 +119,4 @@ impl fmt::Debug for Number {
     fn fmt<W: fmt::Write>(&self, f: &mut fmt::Formatter<W>) -> fmt::Result {
         f.debug_tuple("Number").field(&self.as_str()).finish()
     }
-}
-
-fn filled(text: &[u8]) -> [u8; LONGEST]
-    requires { length text.now ≤ 15 }
-    ensures { result ≡ filled text.now }
-{
-    let mut bytes = [0; LONGEST];
-    bytes[..text.len()].copy_from_slice(text);
-    bytes
 }

@@ -9,6 +9,7 @@ use crate::kept::{Kept, kept_of};
 use crate::numbering::Local;
 use crate::numbers::Number;
 
+/// The canonical number that a text stands for, or None where there is none.
 #[tactic(auto, unfolding(crate::specs::Canon::Canon, crate::specs::Number::is_number))]
 pub(crate) fn canonical(text: &[u8], local: &Local) -> Option<Number>
     ensures { result ≡ Canon text.now local.now }
@@ -44,12 +45,14 @@ fn completed(text: &[u8], local: &Local) -> Option<Number>
     }
 }
 
+/// Whether a text is digits alone, as many as a national number has.
 fn is_national(text: &[u8], local: &Local) -> bool
     ensures { result ≡ is_national text.now local.now }
 {
     text.len() == usize::from(local.national()) && are_digits(text)
 }
 
+/// The number of a national one: the country's digits and then its own.
 #[tactic(auto, unfolding(crate::specs::Local::is_local, crate::specs::Number::is_number))]
 fn national_number(text: &[u8], local: &Local) -> Option<Number>
     requires { IsTrue (is_national text.now local.now) }

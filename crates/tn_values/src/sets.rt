@@ -114,6 +114,7 @@ impl NumberSet {
         parent.has_singles(self.singles()) && parent.has_spans(self.spans())
     }
 
+    /// Whether the set has each of these numbers.
     fn has_singles(&self, singles: &[Number]) -> bool
         ensures all { IsTrue result → IsWithin (set_of [] singles.now) self.now }
         ensures outside { result ≡ false → Outside (set_of [] singles.now) self.now }
@@ -126,6 +127,7 @@ impl NumberSet {
         true
     }
 
+    /// Whether the set has every number of each of these spans.
     fn has_spans(&self, spans: &[Span]) -> bool
         ensures all { IsTrue result → IsWithin (set_of spans.now []) self.now }
         ensures outside { result ≡ false → Outside (set_of spans.now []) self.now }

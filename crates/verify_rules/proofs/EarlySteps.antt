@@ -5,7 +5,7 @@ use Rattle.sip_message.specs.Message.{MessageView}
 use Rattle.sip_message.specs.Reading.{read}
 use Rattle.sip_message.specs.declared.fault.FormFault.{FormFault}
 use Rattle.verify_rules.specs.Call.{Call, IdentityField, Reading, call_of, facts, fields_of, in_chain, in_message, in_turn, judged_fields, links, or_none, originating, read_call, readings_of, turn_of}
-use Rattle.verify_rules.specs.Rules.{Rule, bad_field, chain_rules, each, early_rules, field_rules, first, foreign_alg, other_calling, no_identity, no_invite, no_order, no_originating, place, refusal, rule_1, rule_2, rule_3, rule_4, rule_5, rule_6, rule_7, rule_8, rule_9, stale, unread}
+use Rattle.verify_rules.specs.Rules.{Rule, bad_field, chain_rules, each, early_rules, field_rules, first, foreign_alg, other_calling, no_identity, no_invite, no_order, no_originating, place, refusal, rule_1, rule_2, rule_3, rule_4, rule_5, rule_6, rule_7, rule_8, rule_9, stale, unreadable}
 use Rattle.verify_rules.specs.Screened.{IsScreenedBy, ScreenedView, screened_by, screened_of}
 use Rattle.verify_rules.specs.declared.facts.Facts.{Facts}
 use Rattle.verify_rules.specs.declared.refusal.Place.{Place}
@@ -83,9 +83,9 @@ algs_are : (call : Call) (fields : List IdentityField) (o : IdentityField) (k : 
 algs_are call fields o k is e h = ap (each foreign_alg) (judged_is call fields o is e) ∙ sym h
 
 tokens_are : (call : Call) (fields : List IdentityField) (o : IdentityField) (said : Facts) (k : Option Place) → fields ≡ fields_of call → Some o ≡ originating fields → Serves said (facts call) (o ∷ links fields)
-    → each (unread said) (o ∷ links fields) ≡ k → rule_6.broken call ≡ k
+    → each (unreadable said) (o ∷ links fields) ≡ k → rule_6.broken call ≡ k
 tokens_are call fields o said k is e s h =
-    ap (each (unread (facts call))) (judged_is call fields o is e) ∙ sym s.unread ∙ h
+    ap (each (unreadable (facts call))) (judged_is call fields o is e) ∙ sym s.unreadable ∙ h
 
 origs_are : (call : Call) (said : Facts) (readings : List Reading) (k : Option Place) → in_message call ≡ readings → said.calling ≡ (facts call).calling → k ≡ each (other_calling said.calling) readings → rule_7.broken call ≡ k
 origs_are call said readings k m s h =
@@ -120,26 +120,26 @@ early_hold call fields o is e h =
     holds rule_4 (rule_5 ∷ rule_6 ∷ chain_rules) call (origin_there call fields o is e) ∙ holds rule_5 (rule_6 ∷ chain_rules) call (algs_are call fields o None is e h)
 
 pub refused_token : (call : Call) (fields : List IdentityField) (o : IdentityField) (said : Facts) (bad : Place) → fields ≡ fields_of call → Some o ≡ originating fields
-    → None ≡ each foreign_alg (o ∷ links fields) → Serves said (facts call) (o ∷ links fields) → each (unread said) (o ∷ links fields) ≡ Some bad → first field_rules call ≡ Some (refusal 6 bad)
+    → None ≡ each foreign_alg (o ∷ links fields) → Serves said (facts call) (o ∷ links fields) → each (unreadable said) (o ∷ links fields) ≡ Some bad → first field_rules call ≡ Some (refusal 6 bad)
 refused_token call fields o said bad is e h5 s h6 =
     early_hold call fields o is e h5 ∙ breaks rule_6 chain_rules call bad (tokens_are call fields o said (Some bad) is e s h6)
 
 -- ---- rules 7 to 9
 
 chain_left : (call : Call) (fields : List IdentityField) (o : IdentityField) (said : Facts) → fields ≡ fields_of call → Some o ≡ originating fields
-    → None ≡ each foreign_alg (o ∷ links fields) → Serves said (facts call) (o ∷ links fields) → each (unread said) (o ∷ links fields) ≡ None → first field_rules call ≡ first chain_rules call
+    → None ≡ each foreign_alg (o ∷ links fields) → Serves said (facts call) (o ∷ links fields) → each (unreadable said) (o ∷ links fields) ≡ None → first field_rules call ≡ first chain_rules call
 chain_left call fields o said is e h5 s h6 =
     early_hold call fields o is e h5 ∙ holds rule_6 chain_rules call (tokens_are call fields o said None is e s h6)
 
 pub refused_orig : (call : Call) (fields : List IdentityField) (o : IdentityField) (said : Facts) (readings : List Reading) (bad : Place) → fields ≡ fields_of call → Some o ≡ originating fields
-    → None ≡ each foreign_alg (o ∷ links fields) → Serves said (facts call) (o ∷ links fields) → each (unread said) (o ∷ links fields) ≡ None → readings ≡ readings_of said (o ∷ links fields)
+    → None ≡ each foreign_alg (o ∷ links fields) → Serves said (facts call) (o ∷ links fields) → each (unreadable said) (o ∷ links fields) ≡ None → readings ≡ readings_of said (o ∷ links fields)
     → Some bad ≡ each (other_calling said.calling) readings → first field_rules call ≡ Some (refusal 7 bad)
 refused_orig call fields o said readings bad is e h5 s h6 r h7 =
     chain_left call fields o said is e h5 s h6
     ∙ breaks rule_7 (rule_8 ∷ rule_9 ∷ []) call bad (origs_are call said readings (Some bad) (message_is call fields o said readings is e s r) s.calling h7)
 
 pub refused_order : (call : Call) (fields : List IdentityField) (o : IdentityField) (said : Facts) (readings : List Reading) (bad : Place) → fields ≡ fields_of call → Some o ≡ originating fields
-    → None ≡ each foreign_alg (o ∷ links fields) → Serves said (facts call) (o ∷ links fields) → each (unread said) (o ∷ links fields) ≡ None → readings ≡ readings_of said (o ∷ links fields)
+    → None ≡ each foreign_alg (o ∷ links fields) → Serves said (facts call) (o ∷ links fields) → each (unreadable said) (o ∷ links fields) ≡ None → readings ≡ readings_of said (o ∷ links fields)
     → None ≡ each (other_calling said.calling) readings → no_order readings (turn_of said readings) ≡ Some bad → first field_rules call ≡ Some (refusal 8 bad)
 refused_order call fields o said readings bad is e h5 s h6 r h7 h8 =
     let m = message_is call fields o said readings is e s r in
@@ -147,7 +147,7 @@ refused_order call fields o said readings bad is e h5 s h6 r h7 h8 =
     ∙ holds rule_7 (rule_8 ∷ rule_9 ∷ []) call (origs_are call said readings None m s.calling h7) ∙ breaks rule_8 (rule_9 ∷ []) call bad (order_is call said readings (Some bad) m (turn_same said (facts call) readings s.to s.target) h8)
 
 iats_left : (call : Call) (fields : List IdentityField) (o : IdentityField) (said : Facts) (readings : List Reading) (turn : List ℕ) → fields ≡ fields_of call → Some o ≡ originating fields
-    → None ≡ each foreign_alg (o ∷ links fields) → Serves said (facts call) (o ∷ links fields) → each (unread said) (o ∷ links fields) ≡ None → readings ≡ readings_of said (o ∷ links fields)
+    → None ≡ each foreign_alg (o ∷ links fields) → Serves said (facts call) (o ∷ links fields) → each (unreadable said) (o ∷ links fields) ≡ None → readings ≡ readings_of said (o ∷ links fields)
     → None ≡ each (other_calling said.calling) readings → turn_of said readings ≡ Ok turn → first field_rules call ≡ first (rule_9 ∷ []) call
 iats_left call fields o said readings turn is e h5 s h6 r h7 t =
     let m = message_is call fields o said readings is e s r in
@@ -155,7 +155,7 @@ iats_left call fields o said readings turn is e h5 s h6 r h7 t =
     ∙ holds rule_7 (rule_8 ∷ rule_9 ∷ []) call (origs_are call said readings None m s.calling h7) ∙ holds rule_8 (rule_9 ∷ []) call (order_is call said readings None m (turn_same said (facts call) readings s.to s.target) (ap (no_order readings) t))
 
 pub refused_stale : (call : Call) (fields : List IdentityField) (o : IdentityField) (said : Facts) (readings : List Reading) (turn : List ℕ) (screened : ScreenedView) (bad : Place) → fields ≡ fields_of call
-    → Some o ≡ originating fields → None ≡ each foreign_alg (o ∷ links fields) → Serves said (facts call) (o ∷ links fields) → each (unread said) (o ∷ links fields) ≡ None → readings ≡ readings_of said (o ∷ links fields)
+    → Some o ≡ originating fields → None ≡ each foreign_alg (o ∷ links fields) → Serves said (facts call) (o ∷ links fields) → each (unreadable said) (o ∷ links fields) ≡ None → readings ≡ readings_of said (o ∷ links fields)
     → None ≡ each (other_calling said.calling) readings → turn_of said readings ≡ Ok turn → screened ≡ screened_by call.settings.window (in_turn readings turn)
     → Some bad ≡ each (stale call.settings.window call.moment) screened.readings → first field_rules call ≡ Some (refusal 9 bad)
 refused_stale call fields o said readings turn screened bad is e h5 s h6 r h7 t v h9 =
@@ -163,7 +163,7 @@ refused_stale call fields o said readings turn screened bad is e h5 s h6 r h7 t 
     iats_left call fields o said readings turn is e h5 s h6 r h7 t ∙ breaks rule_9 [] call bad (iats_are call (in_turn readings turn) screened (Some bad) c v h9)
 
 pub none_refused : (call : Call) (fields : List IdentityField) (o : IdentityField) (said : Facts) (readings : List Reading) (turn : List ℕ) (screened : ScreenedView) → fields ≡ fields_of call
-    → Some o ≡ originating fields → None ≡ each foreign_alg (o ∷ links fields) → Serves said (facts call) (o ∷ links fields) → each (unread said) (o ∷ links fields) ≡ None → readings ≡ readings_of said (o ∷ links fields)
+    → Some o ≡ originating fields → None ≡ each foreign_alg (o ∷ links fields) → Serves said (facts call) (o ∷ links fields) → each (unreadable said) (o ∷ links fields) ≡ None → readings ≡ readings_of said (o ∷ links fields)
     → None ≡ each (other_calling said.calling) readings → turn_of said readings ≡ Ok turn → screened ≡ screened_by call.settings.window (in_turn readings turn)
     → None ≡ each (stale call.settings.window call.moment) screened.readings → (first field_rules call ≡ None) × (screened ≡ screened_of call)
 none_refused call fields o said readings turn screened is e h5 s h6 r h7 t v h9 =

@@ -7,7 +7,7 @@ use Rattle.std.specs.Option.{option_or}
 use Rattle.std.proofs.lemmas.Bool.Decides.{nat_tests}
 use Rattle.std.proofs.lemmas.Option.{slice_get-get_or}
 use Rattle.verify_rules.specs.Call.{Call, IdentityField, Reading, facts, fields_of, in_chain, in_message, in_turn, judged_fields, links, or_none, originating, read_field, readings_of, turn_of}
-use Rattle.verify_rules.specs.Rules.{HoldAll, each, early_rules, no_originating, place, stale, unread, unread_at}
+use Rattle.verify_rules.specs.Rules.{HoldAll, each, early_rules, no_originating, place, stale, unreadable, unreadable_at}
 use Rattle.verify_rules.specs.Screened.{IsScreenedBy, ScreenedView, iat_or_none, last_of, screened_by, screened_of}
 use Rattle.verify_rules.specs.declared.facts.Facts.{Facts}
 use Rattle.verify_rules.specs.declared.refusal.Place.{Place}
@@ -43,20 +43,20 @@ some_origin : (o : Option IdentityField) → no_originating o ≡ None → (fiel
 some_origin None e = absurd cc
 some_origin (Some field) e = (field, refl)
 
-read_by : (number : ℕ) (r : Result Reading ℕ) → unread_at number r ≡ None → (one : Reading) × (r ≡ Ok one)
+read_by : (number : ℕ) (r : Result Reading ℕ) → unreadable_at number r ≡ None → (one : Reading) × (r ≡ Ok one)
 read_by number (Ok one) e = (one, refl)
 read_by number (Err part) e = absurd cc
 
-pub read_there : (said : Facts) (field : IdentityField) → unread said field ≡ None → (one : Reading) × (read_field said field ≡ Ok one)
-unfolding unread
+pub read_there : (said : Facts) (field : IdentityField) → unreadable said field ≡ None → (one : Reading) × (read_field said field ≡ Ok one)
+unfolding unreadable
 read_there said field e = read_by field.number (read_field said field) e
 
 pub some_message : (call : Call) → HoldAll early_rules call → (one : Reading) × (others : List Reading) × (in_message call ≡ one ∷ others)
 some_message call h =
     let o = some_origin (originating (fields_of call)) h.1.1.1.0 in
     let judged : judged_fields (fields_of call) ≡ o.0 ∷ links (fields_of call) = ap (λ x. option_to_list x ++ links (fields_of call)) o.1 in
-    let all : each (unread (facts call)) (o.0 ∷ links (fields_of call)) ≡ None = ap (each (unread (facts call))) (sym judged) ∙ h.1.1.1.1.1.0 in
-    let r = read_there (facts call) o.0 (here_none (unread (facts call) o.0) (each (unread (facts call)) (links (fields_of call))) all).0 in
+    let all : each (unreadable (facts call)) (o.0 ∷ links (fields_of call)) ≡ None = ap (each (unreadable (facts call))) (sym judged) ∙ h.1.1.1.1.1.0 in
+    let r = read_there (facts call) o.0 (here_none (unreadable (facts call) o.0) (each (unreadable (facts call)) (links (fields_of call))) all).0 in
     let first : readings_of (facts call) (o.0 ∷ links (fields_of call)) ≡ r.0 ∷ readings_of (facts call) (links (fields_of call)) = rw r.1 refl in
     (r.0, readings_of (facts call) (links (fields_of call)), ap (readings_of (facts call)) judged ∙ first)
 

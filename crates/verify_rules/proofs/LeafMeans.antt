@@ -2,6 +2,7 @@
 use Rattle.std.proofs.Common.{◌≡◌, ◌↔◌, ◌⊎◌, inl, inr, ℕ, Bool, true, false, ◌||◌, List, [], ◌∷◌, Option, Some, None, refl, sym, ◌∙◌, ap}
 use Rattle.std.specs.Prelude.{IsTrue}
 use Rattle.std.specs.List.{list_any, slice_get}
+use Rattle.std.proofs.lemmas.Bool.{or_cases}
 use Rattle.tn_auth_list.specs.declared.entries.Entry.{Entry}
 use Rattle.tn_auth_list.specs.declared.entries.Entry.TheVariants.{Code, Range, Single}
 use Rattle.x509_profile.specs.View.{CertView}
@@ -58,10 +59,6 @@ genuine_means laws world typed one (chain, h) = (
 
 -- ---- rule 17, by the entries
 
-either_by : (a b : Bool) → (a || b) ≡ true → (a ≡ true) ⊎ (b ≡ true)
-either_by true b h = inl refl
-either_by false b h = inr h
-
 either_again : (a b : Bool) → (a ≡ true) ⊎ (b ≡ true) → (a || b) ≡ true
 either_again true b h = refl
 either_again false b (inl h) = absurd cc
@@ -81,7 +78,7 @@ named_later entry entries p = (p.0, inr p.1)
 named_by : (entries : List Entry) → list_any is_code entries ≡ true → (code : List ℕ) × NamesCode entries code
 named_by [] h = absurd cc
 named_by (entry ∷ entries) h =
-    elim (either_by (is_code entry) (list_any is_code entries) h) [ inl here ↦ named_here entry entries (code_by entry here) | inr more ↦ named_later entry entries (named_by entries more) ]
+    elim (or_cases (is_code entry) (list_any is_code entries) h) [ inl here ↦ named_here entry entries (code_by entry here) | inr more ↦ named_later entry entries (named_by entries more) ]
 
 named_again : (entries : List Entry) (code : List ℕ) → NamesCode entries code → list_any is_code entries ≡ true
 named_again [] code p = absurd p
@@ -90,7 +87,7 @@ named_again (entry ∷ entries) code (inr more) = either_again (is_code entry) (
 
 covers_or_by : CoversLaw → (table : Table) (entries : List Entry) (phone : List ℕ) → (covers_number entries table phone || list_any is_code entries) ≡ true → CoversOrNamesCode table entries phone
 covers_or_by law table entries phone h =
-    elim (either_by (covers_number entries table phone) (list_any is_code entries) h) [ inl here ↦ inl ((law entries table phone).0 here) | inr more ↦ inr (named_by entries more) ]
+    elim (or_cases (covers_number entries table phone) (list_any is_code entries) h) [ inl here ↦ inl ((law entries table phone).0 here) | inr more ↦ inr (named_by entries more) ]
 
 covers_or_again : CoversLaw → (table : Table) (entries : List Entry) (phone : List ℕ) → CoversOrNamesCode table entries phone → (covers_number entries table phone || list_any is_code entries) ≡ true
 covers_or_again law table entries phone (inl covered) = either_again (covers_number entries table phone) (list_any is_code entries) (inl ((law entries table phone).1 covered))

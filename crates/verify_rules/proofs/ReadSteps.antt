@@ -6,7 +6,7 @@ use Rattle.std.proofs.lemmas.List.{drop_all}
 use Rattle.passport_claims.specs.Kind.{ppt_of}
 use Rattle.passport_claims.specs.Links.{IsLink}
 use Rattle.verify_rules.specs.Call.{IdentityField, Reading, has_ppt, links, read_field, readings_of}
-use Rattle.verify_rules.specs.Rules.{each, place, unread, unread_at}
+use Rattle.verify_rules.specs.Rules.{each, place, unreadable, unreadable_at}
 use Rattle.verify_rules.specs.Seen.{AreLinks, AreReadings, GivesReading, IsChainable, ReadSoFar, field_seen}
 use Rattle.verify_rules.specs.declared.facts.Facts.{Facts}
 use Rattle.verify_rules.specs.declared.fields.NumberedField.{NumberedField}
@@ -16,13 +16,13 @@ use Rattle.verify_rules.proofs.Known.{text_by}
 
 -- ---- one field
 
-pub read_one : (said : Facts) (field : IdentityField) (one : Reading) → read_field said field ≡ Ok one → unread said field ≡ None
-unfolding unread
-read_one said field one e = ap (unread_at field.number) e
+pub read_one : (said : Facts) (field : IdentityField) (one : Reading) → read_field said field ≡ Ok one → unreadable said field ≡ None
+unfolding unreadable
+read_one said field one e = ap (unreadable_at field.number) e
 
-pub unread_one : (said : Facts) (field : IdentityField) (part : ℕ) → read_field said field ≡ Err part → unread said field ≡ Some (place field.number part)
-unfolding unread
-unread_one said field part e = ap (unread_at field.number) e
+pub unreadable_one : (said : Facts) (field : IdentityField) (part : ℕ) → read_field said field ≡ Err part → unreadable said field ≡ Some (place field.number part)
+unfolding unreadable
+unreadable_one said field part e = ap (unreadable_at field.number) e
 
 pub readings_one : (said : Facts) (field : IdentityField) (others : List IdentityField) (one : Reading) → read_field said field ≡ Ok one
     → readings_of said (field ∷ others) ≡ one ∷ readings_of said others
@@ -63,8 +63,8 @@ read_more said origin fields i field one readings now so within is link e kind n
     let behind : suc i ≡ i + 1 = omega arith in
     let here = links_here fields i field within is link in
     let left : List IdentityField = links (map field_seen (drop (suc i) fields)) in
-    let past : each (unread said) (links (map field_seen (drop i fields))) ≡ each (unread said) left =
-    ap (each (unread said)) here ∙ ap (λ x. option_or x (each (unread said) left)) (read_one said (field_seen field) one e) in
+    let past : each (unreadable said) (links (map field_seen (drop i fields))) ≡ each (unreadable said) left =
+    ap (each (unreadable said)) here ∙ ap (λ x. option_or x (each (unreadable said) left)) (read_one said (field_seen field) one e) in
     let more : readings_of said (links (map field_seen (drop i fields))) ≡ one ∷ readings_of said left =
     ap (readings_of said) here ∙ readings_one said (field_seen field) left one e in
     subst (λ k. ReadSoFar said origin fields k now) behind (subst (ReadSoFar said origin fields (suc i)) (sym n)
@@ -84,7 +84,7 @@ read_past said origin fields i field readings so within is other =
     subst (λ k. ReadSoFar said origin fields k readings) behind
     (record {
       first = so.first;
-      good = sym (ap (each (unread said)) here) ∙ so.good;
+      good = sym (ap (each (unreadable said)) here) ∙ so.good;
       all = ap (λ x. readings ++ readings_of said x) (sym here) ∙ so.all;
       kept = so.kept;
       some = so.some;
@@ -95,11 +95,11 @@ read_past said origin fields i field readings so within is other =
 pub first_bad : (said : Facts) (origin : IdentityField) (others : List IdentityField) (stop : Stop) → GivesReading origin.number (Err stop) (read_field said origin)
     → AreReadings said (origin ∷ others) (Err stop)
 first_bad said origin others (Broken bad) h =
-    ap (λ x. option_or x (each (unread said) others)) (unread_one said origin h.0 h.1) ∙ ap (λ x. Some x) (sym h.2)
+    ap (λ x. option_or x (each (unreadable said) others)) (unreadable_one said origin h.0 h.1) ∙ ap (λ x. Some x) (sym h.2)
 first_bad said origin others Memory h = tt
 
 bad_link : (said : Facts) (origin : IdentityField) (fields : List NumberedField) (i : ℕ) (field : NumberedField) (stop : Stop)
-    → each (unread said) (origin ∷ links (map field_seen fields)) ≡ each (unread said) (field_seen field ∷ links (map field_seen (drop (suc i) fields)))
+    → each (unreadable said) (origin ∷ links (map field_seen fields)) ≡ each (unreadable said) (field_seen field ∷ links (map field_seen (drop (suc i) fields)))
     → AreReadings said (field_seen field ∷ links (map field_seen (drop (suc i) fields))) (Err stop) → AreReadings said (origin ∷ links (map field_seen fields)) (Err stop)
 bad_link said origin fields i field (Broken bad) same h = same ∙ h
 bad_link said origin fields i field Memory same h = tt
@@ -109,13 +109,13 @@ pub read_bad : (said : Facts) (origin : IdentityField) (fields : List NumberedFi
     → GivesReading field.number (Err stop) (read_field said (field_seen field)) → AreReadings said (origin ∷ links (map field_seen fields)) (Err stop)
 read_bad said origin fields i field stop readings so within is link h =
     bad_link said origin fields i field stop
-    (ap (λ x. option_or x (each (unread said) (links (map field_seen fields)))) so.first ∙ sym so.good ∙ ap (each (unread said)) (links_here fields i field within is link))
+    (ap (λ x. option_or x (each (unreadable said) (links (map field_seen fields)))) so.first ∙ sym so.good ∙ ap (each (unreadable said)) (links_here fields i field within is link))
     (first_bad said (field_seen field) (links (map field_seen (drop (suc i) fields))) stop h)
 
 pub all_good : (said : Facts) (origin : IdentityField) (fields : List NumberedField) (i : ℕ) (readings : List Reading) → ReadSoFar said origin fields i readings → length fields ≤ i
-    → each (unread said) (origin ∷ links (map field_seen fields)) ≡ None
+    → each (unreadable said) (origin ∷ links (map field_seen fields)) ≡ None
 all_good said origin fields i readings so end =
-    ap (λ x. option_or x (each (unread said) (links (map field_seen fields)))) so.first ∙ sym so.good ∙ ap (λ x. each (unread said) (links (map field_seen x))) (drop_all i fields end)
+    ap (λ x. option_or x (each (unreadable said) (links (map field_seen fields)))) so.first ∙ sym so.good ∙ ap (λ x. each (unreadable said) (links (map field_seen x))) (drop_all i fields end)
 
 pub all_read : (said : Facts) (origin : IdentityField) (fields : List NumberedField) (i : ℕ) (readings : List Reading) → ReadSoFar said origin fields i readings → length fields ≤ i
     → readings ≡ readings_of said (origin ∷ links (map field_seen fields))

@@ -1,7 +1,8 @@
 -- What the holding of rule 6 means: each judged field's text is a token whose claims are those of a PASSporT.
-use Rattle.std.proofs.Common.{◌≡◌, ◌↔◌, ℕ, zero, suc, ◌<◌, Bool, true, false, ◌&&◌, List, [], ◌∷◌, ◌++◌, filter, find, codes, cond, Option, Some, None, Result, Ok, Err, refl, sym, ◌∙◌, ap, subst, arith, option_to_list}
+use Rattle.std.proofs.Common.{◌≡◌, ◌↔◌, ℕ, zero, suc, ◌<◌, Bool, true, false, List, [], ◌∷◌, ◌++◌, filter, find, codes, cond, Option, Some, None, Result, Ok, Err, refl, sym, ◌∙◌, ap, subst, arith, option_to_list}
 use Rattle.std.specs.List.{list_all}
 use Rattle.std.specs.Option.{option_or}
+use Rattle.std.proofs.lemmas.Bool.{and_parts}
 use Rattle.std.proofs.lemmas.Bool.Decides.{nat_tests}
 use Rattle.base64.specs.GeneralPurpose.{IsBytes}
 use Rattle.serde_json.specs.Data.{Data}
@@ -18,7 +19,7 @@ use Rattle.passport_json.specs.Token.{TokenText, read_token}
 use Rattle.passport_json.specs.View.{TokenView}
 use Rattle.passport_json.specs.declared.fault.TokenFault.{TokenFault}
 use Rattle.verify_rules.specs.Call.{IdentityField, Reading, has_ppt, judged_fields, lacks_ppt, given_to_compact, links, mark_of, marked_or_part, numbered, originating, read_field, reading, reading_by, readings_of, with_field}
-use Rattle.verify_rules.specs.Rules.{each, unread}
+use Rattle.verify_rules.specs.Rules.{each, unreadable}
 use Rattle.verify_rules.specs.Words.{AreRead, CanBeRead, Each, IsRead}
 use Rattle.verify_rules.specs.declared.facts.Facts.{Facts}
 use Rattle.verify_rules.proofs.FreshLaws.{read_there}
@@ -43,15 +44,11 @@ ClaimsLaw = (header payload : Data) (ppt : Option (List ℕ)) (info : List ℕ) 
 digest_byte : (b : ℕ) → is_digest_byte b ≡ true → b < 256
 digest_byte b h = grind (arith, nat_tests)
 
-both : (a b : Bool) → (a && b) ≡ true → (a ≡ true) × (b ≡ true)
-both true b h = (refl, h)
-both false b h = absurd cc
-
 are_bytes : (text : List ℕ) → list_all is_digest_byte text ≡ true → IsBytes text
 are_bytes [] h zero = omega arith
 are_bytes [] h (suc i) = omega arith
-are_bytes (b ∷ text) h zero = digest_byte b (both (is_digest_byte b) (list_all is_digest_byte text) h).0
-are_bytes (b ∷ text) h (suc i) = are_bytes text (both (is_digest_byte b) (list_all is_digest_byte text) h).1 i
+are_bytes (b ∷ text) h zero = digest_byte b (and_parts (is_digest_byte b) (list_all is_digest_byte text) h).0
+are_bytes (b ∷ text) h (suc i) = are_bytes text (and_parts (is_digest_byte b) (list_all is_digest_byte text) h).1 i
 
 token_bytes : (value : List ℕ) (f : Parts) → FieldText f value → IsBytes f.token
 unfolding FieldText
@@ -143,16 +140,16 @@ read_again tokens claims said field one judged h =
 
 -- ---- the rule
 
-unread_means : TokenLaw → TokenFoundLaw → ClaimsLaw → (said : Facts) (field : IdentityField) → IsJudged field → (unread said field ≡ None) ↔ CanBeRead said field
-unread_means tokens found claims said field judged = (
+unreadable_means : TokenLaw → TokenFoundLaw → ClaimsLaw → (said : Facts) (field : IdentityField) → IsJudged field → (unreadable said field ≡ None) ↔ CanBeRead said field
+unreadable_means tokens found claims said field judged = (
   (λ h. let r = read_there said field h in (r.0, is_read found claims said field r.0 judged r.1)),
   (λ (h : CanBeRead said field). read_one said field h.0 (read_again tokens claims said field h.0 judged h.1)),
 )
 
 pub tokens_mean : FieldLaw → TokenLaw → TokenFoundLaw → ClaimsLaw → (said : Facts) (values : List (List ℕ))
-    → (each (unread said) (judged_fields (numbered 1 values)) ≡ None) ↔ Each (CanBeRead said) (judged_fields (numbered 1 values))
+    → (each (unreadable said) (judged_fields (numbered 1 values)) ≡ None) ↔ Each (CanBeRead said) (judged_fields (numbered 1 values))
 tokens_mean fields tokens found claims said values =
-    each_means_of (unread said) IsJudged (CanBeRead said) (unread_means tokens found claims said) (judged_fields (numbered 1 values)) (are_judged fields 1 values)
+    each_means_of (unreadable said) IsJudged (CanBeRead said) (unreadable_means tokens found claims said) (judged_fields (numbered 1 values)) (are_judged fields 1 values)
 
 all_read : TokenLaw → ClaimsLaw → (said : Facts) (fields : List IdentityField) → Each IsJudged fields → Each (CanBeRead said) fields → AreRead said fields (readings_of said fields)
 all_read tokens claims said [] judged h = tt

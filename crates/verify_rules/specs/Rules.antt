@@ -81,12 +81,12 @@ foreign_alg field = if is_es256 field.parts.alg then None else Some (place field
 
 -- ---- rule 6, a PASSporT that can't be read (RFC 8224, section 6.2; RFC 8225, sections 3 to 5 and 7)
 
-abbrev pub unread_at : ℕ → Result Reading ℕ → Option Place
-unread_at number (Err part) = Some (place number part)
-unread_at number (Ok one) = None
+abbrev pub unreadable_at : ℕ → Result Reading ℕ → Option Place
+unreadable_at number (Err part) = Some (place number part)
+unreadable_at number (Ok one) = None
 
-unfoldable pub unread : Facts → IdentityField → Option Place
-unread said field = unread_at field.number (read_field said field)
+unfoldable pub unreadable : Facts → IdentityField → Option Place
+unreadable said field = unreadable_at field.number (read_field said field)
 
 -- ---- rule 7, a PASSporT for another calling number (RFC 8224, section 6.2; ATIS-1000074, section 5.3.1)
 
@@ -126,7 +126,7 @@ abbrev pub rule_5 : Rule
 rule_5 = record { number = 5; broken = λ call. each foreign_alg (judged_fields (fields_of call)) }
 
 abbrev pub rule_6 : Rule
-rule_6 = record { number = 6; broken = λ call. each (unread (facts call)) (judged_fields (fields_of call)) }
+rule_6 = record { number = 6; broken = λ call. each (unreadable (facts call)) (judged_fields (fields_of call)) }
 
 abbrev pub rule_7 : Rule
 rule_7 = record { number = 7; broken = λ call. each (other_calling (facts call).calling) (in_message call) }

@@ -6,7 +6,7 @@ use Rattle.identity_header.specs.declared.field.FieldFault.{FieldFault}
 use Rattle.passport_claims.specs.Links.{IsLink}
 use Rattle.passport_claims.specs.declared.order.Order.{Order}
 use Rattle.verify_rules.specs.Call.{IdentityField, Reading, links, numbered, reading, readings_of, turn_of}
-use Rattle.verify_rules.specs.Rules.{bad_field, each, no_order, place, unread}
+use Rattle.verify_rules.specs.Rules.{bad_field, each, no_order, place, unreadable}
 use Rattle.verify_rules.specs.Screened.{IsTurned}
 use Rattle.verify_rules.specs.declared.facts.Facts.{Facts}
 use Rattle.verify_rules.specs.declared.fields.NumberedField.{NumberedField}
@@ -55,7 +55,7 @@ pub record Serves (said full : Facts) (fields : List IdentityField) : Type 0 whe
   pub calling : said.calling ≡ full.calling
   pub to : said.to ≡ full.to
   pub target : said.target ≡ full.target
-  pub unread : each (unread said) fields ≡ each (unread full) fields
+  pub unreadable : each (unreadable said) fields ≡ each (unreadable full) fields
   pub readings : readings_of said fields ≡ readings_of full fields
 
 -- ---- the PASSporTs
@@ -78,14 +78,14 @@ IsChainable (origin ∷ others) = AreLinks others
 
 -- these are the PASSporTs of the fields, all of which can be read; or this is the first that can't
 abbrev pub AreReadings : Facts → List IdentityField → Result (List Reading) Stop → Type 0
-AreReadings said fields (Ok readings) = (each (unread said) fields ≡ None) × (readings ≡ readings_of said fields)
-AreReadings said fields (Err (Broken bad)) = each (unread said) fields ≡ Some bad
+AreReadings said fields (Ok readings) = (each (unreadable said) fields ≡ None) × (readings ≡ readings_of said fields)
+AreReadings said fields (Err (Broken bad)) = each (unreadable said) fields ≡ Some bad
 AreReadings said fields (Err Memory) = ⊤
 
 -- the originating field and the links up to here can be read, and these are their PASSporTs
 pub record ReadSoFar (said : Facts) (origin : IdentityField) (fields : List NumberedField) (i : ℕ) (so_far : List Reading) : Type 0 where
-  pub first : unread said origin ≡ None
-  pub good : each (unread said) (links (map field_seen (drop i fields))) ≡ each (unread said) (links (map field_seen fields))
+  pub first : unreadable said origin ≡ None
+  pub good : each (unreadable said) (links (map field_seen (drop i fields))) ≡ each (unreadable said) (links (map field_seen fields))
   pub all : so_far ++ readings_of said (links (map field_seen (drop i fields))) ≡ readings_of said (origin ∷ links (map field_seen fields))
   pub kept : IsChainable so_far
   pub some : 1 ≤ length so_far

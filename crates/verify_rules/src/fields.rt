@@ -139,6 +139,7 @@ fn has_compact_link(fields: &[NumberedField<'_>]) -> bool
     false
 }
 
+/// Whether the field's token is in its compact form.
 fn is_compact(field: &NumberedField<'_>) -> bool
     ensures { result ≡ is_compact (field_seen field.now) }
 {
@@ -152,6 +153,7 @@ pub(crate) fn is_link(field: &NumberedField<'_>) -> bool
     has_ppt(field, b"div")
 }
 
+/// Whether the field's type is this one.
 fn has_ppt(field: &NumberedField<'_>, ppt: &[u8]) -> bool
     ensures { result ≡ has_ppt ppt.now (field_seen field.now) }
 {
@@ -165,6 +167,7 @@ fn is_es256(field: &NumberedField<'_>) -> bool
     field.parts.alg().is_none() || is_text(field.parts.alg(), b"ES256")
 }
 
+/// Whether a value is given and is this text.
 fn is_text(given: Option<&[u8]>, text: &[u8]) -> bool
     ensures { result ≡ is_text text.now (option_copied given.entry) }
 {

@@ -1,12 +1,11 @@
 -- How the counts of shelf and provider add up over the chains of a call, over calls, and over a round.
-use Rattle.std.proofs.Common.{◌≡◌, ◌≢◌, ℕ, suc, ◌+◌, ◌<◌, ◌≤◌, ◌==◌, ◌||◌, inl, inr, Bool, true, false, cond, List, [], ◌∷◌, ◌++◌, length, filter, zero-add, refl, ap, sym, ◌∙◌, subst, arith}
+use Rattle.std.proofs.Common.{◌≡◌, ℕ, suc, ◌+◌, ◌≤◌, ◌||◌, inl, inr, Bool, true, false, cond, List, [], ◌∷◌, ◌++◌, length, filter, zero-add, refl, ap, sym, ◌∙◌, subst, arith}
 use Rattle.std.specs.List.{list_any}
 use Rattle.std.specs.Str.{bytes_eq}
-use Rattle.std.proofs.lemmas.Bool.Decides.{nat_tests}
 use Rattle.std.proofs.lemmas.List.Folds.{list_any-append}
 use Rattle.call_log.specs.Entry.{Entry}
-use Rattle.stir_outside.specs.Count.{AtMost, GoesOn, NotRisen, Rose, last_count}
-use Rattle.stir_outside.proofs.CountLaws.{at_most_of_rose, both_at_most, none_at, not_rose}
+use Rattle.stir_outside.specs.Count.{AtMost, GoesOn, NotRisen}
+use Rattle.stir_outside.proofs.CountLaws.{at_most_of_rose, both_at_most, none_at, not_rose, rose_then, then_rose}
 use Rattle.stir_outside.specs.Files.{Counts, CountsGoOn}
 use Rattle.verify_rules.specs.declared.settings.Settings.{Settings}
 use Rattle.verify_service.specs.Causes.{AreCounted, HasCauseIf, NoneUnasked, NoneUnread, UnaskedIsCounted, UnreadIsCounted, found_unasked, found_unread, is_passport, is_unasked, is_unasked_passport, is_unread, joined, unasked_texts, unread_texts, x5u_at}
@@ -18,17 +17,6 @@ use Rattle.verify_service.specs.declared.outcome.Outcome.TheVariants.{Valid, Ref
 
 -- ---- one count behind the other
 
-goes_on : (before mid now : ℕ) → GoesOn before mid → GoesOn mid now → GoesOn before now
-goes_on before mid now one other = record { never_falls = omega arith; within = omega arith }
-
-pub go_on : (before mid now : Counts) → CountsGoOn before mid → CountsGoOn mid now → CountsGoOn before now
-go_on before mid now one other = record {
-  reads = goes_on before.reads mid.reads now.reads one.reads other.reads;
-  misses = goes_on before.misses mid.misses now.misses one.misses other.misses;
-  longs = goes_on before.longs mid.longs now.longs one.longs other.longs;
-  faults = goes_on before.faults mid.faults now.faults one.faults other.faults;
-}
-
 stays : (count : ℕ) → GoesOn count count
 stays count = record { never_falls = omega arith; within = omega arith }
 
@@ -39,16 +27,6 @@ false_is_not_true : false ≡ true → ⊥
 false_is_not_true e = cc
 
 -- ---- a cause in one of two calls
-
-rose_by : (before mid now : ℕ) (last : Bool) → (mid == last_count) ≡ last → before ≤ mid → Rose before mid → mid ≤ now → now ≢ last_count → before < now
-rose_by before mid now true is stayed rose further below = let at : mid ≡ last_count = grind (arith, nat_tests) in omega arith
-rose_by before mid now false is stayed rose further below = let above : before < mid = rose (grind (arith, nat_tests)) in omega arith
-
-pub rose_then : (before mid now : ℕ) → before ≤ mid → Rose before mid → mid ≤ now → Rose before now
-rose_then before mid now stayed rose further = λ below. rose_by before mid now (mid == last_count) refl stayed rose further below
-
-pub then_rose : (before mid now : ℕ) → before ≤ mid → Rose mid now → Rose before now
-then_rose before mid now stayed rose = λ below. let above : mid < now = rose below in omega arith
 
 pub cause_then : (set_aside : Bool) (before mid now : ℕ) → before ≤ mid → HasCauseIf set_aside before mid → mid ≤ now → HasCauseIf set_aside before now
 cause_then set_aside before mid now stayed cause further = λ is. rose_then before mid now stayed (cause is) further

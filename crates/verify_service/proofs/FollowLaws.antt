@@ -1,23 +1,17 @@
 -- The test whether calls follow on means that they do.
 use Rattle.std.proofs.Common.{◌≡◌, ℕ, ◌<◌, ◌≤◌, nat_lt, nat_le, Bool, true, false, ◌&&◌, IsTrue, ◌↔◌, List, [], ◌∷◌, length, drop, get_or, ◌+◌, refl, sym, ap, ◌∙◌, arith}
+use Rattle.std.proofs.lemmas.Bool.{and_from, and_parts}
 use Rattle.std.proofs.lemmas.Bool.Decides.{nat_tests}
 use Rattle.std.proofs.lemmas.List.{drop_more}
 use Rattle.call_log.specs.Entry.{Entry}
 use Rattle.text_grammar.specs.Moment.{last_second}
 use Rattle.verify_service.specs.Service.{EachFollows, Follow, Follows, all_follow, follows_on}
 
-both : (a b : Bool) → (a && b) ≡ true → (a ≡ true) × (b ≡ true)
-both true b is = (refl, is)
-both false b is = absurd (let e : false ≡ true = is in cc)
-
-together : (a b : Bool) → a ≡ true → b ≡ true → (a && b) ≡ true
-together a b one other = ap (λ t. t && b) one ∙ other
-
 follows_said : (number moment : ℕ) (entry : Entry) → follows_on number moment entry ≡ true → Follows number moment entry
 follows_said number moment entry is =
-    let one = both (nat_lt number entry.number && nat_lt entry.number 4294967295 && nat_le moment entry.moment) (nat_le entry.moment last_second) is in
-    let two = both (nat_lt number entry.number && nat_lt entry.number 4294967295) (nat_le moment entry.moment) one.0 in
-    let three = both (nat_lt number entry.number) (nat_lt entry.number 4294967295) two.0 in
+    let one = and_parts (nat_lt number entry.number && nat_lt entry.number 4294967295 && nat_le moment entry.moment) (nat_le entry.moment last_second) is in
+    let two = and_parts (nat_lt number entry.number && nat_lt entry.number 4294967295) (nat_le moment entry.moment) one.0 in
+    let three = and_parts (nat_lt number entry.number) (nat_lt entry.number 4294967295) two.0 in
     record {
       above = (let h : nat_lt number entry.number ≡ true = three.0 in grind (arith, nat_tests));
       below = (let h : nat_lt entry.number 4294967295 ≡ true = three.1 in grind (arith, nat_tests));
@@ -31,19 +25,19 @@ says_follows number moment entry h =
     let b : nat_lt entry.number 4294967295 ≡ true = grind (arith, nat_tests, h.below) in
     let c : nat_le moment entry.moment ≡ true = grind (arith, nat_tests, h.not_before) in
     let d : nat_le entry.moment last_second ≡ true = grind (arith, nat_tests, h.within) in
-    together (nat_lt number entry.number && nat_lt entry.number 4294967295 && nat_le moment entry.moment) (nat_le entry.moment last_second)
-    (together (nat_lt number entry.number && nat_lt entry.number 4294967295) (nat_le moment entry.moment)
-    (together (nat_lt number entry.number) (nat_lt entry.number 4294967295) a b) c) d
+    and_from (nat_lt number entry.number && nat_lt entry.number 4294967295 && nat_le moment entry.moment) (nat_le entry.moment last_second)
+    (and_from (nat_lt number entry.number && nat_lt entry.number 4294967295) (nat_le moment entry.moment)
+    (and_from (nat_lt number entry.number) (nat_lt entry.number 4294967295) a b) c) d
 
 all_said : (number moment : ℕ) (entries : List Entry) → all_follow number moment entries ≡ true → EachFollows number moment entries
 all_said number moment [] is = tt
 all_said number moment (e ∷ entries) is =
-    let parts = both (follows_on number moment e) (all_follow e.number e.moment entries) is in
+    let parts = and_parts (follows_on number moment e) (all_follow e.number e.moment entries) is in
     (follows_said number moment e parts.0, all_said e.number e.moment entries parts.1)
 
 says_all : (number moment : ℕ) (entries : List Entry) → EachFollows number moment entries → all_follow number moment entries ≡ true
 says_all number moment [] each = refl
-says_all number moment (e ∷ entries) each = together (follows_on number moment e) (all_follow e.number e.moment entries) (says_follows number moment e each.0) (says_all e.number e.moment entries each.1)
+says_all number moment (e ∷ entries) each = and_from (follows_on number moment e) (all_follow e.number e.moment entries) (says_follows number moment e each.0) (says_all e.number e.moment entries each.1)
 
 -- of 1 to 256 calls the test says whether they follow
 pub follow_means : (number moment : ℕ) (entries : List Entry) (answer : Bool) → answer ≡ all_follow number moment entries → 1 ≤ length entries → length entries ≤ 256

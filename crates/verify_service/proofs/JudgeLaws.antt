@@ -1,7 +1,9 @@
 -- What comes of a call by itself, from its verdict.
-use Rattle.std.proofs.Common.{◌≡◌, ℕ, zero, suc, ◌≤◌, Bool, true, false, ◌||◌, ◌⊎◌, inl, inr, List, [], ◌∷◌, Option, Some, None, Result, Ok, Err, unwrap_or, refl, ap, sym, ◌∙◌, subst}
+use Rattle.std.proofs.Common.{◌≡◌, ℕ, zero, suc, ◌≤◌, Bool, true, false, ◌⊎◌, inl, inr, List, [], ◌∷◌, Option, Some, None, Result, Ok, Err, unwrap_or, refl, ap, sym, ◌∙◌, subst}
 use Rattle.std.specs.List.{list_any, slice_get}
 use Rattle.std.specs.Option.{option_map}
+use Rattle.std.proofs.lemmas.Bool.{or_left, or_right}
+use Rattle.std.proofs.lemmas.Option.{same_Some}
 use Rattle.cert_store.specs.Rules.{Says}
 use Rattle.delegation.specs.Coverage.{Table}
 use Rattle.stir_outside.specs.Count.{Rose}
@@ -26,7 +28,7 @@ use Rattle.verify_service.specs.Judging.{IsFound, IsFoundWhere, IsKnownBy, IsOfV
 use Rattle.verify_service.specs.declared.finding.Finding.{Finding}
 use Rattle.verify_service.specs.declared.finding.Finding.TheVariants as found
 use Rattle.verify_service.specs.declared.materials.World.{World as Materials}
-use Rattle.verify_service.proofs.CountLaws.{rose_then, then_rose}
+use Rattle.stir_outside.proofs.CountLaws.{rose_then, then_rose}
 
 false_is_not_true : false ≡ true → ⊥
 false_is_not_true e = cc
@@ -34,20 +36,9 @@ false_is_not_true e = cc
 not_none : {A : Type 0} → (a : A) → ◌≡◌ {A = Option A} None (Some a) → ⊥
 not_none a e = cc
 
-some_same : {A : Type 0} → (a b : A) → ◌≡◌ {A = Option A} (Some a) (Some b) → a ≡ b
-some_same a b e = cc
-
-or_left : (a b : Bool) → a ≡ true → (a || b) ≡ true
-or_left true b is = refl
-or_left false b is = absurd (false_is_not_true is)
-
-or_right : (a b : Bool) → b ≡ true → (a || b) ≡ true
-or_right true b is = refl
-or_right false b is = is
-
 any_at : {A : Type 0} → (p : A → Bool) (xs : List A) (i : ℕ) (x : A) → slice_get xs i ≡ Some x → p x ≡ true → list_any p xs ≡ true
 any_at p [] i x at is = absurd (not_none x at)
-any_at p (a ∷ xs) zero x at is = or_left (p a) (list_any p xs) (ap p (some_same a x at) ∙ is)
+any_at p (a ∷ xs) zero x at is = or_left (p a) (list_any p xs) (ap p (same_Some a x at) ∙ is)
 any_at p (a ∷ xs) (suc i) x at is = or_right (p a) (list_any p xs) (any_at p xs i x at is)
 
 -- ---- a chain that isn't known

@@ -2,6 +2,7 @@
 use Rattle.std.proofs.Common.{◌≡◌, ℕ, zero, suc, ◌+◌, ◌<◌, ◌≤◌, List, [], ◌∷◌, ◌++◌, length, take, Option, Some, None, Result, Ok, Err, IfOk, refl, ap, sym, ◌∙◌, subst, arith}
 use Rattle.std.specs.List.{slice_get}
 use Rattle.std.specs.Option.{option_map}
+use Rattle.std.proofs.lemmas.Option.{same_Some}
 use Rattle.cert_store.specs.ChainMap.{listed}
 use Rattle.cert_store.specs.Judged.{JudgedAs, JudgedView, judged_of}
 use Rattle.cert_store.specs.Rules.{Says}
@@ -63,9 +64,6 @@ right_none (Some files) materials says = tt
 
 -- ---- the PASSporTs in turn
 
-some_same : {A : Type 0} → (a b : A) → ◌≡◌ {A = Option A} (Some a) (Some b) → a ≡ b
-some_same a b e = cc
-
 -- a PASSporT that stands at an index, with those before it
 record StandsAt (readings : List Reading) (i : ℕ) (passport : ClaimsView) : Type 0 where
   one : Reading
@@ -75,7 +73,7 @@ record StandsAt (readings : List Reading) (i : ℕ) (passport : ClaimsView) : Ty
 stands_at : (readings : List Reading) (i : ℕ) (passport : ClaimsView) → i < length readings → option_map passport_in (slice_get readings i) ≡ Some passport
     → StandsAt readings i passport
 stands_at [] i passport within is = absurd (omega arith)
-stands_at (r ∷ readings) zero passport within is = record { one = r; more = refl; says = some_same r.passport passport is }
+stands_at (r ∷ readings) zero passport within is = record { one = r; more = refl; says = same_Some r.passport passport is }
 stands_at (r ∷ readings) (suc i) passport within is =
     let further : StandsAt readings i passport = stands_at readings i passport (omega arith) is in
     let next : suc i + 1 ≡ suc (i + 1) = omega arith in

@@ -6,9 +6,10 @@ use crate::outcome::Outcome;
 use std::alloc::{AllocError, Global};
 use verify_rules::{Place, Refusal, code};
 
-/// The rule on the signatures of certificates, and that on a PASSporT's own.
+/// The rule on the signatures of certificates.
 const CERTIFICATES_RULE: u8 = 15;
 
+/// The rule on the signature of a PASSporT.
 const PASSPORT_RULE: u8 = 16;
 
 /// The line that reports what came of the call of this number, with its LF. `Memory` is the only error.

@@ -3,7 +3,7 @@ use Rattle.std.proofs.Common.{◌≡◌, ℕ, zero, suc, ◌+◌, ◌-◌, ◌�
 use Rattle.der_reader.specs.Elem.{AllBytes, BeginsWith, Element}
 use Rattle.der_reader.specs.Next.{next_at}
 use Rattle.der_reader.specs.declared.fault.DerFault.{DerFault}
-use Rattle.der_reader.proofs.NextLaws.{next_again, next_found, parts_are_bytes}
+use Rattle.der_reader.proofs.NextLaws.{all_front, next_again, next_found, parts_are_bytes}
 use Rattle.x509_profile.specs.Cert.{Cert}
 use Rattle.x509_profile.specs.Read.{read_certificate}
 use Rattle.x509_profile.specs.View.{CertView}
@@ -22,11 +22,6 @@ pub record Fronts (bytes : List ℕ) (certificate : CertView) (rest : List ℕ) 
   pub split : bytes ≡ certificate.whole ++ rest
   pub typed : AllBytes rest
 
-typed_whole : (xs ys : List ℕ) → AllBytes (xs ++ ys) → AllBytes xs
-typed_whole [] ys b i = omega arith
-typed_whole (x ∷ xs) ys b zero = b 0
-typed_whole (x ∷ xs) ys b (suc i) = typed_whole xs ys (λ i. b (suc i)) i
-
 was_read : {X E : Type 0} (r : Result X E) (x : X) → read_or_none r ≡ Some x → r ≡ Ok x
 was_read (Ok y) x h = cc
 was_read (Err fault) x h = absurd cc
@@ -35,7 +30,7 @@ read_by : (bytes : List ℕ) (found : Element × List ℕ) (k : Option CertView)
     → read_or_none (read_certificate found.0.whole) ≡ k → with_rest found.1 k ≡ Some (certificate, rest) → Fronts bytes certificate rest
 read_by bytes found (Some c) certificate rest typed e k h =
     let begins = next_found bytes found typed e in
-    let whole : AllBytes found.0.whole = typed_whole found.0.whole found.1 (subst AllBytes begins.split typed) in
+    let whole : AllBytes found.0.whole = all_front found.0.whole found.1 (subst AllBytes begins.split typed) in
     let cert : Cert found.0.whole c = cert_found found.0.whole c whole (was_read (read_certificate found.0.whole) c k) in
     let there : CertView × List ℕ = (c, found.1) in
     let wanted : CertView × List ℕ = (certificate, rest) in
@@ -233,9 +228,7 @@ answer_found seen bytes (Err fault) typed e = tt
 
 pub answer_only : {X : Type 0} (seen : X → List CertView) (bytes : List ℕ) (r : Result X ChainFault) (chain : List CertView) → GivesChain seen r (certificates_in bytes) → Chain bytes chain
     → GivesChain seen r (Ok chain)
-answer_only seen bytes (Ok x) chain e c = sym (chain_again bytes chain c) ∙ e
-answer_only seen bytes (Err (At number place)) chain e c = sym (chain_again bytes chain c) ∙ e
-answer_only seen bytes (Err Memory) chain e c = tt
+answer_only seen bytes r chain e c = subst (GivesChain seen r) (chain_again bytes chain c) e
 
 pub answer_ends : {X : Type 0} (seen : X → List CertView) (bytes : List ℕ) (r : Result X ChainFault) → AllBytes bytes → GivesChain seen r (certificates_in bytes) → EndsWhereRefused bytes r
 answer_ends seen bytes (Ok x) typed e = tt

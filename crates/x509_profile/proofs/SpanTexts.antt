@@ -7,7 +7,7 @@ use Rattle.std.specs.Str.{bytes_eq}
 use Rattle.der_reader.specs.Elem.{AllBytes, BeginsWith, Elem, Element, length_text}
 use Rattle.der_reader.specs.Next.{next_at}
 use Rattle.der_reader.specs.declared.fault.DerFault.{DerFault}
-use Rattle.der_reader.proofs.NextLaws.{next_again, next_found}
+use Rattle.der_reader.proofs.NextLaws.{next_again, next_found, take_bytes}
 use Rattle.x509_profile.specs.declared.fault.Fault.{Fault}
 use Rattle.x509_profile.specs.declared.span.Span.{Span}
 use Rattle.x509_profile.specs.declared.part.Part.{Part}
@@ -23,12 +23,6 @@ drop_bytes : (n : ℕ) (xs : List ℕ) → AllBytes xs → AllBytes (drop n xs)
 drop_bytes zero xs b = b
 drop_bytes (suc n) [] b = b
 drop_bytes (suc n) (x ∷ xs) b = drop_bytes n xs (λ i. b (suc i))
-
-take_bytes : (n : ℕ) (xs : List ℕ) → AllBytes xs → AllBytes (take n xs)
-take_bytes zero xs b i = omega arith
-take_bytes (suc n) [] b i = omega arith
-take_bytes (suc n) (x ∷ xs) b zero = b 0
-take_bytes (suc n) (x ∷ xs) b (suc i) = take_bytes n xs (λ i. b (suc i)) i
 
 pub all_bytes : (all : List ℕ) (span : Span) → AllBytes all → AllBytes (bytes_of all span)
 all_bytes all span b = take_bytes (span.end - span.start) (drop span.start all) (drop_bytes span.start all b)

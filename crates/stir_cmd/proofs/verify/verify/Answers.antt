@@ -1,5 +1,8 @@
 -- The files were read and the log was judged, or a file stopped it.
-use Rattle.stir_cmd.proofs.VerifySteps.{from_files, stopped}
+use Rattle.std.proofs.Common.{inr}
+use Rattle.stir_files.specs.declared.materials.Materials.{Materials}
+use Rattle.stir_cmd.proofs.StopSteps.{stopped}
+use Rattle.stir_cmd.proofs.VerifySteps.{from_files}
 use Rattle.stir_cmd.proofs.verify.verify.Goals as goal
 
 pub returns-in-Ok-clause-ran : goal.returns-in-Ok-clause-ran
@@ -8,4 +11,4 @@ returns-in-Ok-clause-ran g c =
 
 pub returns-in-Err-clause-ran : goal.returns-in-Err-clause-ran
 returns-in-Err-clause-ran g c =
-    stopped _ c.in-Err.stop _ _ _ _ _ _ _ _ _ _ _ c.in-Err.ensures.stopped c.in-Err.ensures.truly c.in-Err.ensures.cause c.end_at.ensures
+    inr (stopped Materials _ c.in-Err.stop _ _ _ _ _ _ _ _ _ _ _ c.in-Err.ensures.stopped c.in-Err.ensures.truly c.in-Err.ensures.cause c.end_at.ensures)

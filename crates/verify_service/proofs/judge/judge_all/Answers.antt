@@ -4,7 +4,8 @@ use Rattle.verify_service.specs.Causes.{AreCounted, found_unasked, found_unread}
 use Rattle.verify_service.specs.Judging.{EachFoundWhere, EachHasSigned, EachHasTicket}
 use Rattle.verify_service.specs.declared.finding.Finding.{Finding}
 use Rattle.verify_service.proofs.CallSteps.{found_next, signed_next, ticket_next}
-use Rattle.verify_service.proofs.CountLaws.{counted_more, go_on}
+use Rattle.stir_outside.proofs.CountLaws.{go_on}
+use Rattle.verify_service.proofs.CountLaws.{counted_more}
 use Rattle.verify_service.proofs.judge.judge_all.Goals as goal
 
 pub calls-preserved : goal.calls-preserved

@@ -5,7 +5,8 @@ use Rattle.std.proofs.lemmas.List.{length_push}
 use Rattle.verify_rules.specs.States.{State}
 use Rattle.verify_service.specs.Causes.{HasCauseIf}
 use Rattle.verify_service.specs.Chains.{AreRightWhere, is_unasked, is_unread, state_of}
-use Rattle.verify_service.proofs.CountLaws.{cause_more, go_on}
+use Rattle.stir_outside.proofs.CountLaws.{go_on}
+use Rattle.verify_service.proofs.CountLaws.{cause_more}
 use Rattle.verify_service.proofs.ReadLaws.{right_next}
 use Rattle.verify_service.proofs.reading.read_chains.Goals as goal
 
