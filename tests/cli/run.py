@@ -18,6 +18,7 @@ Each file NAME.rows has a case a line, beside empty lines and comments, which be
     NAME = PIECE ..                       lets $NAME stand for the bytes of the pieces put together
     +NAME = PIECE ..                      lets +NAME stand for these words of a command line, one a piece
     FILE NAME = PIECE ..                  a file that lies where the program runs, in each case of the file of rows
+    NAMED IN NAME                         takes what the file of rows of this name has named, without its cases
     PIECE .. < INPUT .. => STATUS PIECE ..  the program's words, its input, its status and its output
 
 A piece is `[COUNT*]TEXT`, and a text is `$NAME`, `x:HEX`, or plain text in which `\\xHH`, `\\s` (a space), `\\n`, `\\r`,
@@ -111,6 +112,10 @@ class Rows:
 
     def named(self, line):
         """Whether the line names something, which it then does."""
+        if line.startswith('NAMED IN '):
+            for other in (HERE / line[9:]).read_text().splitlines():
+                self.named(other)
+            return True
         found = re.fullmatch(r'(FILE |\+|)([\w.]+) = (.*)', line)
         if found:
             pieces = found[3].split()

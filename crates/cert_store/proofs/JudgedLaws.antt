@@ -33,7 +33,7 @@ below_none : (says : Says) (chain : List CertView) → None ≡ first_refused sa
 below_none says [] = refl
 below_none says (c ∷ above) = refl
 
-by_keys_below : (says : Says) (anchors chain : List CertView) (top : Option CertView)
+pub by_keys_below : (says : Says) (anchors chain : List CertView) (top : Option CertView)
     → first_unsigned says anchors (links_below chain top) ≡ first_refused says 1 chain (keys_of anchors (links_below chain top))
 by_keys_below says anchors chain (Some top) = by_keys says anchors 1 chain top
 by_keys_below says anchors chain None = below_none says chain
@@ -116,9 +116,11 @@ long_judged anchors table says bytes faults judged long = refused_by anchors tab
 -- ---- what holds of a path that is judged
 
 pub path_holds : (table : Table) (chain : List CertView) (top leaf : CertView) (authority : Option ℕ) (asked : Asked) (periods : List Period) (keys : Keys)
-    → slice_get chain 0 ≡ Some leaf → length keys ≡ length chain → authority ≡ first_unauthorized table (links_from 1 chain top) → (asked ≢ NotAsked → authority ≡ None)
+    → length chain ≤ 6 → slice_get chain 0 ≡ Some leaf → length keys ≡ length chain → authority ≡ first_unauthorized table (links_from 1 chain top) → (asked ≢ NotAsked → authority ≡ None)
     → IsConsistent (view_of None None authority asked chain periods keys)
-path_holds table chain top leaf authority asked periods keys is count found only = record {
+path_holds table chain top leaf authority asked periods keys few is count found only = record {
+  few = few;
+  outside = λ broken. absurd (broken refl);
   leaf = λ path. ap is_some is;
   keys = λ path. count;
   no_keys = λ none. absurd (none (record { profile = refl; shape = refl }));

@@ -26,16 +26,16 @@ use Rattle.cert_store.proofs.WordLaws.{authority_worded, dates_worded, signature
 -- ---- the fields
 
 -- each field but the answer of the provider is what the rules say
-record Fields (anchors : List CertView) (table : Table) (says : Says) (bytes : List ℕ) (judged : JudgedView) : Type 0 where
-  profile : judged.profile ≡ rule_11 bytes
-  shape : judged.shape ≡ rule_12 anchors bytes
-  authority : judged.authority ≡ rule_14 anchors table bytes
-  certificates : judged.certificates ≡ chain_in bytes
-  dates : (moment : ℕ) → out_of_date judged moment ≡ first_out moment (periods_from anchors 1 (path_of anchors (chain_in bytes)))
-  keys : judged.keys ≡ keys_of anchors (links_of anchors (chain_in bytes))
-  asked : SoFar (asked_where (rule_11 bytes) (rule_12 anchors bytes) (rule_14 anchors table bytes) (rule_15 anchors says bytes)) judged.asked
+pub record Fields (anchors : List CertView) (table : Table) (says : Says) (bytes : List ℕ) (judged : JudgedView) : Type 0 where
+  pub profile : judged.profile ≡ rule_11 bytes
+  pub shape : judged.shape ≡ rule_12 anchors bytes
+  pub authority : judged.authority ≡ rule_14 anchors table bytes
+  pub certificates : judged.certificates ≡ chain_in bytes
+  pub dates : (moment : ℕ) → out_of_date judged moment ≡ first_out moment (periods_from anchors 1 (path_of anchors (chain_in bytes)))
+  pub keys : judged.keys ≡ keys_of anchors (links_of anchors (chain_in bytes))
+  pub asked : SoFar (asked_where (rule_11 bytes) (rule_12 anchors bytes) (rule_14 anchors table bytes) (rule_15 anchors says bytes)) judged.asked
 
-fields_of : (anchors : List CertView) (table : Table) (says : Says) (bytes : List ℕ) (judged : JudgedView)
+pub fields_of : (anchors : List CertView) (table : Table) (says : Says) (bytes : List ℕ) (judged : JudgedView)
     → JudgedAs (judged_of anchors table says bytes) judged → Fields anchors table says bytes judged
 unfolding judged_of
 fields_of anchors table says bytes judged j = record {

@@ -9,3 +9,4 @@ pub mod WalkLaws
 pub mod WordLaws
 pub mod JudgedWords
 pub mod TruthLaws
+pub mod QuestionLaws

@@ -142,9 +142,11 @@ pub record HasAuthority (judged : JudgedView) : Type 0 where
   pub path : IsPath judged
   pub authority : judged.authority ≡ None
 
--- A path has a leaf, and for each certificate the key of its issuer or none; what is no path has no keys. With authority, the leaf has
--- an authority list. Signatures were asked for only with authority.
+-- There are at most six certificates, and none where rule 11 is broken. A path has a leaf, and for each certificate the key of its issuer
+-- or none; what is no path has no keys. With authority, the leaf has an authority list. Signatures were asked for only with authority.
 pub record IsConsistent (judged : JudgedView) : Type 0 where
+  pub few : length judged.certificates ≤ 6
+  pub outside : judged.profile ≢ None → judged.certificates ≡ []
   pub leaf : IsPath judged → IsSome (slice_get judged.certificates 0)
   pub keys : IsPath judged → length judged.keys ≡ length judged.certificates
   pub no_keys : (IsPath judged → ⊥) → judged.keys ≡ []

@@ -7,3 +7,4 @@ pub mod Rules
 pub mod Asking
 pub mod Judged
 pub mod Words
+pub mod Questions

@@ -76,8 +76,25 @@ rule_14 anchors table bytes = first_unauthorized table (links_of anchors (chain_
 abbrev pub Says : Type 0
 Says = List ℕ → List ℕ → List ℕ → Bool
 
+-- a question for a signature: under which key, over which digest, and which signature
+pub record QuestionView : Type 0 where
+  pub key : List ℕ
+  pub digest : List ℕ
+  pub signature : List ℕ
+
+abbrev pub question : List ℕ → List ℕ → List ℕ → QuestionView
+question key digest signature = record { key = key; digest = digest; signature = signature }
+
+-- the signature is good
+abbrev pub is_good : Says → QuestionView → Bool
+is_good says asked = says asked.key asked.digest asked.signature
+
+-- the question for the signature of a certificate, under its issuer's key
+abbrev pub question_under : CertView → CertView → QuestionView
+question_under certificate issuer = question issuer.key certificate.digest certificate.signature
+
 abbrev pub is_signed : Says → Link → Bool
-is_signed says link = says link.issuer.key link.certificate.digest link.certificate.signature
+is_signed says link = is_good says (question_under link.certificate link.issuer)
 
 -- the number of the first whose signature isn't good
 abbrev pub first_unsigned : Says → List CertView → List Link → Option ℕ

@@ -3,6 +3,7 @@ ghost use Rattle.std.specs.Prelude.{◌≡◌, ◌≤◌, ℕ, vec_len, IfOk};
 ghost use Rattle.delegation.specs.Path.{Path, anchor_of};
 ghost use Rattle.cert_store.specs.Judged.{Asks, HasCount, IsJudged, QuietIs, judged_chain, judged_of, judged_path, outside_profile, without_path};
 ghost use Rattle.cert_store.specs.Links.{links_below};
+ghost use Rattle.cert_store.specs.Questions.{QuestionsAre};
 ghost use Rattle.cert_store.specs.Words.{AuthorityIs, DatesAre, KeysAre, PathIs, ProfileIs, SignaturesAre, UnaskedIs};
 
 use crate::Memory;
@@ -50,6 +51,7 @@ pub fn judge_chain<P: Provider>(
     // Where signatures were asked for, of which certificates, how often, and what that changed of the provider.
     ensures unasked { IfOk result UnaskedIs }
     ensures keys { IfOk result (KeysAre anchors.now) }
+    ensures questions { IfOk result (QuestionsAre anchors.now) }
     ensures asks { Asks (P.asks provider.old) (P.asks provider.new) result }
     ensures faults { HasCount (P.faults provider.old) (P.faults provider.new) result }
     ensures same_says { P.says provider.new ≡ P.says provider.old }
@@ -157,6 +159,7 @@ fn outside_profile(alloc: Global, place: u8) -> Judged
 
 /// Of certificates that are no path, because of the one at this place.
 fn without_path(alloc: Global, certificates: Vec<Certificate>, place: u8) -> Judged
+    requires { vec_len certificates ≤ 6 }
     ensures { result ≡ without_path certificates.items place }
 {
     Judged {

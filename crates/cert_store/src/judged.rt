@@ -1,9 +1,10 @@
 //! What the rules on a chain come to.
-ghost use Rattle.std.specs.Prelude.{◌≡◌, ◌&&◌, ℕ, pos, int_le, length, IfOk, Some};
+ghost use Rattle.std.specs.Prelude.{◌≡◌, ◌≢◌, ◌<◌, ◌≤◌, ◌&&◌, ℕ, pos, int_le, length, IfOk, Some, None};
 ghost use Rattle.std.specs.List.{slice_get};
-ghost use Rattle.std.specs.Option.{option_copied};
+ghost use Rattle.std.specs.Option.{option_copied, option_map};
 ghost use Rattle.cert_store.specs.Rules.{first_out, is_in_date};
 ghost use Rattle.cert_store.specs.Judged.{IsConsistent, out_of_date};
+ghost use Rattle.cert_store.specs.Questions.{kept_question, question_at, seen, with_key};
 
 use crate::path::Key;
 use std::marker::Model;
@@ -26,6 +27,18 @@ pub enum Asked {
         /// The number of the certificate.
         part: u8,
     },
+}
+
+/// A question for the signature of a certificate of a chain: whether it is one over the digest of what was signed, under the key of the
+/// certificate's issuer (RFC 5280, section 6.1.3 (a)(1)).
+#[derive(Clone, Copy)]
+pub struct Question<'a> {
+    /// The point of the issuer's key: the byte 04, and 32 bytes each of x and y (RFC 5480, section 2.2).
+    pub key: &'a [u8; 65],
+    /// The SHA-256 of the part that was signed (FIPS 180-4).
+    pub digest: &'a [u8; 32],
+    /// The numbers r and s, 32 bytes each.
+    pub signature: &'a [u8; 64],
 }
 
 /// The seconds at which a certificate of a chain is valid, in Unix time (RFC 5280, section 4.1.2.5).
@@ -122,6 +135,56 @@ impl Judged {
         ensures consistent { IsConsistent self.now }
     {
         self.certificates.first()
+    }
+
+    /// How many certificates there are, at most six; 0 where rule 11 is broken.
+    pub fn length(&self) -> u8
+        ensures exact { result ≡ length self.now.certificates }
+        ensures outside { self.now.profile ≢ None → result ≡ 0 }
+        ensures consistent { IsConsistent self.now }
+    {
+        self.certificates.len() as u8
+    }
+
+    /// The question that rule 15 asks for the signature of certificate `i`. None exactly where rule 12 is broken or the certificate is
+    /// itself a trust anchor, byte for byte, which [`crate::judge_chain`] says of the chains that it judges.
+    pub fn question(&self, i: u8) -> Option<Question<'_>>
+        requires some { 1 ≤ i }
+        requires within { i ≤ length self.now.certificates }
+        ensures { option_map seen result ≡ question_at self.now i }
+    {
+        let index = usize::from(i) - 1;
+        kept_question(&self.certificates, &self.keys, index)
+    }
+}
+
+/// The question for the signature of the certificate at an index, by the keys that are kept.
+#[tactic(auto, using(crate::proofs::QuestionLaws::kept_beyond, crate::proofs::QuestionLaws::kept_at))]
+fn kept_question<'a>(
+    certificates: &'a [Certificate],
+    keys: &'a [Option<Key>],
+    index: usize,
+) -> Option<Question<'a>>
+    requires { index < length certificates.now }
+    ensures { option_map seen result ≡ kept_question (slice_get certificates.now index) (slice_get keys.now index) }
+{
+    if index >= keys.len() {
+        return None;
+    }
+    with_key(&certificates[index], &keys[index])
+}
+
+/// The question for the signature of a certificate under the key that is kept for it, if there is one.
+fn with_key<'a>(certificate: &'a Certificate, key: &'a Option<Key>) -> Option<Question<'a>>
+    ensures { option_map seen result ≡ with_key certificate.now key.now }
+{
+    match key {
+        Some(key) => Some(Question {
+            key,
+            digest: certificate.digest(),
+            signature: certificate.signature(),
+        }),
+        None => None,
     }
 }
 

@@ -16,8 +16,8 @@ mod path;
 mod signatures;
 
 pub use judge::judge_chain;
-pub use judged::{Asked, Judged};
-pub use laws::judged_law;
+pub use judged::{Asked, Judged, Question};
+pub use laws::{judged_law, questions_law};
 pub use map::{ChainMap, MapFault};
 /// Memory ran out.
 pub use std::alloc::AllocError as Memory;

@@ -27,17 +27,17 @@ joined passed bytes rest behind calls text follow moves l = record {
   longest = subst (λ p. NoEntry p behind) moves l.longest;
 }
 
-whole_log : (passed : Passed) (bytes : List ℕ) (left now : Option (List ℕ)) (calls : List Entry) → ReadCalls (start 0 0) (Some bytes) left passed calls → HandsOutOf passed left now (Ok None) → LogText (start 0 0) bytes calls []
+pub whole_log : (passed : Passed) (bytes : List ℕ) (left now : Option (List ℕ)) (calls : List Entry) → ReadCalls (start 0 0) (Some bytes) left passed calls → HandsOutOf passed left now (Ok None) → LogText (start 0 0) bytes calls []
 whole_log passed bytes None now calls r h = absurd r.consumed
 whole_log passed bytes (Some rest) now calls r h = joined passed bytes rest [] calls r.consumed r.follow r.moves h
 
 -- a log that isn't whole, with what is behind its calls
-record PartLog (bytes : List ℕ) (calls : List Entry) (place : ℕ) : Type 0 where
-  rest : List ℕ
-  log : LogText (start 0 0) bytes calls rest
-  fault : IsFaulty (after_all (start 0 0) calls) place rest
+pub record PartLog (bytes : List ℕ) (calls : List Entry) (place : ℕ) : Type 0 where
+  pub rest : List ℕ
+  pub log : LogText (start 0 0) bytes calls rest
+  pub fault : IsFaulty (after_all (start 0 0) calls) place rest
 
-part_log : (passed : Passed) (bytes : List ℕ) (left : Option (List ℕ)) (calls : List Entry) (place : ℕ) → ReadCalls (start 0 0) (Some bytes) left passed calls → FaultyAt passed left place → PartLog bytes calls place
+pub part_log : (passed : Passed) (bytes : List ℕ) (left : Option (List ℕ)) (calls : List Entry) (place : ℕ) → ReadCalls (start 0 0) (Some bytes) left passed calls → FaultyAt passed left place → PartLog bytes calls place
 part_log passed bytes None calls place r f = absurd r.consumed
 part_log passed bytes (Some rest) calls place r f = record {
   rest = rest;
@@ -49,7 +49,7 @@ headed_some : (moment said : ℕ) (behind : List ℕ) → headed moment said beh
 unfolding headed
 headed_some moment said behind = λ e. cc
 
-faulty_some : (passed : Passed) (place : ℕ) (rest : List ℕ) → IsFaulty passed place rest → rest ≢ []
+pub faulty_some : (passed : Passed) (place : ℕ) (rest : List ℕ) → IsFaulty passed place rest → rest ≢ []
 faulty_some passed place rest (inl g) = g.some
 faulty_some passed place rest (inr (inl b)) = λ e. headed_some b.backward.moment b.backward.said b.backward.behind (sym b.backward.text ∙ e)
 faulty_some passed place rest (inr (inr m)) = m.some
@@ -71,7 +71,7 @@ first_calls judged bench before now rounds mid b = record { passed = mid.passed;
 
 -- ---- status 0 and 1
 
-low_status : (good : Bool) → report_status good ≤ 1
+pub low_status : (good : Bool) → report_status good ≤ 1
 low_status true = omega arith
 low_status false = omega arith
 

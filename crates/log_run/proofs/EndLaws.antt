@@ -173,15 +173,15 @@ sink_end judged bench before now status passed good between r e = inr (inr (inr 
   said = e.answered;
 }))))
 
-at_grammar : (passed : Passed) (left now : Option (List ℕ)) (place : ℕ) → HandsOutOf passed left now (Err (Grammar place)) → FaultyAt passed left place
+pub at_grammar : (passed : Passed) (left now : Option (List ℕ)) (place : ℕ) → HandsOutOf passed left now (Err (Grammar place)) → FaultyAt passed left place
 at_grammar passed None now place h = tt
 at_grammar passed (Some rest) now place h = (h.log, inl h.has)
 
-at_backward : (passed : Passed) (left now : Option (List ℕ)) (place : ℕ) → HandsOutOf passed left now (Err (Backward place)) → FaultyAt passed left place
+pub at_backward : (passed : Passed) (left now : Option (List ℕ)) (place : ℕ) → HandsOutOf passed left now (Err (Backward place)) → FaultyAt passed left place
 at_backward passed None now place h = tt
 at_backward passed (Some rest) now place h = (h.log, inr (inl h.has))
 
-at_many : (passed : Passed) (left now : Option (List ℕ)) (place : ℕ) → HandsOutOf passed left now (Err (Many place)) → FaultyAt passed left place
+pub at_many : (passed : Passed) (left now : Option (List ℕ)) (place : ℕ) → HandsOutOf passed left now (Err (Many place)) → FaultyAt passed left place
 at_many passed None now place h = tt
 at_many passed (Some rest) now place h = (h.log, inr (inr h.has))
 

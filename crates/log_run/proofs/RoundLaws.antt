@@ -65,7 +65,7 @@ each_as P Q (r ∷ rs) f a = (point_as P Q r.calls r.outcomes f a.0, each_as P Q
 
 -- ---- valid calls
 
-and_assoc : (a b c : Bool) → (a && (b && c)) ≡ ((a && b) && c)
+pub and_assoc : (a b c : Bool) → (a && (b && c)) ≡ ((a && b) && c)
 and_assoc true b c = refl
 and_assoc false b c = refl
 

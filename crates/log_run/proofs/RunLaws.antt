@@ -53,7 +53,7 @@ rose_behind a b c (Ok (Some Memory)) s r = tt
 rose_behind a b c (Err stop.Sink) s r = λ e. omega (arith, s.writes, r e)
 rose_behind a b c (Err stop.Memory) s r = tt
 
-stay_both : (a b c : Streams) → StreamsStay a b → StreamsStay b c → StreamsStay a c
+pub stay_both : (a b c : Streams) → StreamsStay a b → StreamsStay b c → StreamsStay a c
 stay_both a b c s t = record { reads = omega (arith, s.reads, t.reads); writes = omega (arith, s.writes, t.writes) }
 
 -- ---- pieces of a run

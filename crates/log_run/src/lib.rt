@@ -12,6 +12,7 @@ mod rounds;
 mod run;
 
 pub use judge::Judge;
-pub use run::{end_with, judge_log};
+pub use reading::next_call;
+pub use run::{end_at, end_with, judge_log, report_status};
 /// Memory ran out.
 pub use std::alloc::AllocError as Memory;

@@ -17,7 +17,7 @@ use stir_outside::Source;
 const ROUND: u32 = 256;
 
 /// Reads the next call of a log of which nothing was at fault before.
-fn next_call<I: Source>(reader: &mut LogReader, input: &mut I) -> Result<Option<Call>, LogFault>
+pub fn next_call<I: Source>(reader: &mut LogReader, input: &mut I) -> Result<Option<Call>, LogFault>
     requires good { reader.old.fault ≡ None }
     ensures behind { ReadBehind reader.old.passed
         (left_to reader.old (I.left input.old)) (left_to reader.new (I.left input.new)) result }

@@ -108,7 +108,7 @@ fn finish<O: Sink>(
 }
 
 /// The status of a whole report.
-fn report_status(all_good: bool) -> u8
+pub fn report_status(all_good: bool) -> u8
     ensures { result ≡ report_status all_good }
 {
     if all_good {
@@ -120,7 +120,7 @@ fn report_status(all_good: bool) -> u8
 
 /// Writes the line of a fault of the log.
 #[tactic(auto, unfolding(crate::specs::Ending::memory_line, crate::specs::Ending::failed_line))]
-fn end_at<O: Sink>(alloc: Global, sink: &mut O, fault: LogFault) -> u8
+pub fn end_at<O: Sink>(alloc: Global, sink: &mut O, fault: LogFault) -> u8
     ensures { EndsAtFault (O.written sink.old) (O.written sink.new) (O.faults sink.old) (O.faults sink.new) result fault }
 {
     match fault {

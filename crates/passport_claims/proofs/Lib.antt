@@ -1,9 +1,11 @@
 mod ClaimsLaws
 pub mod FirstLaws
 mod MemberLaws
-mod OrigidLaws
+pub mod OrigidLaws
 mod PassportLaws
 pub mod SignedLaws
+mod SignableLaws
+mod SizeLaws
 mod ValueLaws
 pub mod WayLaws
 pub mod TurnLaws
@@ -12,3 +14,4 @@ pub mod OrderLaws
 pub mod StartLaws
 pub mod OrderFaultLaws
 pub mod OrderFaultAgain
+pub mod GoesOnLaws

@@ -1,5 +1,7 @@
 pub mod Claims
 pub mod Fault
+pub mod Form
+pub mod GoesOn
 pub mod Kind
 pub mod Links
 pub mod Made
@@ -12,3 +14,4 @@ pub mod Origid
 pub mod Passport
 pub mod Read
 pub mod Reading
+pub mod Signed

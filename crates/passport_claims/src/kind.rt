@@ -2,7 +2,9 @@
 ghost use Rattle.std.specs.Prelude.{◌≡◌};
 ghost use Rattle.std.specs.Option.{option_copied};
 ghost use Rattle.passport_claims.specs.Kind.{attest_of, attest_text, ppt_of};
+ghost use Rattle.passport_claims.specs.Made.{has_origid};
 
+use crate::origid::is_origid;
 use tn_values::Number;
 
 /// How well the signer knows the caller (RFC 8588, section 4).
@@ -18,7 +20,7 @@ pub enum Attest {
 
 impl Attest {
     /// The attestation that a text is, byte for byte; None for any other than `A`, `B` and `C`.
-    pub(crate) fn of(text: &str) -> Option<Attest>
+    pub fn of(text: &str) -> Option<Attest>
         ensures { result ≡ attest_of text.now }
     {
         match text {
@@ -61,6 +63,16 @@ impl Kind {
             Kind::Base => None,
             Kind::Shaken { .. } => Some("shaken"),
             Kind::Div { .. } => Some("div"),
+        }
+    }
+
+    /// Whether the identifier of the call, where the type has one, is a UUID in 36 characters.
+    pub fn has_origid(&self) -> bool
+        ensures { result ≡ has_origid self.now }
+    {
+        match self {
+            Kind::Shaken { origid, .. } => is_origid(origid),
+            Kind::Base | Kind::Div { .. } => true,
         }
     }
 }

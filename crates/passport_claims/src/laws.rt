@@ -1,11 +1,13 @@
 //! Laws: a function here does nothing, and its clause is the law.
-ghost use Rattle.std.specs.Prelude.{◌≡◌, ℕ, ◌↔◌, List, Option, Some, Ok};
+ghost use Rattle.std.specs.Prelude.{◌≡◌, ℕ, ◌+◌, ◌↔◌, List, [], ◌∷◌, ◌++◌, length, Option, Some, Ok};
 ghost use Rattle.serde_json.specs.Data.{Data};
 ghost use Rattle.passport_json.specs.Compact.{CallView};
 ghost use Rattle.passport_json.specs.Signed.{payload_in};
 ghost use Rattle.passport_json.specs.Token.{TokenText};
 ghost use Rattle.passport_json.specs.View.{TokenView};
 ghost use Rattle.passport_claims.specs.Claims.{Claims, IsKnown};
+ghost use Rattle.passport_claims.specs.GoesOn.{GoesOn};
+ghost use Rattle.passport_claims.specs.Links.{dest_of};
 ghost use Rattle.passport_claims.specs.Order.{IsOrder};
 ghost use Rattle.passport_claims.specs.OrderReading.{order_of};
 ghost use Rattle.passport_claims.specs.Passport.{ClaimsView};
@@ -32,4 +34,13 @@ pub fn signed_claims_law()
 pub fn order_law()
     ensures { (origin : ClaimsView) (links : List ClaimsView) (called : Option (List ℕ)) (turn : List ℕ)
         → (order_of origin links called ≡ Ok turn) ↔ IsOrder origin links called turn }
+{}
+
+/// Links stand in an order with one link more behind them and at its end, just where the call goes on by this link: the others stand in that
+/// order up to its div, and the call hasn't been at its dest (RFC 8946, section 4.2). Behind the others it has the number after theirs.
+pub fn one_link_more_law()
+    ensures order { (origin : ClaimsView) (links : List ClaimsView) (turn : List ℕ) (link : ClaimsView)
+        → GoesOn origin links turn link ↔ IsOrder origin (links ++ link ∷ []) (Some (dest_of link)) (turn ++ (length links + 1) ∷ []) }
+    ensures exact { (origin : ClaimsView) (links : List ClaimsView) (turn : List ℕ) (link : ClaimsView) → GoesOn origin links turn link
+        → order_of origin (links ++ link ∷ []) (Some (dest_of link)) ≡ Ok (turn ++ (length links + 1) ∷ []) }
 {}

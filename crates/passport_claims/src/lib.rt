@@ -5,6 +5,7 @@
 
 mod diversion;
 mod fault;
+mod form;
 mod kind;
 mod laws;
 mod links;
@@ -13,12 +14,15 @@ mod order;
 mod origid;
 mod passport;
 mod rows;
+mod signing;
 mod values;
 
 pub use diversion::chain;
 pub use fault::ClaimFault;
+pub use form::Form;
 pub use kind::{Attest, Kind};
-pub use laws::{claims_law, order_law, signed_claims_law};
+pub use laws::{claims_law, one_link_more_law, order_law, signed_claims_law};
 pub use order::{ChainFault, Order};
+pub use origid::is_origid;
 pub use passport::Passport;
 pub use std::alloc::AllocError as Memory;

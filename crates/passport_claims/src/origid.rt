@@ -24,9 +24,9 @@ pub(crate) fn origid_of(text: &str) -> Result<[u8; 36], ClaimFault>
     }
 }
 
-/// Whether the bytes are a text that is read as a UUID, and 36 of them.
+/// Whether a text can be the identifier of a call (RFC 8588, section 5): a UUID (RFC 4122, section 3) in 36 characters.
 #[tactic(auto, using(crate::proofs::OrigidLaws::text_is, crate::proofs::OrigidLaws::text_not), unfolding(crate::specs::Origid::is_origid))]
-pub(crate) fn is_origid(text: &[u8]) -> bool
+pub fn is_origid(text: &[u8]) -> bool
     ensures { result ≡ is_origid text.now }
 {
     if text.len() != 36 {

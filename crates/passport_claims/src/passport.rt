@@ -3,7 +3,7 @@ ghost use Rattle.std.specs.Prelude.{◌≡◌, ◌≤◌, Some, None, IfOk, if�
 ghost use Rattle.std.specs.Option.{option_copied};
 ghost use Rattle.text_grammar.specs.Uri.{is_uri};
 ghost use Rattle.passport_claims.specs.Claims.{Claims, IsKnown};
-ghost use Rattle.passport_claims.specs.Made.{is_called_count, has_origid, made};
+ghost use Rattle.passport_claims.specs.Made.{is_called_count, made};
 ghost use Rattle.passport_claims.specs.Passport.{ClaimsView, IsPassport};
 ghost use Rattle.passport_claims.specs.Read.{read_claims};
 ghost use Rattle.passport_claims.specs.Reading.{Gives, IsOkUnlessMemory};
@@ -11,7 +11,6 @@ ghost use Rattle.passport_claims.specs.Reading.{Gives, IsOkUnlessMemory};
 use crate::fault::ClaimFault;
 use crate::kind::Kind;
 use crate::members::{called_in, number_in};
-use crate::origid::is_origid;
 use crate::rows::{checked_header, checked_kind, most_called};
 use passport_json::Token;
 use std::alloc::Global;
@@ -89,7 +88,7 @@ impl Passport {
         if !is_called_count(&kind, dest.len()) {
             return Err(ClaimFault::Dest);
         }
-        if !has_origid(&kind) {
+        if !kind.has_origid() {
             return Err(ClaimFault::Origid);
         }
         Ok(Passport {
@@ -193,14 +192,4 @@ fn is_called_count(kind: &Kind, count: usize) -> bool
     ensures { result ≡ is_called_count kind.now count }
 {
     1 <= count && count <= most_called(kind.ppt().map(str::as_bytes))
-}
-
-/// Whether the identifier of the call, where the type has one, is of its form.
-fn has_origid(kind: &Kind) -> bool
-    ensures { result ≡ has_origid kind.now }
-{
-    match kind {
-        Kind::Shaken { origid, .. } => is_origid(origid),
-        Kind::Base | Kind::Div { .. } => true,
-    }
 }

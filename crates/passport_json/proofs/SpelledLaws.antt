@@ -1,7 +1,8 @@
 -- What is written as a token is one, and stands in symbols.
-use Rattle.std.proofs.Common.{◌≡◌, ℕ, suc, ◌+◌, ◌*◌, ◌/◌, ◌%◌, Bool, true, List, [], ◌∷◌, length, Some, refl, ap, ◌∙◌, arith, append_assoc}
+use Rattle.std.proofs.Common.{◌≡◌, ℕ, suc, ◌≤◌, ◌+◌, ◌*◌, ◌/◌, ◌%◌, Bool, true, List, [], ◌∷◌, length, Some, refl, ap, ◌∙◌, arith, append_assoc, length-append}
 use Rattle.std.specs.List.{list_all}
 use Rattle.std.specs.Prelude.{slice_index}
+use Rattle.std.proofs.lemmas.Bool.Decides.{nat_tests}
 use Rattle.std.proofs.lemmas.List.{append-nil}
 use Rattle.base64.proofs.RoundTrip.{length-encode_symbols}
 use Rattle.base64.proofs.Tables.{all_below_at}
@@ -15,8 +16,10 @@ use Rattle.passport_json.specs.Compact.{CallView, CompactText, base_of, rebuilt}
 use Rattle.passport_json.specs.Parts.{PartTexts, dot}
 use Rattle.passport_json.specs.Passport.{PassportView}
 use Rattle.passport_json.specs.Signing.{Signing}
-use Rattle.passport_json.specs.Spelled.{IsSignature, IsSpelled, compact_text, full_text, full_token, is_symbol}
+use Rattle.passport_json.specs.Spelled.{IsSignature, IsSpelled, compact_text, full_text, full_token, is_symbol, is_token_byte}
 use Rattle.passport_json.specs.Token.{FullText}
+use Rattle.lists.proofs.Bytes.{all_append, each}
+use Rattle.text_grammar.specs.Grammar.{Run}
 use Rattle.passport_json.proofs.SignedLaws.{encoded_lacks}
 use Rattle.passport_json.proofs.TokenLaws.{not_empty}
 
@@ -104,3 +107,35 @@ compact_is_token signature call passport s is = record {
   is_base = is;
   is_rebuilt = refl;
 }
+
+-- ---- their bytes and their sizes
+
+symbol_of_token : (b : ℕ) → is_symbol b ≡ true → is_token_byte b ≡ true
+symbol_of_token b h = grind (arith, nat_tests)
+
+encoded_bytes : (bytes : List ℕ) → IsBytes bytes → list_all is_token_byte (encode_of url_safe_no_pad bytes) ≡ true
+encoded_bytes bytes are = each is_symbol is_token_byte symbol_of_token (encode_of url_safe_no_pad bytes) (symbols bytes are)
+
+pub full_run : (header payload signature : List ℕ) → IsBytes header → IsBytes payload → IsSignature signature → length header + length payload ≤ 6000
+    → Run is_token_byte 8192 (full_text (Signing header payload) signature)
+full_run header payload signature h p s short =
+    let of_signing = length-append (encode_of url_safe_no_pad header) (dot ∷ encode_of url_safe_no_pad payload) in
+    let of_text = length-append (Signing header payload) (dot ∷ encode_of url_safe_no_pad signature) in
+    record {
+      each = all_append is_token_byte (Signing header payload) (dot ∷ encode_of url_safe_no_pad signature)
+          (all_append is_token_byte (encode_of url_safe_no_pad header) (dot ∷ encode_of url_safe_no_pad payload) (encoded_bytes header h) (encoded_bytes payload p))
+          (encoded_bytes signature s.bytes);
+      some = omega (arith, of_text);
+      within = omega (arith, of_text, of_signing, symbols_length header, symbols_length payload, symbols_length signature, s.size, short);
+    }
+
+pub full_size : (signing signature : List ℕ) → IsSignature signature → length (full_text signing signature) ≡ length signing + 87
+full_size signing signature s = omega (arith, length-append signing (dot ∷ encode_of url_safe_no_pad signature), symbols_length signature, s.size)
+
+pub compact_size : (signature : List ℕ) → IsSignature signature → length (compact_text signature) ≡ 88
+compact_size signature s = omega (arith, symbols_length signature, s.size)
+
+pub compact_run : (signature : List ℕ) → IsSignature signature → Run is_token_byte 8192 (compact_text signature)
+compact_run signature s =
+    let size = compact_size signature s in
+    record { each = encoded_bytes signature s.bytes; some = omega (arith, size); within = omega (arith, size) }

@@ -13,6 +13,10 @@ use Rattle.passport_json.specs.View.{TokenView}
 abbrev pub is_symbol : ℕ → Bool
 is_symbol b = is_letter b || is_digit b || b == 45 || b == 95
 
+-- a byte of a token: a symbol or a dot
+abbrev pub is_token_byte : ℕ → Bool
+is_token_byte b = is_letter b || is_digit b || b == 45 || b == 95 || b == 46
+
 -- what was signed, a dot, and the signature
 abbrev pub full_text : List ℕ → List ℕ → List ℕ
 full_text signing signature = signing ++ dot ∷ encode_of url_safe_no_pad signature

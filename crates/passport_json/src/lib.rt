@@ -17,7 +17,8 @@ mod writing;
 
 pub use fault::TokenFault;
 pub use laws::{
-    base64_law, compact_text_law, full_text_law, signed_law, token_found_law, token_law,
+    base64_law, compact_text_law, full_text_law, signed_law, token_bytes_law, token_found_law,
+    token_law,
 };
 pub use signing::{signing_input, ticket};
 pub use std::alloc::AllocError as Memory;

@@ -1,3 +1,6 @@
+pub mod AddedAccessors
+pub mod AddedLaws
+pub mod AddedSteps
 pub mod AddressLaws
 pub mod AnswerLaws
 pub mod Bytes

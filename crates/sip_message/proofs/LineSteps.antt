@@ -21,7 +21,7 @@ first_by : (b : ℕ) (bs rest : List ℕ) (t : Bool) → (b == 10) ≡ t → (la
 first_by b bs rest true e below h = let k = rw e at h in absurd (cc)
 first_by b bs rest false e below h = let k = rw e at h in let here = below k in rw (e, here) refl
 
-pieces_first : (front rest : List ℕ) → lacks 10 front ≡ true → pieces (front ++ 10 ∷ rest) ≡ front ∷ pieces rest
+pub pieces_first : (front rest : List ℕ) → lacks 10 front ≡ true → pieces (front ++ 10 ∷ rest) ≡ front ∷ pieces rest
 pieces_first [] rest h = refl
 pieces_first (b ∷ bs) rest h = first_by b bs rest (b == 10) refl (pieces_first bs rest) h
 

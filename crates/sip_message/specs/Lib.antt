@@ -1,4 +1,5 @@
 pub mod Accessors
+pub mod Added
 pub mod Address
 pub mod Answer
 pub mod FieldLine

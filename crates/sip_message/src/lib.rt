@@ -1,6 +1,7 @@
 //! The head of a SIP message (RFC 3261, section 7): [`Message`] with its fields and telephone numbers.
 #![tactic(auto)]
 
+mod added;
 mod address;
 mod alphabet;
 mod fault;
@@ -14,6 +15,7 @@ mod message;
 mod start_line;
 mod value;
 
+pub use added::{is_addable, is_field_value, with_field};
 pub use fault::{FormFault, MessageFault};
-pub use laws::head_law;
+pub use laws::{added_field_law, head_law};
 pub use message::Message;

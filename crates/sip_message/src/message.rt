@@ -21,10 +21,10 @@ use std::marker::Model;
 use tn_values::{Local, Number};
 
 /// The most bytes of a message.
-const MOST_BYTES: usize = 65_535;
+pub(crate) const MOST_BYTES: usize = 65_535;
 
 /// The kind of a fault of the size.
-const SIZE: u8 = 1;
+pub(crate) const SIZE: u8 = 1;
 
 /// The kind of a fault of the start line.
 const START_LINE: u8 = 2;

@@ -2,7 +2,12 @@ pub mod BenchLaws
 pub mod RunLaws
 pub mod ShowLaws
 pub mod ShowSteps
+pub mod SignLaws
+pub mod SignSteps
 pub mod StopLaws
 pub mod StopSteps
 pub mod VerifyLaws
 pub mod VerifySteps
+pub mod SinglyLaws
+pub mod SinglySteps
+pub mod ExplainedLaws

@@ -24,6 +24,7 @@ fault_high faults.Missing = omega arith
 fault_high faults.Long = omega arith
 fault_high faults.Failed = omega arith
 fault_high (faults.Refused place) = omega arith
+fault_high faults.NoList = omega arith
 fault_high faults.Memory = omega arith
 
 -- it is neither 0 nor 1
@@ -49,6 +50,8 @@ stopped_by named before now status stop faults.Long e said stops =
 stopped_by named before now status stop faults.Failed e said stops =
     FailedRead (said ∙ ap (λ (x : FileFault). status_number (fault_status x)) e) (stop, e, subst (CausedBy before.counts now.counts) e stops.at.cause, stops)
 stopped_by named before now status stop (faults.Refused place) e said stops =
+    RefusedFile (said ∙ ap (λ (x : FileFault). status_number (fault_status x)) e) (stop, (λ o. subst IsOutside e o), stops)
+stopped_by named before now status stop faults.NoList e said stops =
     RefusedFile (said ∙ ap (λ (x : FileFault). status_number (fault_status x)) e) (stop, (λ o. subst IsOutside e o), stops)
 stopped_by named before now status stop faults.Memory e said stops =
     WantedMemory (said ∙ ap (λ (x : FileFault). status_number (fault_status x)) e)
@@ -85,6 +88,7 @@ outside_six before now status stop faults.Missing e cause said q o = absurd (sub
 outside_six before now status stop faults.Long e cause said q o = absurd (subst IsOutside e o)
 outside_six before now status stop faults.Failed e cause said q o = absurd (not_rose before.counts.faults now.counts.faults q (subst (CausedBy before.counts now.counts) e cause))
 outside_six before now status stop (faults.Refused place) e cause said q o = absurd (subst IsOutside e o)
+outside_six before now status stop faults.NoList e cause said q o = absurd (subst IsOutside e o)
 outside_six before now status stop faults.Memory e cause said q o = said ∙ ap (λ (x : FileFault). status_number (fault_status x)) e
 
 -- where the named files have no fault of their own, memory was wanting
@@ -109,6 +113,7 @@ five_or_six before now status stop faults.Missing e cause said q = inl (said ∙
 five_or_six before now status stop faults.Long e cause said q = inl (said ∙ ap (λ (x : FileFault). status_number (fault_status x)) e)
 five_or_six before now status stop faults.Failed e cause said q = absurd (not_rose before.counts.faults now.counts.faults q (subst (CausedBy before.counts now.counts) e cause))
 five_or_six before now status stop (faults.Refused place) e cause said q = inl (said ∙ ap (λ (x : FileFault). status_number (fault_status x)) e)
+five_or_six before now status stop faults.NoList e cause said q = inl (said ∙ ap (λ (x : FileFault). status_number (fault_status x)) e)
 five_or_six before now status stop faults.Memory e cause said q = inr (said ∙ ap (λ (x : FileFault). status_number (fault_status x)) e)
 
 pub early_fault : (named : List NamedFile) (before now : Outside) (status : ℕ) → EndsEarly named before now status → AnswersFault named before now status

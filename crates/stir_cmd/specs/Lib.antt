@@ -6,5 +6,10 @@ pub mod Showing
 pub mod Standing
 pub mod Stopping
 pub mod Verifying
+pub mod Signing
+pub mod SignCode
+pub mod Singly
+pub mod Ways
+pub mod Explained
 pub mod Headline
 pub mod Causes

@@ -3,8 +3,10 @@
 
 mod answer;
 mod bench;
+mod explain;
 mod program;
 mod show;
+mod sign;
 mod verify;
 
 pub use program::run;

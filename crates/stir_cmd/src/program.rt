@@ -1,29 +1,45 @@
 //! The top call.
-ghost use Rattle.std.specs.Prelude.{◌≡◌, ◌≤◌, Some};
+ghost use Rattle.std.specs.Prelude.{◌≡◌, ◌≤◌, List, Some};
 ghost use Rattle.std.specs.Io.KnownBytes.{IsAtEnd};
 ghost use Rattle.stir_cmd.specs.Around.{outside};
-ghost use Rattle.stir_cmd.specs.Causes.{HasCauses, IsComplete, Ran};
+ghost use Rattle.stir_cmd.specs.Causes.{HasCauses, IsComplete, IsThrough, Ran, Signed};
+ghost use Rattle.stir_cmd.specs.Explained.{Asked, Explained};
 ghost use Rattle.stir_cmd.specs.Headline.{Headline};
 ghost use Rattle.stir_cmd.specs.Showing.{Showed};
+ghost use Rattle.call_log.specs.Entry.{Entry};
+ghost use Rattle.cert_store.specs.Questions.{AgreeOn};
+ghost use Rattle.cert_store.specs.Rules.{Says};
+ghost use Rattle.single_calls.specs.Agreement.{JudgedAlike};
+ghost use Rattle.single_calls.specs.Asks.{asked_of};
 ghost use Rattle.stir_words.specs.Order.{ShowCertificates, order_of};
 ghost use Rattle.stir_words.specs.Seen.{texts};
+ghost use Rattle.verify_rules.specs.World.{World};
+ghost use Rattle.verify_rules.specs.declared.settings.Settings.{Settings};
 
+use crate::explain::{ask, explain};
 use crate::show::show;
+use crate::sign::{SignerCommand, sign_message};
 use crate::verify::verify;
 use log_run::end_with;
+use single_calls::{agreement_law, asks_law};
 use std::alloc::Global;
 use std::thread::Threads;
 use stir_outside::{Shelf, Sink, Source};
-use stir_words::{Order, Status};
+use stir_words::{Order, Status, WordsFault};
 use x509_profile::chain_law;
 
 /// The program: takes the words after its name, reads the named files and the input, writes what the command says, and gives the status with
 /// which the program ends.
 ///
-/// `verify` judges the calls of the log that the input is, and writes a line for each; `show` writes what the certificates that the input is
-/// say, which are at most six and at most 49,152 bytes. The status is 0 where all calls are valid or the certificates are shown, 1 where some
-/// call isn't valid, 2 where the words are refused, 3 where a named file or the input couldn't be read, 4 where the output couldn't be
-/// written, 5 where a named file is missing or too long, or a file or the input is outside its grammar, and 6 for want of memory. The first of
+/// `verify` judges the calls of the log that the input is, and writes a line for each; `explain` writes for each call by itself which rules it
+/// meets, up to the first that it breaks; `ask` writes what a provider of signatures is asked for the calls, each question once. `sign` and
+/// `divert` write the message that the input is with a signed Identity header field. `show` writes what the certificates that the input is say,
+/// which are at most six and at most 49,152 bytes.
+///
+/// The status is 0 where all calls are valid or break no rule, what is asked is written, the message is signed, or the certificates are shown;
+/// 1 where some call isn't valid or breaks a rule, or the message can't be signed; 2 where the words are refused; 3 where a named file, a file
+/// of certificates that `ask` needs or the input couldn't be read; 4 where the output couldn't be written; 5 where a named file is missing or
+/// too long, a file or the input is outside its grammar, or the certificate of a holder has no list; and 6 for want of memory. The first of
 /// these in the order of reading decides.
 #[tactic(auto, using(crate::proofs::RunLaws::ended))]
 pub fn run<R: Threads + Sync, S: Shelf, I: Source, O: Sink>(
@@ -34,7 +50,7 @@ pub fn run<R: Threads + Sync, S: Shelf, I: Source, O: Sink>(
     input: &mut I,
     sink: &mut O,
 ) -> u8
-    // What came of the words: they are refused, certificates are shown, or a log is judged.
+    // What came of the words: they are refused, or want memory; certificates are shown, a message is signed, or a log is judged.
     ensures outcome { Ran (order_of (texts words.now))
         (outside (S.files shelf.old) (S.counts shelf.old) (I.left input.old) (I.faults input.old) (O.written sink.old) (O.faults sink.old))
         (outside (S.files shelf.new) (S.counts shelf.new) (I.left input.new) (I.faults input.new) (O.written sink.new) (O.faults sink.new)) result }
@@ -44,9 +60,22 @@ pub fn run<R: Threads + Sync, S: Shelf, I: Source, O: Sink>(
     ensures headline { Headline (order_of (texts words.now))
         (outside (S.files shelf.old) (S.counts shelf.old) (I.left input.old) (I.faults input.old) (O.written sink.old) (O.faults sink.old))
         (outside (S.files shelf.new) (S.counts shelf.new) (I.left input.new) (I.faults input.new) (O.written sink.new) (O.faults sink.new)) result }
-    ensures ended { result ≤ 1 → IsAtEnd (I.left input.new) }
+    ensures ended { result ≤ 1 → IsThrough (order_of (texts words.now))
+        (outside (S.files shelf.old) (S.counts shelf.old) (I.left input.old) (I.faults input.old) (O.written sink.old) (O.faults sink.old))
+        (outside (S.files shelf.new) (S.counts shelf.new) (I.left input.new) (I.faults input.new) (O.written sink.new) (O.faults sink.new)) result }
 
-    // Each other status has its cause, and where nothing fails outside the status is the one that the words, the files and the input ask for.
+    // What `explain` writes are the rules that each call of the log meets, up to the first that it breaks; what `ask` writes is what is asked for
+    // its calls. Two providers of signatures that agree on all of that judge each of the calls alike.
+    ensures explained { Explained (order_of (texts words.now))
+        (outside (S.files shelf.old) (S.counts shelf.old) (I.left input.old) (I.faults input.old) (O.written sink.old) (O.faults sink.old))
+        (outside (S.files shelf.new) (S.counts shelf.new) (I.left input.new) (I.faults input.new) (O.written sink.new) (O.faults sink.new)) result }
+    ensures asked { Asked (order_of (texts words.now))
+        (outside (S.files shelf.old) (S.counts shelf.old) (I.left input.old) (I.faults input.old) (O.written sink.old) (O.faults sink.old))
+        (outside (S.files shelf.new) (S.counts shelf.new) (I.left input.new) (I.faults input.new) (O.written sink.new) (O.faults sink.new)) result }
+    ensures alike { (world : World) (settings : Settings) (says other : Says) (calls : List Entry) → AgreeOn says other (asked_of world settings calls)
+        → JudgedAlike world settings says other calls }
+
+    // Each status has its cause, and where nothing fails outside the status is the one that the words, the files and the input ask for.
     ensures causes { HasCauses (order_of (texts words.now))
         (outside (S.files shelf.old) (S.counts shelf.old) (I.left input.old) (I.faults input.old) (O.written sink.old) (O.faults sink.old))
         (outside (S.files shelf.new) (S.counts shelf.new) (I.left input.new) (I.faults input.new) (O.written sink.new) (O.faults sink.new)) result }
@@ -57,12 +86,21 @@ pub fn run<R: Threads + Sync, S: Shelf, I: Source, O: Sink>(
 
     // Where `show` ends with 0, the input is a chain of certificates, and their lines were written.
     ensures showed { (order_of (texts words.now) ≡ Some ShowCertificates) → result ≡ 0 → Showed (I.left input.old) (O.written sink.old) (O.written sink.new) }
+
+    // Where `sign` or `divert` ends with 0, the message that the input is was written with a new Identity field, which is read as the PASSporT
+    // that the words ask for and the key's signature.
+    ensures signed { result ≡ 0 → Signed (order_of (texts words.now))
+        (outside (S.files shelf.old) (S.counts shelf.old) (I.left input.old) (I.faults input.old) (O.written sink.old) (O.faults sink.old))
+        (outside (S.files shelf.new) (S.counts shelf.new) (I.left input.new) (I.faults input.new) (O.written sink.new) (O.faults sink.new)) }
 {
     chain_law();
+    asks_law();
+    agreement_law();
     carry_out(rt, alloc, words, shelf, input, sink)
 }
 
 /// Carries out what the words order.
+#[tactic(auto, using(crate::proofs::RunLaws::wanting_high))]
 fn carry_out<R: Threads + Sync, S: Shelf, I: Source, O: Sink>(
     rt: &R,
     alloc: Global,
@@ -78,9 +116,26 @@ fn carry_out<R: Threads + Sync, S: Shelf, I: Source, O: Sink>(
     ensures showed { (order_of (texts words.now) ≡ Some ShowCertificates) → result ≤ 1 → Showed (I.left input.old) (O.written sink.old) (O.written sink.new) }
     ensures shown_whole { (order_of (texts words.now) ≡ Some ShowCertificates) → result ≤ 1 → IsAtEnd (I.left input.new) }
 {
-    match Order::of(words) {
-        Some(Order::Verify(judging)) => verify(rt, alloc, &judging, shelf, input, sink),
-        Some(Order::Show) => show(alloc, input, sink),
-        None => end_with(sink, "words refused\n", Status::Words),
+    match Order::of(alloc, words) {
+        Ok(Order::Verify(judging)) => verify(rt, alloc, &judging, shelf, input, sink),
+        Ok(Order::Explain(judging)) => explain(alloc, &judging, shelf, input, sink),
+        Ok(Order::Ask(asking)) => ask(alloc, &asking, shelf, input, sink),
+        Ok(Order::Sign(signing)) => sign_message(
+            alloc,
+            &SignerCommand::Sign(signing),
+            shelf,
+            input,
+            sink,
+        ),
+        Ok(Order::Divert(diverting)) => sign_message(
+            alloc,
+            &SignerCommand::Divert(diverting),
+            shelf,
+            input,
+            sink,
+        ),
+        Ok(Order::Show) => show(alloc, input, sink),
+        Err(WordsFault::Refused) => end_with(sink, "words refused\n", Status::Words),
+        Err(WordsFault::Memory) => end_with(sink, "want of memory\n", Status::Memory),
     }
 }

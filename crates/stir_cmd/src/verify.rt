@@ -83,7 +83,7 @@ fn judge_by<R: Threads + Sync, S: Shelf, I: Source, O: Sink>(
 
 /// Writes the line that says why a named file can't be had.
 #[tactic(auto, unfolding(log_run::specs::Ending::memory_line))]
-fn end_at<O: Sink>(alloc: Global, stop: &FileStop<'_>, sink: &mut O) -> u8
+pub(crate) fn end_at<O: Sink>(alloc: Global, stop: &FileStop<'_>, sink: &mut O) -> u8
     ensures { EndsAtStop (stop_of stop.now) (O.written sink.old) (O.written sink.new) (O.faults sink.old) (O.faults sink.new) result }
 {
     match stop.line(alloc) {

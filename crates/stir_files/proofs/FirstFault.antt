@@ -1,14 +1,16 @@
 -- Where a shelf tells its files, the reading ends at the first fault of these.
-use Rattle.std.proofs.Common.{◌≡◌, ℕ, ◌≤◌, ◌⊎◌, inl, inr, true, false, nat_lt, List, [], ◌∷◌, length, Option, Some, None, Ok, Err, refl, sym, ◌∙◌, ap, arith}
+use Rattle.std.proofs.Common.{◌≡◌, ℕ, ◌<◌, ◌≤◌, ◌⊎◌, inl, inr, Bool, true, false, nat_lt, List, [], ◌∷◌, ◌++◌, length, Option, Some, None, Ok, Err, refl, sym, ◌∙◌, ap, arith}
 use Rattle.std.proofs.lemmas.Bool.Decides.{nat_tests}
 use Rattle.std.specs.Option.{option_map, option_or}
 use Rattle.stir_outside.specs.Files.{Files, IsLonger, file}
-use Rattle.stir_words.specs.Order.{JudgingView}
+use Rattle.stir_words.specs.Order.{AskingView, JudgingView}
+use Rattle.stir_files.specs.Grounds.{GroundsOf, grounds_of}
+use Rattle.stir_files.specs.declared.grounds.Grounds.{Grounds}
 use Rattle.stir_files.specs.Named.{FaultSays, IsOutside, NamedFile, Passes, Stop, StopsAt, anchor_file, answers_file, chain_map, code_table, fault_in, first_fault, stop_in}
 use Rattle.stir_files.specs.Materials.{MaterialsOf, files_of}
 use Rattle.stir_files.specs.Stop.{Truly, stop_of}
 use Rattle.stir_files.specs.declared.fault.FileFault.{FileFault}
-use Rattle.stir_files.specs.declared.fault.FileFault.TheVariants.{Missing, Long, Failed, Refused, Memory}
+use Rattle.stir_files.specs.declared.fault.FileFault.TheVariants.{Missing, Long, Failed, Refused, NoList, Memory}
 use Rattle.stir_files.specs.declared.materials.Materials.{Materials}
 use Rattle.stir_files.specs.declared.stop.FileStop.{FileStop}
 use Rattle.stir_files.proofs.FileSteps.{anchors_pass, answers_pass, map_passes, table_passes}
@@ -23,14 +25,14 @@ stop_with named held = option_map (stop_at named) (fault_in named held)
 short_passes : (named : NamedFile) (content : List ℕ) → length content ≤ named.limit → named.refused content ≡ None → stop_with named (Some content) ≡ None
 short_passes named content short fits = let t : nat_lt named.limit (length content) ≡ false = grind (arith, nat_tests) in rw (t, fits) refl
 
-short_refused : (named : NamedFile) (content : List ℕ) (place : ℕ) → length content ≤ named.limit → named.refused content ≡ Some place → stop_with named (Some content) ≡ Some (stop_at named (Refused place))
-short_refused named content place short refused = let t : nat_lt named.limit (length content) ≡ false = grind (arith, nat_tests) in rw (t, refused) refl
+short_refused : (named : NamedFile) (content : List ℕ) (fault : FileFault) → length content ≤ named.limit → named.refused content ≡ Some fault → stop_with named (Some content) ≡ Some (stop_at named fault)
+short_refused named content fault short refused = let t : nat_lt named.limit (length content) ≡ false = grind (arith, nat_tests) in rw (t, refused) refl
 
 longer : (named : NamedFile) (held : Option (List ℕ)) → IsLonger named.limit held → stop_with named held ≡ Some (stop_at named Long)
 longer named None h = absurd h
 longer named (Some content) h = let t : nat_lt named.limit (length content) ≡ true = grind (arith, nat_tests) in rw t refl
 
-passed_on : (files : Files) (named : NamedFile) (others : List NamedFile) → Passes (Some files) named → first_fault files (named ∷ others) ≡ first_fault files others
+pub passed_on : (files : Files) (named : NamedFile) (others : List NamedFile) → Passes (Some files) named → first_fault files (named ∷ others) ≡ first_fault files others
 passed_on files named others p =
     ap (λ k. option_or k (first_fault files others)) (ap (stop_with named) p.told ∙ short_passes named p.content p.short p.holds)
 
@@ -39,7 +41,8 @@ says_truly : (files : Files) (named : NamedFile) (fault : FileFault) → FaultSa
 says_truly files named Missing h = inl (ap (stop_with named) h)
 says_truly files named Long h = inl (longer named (file named.name files) h)
 says_truly files named Failed h = inr tt
-says_truly files named (Refused place) h = inl (ap (stop_with named) h.told ∙ short_refused named h.content place h.short h.holds)
+says_truly files named (Refused place) h = inl (ap (stop_with named) h.told ∙ short_refused named h.content (Refused place) h.short h.holds)
+says_truly files named NoList h = inl (ap (stop_with named) h.told ∙ short_refused named h.content NoList h.short h.holds)
 says_truly files named Memory h = inr tt
 
 here : (files : Files) (named : NamedFile) (others : List NamedFile) (stop : Stop) → stop.name ≡ named.name
@@ -62,13 +65,24 @@ pub truly_stopped : (X : Type 0) (files : Option Files) (named : List NamedFile)
 truly_stopped X None named stop h = tt
 truly_stopped X (Some files) named stop h = told_stop files named (stop_of stop) h
 
+-- behind the first three files, where they have no fault
+first_behind : (files : Files) (asking : AskingView) (grounds : Grounds) (others : List NamedFile) → GroundsOf (Some files) asking grounds → first_fault files (grounds_of asking ++ others) ≡ first_fault files others
+first_behind files asking grounds others g =
+    let table = code_table asking.table in
+    let anchors = anchor_file asking.anchors in
+    passed_on files (chain_map asking.chains) (anchors ∷ table ∷ others) (map_passes (Some files) asking.chains grounds.chains g.chains)
+    ∙ passed_on files anchors (table ∷ others) (anchors_pass (Some files) asking.anchors grounds.anchors g.anchors)
+    ∙ passed_on files table others (table_passes (Some files) asking.table grounds.table g.table)
+
+pub truly_grounds : (files : Option Files) (asking : AskingView) (grounds : Grounds) → GroundsOf files asking grounds → Truly files (grounds_of asking) (Ok grounds)
+truly_grounds None asking grounds g = tt
+truly_grounds (Some files) asking grounds g = first_behind files asking grounds [] g
+
 pub truly_read : (files : Option Files) (judging : JudgingView) (materials : Materials) → MaterialsOf files judging materials → Truly files (files_of judging) (Ok materials)
 truly_read None judging materials m = tt
 truly_read (Some files) judging materials m =
     let answers = answers_file judging.answers in
-    let table = code_table judging.table in
-    let anchors = anchor_file judging.anchors in
-    passed_on files (chain_map judging.chains) (anchors ∷ table ∷ answers ∷ []) (map_passes (Some files) judging.chains materials.chains m.chains)
-    ∙ passed_on files anchors (table ∷ answers ∷ []) (anchors_pass (Some files) judging.anchors materials.anchors m.anchors)
-    ∙ passed_on files table (answers ∷ []) (table_passes (Some files) judging.table materials.table m.table)
+    let asking : AskingView = record { chains = judging.chains; anchors = judging.anchors; table = judging.table; settings = judging.settings } in
+    let grounds : Grounds = record { chains = materials.chains; anchors = materials.anchors; table = materials.table } in
+    first_behind files asking grounds (answers ∷ []) (record { chains = m.chains; anchors = m.anchors; table = m.table })
     ∙ passed_on files answers [] (answers_pass (Some files) judging.answers materials.answers m.answers)

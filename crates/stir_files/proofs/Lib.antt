@@ -1,2 +1,4 @@
 pub mod FileSteps
 pub mod FirstFault
+pub mod LeafSteps
+pub mod SigningSteps

@@ -1,4 +1,7 @@
 pub mod Event
 pub mod Named
+pub mod Grounds
 pub mod Stop
 pub mod Materials
+pub mod Leaf
+pub mod Signing

@@ -9,41 +9,41 @@ use Rattle.tn_auth_list.specs.CodeTable.{table_rows}
 use Rattle.delegation.specs.Anchors.{AnchorText, anchors_in}
 use Rattle.cert_store.specs.ChainMap.{map_rows}
 use Rattle.stir_files.specs.declared.fault.FileFault.{FileFault}
-use Rattle.stir_files.specs.declared.fault.FileFault.TheVariants.{Missing, Long, Failed, Refused, Memory}
+use Rattle.stir_files.specs.declared.fault.FileFault.TheVariants.{Missing, Long, Failed, Refused, NoList, Memory}
 
--- a named file: its name, the most bytes that it may have, and the place at which a content is outside its grammar
+-- a named file: its name, the most bytes that it may have, and why a content of no more is refused, where it is
 pub record NamedFile : Type 0 where
   pub name : List ℕ
   pub limit : ℕ
-  pub refused : List ℕ → Option ℕ
+  pub refused : List ℕ → Option FileFault
 
--- the place at which a reading ends
-abbrev pub place_of : {X : Type 0} → Result X ℕ → Option ℕ
-place_of (Ok x) = None
-place_of (Err place) = Some place
+-- a content is outside its grammar at the place at which its reading ends
+abbrev pub refusal_of : {X : Type 0} → Result X ℕ → Option FileFault
+refusal_of (Ok x) = None
+refusal_of (Err place) = Some (Refused place)
 
 -- a chain map; the place is the first bad line
 abbrev pub chain_map : List ℕ → NamedFile
-chain_map name = record { name = name; limit = 16777216; refused = λ content. place_of (map_rows content) }
+chain_map name = record { name = name; limit = 16777216; refused = λ content. refusal_of (map_rows content) }
 
 -- trust anchors; the place is the offset of the first certificate that is none
 abbrev pub anchor_file : List ℕ → NamedFile
-anchor_file name = record { name = name; limit = 2097152; refused = λ content. place_of (anchors_in content) }
+anchor_file name = record { name = name; limit = 2097152; refused = λ content. refusal_of (anchors_in content) }
 
 -- a code table; the place is the first bad line
 abbrev pub code_table : List ℕ → NamedFile
-code_table name = record { name = name; limit = 16777216; refused = λ content. place_of (table_rows content) }
+code_table name = record { name = name; limit = 16777216; refused = λ content. refusal_of (table_rows content) }
 
 -- an answers file; the place is the first bad line
 abbrev pub answers_file : List ℕ → NamedFile
-answers_file name = record { name = name; limit = 67108864; refused = λ content. place_of (answer_rows content) }
+answers_file name = record { name = name; limit = 67108864; refused = λ content. refusal_of (answer_rows content) }
 
 -- ---- what the files that a shelf tells come to
 
 -- the fault of a content, or of no file
 abbrev pub fault_in : NamedFile → Option (List ℕ) → Option FileFault
 fault_in named None = Some Missing
-fault_in named (Some content) = if nat_lt named.limit (length content) then Some Long else option_map Refused (named.refused content)
+fault_in named (Some content) = if nat_lt named.limit (length content) then Some Long else named.refused content
 
 -- a file that can't be had, and why
 pub record Stop : Type 0 where
@@ -81,7 +81,8 @@ abbrev pub FaultSays : Option Files → NamedFile → FileFault → Type 0
 FaultSays files named Missing = OfFile files named.name (λ held. held ≡ None)
 FaultSays files named Long = OfFile files named.name (IsLonger named.limit)
 FaultSays files named Failed = Unit {0}
-FaultSays files named (Refused place) = ReadOf files named (λ content. named.refused content ≡ Some place)
+FaultSays files named (Refused place) = ReadOf files named (λ content. named.refused content ≡ Some (Refused place))
+FaultSays files named NoList = ReadOf files named (λ content. named.refused content ≡ Some NoList)
 FaultSays files named Memory = Unit {0}
 
 -- what a fault of the shelf says of the file of that name and limit
@@ -90,14 +91,16 @@ ShelfSays files name limit Missing = OfFile files name (λ held. held ≡ None)
 ShelfSays files name limit Long = OfFile files name (IsLonger limit)
 ShelfSays files name limit Failed = Unit {0}
 ShelfSays files name limit (Refused place) = ⊥
+ShelfSays files name limit NoList = ⊥
 ShelfSays files name limit Memory = Unit {0}
 
--- each fault comes only where the shelf's own count of it rose; a file outside its grammar was read
+-- each fault comes only where the shelf's own count of it rose; a file that is refused was read
 abbrev pub CausedBy : Counts → Counts → FileFault → Type 0
 CausedBy before now Missing = Rose before.misses now.misses
 CausedBy before now Long = Rose before.longs now.longs
 CausedBy before now Failed = Rose before.faults now.faults
 CausedBy before now (Refused place) = Rose before.reads now.reads
+CausedBy before now NoList = Rose before.reads now.reads
 CausedBy before now Memory = Unit {0}
 
 -- the reading ended at one of the files, and those before it have no fault
@@ -111,4 +114,5 @@ IsOutside Missing = ⊥
 IsOutside Long = ⊥
 IsOutside Failed = Unit {0}
 IsOutside (Refused place) = ⊥
+IsOutside NoList = ⊥
 IsOutside Memory = Unit {0}

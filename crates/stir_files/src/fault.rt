@@ -15,9 +15,12 @@ pub enum FileFault {
     Failed,
     /// The file is outside its grammar.
     Refused {
-        /// The first bad line, counted from 1; of trust anchors the offset of the first that is none.
+        /// The first bad line, counted from 1; of trust anchors the offset of the first that is none; of a certificate that of its first
+        /// broken part.
         place: u64,
     },
+    /// The file is a certificate without an authority list.
+    NoList,
     /// Memory ran out.
     Memory,
 }
@@ -28,7 +31,8 @@ impl FileFault {
         ensures { result ≡ fault_status self }
     {
         match self {
-            FileFault::Missing | FileFault::Long | FileFault::Refused { .. } => Status::Input,
+            FileFault::Missing | FileFault::Long | FileFault::Refused { .. } | FileFault::NoList =>
+                Status::Input,
             FileFault::Failed => Status::Read,
             FileFault::Memory => Status::Memory,
         }

@@ -6,16 +6,14 @@ ghost use Rattle.stir_files.specs.Named.{CausedBy, StopsAt};
 ghost use Rattle.stir_files.specs.Stop.{Truly, stop_of};
 ghost use Rattle.stir_words.specs.Seen.{judging_view};
 
-use crate::anchors::read_anchors;
 use crate::answers::read_answers;
-use crate::chains::read_chains;
+use crate::grounds::{Grounds, read_grounds};
 use crate::stop::FileStop;
-use crate::table::read_table;
 use cert_store::ChainMap;
 use delegation::Anchors;
 use std::alloc::Global;
 use stir_outside::{Answers, Shelf};
-use stir_words::Judging;
+use stir_words::{Asking, Judging};
 use tn_auth_list::CodeTable;
 
 /// What calls are judged by: what the four files say.
@@ -53,8 +51,8 @@ pub fn read_materials<'a, S: Shelf>(
     read_all(alloc, shelf, judging)
 }
 
-/// The four files, one after another.
-#[tactic(auto, using(crate::proofs::FileSteps::stop_chains, crate::proofs::FileSteps::stop_anchors, crate::proofs::FileSteps::stop_table, crate::proofs::FileSteps::stop_answers, crate::proofs::FileSteps::read_then, crate::proofs::FileSteps::caused_later, stir_outside::proofs::CountLaws::go_on))]
+/// The first three files, and then the answers.
+#[tactic(auto, using(crate::proofs::FileSteps::read_then, crate::proofs::FileSteps::caused_later, stir_outside::proofs::CountLaws::go_on))]
 fn read_all<'a, S: Shelf>(
     alloc: Global,
     shelf: &mut S,
@@ -66,32 +64,15 @@ fn read_all<'a, S: Shelf>(
     ensures stopped { IfErr result (λ stop. StopsAt (S.files shelf.old) (files_of (judging_view judging.now)) (stop_of stop)) }
     ensures cause { IfErr result (λ stop. CausedBy (S.counts shelf.old) (S.counts shelf.new) stop.fault) }
 {
-    let chains = match read_chains(alloc, shelf, judging.chains) {
-        Ok(chains) => chains,
-        Err(fault) => {
-            return Err(FileStop {
-                name: judging.chains,
-                fault,
-            });
-        }
+    let asking = Asking {
+        chains: judging.chains,
+        anchors: judging.anchors,
+        table: judging.table,
+        settings: judging.settings,
     };
-    let anchors = match read_anchors(alloc, shelf, judging.anchors) {
-        Ok(anchors) => anchors,
-        Err(fault) => {
-            return Err(FileStop {
-                name: judging.anchors,
-                fault,
-            });
-        }
-    };
-    let table = match read_table(alloc, shelf, judging.table) {
-        Ok(table) => table,
-        Err(fault) => {
-            return Err(FileStop {
-                name: judging.table,
-                fault,
-            });
-        }
+    let grounds = match read_grounds(alloc, shelf, &asking) {
+        Ok(grounds) => grounds,
+        Err(stop) => return Err(stop),
     };
     let answers = match read_answers(alloc, shelf, judging.answers) {
         Ok(answers) => answers,
@@ -102,6 +83,11 @@ fn read_all<'a, S: Shelf>(
             });
         }
     };
+    let Grounds {
+        chains,
+        anchors,
+        table,
+    } = grounds;
     Ok(Materials {
         chains,
         anchors,

@@ -16,7 +16,8 @@ pub struct FileStop<'a> {
 }
 
 impl FileStop<'_> {
-    /// The line that says it, with its LF: `missing NAME`, `long NAME`, `read fault NAME`, `refused NAME PLACE` or `want of memory`.
+    /// The line that says it, with its LF: `missing NAME`, `long NAME`, `read fault NAME`, `refused NAME PLACE`, `no list NAME` or
+    /// `want of memory`.
     pub fn line(&self, alloc: Global) -> Result<String, AllocError>
         ensures { IfOk result (λ line. string_bytes line ≡ event_line self.now.name.now self.now.fault) }
     {
@@ -26,6 +27,7 @@ impl FileStop<'_> {
             FileFault::Long => format!(in alloc; "long {name}\n"),
             FileFault::Failed => format!(in alloc; "read fault {name}\n"),
             FileFault::Refused { place } => format!(in alloc; "refused {name} {place}\n"),
+            FileFault::NoList => format!(in alloc; "no list {name}\n"),
             FileFault::Memory => String::from_str(alloc, "want of memory\n"),
         }
     }

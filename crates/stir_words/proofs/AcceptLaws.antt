@@ -5,7 +5,7 @@ use Rattle.stir_words.specs.Options.{Pair}
 use Rattle.stir_words.specs.Table.{Accepted, HoldsRequired, Known, KnownOnce, accepts, are_known, has, has_required, is_known}
 use Rattle.stir_words.proofs.TableLaws.{known_first, known_once}
 
-not_false : (b : Bool) → not b ≡ true → b ≡ false
+pub not_false : (b : Bool) → not b ≡ true → b ≡ false
 not_false true h = absurd cc
 not_false false h = refl
 

@@ -2,5 +2,11 @@ pub mod WordSteps
 pub mod TurnLaws
 pub mod TableLaws
 pub mod OrderLaws
+pub mod SigningLaws
 pub mod OptionLaws
 pub mod AcceptLaws
+pub mod FormLaws
+pub mod ToldWords
+pub mod ToldTable
+pub mod ToldWalk
+pub mod ToldLaws

@@ -1,15 +1,9 @@
 -- Options that are known and stand at most once: seen from the front, and seen from behind.
-use Rattle.std.proofs.Common.{◌≡◌, ℕ, Bool, true, false, not, ◌&&◌, ◌||◌, List, [], ◌∷◌, ◌++◌, refl, sym, ◌∙◌, ap, ◌+◌, drop, map}
+use Rattle.std.proofs.Common.{◌≡◌, ℕ, Bool, true, false, not, ◌&&◌, ◌||◌, List, [], ◌∷◌, ◌++◌, refl, sym, ◌∙◌, ap}
 use Rattle.std.specs.Cmp.Lexicographic.{nat_list_eq_equiv}
 use Rattle.std.specs.Str.{bytes_eq}
-use Rattle.stir_words.specs.Options.{Pair, are_options, options_in}
+use Rattle.stir_words.specs.Options.{Pair}
 use Rattle.stir_words.specs.Table.{Known, are_known, has, is_known}
-use Rattle.stir_words.specs.Seen.{Leads, behind, known_of, pair_of, texts}
-use Rattle.stir_words.specs.declared.commands.Row.{Row}
-use Rattle.stir_words.specs.declared.options.Turn.{Turn}
-use Rattle.std.specs.Borrow.{Bor}
-use Rattle.std.specs.List.{list_any}
-use Rattle.stir_words.proofs.TurnLaws.{further, no_options}
 
 -- each is an option of the table, and none behind it has its name
 abbrev pub known_once : List Known → List Pair → Bool
@@ -84,47 +78,10 @@ apart_none : (pairs : List Pair) → apart [] pairs ≡ true
 apart_none [] = refl
 apart_none (pair ∷ pairs) = apart_none pairs
 
-and_true : (b : Bool) → (b && true) ≡ b
+pub and_true : (b : Bool) → (b && true) ≡ b
 and_true true = refl
 and_true false = refl
 
 -- where nothing was seen before, both ways are one
 pub known_first : (table : List Known) (pairs : List Pair) → are_known table [] pairs ≡ known_once table pairs
 known_first table pairs = same_known table [] pairs ∙ ap (λ b. known_once table pairs && b) (apart_none pairs) ∙ and_true (known_once table pairs)
-
--- ---- one option after another
-
-pub known_more : (table : List Known) (all : List Pair) (words : List (Bor (List ℕ))) (place : ℕ) (turn : Turn) → are_options (texts (drop place words)) ≡ true
-    → known_once table (options_in (texts (drop place words))) ≡ known_once table all → Leads (drop place words) turn
-    → is_known table turn.name.now ≡ true → has turn.name.now (options_in (texts (drop (place + (1 + turn.more)) words))) ≡ false
-    → known_once table (options_in (texts (drop (place + (1 + turn.more)) words))) ≡ known_once table all
-known_more table all words place turn are same leads known alone =
-    let next = drop (place + (1 + turn.more)) words in
-    let there : options_in (behind (drop place words) turn) ≡ options_in (texts next) = ap (λ (x : List (Bor (List ℕ))). options_in (texts x)) (further words place turn.more) in
-    let here : known_once table (pair_of turn ∷ options_in (texts next)) ≡ known_once table (options_in (texts next)) = rw (known, alone) refl in
-    sym here ∙ ap (λ (x : List Pair). known_once table (pair_of turn ∷ x)) (sym there) ∙ sym (ap (known_once table) (leads are)) ∙ same
-
-pub unknown : (table : List Known) (all : List Pair) (words : List (Bor (List ℕ))) (turn : Turn) → are_options (texts words) ≡ true
-    → known_once table (options_in (texts words)) ≡ known_once table all → Leads words turn → is_known table turn.name.now ≡ false → false ≡ are_known table [] all
-unknown table all words turn are same leads known =
-    let here : known_once table (pair_of turn ∷ options_in (behind words turn)) ≡ false = rw known refl in
-    sym here ∙ sym (ap (known_once table) (leads are)) ∙ same ∙ sym (known_first table all)
-
-pub repeated : (table : List Known) (all : List Pair) (words : List (Bor (List ℕ))) (place : ℕ) (turn : Turn) → are_options (texts (drop place words)) ≡ true
-    → known_once table (options_in (texts (drop place words))) ≡ known_once table all → Leads (drop place words) turn
-    → has turn.name.now (options_in (texts (drop (place + (1 + turn.more)) words))) ≡ true → false ≡ are_known table [] all
-repeated table all words place turn are same leads stands =
-    let next = drop (place + (1 + turn.more)) words in
-    let there : options_in (behind (drop place words) turn) ≡ options_in (texts next) = ap (λ (x : List (Bor (List ℕ))). options_in (texts x)) (further words place turn.more) in
-    let here : known_once table (pair_of turn ∷ options_in (texts next)) ≡ false = rw stands (none_of (is_known table turn.name.now)) in
-    sym here ∙ ap (λ (x : List Pair). known_once table (pair_of turn ∷ x)) (sym there) ∙ sym (ap (known_once table) (leads are)) ∙ same ∙ sym (known_first table all)
-
-pub all_known : (table : List Known) (all : List Pair) (words : List (Bor (List ℕ))) → are_options (texts words) ≡ true → known_once table (options_in (texts words)) ≡ known_once table all
-    → (are_options (texts words) ≡ true → words ≡ []) → true ≡ are_known table [] all
-all_known table all words are same none =
-    sym (ap (λ (x : List (Bor (List ℕ))). known_once table (options_in (texts x))) (none are) ∙ ap (known_once table) no_options) ∙ same ∙ sym (known_first table all)
-
--- the names of a table, as the code looks through them
-pub known_map : (table : List Row) (name : List ℕ) → list_any (λ row. bytes_eq row.name.now name) table ≡ is_known (map known_of table) name
-known_map [] name = refl
-known_map (row ∷ table) name = ap (λ b. bytes_eq row.name.now name || b) (known_map table name)

@@ -1,5 +1,7 @@
 pub mod Options
 pub mod Table
+pub mod Values
 pub mod Order
 pub mod Seen
+pub mod Told
 pub mod Status

@@ -1,7 +1,7 @@
 -- How the words of a command line fall into options (this project's own rule). An option is one word `--name=value`, or a word
 -- `--name` and a next word that is the value.
 use Rattle.std.specs.Prelude.{unwrap_or, ◌≡◌, ℕ, ◌⊎◌, Bool, true, false, not, ◌==◌, List, [], ◌∷◌, ◌++◌, codes, is_some, Option, Some, None, option_and_then, if◌then◌else◌}
-use Rattle.std.specs.Option.{option_map}
+use Rattle.std.specs.Option.{option_map, option_map_or}
 use Rattle.text_grammar.specs.Cut.{behind, cut, lacks}
 
 -- ---- a word
@@ -74,6 +74,26 @@ are_options words = is_some (pairs_of words)
 -- the options of words that fall into options
 abbrev pub options_in : List (List ℕ) → List Pair
 options_in words = unwrap_or (pairs_of words) []
+
+-- ---- word by word
+
+-- behind a name, with its value where that stands behind `=`: whether the value has still to come; none where it can't
+abbrev pub step_with : Option (List ℕ) → Option Bool
+step_with None = Some true
+step_with (Some value) = if is_filled value then Some false else None
+
+abbrev pub step_named : Named → Option Bool
+step_named word = step_with word.value
+
+-- behind a word, where a value has to come or not: whether one has to come
+abbrev pub step : Bool → List ℕ → Option Bool
+step true word = if is_value word then Some false else None
+step false word = option_and_then step_named (long_of word)
+
+-- each word is an option or the value of one, where a value has to come first or not
+abbrev pub are_formed : Bool → List (List ℕ) → Bool
+are_formed waits [] = not waits
+are_formed waits (word ∷ words) = option_map_or (λ now. are_formed now words) (step waits word) false
 
 -- ---- the first option
 

@@ -1,12 +1,18 @@
 -- What a command line orders (this project's own rule): a command, and the values of its options.
-use Rattle.std.specs.Prelude.{unwrap_or, ℕ, List, [], ◌∷◌, codes, Option, Some, None, option_and_then, if◌then◌else◌}
+use Rattle.std.specs.Prelude.{◌≡◌, ◌≤◌, ℕ, true, List, [], ◌∷◌, codes, Option, Some, None, option_and_then, if◌then◌else◌}
 use Rattle.std.specs.Option.{option_map}
-use Rattle.text_grammar.specs.Decimal.{number_up_to}
-use Rattle.tn_values.specs.Local.{LocalView, local_of}
-use Rattle.stir_words.specs.Options.{Pair, pairs_of}
-use Rattle.stir_words.specs.Table.{accepts, command_named, get, options_of}
+use Rattle.text_grammar.specs.Moment.{last_second}
+use Rattle.text_grammar.specs.Uri.{is_uri}
+use Rattle.tn_values.specs.Local.{LocalView}
+use Rattle.tn_values.specs.Number.{is_number}
+use Rattle.passport_claims.specs.Form.{form_kind}
+use Rattle.passport_claims.specs.Made.{has_origid}
+use Rattle.passport_claims.specs.declared.form.Form.{Form}
+use Rattle.stir_words.specs.Options.{pairs_of}
+use Rattle.stir_words.specs.Table.{Given, accepts, command_named, given_by, options_of}
+use Rattle.stir_words.specs.Values.{earlier_of, form_of, iat_of, is_key, key_of, local_in, window_of, x5u_of}
 use Rattle.stir_words.specs.declared.commands.Command.{Command}
-use Rattle.stir_words.specs.declared.commands.Command.TheVariants.{Verify, Show}
+use Rattle.stir_words.specs.declared.commands.Command.TheVariants as commands
 
 -- how many seconds a PASSporT is fresh, and how numbers without `+` are read
 pub record SettingsView : Type 0 where
@@ -21,56 +27,155 @@ pub record JudgingView : Type 0 where
   pub answers : List ℕ
   pub settings : SettingsView
 
+-- the files that say what is asked of the provider of signatures, and the settings
+pub record AskingView : Type 0 where
+  pub chains : List ℕ
+  pub anchors : List ℕ
+  pub table : List ℕ
+  pub settings : SettingsView
+
+-- the files with the certificate of the holder of the key, and with what the codes of its authority list stand for
+pub record HolderNames : Type 0 where
+  pub leaf : List ℕ
+  pub table : List ℕ
+
+-- under which key and when it is signed, how numbers without `+` are read, and the files with the provider's answers and of the holder
+pub record SignerView : Type 0 where
+  pub key : List ℕ
+  pub x5u : List ℕ
+  pub iat : ℕ
+  pub local : LocalView
+  pub answers : List ℕ
+  pub holder : Option HolderNames
+
+-- the form of the PASSporT that is signed, and the same
+pub record SigningView : Type 0 where
+  pub form : Form
+  pub key : List ℕ
+  pub x5u : List ℕ
+  pub iat : ℕ
+  pub local : LocalView
+  pub answers : List ℕ
+  pub holder : Option HolderNames
+
+-- the number that was called before the diversion, and the same
+pub record DivertingView : Type 0 where
+  pub earlier : List ℕ
+  pub key : List ℕ
+  pub x5u : List ℕ
+  pub iat : ℕ
+  pub local : LocalView
+  pub answers : List ℕ
+  pub holder : Option HolderNames
+
 -- a command with the values of its options
 pub data OrderView : Type 0 where
   VerifyBy : JudgingView → OrderView
+  ExplainBy : JudgingView → OrderView
+  AskBy : AskingView → OrderView
+  SignBy : SigningView → OrderView
+  DivertBy : DivertingView → OrderView
   ShowCertificates : OrderView
 
 -- ---- the values
 
--- a number of at most so much; where the option doesn't stand, this one
-abbrev pub number_or : ℕ → ℕ → Option (List ℕ) → Option ℕ
-number_or other most None = Some other
-number_or other most (Some text) = number_up_to most text
+abbrev pub settings_of : Given → Option SettingsView
+settings_of given = option_and_then (λ window. option_map (λ l. record { window = window; local = l }) (local_in given)) (window_of given)
 
--- `--window`: at most a day, in seconds
-abbrev pub window_of : List Pair → Option ℕ
-window_of pairs = number_or 60 86400 (get (codes "window") pairs)
-
--- `--national`: a national number has at most 14 digits
-abbrev pub national_of : List Pair → Option ℕ
-national_of pairs = number_or 10 14 (get (codes "national") pairs)
-
--- `--country`: its digits, as they stand
-abbrev pub country_of : List Pair → List ℕ
-country_of pairs = unwrap_or (get (codes "country") pairs) (codes "1")
-
--- the country and the length of national numbers have to fit each other
-abbrev pub local_in : List Pair → Option LocalView
-local_in pairs = option_and_then (λ national. local_of (country_of pairs) national) (national_of pairs)
-
-abbrev pub settings_of : List Pair → Option SettingsView
-settings_of pairs = option_and_then (λ window. option_map (λ l. record { window = window; local = l }) (local_in pairs)) (window_of pairs)
-
-abbrev pub judging_of : List Pair → Option JudgingView
-judging_of pairs =
+abbrev pub judging_of : Given → Option JudgingView
+judging_of given =
     option_and_then (λ chains. option_and_then (λ anchors. option_and_then (λ table. option_and_then (λ answers.
-    option_map (λ settings. record { chains = chains; anchors = anchors; table = table; answers = answers; settings = settings }) (settings_of pairs))
-    (get (codes "answers") pairs)) (get (codes "table") pairs)) (get (codes "anchors") pairs)) (get (codes "chains") pairs)
+    option_map (λ settings. record { chains = chains; anchors = anchors; table = table; answers = answers; settings = settings }) (settings_of given))
+    (given (codes "answers"))) (given (codes "table"))) (given (codes "anchors"))) (given (codes "chains"))
+
+abbrev pub asking_of : Given → Option AskingView
+asking_of given =
+    option_and_then (λ chains. option_and_then (λ anchors. option_and_then (λ table.
+    option_map (λ settings. record { chains = chains; anchors = anchors; table = table; settings = settings }) (settings_of given))
+    (given (codes "table"))) (given (codes "anchors"))) (given (codes "chains"))
+
+-- `--leaf` and `--table` stand together, or neither stands
+abbrev pub holder_by : Option (List ℕ) → Option (List ℕ) → Option (Option HolderNames)
+holder_by None None = Some None
+holder_by (Some leaf) (Some table) = Some (Some (record { leaf = leaf; table = table }))
+holder_by (Some leaf) None = None
+holder_by None (Some table) = None
+
+abbrev pub holder_of : Given → Option (Option HolderNames)
+holder_of given = holder_by (given (codes "leaf")) (given (codes "table"))
+
+-- what `sign` and `divert` have in common, where each part is there
+abbrev pub signer_from : Option (List ℕ) → Option (List ℕ) → Option ℕ → Option LocalView → Option (List ℕ) → Option (Option HolderNames) → Option SignerView
+signer_from key x5u iat l answers holder =
+    option_and_then (λ k. option_and_then (λ u. option_and_then (λ i. option_and_then (λ n. option_and_then (λ a.
+    option_map (λ h. record { key = k; x5u = u; iat = i; local = n; answers = a; holder = h }) holder) answers) l) iat) x5u) key
+
+abbrev pub signer_of : Given → Option SignerView
+signer_of given = signer_from (key_of given) (x5u_of given) (iat_of given) (local_in given) (given (codes "answers")) (holder_of given)
+
+abbrev pub signing_by : Form → SignerView → SigningView
+signing_by form by = record { form = form; key = by.key; x5u = by.x5u; iat = by.iat; local = by.local; answers = by.answers; holder = by.holder }
+
+abbrev pub signing_from : Option Form → Option SignerView → Option SigningView
+signing_from form by = option_and_then (λ f. option_map (signing_by f) by) form
+
+abbrev pub signing_of : Given → Option SigningView
+signing_of given = signing_from (form_of given) (signer_of given)
+
+abbrev pub diverting_by : List ℕ → SignerView → DivertingView
+diverting_by earlier by =
+    record { earlier = earlier; key = by.key; x5u = by.x5u; iat = by.iat; local = by.local; answers = by.answers; holder = by.holder }
+
+abbrev pub diverting_from : Option (List ℕ) → Option SignerView → Option DivertingView
+diverting_from earlier by = option_and_then (λ e. option_map (diverting_by e) by) earlier
+
+abbrev pub diverting_of : Given → Option DivertingView
+diverting_of given = diverting_from (earlier_of given) (signer_of given)
 
 -- ---- the whole
 
 -- what a command orders with these options
-abbrev pub order_with : Command → List Pair → Option OrderView
-order_with Verify pairs = option_map VerifyBy (judging_of pairs)
-order_with Show pairs = Some ShowCertificates
+abbrev pub order_with : Command → Given → Option OrderView
+order_with commands.Verify given = option_map VerifyBy (judging_of given)
+order_with commands.Explain given = option_map ExplainBy (judging_of given)
+order_with commands.Ask given = option_map AskBy (asking_of given)
+order_with commands.Sign given = option_map SignBy (signing_of given)
+order_with commands.Divert given = option_map DivertBy (diverting_of given)
+order_with commands.Show given = Some ShowCertificates
 
 -- what a command orders with words that fall into options of its table
 abbrev pub order_by : Command → List (List ℕ) → Option OrderView
 order_by command words =
-    option_and_then (λ pairs. if accepts (options_of command) pairs then order_with command pairs else None) (pairs_of words)
+    option_and_then (λ pairs. if accepts (options_of command) pairs then order_with command (given_by pairs) else None) (pairs_of words)
 
 -- what the words behind the program's name order: the first is the name of a command, and the others are its options
 unfoldable pub order_of : List (List ℕ) → Option OrderView
 order_of [] = None
 order_of (name ∷ words) = option_and_then (λ command. order_by command words) (command_named name)
+
+-- ---- what signing takes for granted
+
+-- the key has a name, its certificates a URI, and it is signed no later than the year 9999
+pub record IsSigner (key x5u : List ℕ) (iat : ℕ) : Type 0 where
+  pub name : is_key key ≡ true
+  pub uri : is_uri x5u ≡ true
+  pub within : iat ≤ last_second
+
+-- the same, and the identifier of the call, where the form has one, is a UUID in 36 characters
+pub record IsSigning (order : SigningView) : Type 0 where
+  pub by : IsSigner order.key order.x5u order.iat
+  pub origid : has_origid (form_kind order.form) ≡ true
+
+-- the same, and what was called before the diversion is a number
+pub record IsDiverting (order : DivertingView) : Type 0 where
+  pub by : IsSigner order.key order.x5u order.iat
+  pub number : is_number order.earlier ≡ true
+
+-- what is ordered can be signed, where it is to be
+abbrev pub CanBeSigned : OrderView → Type 0
+CanBeSigned (SignBy order) = IsSigning order
+CanBeSigned (DivertBy order) = IsDiverting order
+CanBeSigned (VerifyBy judging) = Unit {0}
+CanBeSigned (ExplainBy judging) = Unit {0}
+CanBeSigned (AskBy asking) = Unit {0}
+CanBeSigned ShowCertificates = Unit {0}

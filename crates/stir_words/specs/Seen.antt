@@ -1,17 +1,23 @@
 -- How clauses see the words, the options and the orders that the code holds.
-use Rattle.std.specs.Prelude.{◌≡◌, ℕ, suc, true, List, ◌∷◌, map, drop}
+use Rattle.std.specs.Prelude.{◌≡◌, ℕ, List, map, Option, Some, None, Result, Ok, Err}
 use Rattle.std.specs.Borrow.{Bor}
-use Rattle.std.specs.Option.{option_copied}
-use Rattle.stir_words.specs.Options.{First, Named, Pair, are_options, options_in}
+use Rattle.std.specs.Option.{option_copied, option_map}
+use Rattle.stir_words.specs.Options.{Named}
 use Rattle.stir_words.specs.Table.{Known}
-use Rattle.stir_words.specs.Order.{JudgingView, OrderView, SettingsView, VerifyBy, ShowCertificates}
+use Rattle.stir_words.specs.Order.{AskingView, DivertingView, HolderNames, JudgingView, OrderView, SettingsView, SignerView, SigningView, VerifyBy, ExplainBy, AskBy, SignBy, DivertBy, ShowCertificates}
 use Rattle.stir_words.specs.declared.commands.Row.{Row}
 use Rattle.stir_words.specs.declared.options.Long.{Long}
-use Rattle.stir_words.specs.declared.options.Turn.{Turn}
+use Rattle.stir_words.specs.declared.fault.WordsFault.{WordsFault}
+use Rattle.stir_words.specs.declared.fault.WordsFault.TheVariants.{Refused, Memory}
 use Rattle.stir_words.specs.declared.settings.Settings.{Settings}
+use Rattle.stir_words.specs.declared.order.Asking.{Asking}
 use Rattle.stir_words.specs.declared.order.Judging.{Judging}
 use Rattle.stir_words.specs.declared.order.Order.{Order}
-use Rattle.stir_words.specs.declared.order.Order.TheVariants.{Verify, Show}
+use Rattle.stir_words.specs.declared.order.Order.TheVariants.{Verify, Explain, Ask, Sign, Divert, Show}
+use Rattle.stir_words.specs.declared.signing.Diverting.{Diverting}
+use Rattle.stir_words.specs.declared.signing.HolderFiles.{HolderFiles}
+use Rattle.stir_words.specs.declared.signing.Signer.{Signer}
+use Rattle.stir_words.specs.declared.signing.Signing.{Signing}
 
 -- the texts of the words
 abbrev pub texts : List (Bor (List ℕ)) → List (List ℕ)
@@ -19,29 +25,6 @@ texts words = map (λ word. word.now) words
 
 abbrev pub named_of : Long → Named
 named_of long = record { name = long.name.now; value = option_copied long.value }
-
--- the option of a turn
-abbrev pub pair_of : Turn → Pair
-pair_of turn = record { name = turn.name.now; value = turn.value.now }
-
--- the option, and what stands behind it, where these are the words behind its first
-abbrev pub first_behind : List (Bor (List ℕ)) → Turn → First
-first_behind words turn = record { pair = pair_of turn; rest = texts (drop turn.more words) }
-
--- the words behind the option with which these words begin
-abbrev pub behind : List (Bor (List ℕ)) → Turn → List (List ℕ)
-behind words turn = texts (drop (suc turn.more) words)
-
-abbrev pub first_seen : List (Bor (List ℕ)) → Turn → First
-first_seen words turn = record { pair = pair_of turn; rest = behind words turn }
-
--- the words fall into options where those behind the first option do
-abbrev pub FallsOn : List (Bor (List ℕ)) → Turn → Type 0
-FallsOn words turn = are_options (texts words) ≡ are_options (behind words turn)
-
--- the options of the words are the first and those of the words behind it
-abbrev pub Leads : List (Bor (List ℕ)) → Turn → Type 0
-Leads words turn = are_options (texts words) ≡ true → options_in (texts words) ≡ pair_of turn ∷ options_in (behind words turn)
 
 abbrev pub known_of : Row → Known
 known_of row = record { name = row.name.now; required = row.required }
@@ -58,6 +41,59 @@ judging_view judging = record {
   settings = settings_view judging.settings;
 }
 
+abbrev pub asking_view : Asking → AskingView
+asking_view asking = record {
+  chains = asking.chains.now;
+  anchors = asking.anchors.now;
+  table = asking.table.now;
+  settings = settings_view asking.settings;
+}
+
+abbrev pub holder_view : HolderFiles → HolderNames
+holder_view files = record { leaf = files.leaf.now; table = files.table.now }
+
+abbrev pub signer_view : Signer → SignerView
+signer_view signer = record {
+  key = signer.key.now;
+  x5u = signer.x5u.now;
+  iat = signer.iat;
+  local = signer.local;
+  answers = signer.answers.now;
+  holder = option_map holder_view signer.holder;
+}
+
+abbrev pub signing_view : Signing → SigningView
+signing_view signing = record {
+  form = signing.form;
+  key = signing.key.now;
+  x5u = signing.x5u.now;
+  iat = signing.iat;
+  local = signing.local;
+  answers = signing.answers.now;
+  holder = option_map holder_view signing.holder;
+}
+
+abbrev pub diverting_view : Diverting → DivertingView
+diverting_view diverting = record {
+  earlier = diverting.earlier;
+  key = diverting.key.now;
+  x5u = diverting.x5u.now;
+  iat = diverting.iat;
+  local = diverting.local;
+  answers = diverting.answers.now;
+  holder = option_map holder_view diverting.holder;
+}
+
 abbrev pub order_view : Order → OrderView
 order_view (Verify judging) = VerifyBy (judging_view judging)
+order_view (Explain judging) = ExplainBy (judging_view judging)
+order_view (Ask asking) = AskBy (asking_view asking)
+order_view (Sign signing) = SignBy (signing_view signing)
+order_view (Divert diverting) = DivertBy (diverting_view diverting)
 order_view Show = ShowCertificates
+
+-- the answer is what is ordered; or nothing is, or memory was wanting
+abbrev pub Orders : Option OrderView → Result Order WordsFault → Type 0
+Orders order (Ok found) = order ≡ Some (order_view found)
+Orders order (Err Refused) = order ≡ None
+Orders order (Err Memory) = Unit {0}

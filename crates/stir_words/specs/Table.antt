@@ -4,7 +4,7 @@ use Rattle.std.specs.List.{list_any, list_all}
 use Rattle.std.specs.Str.{bytes_eq}
 use Rattle.stir_words.specs.Options.{Pair}
 use Rattle.stir_words.specs.declared.commands.Command.{Command}
-use Rattle.stir_words.specs.declared.commands.Command.TheVariants.{Verify, Show}
+use Rattle.stir_words.specs.declared.commands.Command.TheVariants.{Verify, Explain, Ask, Sign, Divert, Show}
 
 -- an option that a command takes
 pub record Known : Type 0 where
@@ -15,6 +15,13 @@ pub record Known : Type 0 where
 abbrev pub get : List ℕ → List Pair → Option (List ℕ)
 get name [] = None
 get name (pair ∷ pairs) = if bytes_eq pair.name name then Some pair.value else get name pairs
+
+-- the value of the option of each name, where it stands
+abbrev pub Given : Type 0
+Given = List ℕ → Option (List ℕ)
+
+abbrev pub given_by : List Pair → Given
+given_by pairs = λ name. get name pairs
 
 -- an option of that name stands among them
 abbrev pub has : List ℕ → List Pair → Bool
@@ -47,17 +54,37 @@ needed name = record { name = name; required = true }
 abbrev pub optional : List ℕ → Known
 optional name = record { name = name; required = false }
 
+-- the options of settings, all of which may be left out
+abbrev pub of_settings : List Known
+of_settings = optional (codes "window") ∷ optional (codes "country") ∷ optional (codes "national") ∷ []
+
+-- the options by which calls are judged
+abbrev pub of_judging : List Known
+of_judging = needed (codes "chains") ∷ needed (codes "anchors") ∷ needed (codes "table") ∷ needed (codes "answers") ∷ of_settings
+
+-- the options that `sign` and `divert` have in common
+abbrev pub of_signer : List Known
+of_signer =
+    needed (codes "key") ∷ needed (codes "x5u") ∷ needed (codes "iat") ∷ needed (codes "answers")
+    ∷ optional (codes "leaf") ∷ optional (codes "table") ∷ optional (codes "country") ∷ optional (codes "national") ∷ []
+
 -- the options of a command
 abbrev pub options_of : Command → List Known
-options_of Verify =
-    needed (codes "chains") ∷ needed (codes "anchors") ∷ needed (codes "table") ∷ needed (codes "answers")
-    ∷ optional (codes "window") ∷ optional (codes "country") ∷ optional (codes "national") ∷ []
+options_of Verify = of_judging
+options_of Explain = of_judging
+options_of Ask = needed (codes "chains") ∷ needed (codes "anchors") ∷ needed (codes "table") ∷ of_settings
+options_of Sign = needed (codes "form") ∷ optional (codes "attest") ∷ optional (codes "origid") ∷ of_signer
+options_of Divert = needed (codes "earlier") ∷ of_signer
 options_of Show = []
 
 -- the command of that name
 abbrev pub command_named : List ℕ → Option Command
 command_named name =
     if bytes_eq name (codes "verify") then Some Verify
+    else if bytes_eq name (codes "explain") then Some Explain
+    else if bytes_eq name (codes "ask") then Some Ask
+    else if bytes_eq name (codes "sign") then Some Sign
+    else if bytes_eq name (codes "divert") then Some Divert
     else if bytes_eq name (codes "show") then Some Show
     else None
 

@@ -8,6 +8,14 @@ ghost use Rattle.stir_words.specs.Table.{command_named, options_of};
 pub(crate) enum Command {
     /// Judges the calls of a log.
     Verify,
+    /// Judges the calls of a log, each by itself, and says which rules hold.
+    Explain,
+    /// Says what the provider of signatures is asked.
+    Ask,
+    /// Signs a call.
+    Sign,
+    /// Signs the diversion of a call.
+    Divert,
     /// Shows the certificates of a chain.
     Show,
 }
@@ -19,36 +27,134 @@ pub(crate) struct Row {
     pub(crate) required: bool,
 }
 
-/// The options of `verify`.
-const VERIFY: [Row; 7] = [
-    Row {
-        name: "chains",
-        required: true,
-    },
-    Row {
-        name: "anchors",
-        required: true,
-    },
-    Row {
-        name: "table",
-        required: true,
-    },
-    Row {
-        name: "answers",
-        required: true,
-    },
-    Row {
-        name: "window",
-        required: false,
-    },
-    Row {
-        name: "country",
-        required: false,
-    },
-    Row {
-        name: "national",
-        required: false,
-    },
+/// The file with the chain map.
+const CHAINS: Row = Row {
+    name: "chains",
+    required: true,
+};
+
+/// The file with the trust anchors.
+const ANCHORS: Row = Row {
+    name: "anchors",
+    required: true,
+};
+
+/// The file with the code table.
+const TABLE: Row = Row {
+    name: "table",
+    required: true,
+};
+
+/// The file with the answers of the provider of signatures.
+const ANSWERS: Row = Row {
+    name: "answers",
+    required: true,
+};
+
+/// How many seconds a PASSporT is fresh.
+const WINDOW: Row = Row {
+    name: "window",
+    required: false,
+};
+
+/// The digits of the country.
+const COUNTRY: Row = Row {
+    name: "country",
+    required: false,
+};
+
+/// How many digits a national number has.
+const NATIONAL: Row = Row {
+    name: "national",
+    required: false,
+};
+
+/// The name of the key.
+const KEY: Row = Row {
+    name: "key",
+    required: true,
+};
+
+/// The URI of the key's certificates.
+const X5U: Row = Row {
+    name: "x5u",
+    required: true,
+};
+
+/// When it is signed.
+const IAT: Row = Row {
+    name: "iat",
+    required: true,
+};
+
+/// The form of the PASSporT.
+const FORM: Row = Row {
+    name: "form",
+    required: true,
+};
+
+/// The attestation, with `shaken`.
+const ATTEST: Row = Row {
+    name: "attest",
+    required: false,
+};
+
+/// The identifier of the call, with `shaken`.
+const ORIGID: Row = Row {
+    name: "origid",
+    required: false,
+};
+
+/// The number that was called before the diversion.
+const EARLIER: Row = Row {
+    name: "earlier",
+    required: true,
+};
+
+/// The file with the certificate of the holder of the key.
+const LEAF: Row = Row {
+    name: "leaf",
+    required: false,
+};
+
+/// The file with the code table of the holder of the key.
+const HOLDER_TABLE: Row = Row {
+    name: "table",
+    required: false,
+};
+
+/// The options of `verify` and `explain`.
+const JUDGING: [Row; 7] = [CHAINS, ANCHORS, TABLE, ANSWERS, WINDOW, COUNTRY, NATIONAL];
+
+/// The options of `ask`.
+const ASKING: [Row; 6] = [CHAINS, ANCHORS, TABLE, WINDOW, COUNTRY, NATIONAL];
+
+/// The options of `sign`.
+const SIGNING: [Row; 11] = [
+    FORM,
+    ATTEST,
+    ORIGID,
+    KEY,
+    X5U,
+    IAT,
+    ANSWERS,
+    LEAF,
+    HOLDER_TABLE,
+    COUNTRY,
+    NATIONAL,
+];
+
+/// The options of `divert`.
+const DIVERTING: [Row; 9] = [
+    EARLIER,
+    KEY,
+    X5U,
+    IAT,
+    ANSWERS,
+    LEAF,
+    HOLDER_TABLE,
+    COUNTRY,
+    NATIONAL,
 ];
 
 impl Command {
@@ -56,12 +162,14 @@ impl Command {
     pub(crate) fn named(name: &str) -> Option<Command>
         ensures { result ≡ command_named name.now }
     {
-        if name == "verify" {
-            Some(Command::Verify)
-        } else if name == "show" {
-            Some(Command::Show)
-        } else {
-            None
+        match name {
+            "verify" => Some(Command::Verify),
+            "explain" => Some(Command::Explain),
+            "ask" => Some(Command::Ask),
+            "sign" => Some(Command::Sign),
+            "divert" => Some(Command::Divert),
+            "show" => Some(Command::Show),
+            _ => None,
         }
     }
 
@@ -70,7 +178,10 @@ impl Command {
         ensures { map known_of result.now ≡ options_of self }
     {
         match self {
-            Command::Verify => &VERIFY,
+            Command::Verify | Command::Explain => &JUDGING,
+            Command::Ask => &ASKING,
+            Command::Sign => &SIGNING,
+            Command::Divert => &DIVERTING,
             Command::Show => &[],
         }
     }

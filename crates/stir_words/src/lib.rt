@@ -1,17 +1,22 @@
 //! The words of a command line: a command, and options with values of their types.
 //!
 //! [`Order::of`] reads them as this project's own rule says: which options a command takes stands in one table, each option is a word
-//! `--name=value` or a word `--name` and a next word that is the value, and no other list of words is accepted. [`Status`] is the number
-//! with which the program ends. Nothing here takes memory.
+//! `--name=value` or a word `--name` and a next word that is the value, and no other list of words is accepted. The options are read by clap.
+//! [`Status`] is the number with which the program ends.
 #![tactic(auto)]
 
+mod clap_options;
 mod commands;
+mod fault;
 mod options;
 mod order;
 mod settings;
+mod signing;
 mod status;
-mod table;
+mod values;
 
-pub use order::{Judging, Order};
+pub use fault::WordsFault;
+pub use order::{Asking, Judging, Order};
 pub use settings::Settings;
+pub use signing::{Diverting, HolderFiles, Signing};
 pub use status::Status;

@@ -1,26 +1,16 @@
 //! Options, as words.
-ghost use Rattle.std.specs.Prelude.{◌≡◌, ◌+◌, ◌<◌, ◌≤◌, ◌==◌, ℕ, List, [], true, codes, drop, length, MatchOption, IfSome, IfNone};
-ghost use Rattle.std.specs.Borrow.{Bor};
+ghost use Rattle.std.specs.Prelude.{◌≡◌, ◌<◌, ◌==◌, true, false, codes, length, Some, MatchOption};
 ghost use Rattle.std.specs.List.{position_or_len, before_first, after_first};
 ghost use Rattle.std.specs.Option.{option_copied, option_map};
 ghost use Rattle.text_grammar.specs.Cut.{behind};
-ghost use Rattle.stir_words.specs.Options.{are_options, first_of, is_value, joined, long_of, named, options_in, parted};
-ghost use Rattle.stir_words.specs.Seen.{FallsOn, Leads, first_behind, first_seen, named_of, texts};
-ghost use Rattle.stir_words.specs.Table.{get};
+ghost use Rattle.stir_words.specs.Options.{are_formed, are_options, is_value, long_of, named, step, step_named, step_with};
+ghost use Rattle.stir_words.specs.Seen.{named_of, texts};
 
 /// What a word says that begins with two dashes: a name, and the value behind its first `=` where it has one.
 #[derive(Clone, Copy, Debug)]
 pub(crate) struct Long<'a> {
     pub(crate) name: &'a str,
     pub(crate) value: Option<&'a str>,
-}
-
-/// The option with which words begin: it takes the first word, and so many more.
-#[derive(Clone, Copy, Debug)]
-pub(crate) struct Turn<'a> {
-    pub(crate) name: &'a str,
-    pub(crate) value: &'a str,
-    pub(crate) more: usize,
 }
 
 /// What stands behind the two dashes of a word.
@@ -84,103 +74,61 @@ fn is_value(word: &str) -> bool
     }
 }
 
-/// The option with which the words begin.
-fn first_of<'a>(words: &[&'a str]) -> Option<Turn<'a>>
-    ensures exact { option_map (first_seen words.now) result ≡ first_of (texts words.now) }
-    ensures within { IfSome result (λ turn. turn.more < length words.now) }
+/// Whether a name waits for its value behind this word, where one waits in front of it or not; None where the word can't stand there.
+fn step(waits: bool, word: &str) -> Option<bool>
+    ensures { result ≡ step waits word.now }
 {
-    let [word, rest @ ..] = words else {
-        return None;
-    };
-    let Some(long) = long_of(word) else {
-        return None;
-    };
+    if waits {
+        return behind_value(word);
+    }
+    match long_of(word) {
+        Some(long) => behind_long(&long),
+        None => None,
+    }
+}
+
+/// Behind a word that has to be a value.
+fn behind_value(word: &str) -> Option<bool>
+    ensures { result ≡ step true word.now }
+{
+    if is_value(word) { Some(false) } else { None }
+}
+
+/// Behind a word that is a name, with its value where that stands behind `=`.
+fn behind_long(long: &Long<'_>) -> Option<bool>
+    ensures { result ≡ step_named (named_of long.now) }
+{
     match long.value {
-        Some(value) => joined(long.name, value),
-        None => parted(long.name, rest),
+        Some(value) => behind_sign(value),
+        None => Some(true),
     }
 }
 
-/// An option whose value stands behind `=`.
-fn joined<'a>(name: &'a str, value: &'a str) -> Option<Turn<'a>>
-    ensures exact { (words : List (Bor (List ℕ))) → option_map (first_behind words) result ≡ joined name.entry.now value.entry.now (texts words) }
-    ensures within { IfSome result (λ turn. turn.more ≡ 0) }
+/// Behind a value that stands behind `=`.
+fn behind_sign(value: &str) -> Option<bool>
+    ensures { result ≡ step_with (Some value.now) }
 {
-    if value.is_empty() {
-        return None;
+    if value.is_empty() { None } else { Some(false) }
+}
+
+/// Whether each word is an option or the value of one.
+fn are_formed(words: &[&str]) -> bool
+    ensures { result ≡ are_formed false (texts words.now) }
+{
+    let mut waits = false;
+    for word in words {
+        match step(waits, word) {
+            Some(waits_now) => waits = waits_now,
+            None => return false,
+        }
     }
-    Some(Turn {
-        name,
-        value,
-        more: 0,
-    })
-}
-
-/// An option whose value stands in the next word.
-fn parted<'a>(name: &'a str, words: &[&'a str]) -> Option<Turn<'a>>
-    ensures exact { option_map (first_behind words.now) result ≡ parted name.entry.now (texts words.now) }
-    ensures within { IfSome result (λ turn. turn.more ≤ length words.now) }
-{
-    let [value, ..] = words else {
-        return None;
-    };
-    if !is_value(value) {
-        return None;
-    }
-    Some(Turn {
-        name,
-        value,
-        more: 1,
-    })
-}
-
-/// The option with which words begin that fall into options; None where there are no words.
-///
-/// Where there are words and they don't begin with an option, they don't fall into options.
-#[tactic(auto, using(crate::proofs::TurnLaws::falls_if, crate::proofs::TurnLaws::leads_if, crate::proofs::TurnLaws::stops_if))]
-pub(crate) fn next_option<'a>(words: &[&'a str]) -> Option<Turn<'a>>
-    ensures falls { IfSome result (FallsOn words.now) }
-    ensures leads { IfSome result (Leads words.now) }
-    ensures within { IfSome result (λ turn. turn.more < length words.now) }
-    ensures stops { IfNone result (are_options (texts words.now) ≡ true → words.now ≡ []) }
-{
-    first_of(words)
-}
-
-/// The words from this place on.
-pub(crate) fn words_from<'w, 'a>(words: &'w [&'a str], place: usize) -> &'w [&'a str]
-    requires { place ≤ length words.now }
-    ensures rest { result.now ≡ drop place words.now }
-    ensures left { length result.now + place ≡ length words.now }
-{
-    let (_, rest) = words.split_at(place);
-    rest
+    !waits
 }
 
 /// Whether the words fall into options.
-#[tactic(auto, using(crate::proofs::TurnLaws::falls_on, crate::proofs::TurnLaws::ended))]
+#[tactic(auto, using(crate::proofs::FormLaws::formed_are))]
 pub(crate) fn are_options(words: &[&str]) -> bool
     ensures { result ≡ are_options (texts words.now) }
 {
-    let mut place = 0;
-    while let Some(turn) = next_option(words_from(words, place)) {
-        place += 1 + turn.more;
-    }
-    place == words.len()
-}
-
-/// The value of the option of that name, among words that fall into options.
-#[tactic(auto, using(crate::proofs::TurnLaws::still_falls, crate::proofs::TurnLaws::get_here, crate::proofs::TurnLaws::get_behind, crate::proofs::TurnLaws::get_none))]
-pub(crate) fn value_of<'a>(words: &[&'a str], name: &str) -> Option<&'a str>
-    requires { are_options (texts words.now) ≡ true }
-    ensures { option_copied result ≡ get name.now (options_in (texts words.now)) }
-{
-    let mut place = 0;
-    while let Some(turn) = next_option(words_from(words, place)) {
-        if turn.name == name {
-            return Some(turn.value);
-        }
-        place += 1 + turn.more;
-    }
-    None
+    are_formed(words)
 }

@@ -88,28 +88,45 @@ fn put_kind(answer: Answer, kind: &Kind) -> Answer {
     }
 }
 
-/// What making a PASSporT of its parts answers: its type with what this adds, and the other parts.
+/// What making a PASSporT of its parts answers: header and payload, or the part that is refused.
 fn made(alloc: Global, words: &[&[u8]]) -> Result<String, Unread> {
+    match made_of(alloc, words)? {
+        Ok(passport) => values(alloc, &passport),
+        Err(fault) => word(alloc, name_of(fault)?),
+    }
+}
+
+/// The PASSporT of these parts.
+pub fn passport_of(alloc: Global, words: &[&[u8]]) -> Result<Passport, Unread> {
+    match made_of(alloc, words)? {
+        Ok(passport) => Ok(passport),
+        Err(_) => Err(Unread::Value),
+    }
+}
+
+/// What making a PASSporT of its parts comes to: its type with what this adds, and the other parts.
+fn made_of(alloc: Global, words: &[&[u8]]) -> Result<Result<Passport, ClaimFault>, Unread> {
     match words {
-        [b"base", parts @ ..] => made_of(alloc, Kind::Base, parts),
-        [b"shaken", attest, origid, parts @ ..] => made_of(alloc, shaken(attest, origid)?, parts),
-        [b"div", div, parts @ ..] => made_of(alloc, diverted(div)?, parts),
+        [b"base", parts @ ..] => made_by(alloc, Kind::Base, parts),
+        [b"shaken", attest, origid, parts @ ..] => made_by(alloc, shaken(attest, origid)?, parts),
+        [b"div", div, parts @ ..] => made_by(alloc, diverted(div)?, parts),
         _ => Err(Unread::Call),
     }
 }
 
-/// Header and payload of a PASSporT of this type: the URI, the time, the calling number and the called ones.
-fn made_of(alloc: Global, kind: Kind, words: &[&[u8]]) -> Result<String, Unread> {
+/// The same of this type: the URI, the time, the calling number and the called ones.
+fn made_by(
+    alloc: Global,
+    kind: Kind,
+    words: &[&[u8]],
+) -> Result<Result<Passport, ClaimFault>, Unread> {
     let [x5u, iat, orig, called @ ..] = words else {
         return Err(Unread::Call);
     };
     let iat = number(iat)?;
     let orig = number_of(orig)?;
     let called = numbers_of(alloc, called)?;
-    match Passport::new(alloc, kind, x5u, iat, orig, called.as_slice()) {
-        Ok(passport) => values(alloc, &passport),
-        Err(fault) => word(alloc, name_of(fault)?),
-    }
+    Ok(Passport::new(alloc, kind, x5u, iat, orig, called.as_slice()))
 }
 
 /// Header and payload in their deterministic form.
@@ -139,7 +156,7 @@ fn shaken(attest: &[u8], origid: &[u8]) -> Result<Kind, Unread> {
 }
 
 /// The attestation of this letter.
-fn attest_of(letter: &[u8]) -> Result<Attest, Unread> {
+pub fn attest_of(letter: &[u8]) -> Result<Attest, Unread> {
     match letter {
         b"A" => Ok(Attest::A),
         b"B" => Ok(Attest::B),

@@ -5,10 +5,11 @@ use crate::chains::numbers_of;
 use crate::numbers::put_local;
 use crate::table::{Unread, text};
 use crate::words::files_of;
+use passport_claims::Form;
 use std::alloc::Global;
 use stir_files::read_materials;
 use stir_outside::ShelfMem;
-use stir_words::{Judging, Order};
+use stir_words::{Asking, Diverting, HolderFiles, Judging, Order, Settings, Signing, WordsFault};
 
 /// What a call on words answers.
 pub fn words(alloc: Global, call: &str, words: &[&[u8]]) -> Result<String, Unread> {
@@ -21,13 +22,22 @@ pub fn words(alloc: Global, call: &str, words: &[&[u8]]) -> Result<String, Unrea
 /// What the words of a command line ask for.
 fn order(alloc: Global, words: &[&[u8]]) -> Result<String, Unread> {
     let texts = texts_of(alloc, words)?;
-    match Order::of(texts.as_slice()) {
-        None => word(alloc, "refused"),
-        Some(Order::Show) => word(alloc, "show"),
-        Some(Order::Verify(judging)) => put_judging(
-            Answer::new(alloc).word("verify"),
-            &judging,
-        ).line(),
+    match Order::of(alloc, texts.as_slice()) {
+        Ok(order) => put_order(Answer::new(alloc), &order).line(),
+        Err(WordsFault::Refused) => word(alloc, "refused"),
+        Err(WordsFault::Memory) => Err(Unread::Memory),
+    }
+}
+
+/// Puts the name of a command and the values of its options behind other words.
+fn put_order(answer: Answer, order: &Order<'_>) -> Answer {
+    match order {
+        Order::Verify(judging) => put_judging(answer.word("verify"), judging),
+        Order::Explain(judging) => put_judging(answer.word("explain"), judging),
+        Order::Ask(asking) => put_asking(answer.word("ask"), asking),
+        Order::Sign(signing) => put_signing(answer.word("sign"), signing),
+        Order::Divert(diverting) => put_diverting(answer.word("divert"), diverting),
+        Order::Show => answer.word("show"),
     }
 }
 
@@ -40,15 +50,69 @@ fn texts_of<'a>(alloc: Global, words: &[&'a [u8]]) -> Result<Vec<&'a str>, Unrea
     Ok(texts)
 }
 
-/// Puts the four names, the window, the country and the length of national numbers behind other words.
+/// Puts the four names and the settings behind other words.
 fn put_judging(answer: Answer, judging: &Judging<'_>) -> Answer {
     let answer = answer
         .text(judging.chains.as_bytes())
         .text(judging.anchors.as_bytes())
         .text(judging.table.as_bytes())
         .text(judging.answers.as_bytes());
-    let settings = judging.settings;
+    put_settings(answer, &judging.settings)
+}
+
+/// Puts the three names and the settings behind other words.
+fn put_asking(answer: Answer, asking: &Asking<'_>) -> Answer {
+    let answer = answer
+        .text(asking.chains.as_bytes())
+        .text(asking.anchors.as_bytes())
+        .text(asking.table.as_bytes());
+    put_settings(answer, &asking.settings)
+}
+
+/// Puts the window, the country and the length of national numbers behind other words.
+fn put_settings(answer: Answer, settings: &Settings) -> Answer {
     put_local(answer.word(settings.window), &settings.local)
+}
+
+/// Puts what is to be signed of a call behind other words: the form, with the attestation and the identifier where it has them, the key,
+/// the URI, the second, the local numbering, and the files of the answers and of the holder.
+fn put_signing(answer: Answer, signing: &Signing<'_>) -> Answer {
+    let answer = put_form(answer, &signing.form)
+        .text(signing.key.as_bytes())
+        .text(signing.x5u.as_bytes())
+        .word(signing.iat);
+    let answer = put_local(answer, &signing.local).text(signing.answers.as_bytes());
+    put_holder(answer, &signing.holder)
+}
+
+/// Puts how a diversion is to be signed behind other words: the earlier number, and the others as above.
+fn put_diverting(answer: Answer, diverting: &Diverting<'_>) -> Answer {
+    let answer = answer
+        .word(diverting.earlier)
+        .text(diverting.key.as_bytes())
+        .text(diverting.x5u.as_bytes())
+        .word(diverting.iat);
+    let answer = put_local(answer, &diverting.local).text(diverting.answers.as_bytes());
+    put_holder(answer, &diverting.holder)
+}
+
+/// Puts a form behind other words.
+fn put_form(answer: Answer, form: &Form) -> Answer {
+    match form {
+        Form::Base => answer.word("base"),
+        Form::Compact => answer.word("compact"),
+        Form::Shaken { attest, origid } => answer.word("shaken").word(attest.as_str()).text(origid),
+    }
+}
+
+/// Puts the two files of the holder behind other words, or `-` for each.
+fn put_holder(answer: Answer, holder: &Option<HolderFiles<'_>>) -> Answer {
+    match holder {
+        Some(files) => answer
+            .text(files.leaf.as_bytes())
+            .text(files.table.as_bytes()),
+        None => answer.word("-").word("-"),
+    }
 }
 
 /// The words that name the files which are read.
@@ -75,8 +139,8 @@ fn read(alloc: Global, words: &[&[u8]]) -> Result<String, Unread> {
     };
     let failing = numbers_of(alloc, failing)?;
     let mut shelf = ShelfMem::new(files_of(alloc, files)?, failing);
-    match Order::of(&NAMES) {
-        Some(Order::Verify(judging)) => {
+    match Order::of(alloc, &NAMES) {
+        Ok(Order::Verify(judging)) => {
             let answer = put_read(alloc, &mut shelf, &judging)?;
             answer.word(shelf.reads()).line()
         }

@@ -18,6 +18,7 @@ mod order;
 mod paths;
 mod rounds;
 mod rules;
+mod signing;
 mod table;
 mod text;
 mod tokens;
@@ -161,6 +162,7 @@ fn called_of_calls(
         "log" => log::answer(alloc, call, words),
         "rules" => rules::answer(alloc, call, words),
         "verdicts" => verdicts::answer(alloc, call, words),
+        "signing" => signing::answer(alloc, call, words),
         "words" => commands::words(alloc, call, words),
         "files" => commands::files(alloc, call, words),
         _ => Err(Unread::Call),

@@ -93,14 +93,15 @@ covers_or_again : CoversLaw → (table : Table) (entries : List Entry) (phone : 
 covers_or_again law table entries phone (inl covered) = either_again (covers_number entries table phone) (list_any is_code entries) (inl ((law entries table phone).1 covered))
 covers_or_again law table entries phone (inr p) = either_again (covers_number entries table phone) (list_any is_code entries) (inr (named_again entries p.0 p.1))
 
-kind_by : CoversLaw → (table : Table) (entries : List Entry) (orig : List ℕ) (kind : Kind) → covers_kind table entries orig kind ≡ true → CoversKind table entries orig kind
+-- the test of a list decides what is asked of it
+pub kind_by : CoversLaw → (table : Table) (entries : List Entry) (orig : List ℕ) (kind : Kind) → covers_kind table entries orig kind ≡ true → CoversKind table entries orig kind
 kind_by law table entries orig kinds.Base h = (law entries table orig).0 h
 kind_by law table entries orig (kinds.Shaken levels.A origid) h = (law entries table orig).0 h
 kind_by law table entries orig (kinds.Shaken levels.B origid) h = covers_or_by law table entries orig h
 kind_by law table entries orig (kinds.Shaken levels.C origid) h = covers_or_by law table entries orig h
 kind_by law table entries orig (kinds.Div phone) h = (law entries table phone).0 h
 
-kind_again : CoversLaw → (table : Table) (entries : List Entry) (orig : List ℕ) (kind : Kind) → CoversKind table entries orig kind → covers_kind table entries orig kind ≡ true
+pub kind_again : CoversLaw → (table : Table) (entries : List Entry) (orig : List ℕ) (kind : Kind) → CoversKind table entries orig kind → covers_kind table entries orig kind ≡ true
 kind_again law table entries orig kinds.Base p = (law entries table orig).1 p
 kind_again law table entries orig (kinds.Shaken levels.A origid) p = (law entries table orig).1 p
 kind_again law table entries orig (kinds.Shaken levels.B origid) p = covers_or_again law table entries orig p

@@ -29,3 +29,4 @@ pub mod WorldAside
 pub mod WorldEvents
 pub mod WorldLaws
 pub mod WorldVerdict
+pub mod ProviderLaws

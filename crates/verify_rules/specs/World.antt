@@ -30,6 +30,10 @@ pub record World : Type 0 where
   pub table : Table
   pub says : Says
 
+-- the world with another provider of signatures
+abbrev pub with_says : World → Says → World
+with_says world says = record { chains = world.chains; files = world.files; anchors = world.anchors; table = world.table; says = says }
+
 -- each file holds bytes
 abbrev pub HoldsBytes : World → Type 0
 HoldsBytes world = (name content : List ℕ) → file name world.files ≡ Some content → (i : ℕ) → slice_index content i < 256
@@ -95,6 +99,10 @@ unsigned_rules = late.Listed ∷ late.Profile ∷ late.Shape ∷ late.Dates ∷ 
 -- rules 10 to 14
 abbrev pub certificate_rules : World → List Rule
 certificate_rules world = map (late_rule world) unsigned_rules
+
+-- rules 15 to 17: those that ask for signatures, and the one behind them
+abbrev pub signature_rules : World → List Rule
+signature_rules world = late_rule world late.Asked ∷ asking_rule world ∷ map (late_rule world) rules_after
 
 -- rules 10 to 17
 abbrev pub late_rules : World → List Rule

@@ -1,20 +1,23 @@
 //! Laws: a function here does nothing, and its clauses are the law.
 ghost use Rattle.std.specs.List.{slice_get};
 ghost use Rattle.std.specs.Option.{option_map};
-ghost use Rattle.std.specs.Prelude.{◌≡◌, ◌≤◌, ◌++◌, ◌∷◌, [], ℕ, List, length, Some, None, Ok, Err};
+ghost use Rattle.std.specs.Prelude.{◌≡◌, ◌↔◌, ◌≤◌, ◌++◌, ◌∷◌, [], ℕ, List, length, IsTrue, Some, None, Ok, Err};
 ghost use Rattle.stir_outside.specs.Files.{IsLonger, file};
+ghost use Rattle.tn_auth_list.specs.declared.entries.Entry.{Entry};
 ghost use Rattle.delegation.specs.Coverage.{Table};
 ghost use Rattle.cert_store.specs.ChainMap.{listed};
 ghost use Rattle.cert_store.specs.Judged.{JudgedAs, JudgedView, judged_of};
 ghost use Rattle.cert_store.specs.Rules.{Says};
+ghost use Rattle.passport_claims.specs.declared.kind.Kind.{Kind};
 ghost use Rattle.verify_rules.specs.AllWords.{SaysRules};
-ghost use Rattle.verify_rules.specs.Call.{Call, Reading, call_of};
-ghost use Rattle.verify_rules.specs.LateWords.{SaysLateWords};
-ghost use Rattle.verify_rules.specs.Rules.{early_rules, first};
+ghost use Rattle.verify_rules.specs.Call.{Call, Reading, call_of, in_chain};
+ghost use Rattle.verify_rules.specs.Late.{covers_kind};
+ghost use Rattle.verify_rules.specs.LateWords.{CoversKind, SaysLateWords};
+ghost use Rattle.verify_rules.specs.Rules.{each, early_rules, first};
 ghost use Rattle.verify_rules.specs.Screened.{IsScreenedBy, ScreenedView, digest_in, last_of, last_of_call, ticket_of};
 ghost use Rattle.verify_rules.specs.Signed.{IsKnownAgain};
 ghost use Rattle.verify_rules.specs.States.{State, have, long, no_chain, unread};
-ghost use Rattle.verify_rules.specs.World.{AreRight, First, HoldsBytes, IsJudgedBy, IsRight, VerdictOf, World};
+ghost use Rattle.verify_rules.specs.World.{AreRight, First, HoldsBytes, IsJudgedBy, IsRight, VerdictOf, World, certificate_rules, forged, signature_rules, truths, with_says};
 ghost use Rattle.verify_rules.specs.declared.refusal.Refusal.{Refusal};
 ghost use Rattle.verify_rules.specs.declared.refusal.ScreenFault.TheVariants.{Refused};
 ghost use Rattle.verify_rules.specs.declared.settings.Settings.{Settings};
@@ -46,6 +49,13 @@ pub fn late_words_law()
 {
     judged_law();
     chain_law();
+    covers_law();
+}
+
+/// The test of what an authority list must cover decides it in the words of rule 17.
+pub fn covers_kind_law()
+    ensures { (table : Table) (entries : List Entry) (orig : List ℕ) (kind : Kind) → IsTrue (covers_kind table entries orig kind) ↔ CoversKind table entries orig kind }
+{
     covers_law();
 }
 
@@ -90,3 +100,12 @@ pub fn words_law()
     order_law();
     late_words_law();
 }
+
+/// Rules 10 to 14 depend on no provider of signatures; and rules 15 to 17 say the same by two of them, where both make the same of each chain of
+/// the call and of the signatures of its PASSporTs.
+pub fn provider_law()
+    ensures certificates { (world : World) (other : Says) (call : Call) → first (certificate_rules (with_says world other)) call ≡ first (certificate_rules world) call }
+    ensures signatures { (world : World) (other : Says) (call : Call) → truths (with_says world other) (in_chain call) ≡ truths world (in_chain call)
+        → each (forged (with_says world other)) (in_chain call) ≡ each (forged world) (in_chain call)
+        → first (signature_rules (with_says world other)) call ≡ first (signature_rules world) call }
+{}

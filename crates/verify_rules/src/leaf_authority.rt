@@ -30,13 +30,15 @@ fn covers_by(table: &CodeTable, passport: &Passport, list: Option<&AuthList>) ->
     ensures { result ≡ covers_by table.now passport.now (option_copied list.entry) }
 {
     match list {
-        Some(list) => covers_kind(table, list, passport),
+        Some(list) => covers_passport(table, list, passport),
         None => false,
     }
 }
 
-/// Whether this list does.
-fn covers_kind(table: &CodeTable, list: &AuthList, passport: &Passport) -> bool
+/// Whether an authority list covers what a PASSporT vouches for, as rule 17 asks of the leaf's: the calling number where the PASSporT has no
+/// type or attests in full; that, or any service provider code, where it attests in part or as a gateway; and the diverted number where it is
+/// a diversion.
+pub fn covers_passport(table: &CodeTable, list: &AuthList, passport: &Passport) -> bool
     ensures { result ≡ covers_kind table.now list.now passport.now.orig passport.now.kind }
 {
     match passport.kind() {

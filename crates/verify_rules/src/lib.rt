@@ -23,7 +23,10 @@ mod verdict;
 pub use chains::{ChainState, Chains};
 pub use codes::code;
 pub use early::screen;
-pub use laws::{late_words_law, right_law, screened_law, signed_law, words_law};
+pub use laws::{
+    covers_kind_law, late_words_law, provider_law, right_law, screened_law, signed_law, words_law,
+};
+pub use leaf_authority::covers_passport;
 pub use refusal::{Place, Refusal, ScreenFault};
 pub use screened::Screened;
 pub use settings::Settings;

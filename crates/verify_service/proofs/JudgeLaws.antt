@@ -36,7 +36,7 @@ false_is_not_true e = cc
 not_none : {A : Type 0} → (a : A) → ◌≡◌ {A = Option A} None (Some a) → ⊥
 not_none a e = cc
 
-any_at : {A : Type 0} → (p : A → Bool) (xs : List A) (i : ℕ) (x : A) → slice_get xs i ≡ Some x → p x ≡ true → list_any p xs ≡ true
+pub any_at : {A : Type 0} → (p : A → Bool) (xs : List A) (i : ℕ) (x : A) → slice_get xs i ≡ Some x → p x ≡ true → list_any p xs ≡ true
 any_at p [] i x at is = absurd (not_none x at)
 any_at p (a ∷ xs) zero x at is = or_left (p a) (list_any p xs) (ap p (same_Some a x at) ∙ is)
 any_at p (a ∷ xs) (suc i) x at is = or_right (p a) (list_any p xs) (any_at p xs i x at is)

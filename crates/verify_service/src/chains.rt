@@ -11,7 +11,7 @@ use verify_rules::{ChainState, Chains};
 
 /// What is known of the chain of a PASSporT.
 #[derive(Drop)]
-pub(crate) enum CallChain {
+pub enum CallChain {
     /// The chain was judged.
     Have(Judged),
     /// There is none: no file is listed for the x5u, or the file that is isn't there.
@@ -24,7 +24,7 @@ pub(crate) enum CallChain {
 
 /// What is known of the chains of a call's PASSporTs, in the order in which the call went. In contracts it is the list of these.
 #[derive(Drop)]
-pub(crate) struct CallChains {
+pub struct CallChains {
     chains: Vec<CallChain>,
 }
 
@@ -40,7 +40,7 @@ impl Model for CallChains {
 
 impl CallChains {
     /// None.
-    pub(crate) fn new(alloc: Global) -> CallChains
+    pub fn new(alloc: Global) -> CallChains
         ensures { result ≡ [] }
     {
         CallChains {
@@ -49,7 +49,7 @@ impl CallChains {
     }
 
     /// Forgets those that there are.
-    pub(crate) fn clear(&mut self)
+    pub fn clear(&mut self)
         ensures { self.new ≡ [] }
     {
         self.chains.clear();
@@ -57,7 +57,7 @@ impl CallChains {
 
     /// One more.
     #[tactic(auto, using(crate::proofs::ListLaws::mapped_more))]
-    pub(crate) fn push(&mut self, chain: CallChain) -> Result<(), AllocError>
+    pub fn push(&mut self, chain: CallChain) -> Result<(), AllocError>
         ensures { OnOk result (self.new ≡ self.old ++ state_of chain ∷ []) }
     {
         self.chains.push(chain)?;

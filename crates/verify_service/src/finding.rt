@@ -4,14 +4,14 @@ use verify_rules::{Place, Refusal};
 /// How a call is known again: the digest of what was signed as its last PASSporT (RFC 8225, section 9), and the last second at which that
 /// is fresh, in Unix time.
 #[derive(Clone, Copy)]
-pub(crate) struct Pass {
-    pub(crate) ticket: [u8; 32],
-    pub(crate) last: u64,
+pub struct Pass {
+    pub ticket: [u8; 32],
+    pub last: u64,
 }
 
 /// What comes of a call by all rules but the one on replay.
 #[derive(Clone, Copy)]
-pub(crate) enum Finding {
+pub enum Finding {
     /// This is the first rule that it breaks.
     Refused(Refusal),
     /// It is set aside: the file with the certificates of the PASSporT there couldn't be read.

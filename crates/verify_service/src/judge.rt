@@ -61,8 +61,9 @@ pub(crate) fn judge_all<S: Shelf, P: Provider, G: Gate>(
     Ok(findings)
 }
 
-/// Judges a call by all rules but the one on replay.
-fn judge_call<S: Shelf, P: Provider>(
+/// Judges a call by itself, by all rules but the one on replay: its chains are read from the shelf and judged for it, in place of those that
+/// are handed in. The window of the settings is at most 86,400 seconds. `AllocError` is the only error.
+pub fn judge_call<S: Shelf, P: Provider>(
     alloc: Global,
     settings: &Settings,
     materials: &World,

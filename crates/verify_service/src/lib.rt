@@ -3,6 +3,8 @@
 //!
 //! A round first judges each call by itself, by all rules but the one on replay; then it settles, in the order of the calls, which of those
 //! that pass are replays of an earlier one. The calls come from a log, by [`LogReader`]; [`report_line`] writes what came of one.
+//!
+//! [`judge_call`] judges a call by itself, without the calls around it, and [`chain_in`] reads one chain.
 #![tactic(auto)]
 
 mod chains;
@@ -18,8 +20,12 @@ mod settle;
 mod worker;
 
 pub use call_log::{Call, LogFault, LogReader};
+pub use chains::{CallChain, CallChains};
+pub use finding::{Finding, Pass};
+pub use judge::judge_call;
 pub use materials::World;
 pub use outcome::Outcome;
+pub use reading::chain_in;
 pub use report::report_line;
 pub use service::Service;
 pub use worker::Worker;

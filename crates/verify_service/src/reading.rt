@@ -72,8 +72,8 @@ fn chain_of<S: Shelf, P: Provider>(
     }
 }
 
-/// What is known of the chain in the file of this name.
-fn chain_in<S: Shelf, P: Provider>(
+/// What is known of the chain in the file of this name, which the chain map lists. `AllocError` is the only error.
+pub fn chain_in<S: Shelf, P: Provider>(
     alloc: Global,
     materials: &World,
     shelf: &mut S,

@@ -1,0 +1,14 @@
+-- Each fault has its cause.
+use Rattle.auth_service.specs.Order.{holder_seen, wanted_of}
+use Rattle.auth_service.proofs.CauseLaws.{Laws, answers_caused}
+use Rattle.auth_service.proofs.signer.sign_wanted.Goals as goal
+
+pub returns-clause-causes : goal.returns-clause-causes
+returns-clause-causes g c =
+    let laws : Laws = record {
+      head = c.head_law.ensures;
+      full = c.token_bytes_law.ensures.full_size;
+      compact = c.token_bytes_law.ensures.compact_size;
+      covers = c.covers_kind_law.ensures;
+    } in
+    answers_caused (λ out. out.items) c.sign_exactly.result laws c.args.bytes.now (wanted_of c.args.wanted.now) (holder_seen c.args.holder) (g.P.Provider.signs c.args.provider.now) c.sign_exactly.ensures.exact

@@ -1,0 +1,9 @@
+pub mod Answer
+pub mod Causes
+pub mod Diverted
+pub mod Field
+pub mod Order
+pub mod Outcome
+pub mod Rules
+pub mod Signed
+pub mod Written

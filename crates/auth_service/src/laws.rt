@@ -1,0 +1,31 @@
+//! Laws: a function here does nothing, and its clauses are the law.
+ghost use Rattle.std.specs.Prelude.{ℕ, ◌≡◌, ◌∷◌, [], List, Option, None};
+ghost use Rattle.verify_rules.specs.Call.{call_of, in_chain};
+ghost use Rattle.verify_rules.specs.Rules.{HoldAll, Holds, early_rules, first};
+ghost use Rattle.verify_rules.specs.World.{World, asking_rule};
+ghost use Rattle.verify_rules.specs.declared.settings.Settings.{Settings};
+ghost use Rattle.auth_service.specs.Order.{HolderView, order_of};
+ghost use Rattle.auth_service.specs.Outcome.{IsSigned};
+ghost use Rattle.auth_service.specs.Rules.{IsConfirmed, IsFirstHop, judged_of};
+ghost use Rattle.auth_service.specs.declared.order.SignOrder.{SignOrder};
+
+use sip_message::{added_field_law, head_law};
+
+/// What [`sign`](crate::sign) writes into a message that had no Identity field breaks none of rules 1 to 9 at a hop that numbers as the signer
+/// did, within the window. The one PASSporT that is judged there is that which was signed; and where its signature is good under its leaf's
+/// key, rule 16 holds too.
+pub fn signed_rules_law()
+    ensures early { (bytes : List ℕ) (order : SignOrder) (holder : Option HolderView) (signs : List ℕ → List ℕ → Option (List ℕ)) (out : List ℕ) (settings : Settings) (moment : ℕ)
+        → (s : IsSigned bytes (order_of order) holder signs out) → IsFirstHop s.message (order_of order) settings moment → HoldAll early_rules (call_of settings moment out) }
+    ensures first { (bytes : List ℕ) (order : SignOrder) (holder : Option HolderView) (signs : List ℕ → List ℕ → Option (List ℕ)) (out : List ℕ) (settings : Settings) (moment : ℕ)
+        → (s : IsSigned bytes (order_of order) holder signs out) → IsFirstHop s.message (order_of order) settings moment → first early_rules (call_of settings moment out) ≡ None }
+    ensures judged { (bytes : List ℕ) (order : SignOrder) (holder : Option HolderView) (signs : List ℕ → List ℕ → Option (List ℕ)) (out : List ℕ) (settings : Settings) (moment : ℕ)
+        → (s : IsSigned bytes (order_of order) holder signs out) → IsFirstHop s.message (order_of order) settings moment
+        → in_chain (call_of settings moment out) ≡ judged_of (order_of order) s.orig s.dest s.token.token ∷ [] }
+    ensures asking { (bytes : List ℕ) (order : SignOrder) (holder : Option HolderView) (signs : List ℕ → List ℕ → Option (List ℕ)) (out : List ℕ) (settings : Settings) (moment : ℕ) (world : World)
+        → (s : IsSigned bytes (order_of order) holder signs out) → IsFirstHop s.message (order_of order) settings moment
+        → IsConfirmed world (judged_of (order_of order) s.orig s.dest s.token.token) → Holds (asking_rule world) (call_of settings moment out) }
+{
+    head_law();
+    added_field_law();
+}

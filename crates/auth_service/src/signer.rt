@@ -1,0 +1,168 @@
+//! Signing a message.
+ghost use Rattle.std.specs.Prelude.{◌≡◌, ◌+◌, ◌≤◌, true, IfErr, IfOk, IsTrue};
+ghost use Rattle.lists.specs.Given.{Gives};
+ghost use Rattle.stir_outside.specs.Count.{Rose};
+ghost use Rattle.auth_service.specs.Answer.{names_provider, told};
+ghost use Rattle.auth_service.specs.Causes.{IsCaused};
+ghost use Rattle.auth_service.specs.Order.{divert_order_of, holder_seen, is_order, order_of, wanted_of};
+ghost use Rattle.auth_service.specs.Outcome.{IsSigned};
+ghost use Rattle.auth_service.specs.Signed.{signature_of, signed};
+
+use crate::fault::SignFault;
+use crate::identity::{field_value, with_identity};
+use crate::order::{DivertOrder, Holder, SignOrder};
+use crate::passport::to_sign;
+use crate::wanted::Wanted;
+use passport_json::{ticket, token_bytes_law};
+use sip_message::head_law;
+use std::alloc::Global;
+use stir_outside::{Failed, Provider};
+use verify_rules::covers_kind_law;
+
+/// Signs a message (RFC 8224, section 4.1): the bytes with one more Identity header field, in the last line of the head. It holds a
+/// PASSporT from the calling number to the number of To, in the order's form, signed by the order's key. The order is one that
+/// [`is_valid`](SignOrder::is_valid) takes.
+///
+/// The faults are tried in the order of [`SignFault`]; the provider is asked at most once, and only where `Form`, `NoNumber` and
+/// `Authority` don't come. `Provider` comes only where its count of faults rose, and `Memory` for want of memory alone.
+pub fn sign<P: Provider>(
+    alloc: Global,
+    bytes: &[u8],
+    order: &SignOrder<'_>,
+    holder: Option<&Holder<'_>>,
+    provider: &mut P,
+) -> Result<Vec<u8>, SignFault>
+    requires { IsTrue (is_order (order_of order.now)) }
+
+    // The bytes that come out, or the first fault of the four that message, order, holder and key decide.
+    ensures exact { Gives told (λ out. out.items) result (signed bytes.now (order_of order.now) (holder_seen holder.entry) (P.signs provider.old)) }
+
+    // What was signed: the message with one more field, which is read as the PASSporT of the message's numbers and the key's signature.
+    ensures signed { IfOk result (λ out. IsSigned bytes.now (order_of order.now) (holder_seen holder.entry) (P.signs provider.old) out.items) }
+
+    // Each of these faults in the words of what shows it.
+    ensures causes { IfErr result (λ fault. IsCaused bytes.now (order_of order.now) (holder_seen holder.entry) (P.signs provider.old) fault) }
+
+    // The provider's failure has its count.
+    ensures failed { names_provider result ≡ true → Rose (P.faults provider.old) (P.faults provider.new) }
+
+    // What the call does to the provider.
+    ensures faults { P.faults provider.old ≤ P.faults provider.new }
+    ensures asks { P.asks provider.new ≤ P.asks provider.old + 1 }
+    ensures asks_stay { P.asks provider.old ≤ P.asks provider.new }
+    ensures same_says { P.says provider.new ≡ P.says provider.old }
+    ensures same_signs { P.signs provider.new ≡ P.signs provider.old }
+{
+    let wanted = order.wanted();
+    sign_wanted(alloc, bytes, &wanted, holder, provider)
+}
+
+/// Signs a message that goes to another number than before (RFC 8946, section 4.1), as [`sign`] does: the PASSporT is of the type `div`,
+/// from the calling number to that of the request URI, and its diverted number is the order's earlier one. The order is one that
+/// [`is_valid`](DivertOrder::is_valid) takes. The faults are those of [`sign`], with the request URI in place of To; the holder has to
+/// cover the earlier number.
+pub fn divert<P: Provider>(
+    alloc: Global,
+    bytes: &[u8],
+    order: &DivertOrder<'_>,
+    holder: Option<&Holder<'_>>,
+    provider: &mut P,
+) -> Result<Vec<u8>, SignFault>
+    requires { IsTrue (is_order (divert_order_of order.now)) }
+
+    // The bytes that come out, or the first fault of the four that message, order, holder and key decide.
+    ensures exact { Gives told (λ out. out.items) result (signed bytes.now (divert_order_of order.now) (holder_seen holder.entry) (P.signs provider.old)) }
+
+    // What was signed: the message with one more field, which is read as the PASSporT of the message's numbers and the key's signature.
+    ensures signed { IfOk result (λ out. IsSigned bytes.now (divert_order_of order.now) (holder_seen holder.entry) (P.signs provider.old) out.items) }
+
+    // Each of these faults in the words of what shows it.
+    ensures causes { IfErr result (λ fault. IsCaused bytes.now (divert_order_of order.now) (holder_seen holder.entry) (P.signs provider.old) fault) }
+
+    // The provider's failure has its count.
+    ensures failed { names_provider result ≡ true → Rose (P.faults provider.old) (P.faults provider.new) }
+
+    // What the call does to the provider.
+    ensures faults { P.faults provider.old ≤ P.faults provider.new }
+    ensures asks { P.asks provider.new ≤ P.asks provider.old + 1 }
+    ensures asks_stay { P.asks provider.old ≤ P.asks provider.new }
+    ensures same_says { P.says provider.new ≡ P.says provider.old }
+    ensures same_signs { P.signs provider.new ≡ P.signs provider.old }
+{
+    let wanted = order.wanted();
+    sign_wanted(alloc, bytes, &wanted, holder, provider)
+}
+
+/// What either call does, by what is wanted.
+fn sign_wanted<P: Provider>(
+    alloc: Global,
+    bytes: &[u8],
+    wanted: &Wanted<'_>,
+    holder: Option<&Holder<'_>>,
+    provider: &mut P,
+) -> Result<Vec<u8>, SignFault>
+    requires { IsTrue (is_order (wanted_of wanted.now)) }
+    ensures exact { Gives told (λ out. out.items) result (signed bytes.now (wanted_of wanted.now) (holder_seen holder.entry) (P.signs provider.old)) }
+    ensures signed { IfOk result (λ out. IsSigned bytes.now (wanted_of wanted.now) (holder_seen holder.entry) (P.signs provider.old) out.items) }
+    ensures causes { IfErr result (λ fault. IsCaused bytes.now (wanted_of wanted.now) (holder_seen holder.entry) (P.signs provider.old) fault) }
+    ensures failed { names_provider result ≡ true → Rose (P.faults provider.old) (P.faults provider.new) }
+    ensures faults { P.faults provider.old ≤ P.faults provider.new }
+    ensures asks { P.asks provider.new ≤ P.asks provider.old + 1 }
+    ensures asks_stay { P.asks provider.old ≤ P.asks provider.new }
+    ensures same_says { P.says provider.new ≡ P.says provider.old }
+    ensures same_signs { P.signs provider.new ≡ P.signs provider.old }
+{
+    head_law();
+    token_bytes_law();
+    covers_kind_law();
+    sign_exactly(alloc, bytes, wanted, holder, provider)
+}
+
+/// The same, of one exit.
+#[tactic(auto, unfolding(crate::specs::Signed::signed))]
+fn sign_exactly<P: Provider>(
+    alloc: Global,
+    bytes: &[u8],
+    wanted: &Wanted<'_>,
+    holder: Option<&Holder<'_>>,
+    provider: &mut P,
+) -> Result<Vec<u8>, SignFault>
+    requires { IsTrue (is_order (wanted_of wanted.now)) }
+    ensures exact { Gives told (λ out. out.items) result (signed bytes.now (wanted_of wanted.now) (holder_seen holder.entry) (P.signs provider.old)) }
+    ensures signed { IfOk result (λ out. IsSigned bytes.now (wanted_of wanted.now) (holder_seen holder.entry) (P.signs provider.old) out.items) }
+    ensures failed { names_provider result ≡ true → Rose (P.faults provider.old) (P.faults provider.new) }
+    ensures faults { P.faults provider.old ≤ P.faults provider.new }
+    ensures asks { P.asks provider.new ≤ P.asks provider.old + 1 }
+    ensures asks_stay { P.asks provider.old ≤ P.asks provider.new }
+    ensures same_says { P.says provider.new ≡ P.says provider.old }
+    ensures same_signs { P.signs provider.new ≡ P.signs provider.old }
+{
+    head_law();
+    token_bytes_law();
+    let one = to_sign(alloc, bytes, wanted, holder)?;
+    let signature = signature_of(wanted.key, &one.signing, provider)?;
+    let value = field_value(alloc, wanted, &one, &signature)?;
+    with_identity(alloc, bytes, &value)
+}
+
+/// The key's signature over what is signed.
+fn signature_of<P: Provider>(
+    key: &[u8],
+    signing: &[u8],
+    provider: &mut P,
+) -> Result<[u8; 64], SignFault>
+    ensures exact { Gives told (λ signature. signature) result (signature_of (P.signs provider.old) key.now signing.now) }
+    ensures failed { names_provider result ≡ true → Rose (P.faults provider.old) (P.faults provider.new) }
+    ensures faults { P.faults provider.old ≤ P.faults provider.new }
+    ensures asks { P.asks provider.new ≤ P.asks provider.old + 1 }
+    ensures asks_stay { P.asks provider.old ≤ P.asks provider.new }
+    ensures same_says { P.says provider.new ≡ P.says provider.old }
+    ensures same_signs { P.signs provider.new ≡ P.signs provider.old }
+{
+    let digest = ticket(signing);
+    match provider.sign(key, &digest) {
+        Ok(Some(signature)) => Ok(signature),
+        Ok(None) => Err(SignFault::NoSignature { digest }),
+        Err(Failed) => Err(SignFault::Provider),
+    }
+}

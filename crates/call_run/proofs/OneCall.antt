@@ -1,0 +1,122 @@
+-- A call that was read, and then answered or not.
+use Rattle.std.proofs.Common.{◌≡◌, ℕ, ◌≤◌, Bool, List, [], ◌∷◌, ◌++◌, string_bytes, Option, Some, None, Result, Ok, Err, refl, sym, subst, arith, append-nil}
+use Rattle.std.specs.Io.KnownBytes.{Appends}
+use Rattle.std.proofs.KnownBytes.{Appends-nil}
+use Rattle.call_log.specs.Entry.{Entry}
+use Rattle.call_log.specs.Log.{Passed}
+use Rattle.call_log.specs.declared.fault.LogFault.{LogFault}
+use Rattle.call_log.specs.declared.fault.LogFault.TheVariants.{Grammar, Backward, Many, Source, Memory}
+use Rattle.log_run.specs.Reading.{ReadBehind, ReadCalls}
+use Rattle.log_run.specs.Running.{Streams, streams}
+use Rattle.stir_outside.specs.Count.{Rose}
+use Rattle.stir_outside.specs.Told.{AppendsFront}
+use Rattle.call_run.proofs.AnswerLaws.{answers_none, answers_one}
+use Rattle.call_run.specs.Answer.{AnswerView}
+use Rattle.call_run.specs.Answering.{StopsBy}
+use Rattle.call_run.specs.Running.{At, RoseBy, RunsOn, RunsOut, StoppedBy, at}
+use Rattle.call_run.specs.Steps.{AnsweredCall, From, Replies}
+use Rattle.call_run.specs.declared.ends.Halt.{Halt}
+use Rattle.call_run.specs.declared.ends.Halt.TheVariants as halt
+use Rattle.call_run.specs.declared.stop.AnswerStop.{AnswerStop}
+use Rattle.call_run.specs.declared.stop.AnswerStop.TheVariants.{Unread, Memory as WantOfMemory}
+
+-- ---- no call was read
+
+pub none_ran : (answered : List Entry → Entry → AnswerView → Type 0) (behind : List Entry → Type 0) (stops : List Entry → Entry → List ℕ → List ℕ → Type 0) (passed passed_now : Passed) (left left_now : Option (List ℕ)) (faults : ℕ) (good : Bool)
+    (reads reads_now writes : ℕ) (written : Option (List ℕ)) → ReadBehind passed left left_now (Ok None) → reads ≤ reads_now
+    → From behind (λ first. RunsOut answered stops first (at passed left faults good) (at passed_now left_now faults good) (streams reads written writes) (streams reads_now written writes) (Ok None))
+none_ran answered behind stops passed passed_now left left_now faults good reads reads_now writes written read h = λ first known. record {
+  calls = [];
+  answers = [];
+  mid = at passed left faults good;
+  stands = answers_none answered first (at passed left faults good);
+  behind = read;
+  good = refl;
+  faults_stay = omega arith;
+  reported = Appends-nil written;
+  rose = tt;
+  stay = record { reads = h; writes = omega arith };
+}
+
+-- the source failed only where its count rose
+rose_of : (stops : List Entry → Entry → List ℕ → List ℕ → Type 0) (calls : List Entry) (mid : At) (faults : ℕ) (s t : Streams) (fault : LogFault) → (◌≡◌ {A = Result (Option Entry) LogFault} (Err fault) (Err Source) → Rose s.reads t.reads)
+    → RoseBy stops calls mid faults s t (Ok (Some fault))
+rose_of stops calls mid faults s t (Grammar place) r = tt
+rose_of stops calls mid faults s t (Backward place) r = tt
+rose_of stops calls mid faults s t (Many place) r = tt
+rose_of stops calls mid faults s t Source r = r refl
+rose_of stops calls mid faults s t Memory r = tt
+
+pub fault_ran : (answered : List Entry → Entry → AnswerView → Type 0) (behind : List Entry → Type 0) (stops : List Entry → Entry → List ℕ → List ℕ → Type 0) (passed passed_now : Passed) (left left_now : Option (List ℕ)) (faults : ℕ) (good : Bool)
+    (reads reads_now writes : ℕ) (written : Option (List ℕ)) (fault : LogFault) → ReadBehind passed left left_now (Err fault) → (◌≡◌ {A = Result (Option Entry) LogFault} (Err fault) (Err Source) → Rose reads reads_now) → reads ≤ reads_now
+    → From behind (λ first. RunsOut answered stops first (at passed left faults good) (at passed_now left_now faults good) (streams reads written writes) (streams reads_now written writes) (Ok (Some fault)))
+fault_ran answered behind stops passed passed_now left left_now faults good reads reads_now writes written fault read rose h = λ first known. record {
+  calls = [];
+  answers = [];
+  mid = at passed left faults good;
+  stands = answers_none answered first (at passed left faults good);
+  behind = read;
+  good = refl;
+  faults_stay = omega arith;
+  reported = Appends-nil written;
+  rose = rose_of stops (first ++ []) (at passed left faults good) faults (streams reads written writes) (streams reads_now written writes) fault rose;
+  stay = record { reads = h; writes = omega arith };
+}
+
+-- ---- the call was answered
+
+pub more_ran : (answered : List Entry → Entry → AnswerView → Type 0) (behind behind_now : List Entry → Type 0) (passed passed_now : Passed) (left left_now : Option (List ℕ)) (faults faults_now : ℕ) (good good_now : Bool)
+    (reads reads_now writes writes_now : ℕ) (written written_now : Option (List ℕ)) (call : Entry) → ReadCalls passed left left_now passed_now (call ∷ []) → reads ≤ reads_now → writes ≤ writes_now → faults ≤ faults_now
+    → Replies answered behind behind_now faults faults_now call good good_now (λ lines. Appends written written_now lines)
+    → From behind (λ first. RunsOn answered behind_now first (at passed left faults good) (at passed_now left_now faults_now good_now) (streams reads written writes) (streams reads_now written_now writes_now))
+more_ran answered behind behind_now passed passed_now left left_now faults faults_now good good_now reads reads_now writes writes_now written written_now call read h k stay r = λ first known. record {
+  calls = call ∷ [];
+  answers = r.answer ∷ [];
+  stands = answers_one answered first (at passed left faults good) (at passed_now left_now faults_now good_now) call r.answer read (r.may first known) r.still_good r.unread stay;
+  known = r.adds first known;
+  reported = subst (Appends written written_now) (sym (append-nil r.answer.text)) r.reported;
+  stay = record { reads = h; writes = k };
+}
+
+-- ---- the run stops at the call
+
+stopped_by : (behind : List Entry → Type 0) (stops : List Entry → Entry → List ℕ → List ℕ → Type 0) (first : List Entry) (passed passed_now : Passed) (left left_now : Option (List ℕ)) (faults faults_now : ℕ) (good : Bool) (call : Entry) (stop : AnswerStop)
+    → behind first → ReadCalls passed left left_now passed_now (call ∷ []) → StopsBy behind stops call faults faults_now stop → StoppedBy stops (first ++ []) (at passed left faults good) faults_now stop
+stopped_by behind stops first passed passed_now left left_now faults faults_now good call (Unread text name) known read s = record {
+  call = call;
+  passed = passed_now;
+  left = left_now;
+  read = read;
+  may_stop = subst (λ l. stops l call (string_bytes text) (string_bytes name)) (sym (append-nil first)) (s.0 first known);
+  failed = s.1;
+}
+stopped_by behind stops first passed passed_now left left_now faults faults_now good call WantOfMemory known read s = tt
+
+pub halted : (answered : List Entry → Entry → AnswerView → Type 0) (behind behind_now : List Entry → Type 0) (stops : List Entry → Entry → List ℕ → List ℕ → Type 0) (passed passed_now : Passed) (left left_now : Option (List ℕ)) (faults faults_now : ℕ)
+    (good good_now : Bool) (reads reads_now writes writes_now : ℕ) (written written_now : Option (List ℕ)) (call : Entry) (stopped : Halt) → ReadCalls passed left left_now passed_now (call ∷ []) → reads ≤ reads_now → writes ≤ writes_now
+    → faults ≤ faults_now → AnsweredCall answered behind behind_now stops faults faults_now call good good_now written written_now writes writes_now (Err stopped)
+    → From behind (λ first. RunsOut answered stops first (at passed left faults good) (at passed_now left_now faults_now good_now) (streams reads written writes) (streams reads_now written_now writes_now) (Err stopped))
+halted answered behind behind_now stops passed passed_now left left_now faults faults_now good good_now reads reads_now writes writes_now written written_now call halt.Sink read h k stay j = λ first known. record {
+  calls = call ∷ [];
+  answers = j.0.answer ∷ [];
+  mid = at passed_now left_now faults_now good_now;
+  stands = answers_one answered first (at passed left faults good) (at passed_now left_now faults_now good_now) call j.0.answer read (j.0.may first known) j.0.still_good j.0.unread stay;
+  behind = tt;
+  good = tt;
+  faults_stay = omega arith;
+  reported = subst (AppendsFront written written_now) (sym (append-nil j.0.answer.text)) j.0.reported;
+  rose = j.1;
+  stay = record { reads = h; writes = k };
+}
+halted answered behind behind_now stops passed passed_now left left_now faults faults_now good good_now reads reads_now writes writes_now written written_now call (halt.Stopped stop) read h k stay j = λ first known. record {
+  calls = [];
+  answers = [];
+  mid = at passed left faults good;
+  stands = answers_none answered first (at passed left faults good);
+  behind = tt;
+  good = tt;
+  faults_stay = stay;
+  reported = j.1;
+  rose = stopped_by behind stops first passed passed_now left left_now faults faults_now good call stop known read j.0;
+  stay = record { reads = h; writes = k };
+}

@@ -1,0 +1,14 @@
+pub mod ExplainSteps
+pub mod ExplainLaws
+pub mod ExplainerLaws
+pub mod FreshLaws
+pub mod WriteLaws
+pub mod AskSteps
+pub mod OwnSteps
+pub mod StateLaws
+pub mod VerdictLaws
+pub mod ReadSteps
+pub mod CallLaws
+pub mod AskerLaws
+pub mod LogLaws
+pub mod AgreeLaws

@@ -1,0 +1,62 @@
+-- One PASSporT more of those whose own questions are written.
+use Rattle.std.proofs.Common.{◌≡◌, ℕ, zero, suc, ◌+◌, ◌<◌, ◌≤◌, List, [], ◌∷◌, ◌++◌, length, drop, append_assoc, append-nil, Option, Some, inl, inr, refl, sym, ◌∙◌, ap, subst, arith}
+use Rattle.std.specs.List.{slice_get}
+use Rattle.std.proofs.lemmas.Option.{slice_get_cases}
+use Rattle.cert_store.specs.Rules.{QuestionView}
+use Rattle.verify_rules.specs.Call.{Reading}
+use Rattle.verify_rules.specs.States.{State}
+use Rattle.single_calls.specs.CallQuestions.{own_question, own_questions}
+use Rattle.single_calls.specs.Reading.{Lines}
+use Rattle.single_calls.specs.Steps.{OwnUpTo}
+use Rattle.single_calls.specs.Written.{Writes}
+use Rattle.single_calls.proofs.WriteLaws.{writes_both, writes_none}
+
+same : {A : Type 0} → (a b : A) → ◌≡◌ {A = Option A} (Some a) (Some b) → a ≡ b
+same a b e = cc
+
+step : (readings : List Reading) (states : List State) (i : ℕ) (one : Reading) (state : State) → slice_get readings i ≡ Some one → slice_get states i ≡ Some state
+    → own_questions (drop i readings) (drop i states) ≡ own_question one state ++ own_questions (drop (suc i) readings) (drop (suc i) states)
+step [] states i one state is known = absurd (cc)
+step (r ∷ readings) [] i one state is known = absurd (cc)
+step (r ∷ readings) (s ∷ states) zero one state is known =
+    ap (λ (x : Reading). own_question x s ++ own_questions readings states) (same r one is) ∙ ap (λ (x : State). own_question one x ++ own_questions readings states) (same s state known)
+step (r ∷ readings) (s ∷ states) (suc i) one state is known = step readings states i one state is known
+
+past_all : (readings : List Reading) (states : List State) (i : ℕ) → length readings ≤ i → own_questions (drop i readings) states ≡ []
+past_all [] states zero past = refl
+past_all [] states (suc i) past = refl
+past_all (r ∷ readings) states zero past = absurd (omega arith)
+past_all (r ∷ readings) states (suc i) past = past_all readings states i (omega arith)
+
+pub none_yet : (readings : List Reading) (states : List State) (before : Lines) → OwnUpTo readings states before before 0
+none_yet readings states before = record { done = []; split = refl; writes = writes_none before.held before.text }
+
+more_of : (readings : List Reading) (states : List State) (before mid now : Lines) (i : ℕ) (one : Reading) (state : State) → OwnUpTo readings states before mid i
+    → slice_get readings i ≡ Some one → slice_get states i ≡ Some state → Writes mid.held now.held mid.text now.text (own_question one state) → OwnUpTo readings states before now (i + 1)
+more_of readings states before mid now i one state own is known more =
+    let this : List QuestionView = own_question one state in
+    let rest : List QuestionView = own_questions (drop (i + 1) readings) (drop (i + 1) states) in
+    let next : suc i ≡ i + 1 = omega arith in
+    let split : own_questions (drop i readings) (drop i states) ≡ this ++ rest =
+    step readings states i one state is known ∙ ap (λ n. this ++ own_questions (drop n readings) (drop n states)) next in
+    record {
+      done = own.done ++ this;
+      split = append_assoc own.done this rest ∙ ap (λ (x : List QuestionView). own.done ++ x) (sym split) ∙ own.split;
+      writes = writes_both before.held mid.held now.held before.text mid.text now.text own.done this own.writes more;
+    }
+
+pub one_more : (readings : List Reading) (states : List State) (before mid now : Lines) (i : ℕ) (state : State) → OwnUpTo readings states before mid i
+    → i < length readings → slice_get states i ≡ Some state
+    → ((one : Reading) → slice_get readings i ≡ Some one → Writes mid.held now.held mid.text now.text (own_question one state)) → OwnUpTo readings states before now (i + 1)
+one_more readings states before mid now i state own within known more =
+    elim (slice_get_cases readings i).1 [
+      | inl (one, inside, is, at) ↦ more_of readings states before mid now i one state own is known (more one is)
+      | inr (past, none) ↦ absurd (omega (arith, within, past))
+    ]
+
+pub all_written : (readings : List Reading) (states : List State) (before now : Lines) (i : ℕ) → OwnUpTo readings states before now i → length readings ≤ i
+    → Writes before.held now.held before.text now.text (own_questions readings states)
+all_written readings states before now i own past =
+    let none : own_questions (drop i readings) (drop i states) ≡ [] = past_all readings (drop i states) i past in
+    let all : own.done ≡ own_questions readings states = sym (append-nil own.done) ∙ ap (λ (x : List QuestionView). own.done ++ x) (sym none) ∙ own.split in
+    subst (Writes before.held now.held before.text now.text) all own.writes

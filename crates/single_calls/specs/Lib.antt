@@ -1,0 +1,11 @@
+pub mod AlwaysYes
+pub mod Explain
+pub mod CallQuestions
+pub mod Asks
+pub mod Written
+pub mod Explainer
+pub mod Asker
+pub mod Verdicts
+pub mod Reading
+pub mod Steps
+pub mod Agreement

@@ -1,0 +1,175 @@
+//! What asks for a call.
+ghost use Rattle.std.specs.Prelude.{◌≡◌, ◌≤◌, [], Ok, IfErr, OnOk, string_bytes};
+ghost use Rattle.single_calls.specs.Asker.{AskedBy, BehindAsked, StopsAsking};
+ghost use Rattle.single_calls.specs.Reading.{StopsCall, WritesCall, lines};
+ghost use Rattle.single_calls.specs.Verdicts.{asks_own};
+ghost use Rattle.stir_outside.specs.Files.{CountsGoOn};
+ghost use Rattle.verify_rules.specs.Call.{Call as RuledCall};
+ghost use Rattle.verify_rules.specs.Rules.{early_rules};
+ghost use Rattle.verify_rules.specs.Screened.{IsScreenedBy};
+ghost use Rattle.verify_service.specs.Judging.{call_in};
+
+use crate::always_yes::AlwaysYes;
+use crate::own::add_own;
+use crate::reading::{ChainStop, ask_chains};
+use crate::written::Written;
+use call_log::Call;
+use call_run::{Answer, AnswerStop, Answerer, Finding};
+use std::alloc::Global;
+use std::marker::Model;
+use stir_outside::Shelf;
+use verify_rules::{ScreenFault, Screened, Settings, Verdict, finish, screen, screened_law};
+use verify_service::{CallChains, World};
+
+/// The last rule that is tried before a signature is asked for.
+const LAST_UNSIGNED: u8 = 14;
+
+/// Says which questions a provider of signatures would be asked for calls, each by itself: over a chain map, trust anchors, a code table and
+/// the files of a shelf. A question that was asked for an earlier call isn't asked again; what is kept of the calls before is these questions
+/// alone.
+///
+/// A contract sees the settings, what calls are judged by, and the questions that were asked.
+#[derive(Drop)]
+pub struct Asker {
+    settings: Settings,
+    world: World,
+    written: Written,
+}
+
+impl Model for Asker {
+    ghost use Rattle.std.specs.Prelude.{◌≤◌};
+    ghost use Rattle.single_calls.specs.Asker.{AskerView};
+
+    ghost Value = { AskerView };
+
+    ghost view = { λ a. record { settings = a.settings; materials = a.world; written = a.written } };
+
+    ghost invariant = { λ a. a.settings.window ≤ 86400 };
+}
+
+impl Asker {
+    /// What asks by these, and has asked nothing. The window of the settings is at most 86,400 seconds.
+    pub fn new(alloc: Global, settings: Settings, world: World) -> Asker
+        requires window { settings.window ≤ 86400 }
+        ensures { result ≡ record { settings = settings; materials = world; written = [] } }
+    {
+        Asker {
+            settings,
+            world,
+            written: Written::new(alloc),
+        }
+    }
+}
+
+impl Answerer for Asker {
+    ghost answered = { λ a. AskedBy a };
+
+    ghost behind = { λ a. BehindAsked a };
+
+    ghost stops = { λ a. StopsAsking a };
+
+    fn answer<S: Shelf>(
+        &mut self,
+        alloc: Global,
+        shelf: &mut S,
+        call: &Call,
+    ) -> Result<Answer, AnswerStop> {
+        let mut text = String::new(alloc);
+        match ask_call(
+            alloc,
+            &self.settings,
+            &self.world,
+            shelf,
+            call,
+            &mut self.written,
+            &mut text,
+        ) {
+            Ok(()) => Ok(Answer::new(text, Finding::Well)),
+            Err(ChainStop::Unread { name }) => Err(AnswerStop::Unread { text, name }),
+            Err(ChainStop::Memory) => Err(AnswerStop::Memory),
+        }
+    }
+}
+
+/// Writes the lines of what is asked for a call.
+fn ask_call<S: Shelf>(
+    alloc: Global,
+    settings: &Settings,
+    world: &World,
+    shelf: &mut S,
+    call: &Call,
+    written: &mut Written,
+    text: &mut String,
+) -> Result<(), ChainStop>
+    requires window { settings.now.window ≤ 86400 }
+    ensures writes { OnOk result (WritesCall (S.files shelf.old) world.now (call_in settings.now call.now) (lines written.old (string_bytes text.old)) (lines written.new (string_bytes text.new))) }
+    ensures stopped { IfErr result (StopsCall (S.files shelf.old) world.now (call_in settings.now call.now) (lines written.old (string_bytes text.old))
+        (lines written.new (string_bytes text.new)) (S.counts shelf.old).faults (S.counts shelf.new).faults) }
+    ensures same_files { S.files shelf.new ≡ S.files shelf.old }
+    ensures counts { CountsGoOn (S.counts shelf.old) (S.counts shelf.new) }
+{
+    match screen(alloc, call.message(), call.moment(), settings) {
+        Ok(screened) => ask_screened(alloc, world, shelf, call.moment(), &screened, written, text),
+        Err(fault) => match fault {
+            ScreenFault::Refused(_) => Ok(()),
+            ScreenFault::Memory => Err(ChainStop::Memory),
+        },
+    }
+}
+
+/// Writes those of a call that was screened: the questions of its chains, and those of its PASSporTs where it breaks none of the rules before
+/// the first that asks.
+fn ask_screened<S: Shelf>(
+    alloc: Global,
+    world: &World,
+    shelf: &mut S,
+    moment: u64,
+    screened: &Screened,
+    written: &mut Written,
+    text: &mut String,
+) -> Result<(), ChainStop>
+    ensures writes { (call : RuledCall) → IsScreenedBy early_rules call (Ok screened.now) → moment ≡ call.moment
+        → OnOk result (WritesCall (S.files shelf.old) world.now call (lines written.old (string_bytes text.old)) (lines written.new (string_bytes text.new))) }
+    ensures stopped { (call : RuledCall) → IsScreenedBy early_rules call (Ok screened.now)
+        → IfErr result (StopsCall (S.files shelf.old) world.now call (lines written.old (string_bytes text.old))
+        (lines written.new (string_bytes text.new)) (S.counts shelf.old).faults (S.counts shelf.new).faults) }
+    ensures same_files { S.files shelf.new ≡ S.files shelf.old }
+    ensures counts { CountsGoOn (S.counts shelf.old) (S.counts shelf.new) }
+{
+    screened_law();
+    let mut chains = CallChains::new(alloc);
+    let mut provider = AlwaysYes::new();
+    match ask_chains(
+        alloc,
+        world,
+        shelf,
+        &mut provider,
+        screened,
+        &mut chains,
+        written,
+        text,
+    ) {
+        Ok(()) => {}
+        Err(stop) => return Err(stop),
+    }
+    let verdict = finish(screened, &chains, moment, &world.table, &mut provider);
+    if !asks_own(verdict) {
+        return Ok(());
+    }
+    match add_own(alloc, screened, &chains, written, text) {
+        Ok(()) => Ok(()),
+        Err(_) => Err(ChainStop::Memory),
+    }
+}
+
+/// Whether the signatures of the PASSporTs are asked for: no rule before the first that asks for a signature is broken, nor left open.
+fn asks_own(verdict: Verdict) -> bool
+    ensures { result ≡ asks_own verdict }
+{
+    match verdict {
+        Verdict::Passed => true,
+        Verdict::Refused(refusal) => refusal.rule > LAST_UNSIGNED,
+        Verdict::Unread(_) => false,
+        Verdict::Unasked(_) => true,
+    }
+}

@@ -1,0 +1,14 @@
+-- The files were read and the calls were explained, or a file stopped it.
+use Rattle.std.proofs.Common.{inr}
+use Rattle.stir_files.specs.declared.materials.Materials.{Materials}
+use Rattle.stir_cmd.proofs.SinglySteps.{explain_read}
+use Rattle.stir_cmd.proofs.StopSteps.{stopped}
+use Rattle.stir_cmd.proofs.explain.explain.Goals as goal
+
+pub returns-in-Ok-clause-ran : goal.returns-in-Ok-clause-ran
+returns-in-Ok-clause-ran g c =
+    explain_read _ c.in-Ok.materials _ _ _ _ _ _ _ _ _ _ c.in-Ok.ensures.read c.in-Ok.ensures.truly c.read_materials.ensures.same c.read_materials.ensures.go_on c.explain_by.ensures.ran
+
+pub returns-in-Err-clause-ran : goal.returns-in-Err-clause-ran
+returns-in-Err-clause-ran g c =
+    inr (stopped Materials _ c.in-Err.stop _ _ _ _ _ _ _ _ _ _ _ c.in-Err.ensures.stopped c.in-Err.ensures.truly c.in-Err.ensures.cause c.end_at.ensures)

@@ -1,0 +1,110 @@
+-- What the late rules take of a provider of signatures.
+use Rattle.std.proofs.Common.{◌≡◌, ℕ, Bool, true, false, cond, nat_lt, List, [], ◌∷◌, length, map, Option, Some, None, refl, sym, ◌∙◌, ap}
+use Rattle.std.specs.Option.{option_or}
+use Rattle.delegation.specs.Coverage.{Table}
+use Rattle.cert_store.specs.Judged.{JudgedView, judged_of}
+use Rattle.cert_store.specs.Rules.{Says}
+use Rattle.verify_rules.specs.Call.{Call, Reading, in_chain}
+use Rattle.verify_rules.specs.Late.{tell, tell_judged}
+use Rattle.verify_rules.specs.Rules.{each, first, or_later}
+use Rattle.verify_rules.specs.States.{State, have, no_chain, long, unread}
+use Rattle.verify_rules.specs.World.{World, broken_by, certificate_rules, content_of, forged, part_at, signature_rules, truth_by, truth_for, truth_of, truths, with_says}
+use Rattle.verify_rules.specs.declared.late.LateRule.{LateRule}
+use Rattle.verify_rules.specs.declared.late.LateRule.TheVariants as late
+use Rattle.verify_rules.specs.declared.refusal.Place.{Place}
+use Rattle.verify_rules.specs.declared.refusal.Refusal.{Refusal}
+
+-- ---- one rule more
+
+either : (mine yours later later_now : Option Place) → mine ≡ yours → later ≡ later_now → option_or mine later ≡ option_or yours later_now
+either mine yours later later_now same more = ap (λ (x : Option Place). option_or x later) same ∙ ap (λ (x : Option Place). option_or yours x) more
+
+later_same : (n : ℕ) (mine yours : Option Place) (later later_now : Option Refusal) → mine ≡ yours → later ≡ later_now → or_later n mine later ≡ or_later n yours later_now
+later_same n mine yours later later_now same more = ap (λ (x : Option Place). or_later n x later) same ∙ ap (or_later n yours) more
+
+-- ---- rules that ask for no signature
+
+-- what a rule says of a chain, without how its signatures were answered for
+abbrev Tells : LateRule → Table → ℕ → Reading → State → State → Type 0
+Tells rule table moment one state other = tell rule table moment one state ≡ tell rule table moment one other
+
+-- the rule doesn't look at how the signatures of a chain were answered for
+abbrev IsUnsigned : LateRule → Type 0
+IsUnsigned rule = (table : Table) (moment : ℕ) (one : Reading) (judged other : JudgedView) → judged ≡ record other { asked = judged.asked }
+    → tell_judged rule table moment one judged ≡ tell_judged rule table moment one other
+
+listed_unsigned : IsUnsigned late.Listed
+listed_unsigned table moment one judged other same = refl
+
+profile_unsigned : IsUnsigned late.Profile
+profile_unsigned table moment one judged other same = ap (tell_judged late.Profile table moment one) same
+
+shape_unsigned : IsUnsigned late.Shape
+shape_unsigned table moment one judged other same = ap (tell_judged late.Shape table moment one) same
+
+dates_unsigned : IsUnsigned late.Dates
+dates_unsigned table moment one judged other same = ap (tell_judged late.Dates table moment one) same
+
+authority_unsigned : IsUnsigned late.Authority
+authority_unsigned table moment one judged other same = ap (tell_judged late.Authority table moment one) same
+
+judged_same : (world : World) (other : Says) (bytes : List ℕ)
+    → judged_of world.anchors world.table other bytes ≡ record (judged_of world.anchors world.table world.says bytes) { asked = (judged_of world.anchors world.table other bytes).asked }
+unfolding judged_of
+judged_same world other bytes = refl
+
+size_same : (world : World) (other : Says) (rule : LateRule) (moment : ℕ) (one : Reading) (bytes : List ℕ) (t : Bool) → IsUnsigned rule
+    → Tells rule world.table moment one (cond t long (have (judged_of world.anchors world.table other bytes))) (cond t long (have (judged_of world.anchors world.table world.says bytes)))
+size_same world other rule moment one bytes true unsigned = refl
+size_same world other rule moment one bytes false unsigned =
+    unsigned world.table moment one (judged_of world.anchors world.table other bytes) (judged_of world.anchors world.table world.says bytes) (judged_same world other bytes)
+
+content_same : (world : World) (other : Says) (rule : LateRule) (moment : ℕ) (one : Reading) (content : Option (List ℕ)) → IsUnsigned rule
+    → Tells rule world.table moment one (truth_by (with_says world other) content) (truth_by world content)
+content_same world other rule moment one None unsigned = refl
+content_same world other rule moment one (Some bytes) unsigned = size_same world other rule moment one bytes (nat_lt 49152 (length bytes)) unsigned
+
+tells_same : (world : World) (other : Says) (rule : LateRule) (moment : ℕ) (one : Reading) → IsUnsigned rule
+    → Tells rule world.table moment one (truth_for (with_says world other) one) (truth_for world one)
+unfolding truth_of
+tells_same world other rule moment one unsigned = content_same world other rule moment one (content_of world one.passport.x5u) unsigned
+
+unsigned_same : (world : World) (other : Says) (rule : LateRule) (moment : ℕ) (readings : List Reading) → IsUnsigned rule
+    → each (broken_by (with_says world other) rule moment) readings ≡ each (broken_by world rule moment) readings
+unfolding broken_by
+unsigned_same world other rule moment [] unsigned = refl
+unsigned_same world other rule moment (one ∷ readings) unsigned =
+    either _ _ _ _ (ap (part_at one.mark.field) (tells_same world other rule moment one unsigned)) (unsigned_same world other rule moment readings unsigned)
+
+pub certificates_same : (world : World) (other : Says) (call : Call) → first (certificate_rules (with_says world other)) call ≡ first (certificate_rules world) call
+certificates_same world other call =
+    later_same 10 _ _ _ _ (unsigned_same world other late.Listed call.moment (in_chain call) listed_unsigned)
+    (later_same 11 _ _ _ _ (unsigned_same world other late.Profile call.moment (in_chain call) profile_unsigned)
+    (later_same 12 _ _ _ _ (unsigned_same world other late.Shape call.moment (in_chain call) shape_unsigned)
+    (later_same 13 _ _ _ _ (unsigned_same world other late.Dates call.moment (in_chain call) dates_unsigned)
+    (later_same 14 _ _ _ _ (unsigned_same world other late.Authority call.moment (in_chain call) authority_unsigned) refl))))
+
+-- ---- rules over the same chains
+
+head_same : (a b : State) (before behind : List State) → ◌≡◌ {A = List State} (a ∷ before) (b ∷ behind) → a ≡ b
+head_same a b before behind e = cc
+
+tail_same : (a b : State) (before behind : List State) → ◌≡◌ {A = List State} (a ∷ before) (b ∷ behind) → before ≡ behind
+tail_same a b before behind e = cc
+
+chains_same : (world : World) (other : Says) (rule : LateRule) (moment : ℕ) (readings : List Reading) → truths (with_says world other) readings ≡ truths world readings
+    → each (broken_by (with_says world other) rule moment) readings ≡ each (broken_by world rule moment) readings
+unfolding broken_by
+chains_same world other rule moment [] same = refl
+chains_same world other rule moment (one ∷ readings) same =
+    let here : truth_for (with_says world other) one ≡ truth_for world one = head_same _ _ _ _ same in
+    let rest : truths (with_says world other) readings ≡ truths world readings = tail_same _ _ _ _ same in
+    either _ _ _ _ (ap (λ (state : State). part_at one.mark.field (tell rule world.table moment one state)) here) (chains_same world other rule moment readings rest)
+
+pub signatures_same : (world : World) (other : Says) (call : Call) → truths (with_says world other) (in_chain call) ≡ truths world (in_chain call)
+    → each (forged (with_says world other)) (in_chain call) ≡ each (forged world) (in_chain call)
+    → first (signature_rules (with_says world other)) call ≡ first (signature_rules world) call
+signatures_same world other call chains own =
+    later_same 15 _ _ _ _ (chains_same world other late.Asked call.moment (in_chain call) chains)
+    (later_same 16 _ _ _ _ own
+    (later_same 17 _ _ _ _ (chains_same world other late.Covers call.moment (in_chain call) chains) refl))

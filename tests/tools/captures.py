@@ -1,0 +1,103 @@
+"""Captures of SIP over UDP, made by the layouts of classic pcap, IEEE 802.3 and 802.1Q, RFC 791, RFC 8200 and RFC 768, and the calls
+in them: what tools/stir-log reads, and what it must make of it."""
+import struct
+
+ETHERNET, RAW = 1, 101
+
+
+def message(number, method='INVITE', to='', rest=b''):
+    lines = (f'{method} sip:+12125551213@example.net SIP/2.0', f'Via: SIP/2.0/UDP a.example;branch=z9hG4bK{number}',
+             'From: <sip:+12155551001@example.org>;tag=1', f'To: <sip:+12125551213@example.net>{to}', f'Call-ID: {number}',
+             f'CSeq: 1 {method}', '', '')
+    return '\r\n'.join(lines).encode() + rest
+
+
+def udp(content):
+    return struct.pack('>HHHH', 5060, 5060, 8 + len(content), 0) + content
+
+
+def ipv4(content, identification=0, offset=0, more=False, protocol=17):
+    flags = offset // 8 | (0x2000 if more else 0)
+    return struct.pack('>BBHHHBBH', 0x45, 0, 20 + len(content), identification, flags, 64, protocol, 0) + bytes([192, 0, 2, 1, 192, 0, 2, 2]) + content
+
+
+def ipv6(content, header=17):
+    addresses = bytes.fromhex('20010db8') + bytes(12) + bytes.fromhex('20010db8') + bytes(11) + b'\1'
+    return struct.pack('>IHBB', 6 << 28, len(content), header, 64) + addresses + content
+
+
+def fragment6(content, offset, more):
+    return struct.pack('>BBHI', 17, 0, offset | more, 7) + content
+
+
+def ethernet(packet, tags=b''):
+    kind = b'\x86\xdd' if packet[0] >> 4 == 6 else b'\x08\x00'
+    return bytes(12) + tags + kind + packet
+
+
+def pcap(frames, link, order='<', magic=0xA1B2C3D4):
+    """A capture of frames with their seconds; one with a length as a third part is captured up to there alone."""
+    data = struct.pack(order + 'IHHiIII', magic, 2, 4, 0, 0, 65535, link)
+    for second, frame, *most in frames:
+        kept = frame[:most[0]] if most else frame
+        data += struct.pack(order + 'IIII', second, 999, len(kept), len(frame)) + kept
+    return data
+
+
+def log(calls):
+    return b''.join(b'@%d %d\n%s' % (moment, len(data), data) for moment, data in calls)
+
+
+LONG = message(8, rest=b'x' * 3000)
+PIECES = [udp(LONG)[:1480], udp(LONG)[1480:2960], udp(LONG)[2960:]]
+# The first call's branch in another call; its short names, with a folded field; and a call whose To only looks as if it had a tag.
+OTHER_CALL = message(1).replace(b'Call-ID: 1', b'Call-ID: 2')
+SHORT_NAMES = message(1).replace(b'Via:', b'v:').replace(b'Call-ID', b'i').replace(b'UDP a', b'UDP\r\n a')
+NO_TAG = message(3).replace(b'<sip:+12125551213', b'"a;tag=1" <sip:b;tag=2')
+
+FILES = {
+    # A call, its retransmission, its ACK, a response, no SIP at all, another protocol, ARP, and the padding of a short frame.
+    'ethernet.pcap': pcap([(100, ethernet(ipv4(udp(message(1))) + bytes(6))),
+                           (101, ethernet(ipv4(udp(message(1))))),
+                           (101, ethernet(ipv4(udp(message(1, 'ACK'))))),
+                           (102, ethernet(ipv4(udp(b'SIP/2.0 200 OK\r\n\r\n')))),
+                           (102, ethernet(ipv4(udp(b'\0')))),
+                           (102, ethernet(ipv4(message(2), protocol=6))),
+                           (103, bytes(12) + b'\x08\x06' + bytes(46)),
+                           (104, ethernet(ipv4(udp(message(3))), b'\x81\x00\x00\x07'))], ETHERNET),
+    # In the other order of bytes, with nanoseconds, out of order, and in IPv6, also behind options.
+    'raw.pcap': pcap([(205, ipv6(udp(message(5)))),
+                      (204, ipv4(udp(message(4)))),
+                      (206, ipv6(b'\x11' + bytes(7) + udp(message(6)), 0))], RAW, '>', 0xA1B23C4D),
+    # A datagram in three fragments, the last one first; one in IPv6; one whose end is missing; one that was captured in part.
+    'fragments.pcap': pcap([(300, ipv4(PIECES[2], 9, 2960)),
+                            (300, ipv4(PIECES[0], 9, 0, True)),
+                            (301, ipv4(PIECES[1], 9, 1480, True)),
+                            (302, ipv6(fragment6(udp(message(7))[:64], 0, 1), 44)),
+                            (302, ipv6(fragment6(udp(message(7))[64:], 64, 0), 44)),
+                            (303, ipv4(PIECES[0], 10, 0, True)),
+                            (304, ipv4(udp(LONG)), 1000)], RAW),
+    # The same branch in another call, a retransmission with short names, and one call inside a dialog.
+    'dialogs.pcap': pcap([(400, ipv4(udp(message(1)))),
+                          (401, ipv4(udp(OTHER_CALL))),
+                          (402, ipv4(udp(SHORT_NAMES))),
+                          (403, ipv4(udp(message(2, to=';tag=9')))),
+                          (404, ipv4(udp(NO_TAG)))], RAW),
+}
+FILES['cut-short.pcap'] = FILES['ethernet.pcap'][:-1]
+FILES['cut-in-header.pcap'] = FILES['ethernet.pcap'][:20]
+FILES['cut-between.pcap'] = FILES['ethernet.pcap'] + bytes(15)
+FILES['next.pcapng'] = bytes.fromhex('0a0d0d0a1c0000004d3c2b1a01000000ffffffffffffffff1c000000')
+FILES['loopback.pcap'] = pcap([], 0)
+FILES['one.sip'] = message(1)
+FILES['two.sip'] = message(2)
+FILES['list'] = b'; two calls\r\n500 two.sip\r\n499 one.sip\r\n'
+FILES['list-of-none'] = b'0499 one.sip\n'
+FILES['list-of-missing'] = b'499 missing.sip\n'
+
+FILES['ethernet.log'] = log([(100, message(1)), (104, message(3))])
+FILES['raw.log'] = log([(204, message(4)), (205, message(5)), (206, message(6))])
+FILES['fragments.log'] = log([(301, LONG), (302, message(7))])
+FILES['dialogs.log'] = log([(400, message(1)), (401, OTHER_CALL), (403, message(2, to=';tag=9')), (404, NO_TAG)])
+FILES['initial.log'] = log([(400, message(1)), (401, OTHER_CALL), (404, NO_TAG)])
+FILES['list.log'] = log([(499, message(1)), (500, message(2))])
