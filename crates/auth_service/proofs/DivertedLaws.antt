@@ -15,18 +15,18 @@ use Rattle.passport_claims.specs.Links.{dest_of}
 use Rattle.passport_claims.specs.Passport.{ClaimsView}
 use Rattle.passport_claims.specs.Read.{read_claims}
 use Rattle.passport_claims.specs.declared.order.ChainFault.{ChainFault}
-use Rattle.verify_rules.specs.Call.{Call, IdentityField, Reading, call_of, facts, facts_of, fields_of, given_to_compact, in_message, judged_fields, mark_of, marked_or_part, numbered, originating, read_call, read_field, reading, reading_by, readings_of, turn_of}
-use Rattle.verify_rules.specs.Rules.{HoldAll, Holds, bad_field, each, early_rules, foreign_alg, no_identity, no_order, no_originating, other_calling, place, rule_1, rule_2, rule_3, rule_4, rule_5, rule_6, rule_7, rule_8, unreadable, unreadable_at}
-use Rattle.verify_rules.specs.declared.refusal.Place.{Place}
+use Rattle.verify_rules.specs.Call.{Call, IdentityField, Reading, call_of, facts, facts_of, fields_of, given_to_compact, in_message, judged_fields, numbered, originating, read_call, read_field, readings_of, turn_of}
+use Rattle.verify_rules.specs.Rules.{HoldAll, Holds, bad_field, each, early_rules, foreign_alg, no_identity, no_order, no_originating, other_calling, place, rule_1, rule_2, rule_3, rule_4, rule_5, rule_6, rule_7, rule_8, unreadable}
 use Rattle.verify_rules.specs.declared.settings.Settings.{Settings}
 use Rattle.auth_service.specs.declared.order.DivertOrder.{DivertOrder}
+use Rattle.auth_service.specs.Added.{AddedLaws}
 use Rattle.auth_service.specs.Diverted.{GoOn, IsDivertible, judged_last}
 use Rattle.auth_service.specs.Field.{field_name, field_of, value_of}
 use Rattle.auth_service.specs.Order.{HolderView, divert_order_of}
 use Rattle.auth_service.specs.Outcome.{IsSigned}
 use Rattle.auth_service.specs.Signed.{claims_by}
 use Rattle.auth_service.proofs.DivertedLists.{LinkLaw, bad_more, each_more, field_at, good_alg, identity_there, judged_more, numbered_more, originating_more, readings_more, turn_more}
-use Rattle.auth_service.proofs.RuleLaws.{AddedLaws, not_other, same_facts}
+use Rattle.auth_service.proofs.RuleLaws.{good_at, not_other, read_at, same_facts}
 use Rattle.auth_service.proofs.SignedLaws.{HeadLaw}
 
 -- ---- the field of a diversion
@@ -40,18 +40,6 @@ record IsLinkFor (message : MessageView) (local : LocalView) (value : List ℕ) 
   called : target_number message local ≡ Some (dest_of link)
   text : read_token (given_to_compact (facts_of local message) parts) parts.token ≡ Ok token
   said : read_claims token.header token.payload parts.ppt parts.info ≡ Ok link
-
-read_at : (local : LocalView) (message : MessageView) (field : IdentityField) (claims : ClaimsView) (token : TokenView)
-    → read_token (given_to_compact (facts_of local message) field.parts) field.parts.token ≡ Ok token
-    → read_claims token.header token.payload field.parts.ppt field.parts.info ≡ Ok claims
-    → read_field (facts_of local message) field ≡ Ok (reading claims (mark_of field.number token))
-unfolding read_field
-read_at local message field claims token t c = ap (reading_by field) t ∙ ap (marked_or_part (mark_of field.number token)) c
-
-good_at : (local : LocalView) (message : MessageView) (field : IdentityField) (r : Reading) → read_field (facts_of local message) field ≡ Ok r
-    → ◌≡◌ {A = Option Place} (unreadable (facts_of local message) field) None
-unfolding unreadable
-good_at local message field r e = ap (unreadable_at field.number) e
 
 -- ---- what the written message is
 

@@ -14,11 +14,11 @@ use Rattle.identity_header.specs.declared.field.FieldFault.{FieldFault}
 use Rattle.passport_claims.specs.GoesOn.{GoesOn}
 use Rattle.passport_claims.specs.Links.{dest_of}
 use Rattle.passport_claims.specs.OrderReading.{order_of}
-use Rattle.passport_claims.specs.Passport.{ClaimsView}
+use Rattle.passport_claims.specs.Passport.{ClaimsView, is_text}
 use Rattle.passport_claims.specs.declared.order.ChainFault.{ChainFault}
 use Rattle.sip_message.specs.Accessors.{target_number}
 use Rattle.sip_message.specs.Message.{MessageView}
-use Rattle.verify_rules.specs.Call.{IdentityField, Reading, called_by, facts_of, has_ppt, is_absent, is_read, is_text, judged_fields, lacks_ppt, links, numbered, originating, passport_in, passports_of, read_field, readings_of, turn_of, with_field}
+use Rattle.verify_rules.specs.Call.{IdentityField, Reading, called_by, facts_of, has_ppt, is_absent, is_read, judged_fields, lacks_ppt, links, numbered, originating, passport_in, passports_of, read_field, readings_of, turn_of, with_field}
 use Rattle.verify_rules.specs.Rules.{bad_field, bad_or_later, each, foreign_alg, is_es256, no_identity, place}
 use Rattle.verify_rules.specs.declared.refusal.Place.{Place}
 use Rattle.auth_service.specs.Diverted.{GoOn}

@@ -4,5 +4,6 @@ pub mod DivertedLists
 pub mod FieldLaws
 pub mod LineLaws
 pub mod MadeLaws
+pub mod OrderLaws
 pub mod RuleLaws
 pub mod SignedLaws

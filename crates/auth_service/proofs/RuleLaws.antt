@@ -7,10 +7,9 @@ use Rattle.lists.proofs.Bytes.{same_bytes}
 use Rattle.tn_values.specs.Local.{LocalView}
 use Rattle.identity_header.specs.Parts.{Parts, parts}
 use Rattle.identity_header.specs.Read.{read as read_parts}
-use Rattle.sip_message.specs.Accessors.{calling_number, date, identities, is_invite, target_number, to_number}
+use Rattle.sip_message.specs.Accessors.{calling_number, is_invite, to_number}
 use Rattle.sip_message.specs.Added.{with_last}
 use Rattle.sip_message.specs.Message.{MessageView}
-use Rattle.sip_message.specs.Names.{is_asserted, is_date, is_from, is_identity, is_to}
 use Rattle.sip_message.specs.Reading.{read}
 use Rattle.passport_json.specs.Token.{read_token}
 use Rattle.passport_json.specs.View.{TokenView}
@@ -28,23 +27,13 @@ use Rattle.verify_rules.specs.declared.settings.Settings.{Settings}
 use Rattle.passport_claims.specs.declared.form.Form.{Form}
 use Rattle.passport_claims.specs.declared.form.Form.TheVariants as forms
 use Rattle.auth_service.specs.declared.order.SignOrder.{SignOrder}
+use Rattle.auth_service.specs.Added.{AddedLaws}
 use Rattle.auth_service.specs.Field.{field_name, token_by, value_of}
 use Rattle.auth_service.specs.Order.{HolderView, kind_of, order_of as view_of, shape_of}
 use Rattle.auth_service.specs.Outcome.{IsSigned}
 use Rattle.auth_service.specs.Rules.{IsConfirmed, IsFirstHop, judged_of}
 use Rattle.auth_service.specs.Signed.{called_as, claims_by}
 use Rattle.auth_service.proofs.SignedLaws.{HeadLaw}
-
--- ---- the laws of the crates below that are used
-
-pub record AddedLaws : Type 0 where
-  pub identity : (message : MessageView) (name value : List ℕ) → is_identity name ≡ true → identities (with_last message name value) ≡ identities message ++ value ∷ []
-  pub invite : (message : MessageView) (name value : List ℕ) → is_invite (with_last message name value) ≡ is_invite message
-  pub dated : (message : MessageView) (name value : List ℕ) → is_date name ≡ false → date (with_last message name value) ≡ date message
-  pub calling : (message : MessageView) (name value : List ℕ) (local : LocalView) → is_asserted name ≡ false → is_from name ≡ false
-      → calling_number (with_last message name value) local ≡ calling_number message local
-  pub called : (message : MessageView) (name value : List ℕ) (local : LocalView) → is_to name ≡ false → to_number (with_last message name value) local ≡ to_number message local
-  pub target : (message : MessageView) (name value : List ℕ) (local : LocalView) → target_number (with_last message name value) local ≡ target_number message local
 
 -- ---- the field, alone among those of the call
 
@@ -90,15 +79,17 @@ same_facts laws message value local =
 
 -- ---- the PASSporT
 
-pub read_one : (local : LocalView) (message : MessageView) (field : Parts) (claims : ClaimsView) (token : TokenView) → read_token (given_to_compact (facts_of local message) field) field.token ≡ Ok token
-    → read_claims token.header token.payload field.ppt field.info ≡ Ok claims → read_field (facts_of local message) (one field) ≡ Ok (reading claims (mark_of 1 token))
+pub read_at : (local : LocalView) (message : MessageView) (field : IdentityField) (claims : ClaimsView) (token : TokenView)
+    → read_token (given_to_compact (facts_of local message) field.parts) field.parts.token ≡ Ok token
+    → read_claims token.header token.payload field.parts.ppt field.parts.info ≡ Ok claims
+    → read_field (facts_of local message) field ≡ Ok (reading claims (mark_of field.number token))
 unfolding read_field
-read_one local message field claims token t c = ap (reading_by (one field)) t ∙ ap (marked_or_part (mark_of 1 token)) c
+read_at local message field claims token t c = ap (reading_by field) t ∙ ap (marked_or_part (mark_of field.number token)) c
 
-good_one : (local : LocalView) (message : MessageView) (field : Parts) (r : Reading) → read_field (facts_of local message) (one field) ≡ Ok r
-    → ◌≡◌ {A = Option Place} (unreadable (facts_of local message) (one field)) None
+pub good_at : (local : LocalView) (message : MessageView) (field : IdentityField) (r : Reading) → read_field (facts_of local message) field ≡ Ok r
+    → ◌≡◌ {A = Option Place} (unreadable (facts_of local message) field) None
 unfolding unreadable
-good_one local message field r e = ap (unreadable_at 1) e
+good_at local message field r e = ap (unreadable_at field.number) e
 
 readings_one : (local : LocalView) (message : MessageView) (field : Parts) (r : Reading) → read_field (facts_of local message) (one field) ≡ Ok r
     → readings_of (facts_of local message) (one field ∷ []) ≡ r ∷ []
@@ -155,7 +146,7 @@ hop head laws bytes order holder signs out settings moment s h =
     let says : facts call ≡ facts_of order.local s.message =
     ap (facts_in settings.local) e ∙ ap (λ l. facts_of l (with_last s.message field_name value)) h.numbering ∙ same_facts laws s.message value order.local in
     let called : to_number s.message order.local ≡ Some s.dest = to_is_called order.form s.message order.local ∙ s.called in
-    let reads : read_field (facts_of order.local s.message) (one field) ≡ Ok r = read_one order.local s.message field claims s.token.token s.token.read_as s.token.said in
+    let reads : read_field (facts_of order.local s.message) (one field) ≡ Ok r = read_at order.local s.message (one field) claims s.token.token s.token.read_as s.token.said in
     let readings : in_message call ≡ r ∷ [] =
     ap (readings_of (facts call)) judged ∙ ap (λ f. readings_of f (one field ∷ [])) says ∙ readings_one order.local s.message field r reads in
     let turn : turn_of (facts call) (in_message call) ≡ Ok [] =
@@ -192,7 +183,7 @@ holds_all : (call : Call) (order : SignOrder) (message : MessageView) (value tex
 holds_all call order message value text orig dest r h fresh =
     let field : Parts = signed_parts order.form text order.x5u.now in
     let near : abs_diff call.moment r.passport.iat ≤ call.settings.window = subst (λ (n : ℕ). abs_diff call.moment n ≤ call.settings.window) (sym h.issued) fresh in
-    let unread_none = good_one order.local message field r h.read_field_as in
+    let unread_none = good_at order.local message (one field) r h.read_field_as in
     let calls : (facts call).calling ≡ Some r.passport.orig = ap (λ f. f.calling) h.says ∙ h.calling ∙ ap (λ (x : List ℕ). Some x) (sym h.from) in
     let other_none = not_other (facts call).calling r calls in
     let stale_none = is_fresh call.settings.window call.moment r near in

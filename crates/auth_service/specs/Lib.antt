@@ -1,9 +1,12 @@
+pub mod Added
 pub mod Answer
+pub mod Asking
 pub mod Causes
 pub mod Diverted
 pub mod Field
 pub mod Order
 pub mod Outcome
+pub mod Promise
 pub mod Rules
 pub mod Signed
 pub mod Written

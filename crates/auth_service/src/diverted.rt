@@ -9,8 +9,9 @@ ghost use Rattle.auth_service.specs.Outcome.{IsSigned};
 ghost use Rattle.auth_service.specs.Signed.{claims_by};
 ghost use Rattle.auth_service.specs.declared.order.DivertOrder.{DivertOrder};
 
+use crate::laws::added_laws;
 use passport_claims::one_link_more_law;
-use sip_message::{added_field_law, head_law};
+use sip_message::head_law;
 
 /// What [`divert`](crate::divert) writes into a call that breaks none of rules 1 to 7 breaks none of rules 1 to 8 at a hop that numbers as the
 /// order did, where the call's links led it to the number that was called before, and it hasn't been at the one to which it goes on. There the
@@ -28,6 +29,6 @@ pub fn diverted_rules_law()
         → turn_of (facts (call_of settings later out)) (in_message (call_of settings later out)) ≡ Ok (h.turn ++ length (in_message (call_of settings moment bytes)) ∷ []) }
 {
     head_law();
-    added_field_law();
+    added_laws();
     one_link_more_law();
 }

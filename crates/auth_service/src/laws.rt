@@ -4,6 +4,7 @@ ghost use Rattle.verify_rules.specs.Call.{call_of, in_chain};
 ghost use Rattle.verify_rules.specs.Rules.{HoldAll, Holds, early_rules, first};
 ghost use Rattle.verify_rules.specs.World.{World, asking_rule};
 ghost use Rattle.verify_rules.specs.declared.settings.Settings.{Settings};
+ghost use Rattle.auth_service.specs.Added.{AddedLaws};
 ghost use Rattle.auth_service.specs.Order.{HolderView, order_of};
 ghost use Rattle.auth_service.specs.Outcome.{IsSigned};
 ghost use Rattle.auth_service.specs.Rules.{IsConfirmed, IsFirstHop, judged_of};
@@ -27,5 +28,12 @@ pub fn signed_rules_law()
         → IsConfirmed world (judged_of (order_of order) s.orig s.dest s.token.token) → Holds (asking_rule world) (call_of settings moment out) }
 {
     head_law();
+    added_laws();
+}
+
+/// What is asked of a message with one more field, in one record.
+pub(crate) fn added_laws()
+    ensures { AddedLaws }
+{
     added_field_law();
 }

@@ -3,9 +3,11 @@ ghost use Rattle.std.specs.Prelude.{◌≡◌, ◌+◌, ◌≤◌, true, IfErr, 
 ghost use Rattle.lists.specs.Given.{Gives};
 ghost use Rattle.stir_outside.specs.Count.{Rose};
 ghost use Rattle.auth_service.specs.Answer.{names_provider, told};
+ghost use Rattle.auth_service.specs.Asking.{IsAskedOnce, stand};
 ghost use Rattle.auth_service.specs.Causes.{IsCaused};
 ghost use Rattle.auth_service.specs.Order.{divert_order_of, holder_seen, is_order, order_of, wanted_of};
 ghost use Rattle.auth_service.specs.Outcome.{IsSigned};
+ghost use Rattle.auth_service.specs.Promise.{IsPromised};
 ghost use Rattle.auth_service.specs.Signed.{signature_of, signed};
 
 use crate::fault::SignFault;
@@ -25,6 +27,7 @@ use verify_rules::covers_kind_law;
 ///
 /// The faults are tried in the order of [`SignFault`]; the provider is asked at most once, and only where `Form`, `NoNumber` and
 /// `Authority` don't come. `Provider` comes only where its count of faults rose, and `Memory` for want of memory alone.
+#[tactic(auto, using(crate::proofs::OrderLaws::valid_as, crate::proofs::OrderLaws::exact_as, crate::proofs::OrderLaws::signed_as, crate::proofs::OrderLaws::caused_as))]
 pub fn sign<P: Provider>(
     alloc: Global,
     bytes: &[u8],
@@ -61,6 +64,7 @@ pub fn sign<P: Provider>(
 /// from the calling number to that of the request URI, and its diverted number is the order's earlier one. The order is one that
 /// [`is_valid`](DivertOrder::is_valid) takes. The faults are those of [`sign`], with the request URI in place of To; the holder has to
 /// cover the earlier number.
+#[tactic(auto, using(crate::proofs::OrderLaws::valid_as, crate::proofs::OrderLaws::exact_as, crate::proofs::OrderLaws::signed_as, crate::proofs::OrderLaws::caused_as))]
 pub fn divert<P: Provider>(
     alloc: Global,
     bytes: &[u8],
@@ -70,19 +74,11 @@ pub fn divert<P: Provider>(
 ) -> Result<Vec<u8>, SignFault>
     requires { IsTrue (is_order (divert_order_of order.now)) }
 
-    // The bytes that come out, or the first fault of the four that message, order, holder and key decide.
+    // What is said of `sign`, by what this order wants.
     ensures exact { Gives told (λ out. out.items) result (signed bytes.now (divert_order_of order.now) (holder_seen holder.entry) (P.signs provider.old)) }
-
-    // What was signed: the message with one more field, which is read as the PASSporT of the message's numbers and the key's signature.
     ensures signed { IfOk result (λ out. IsSigned bytes.now (divert_order_of order.now) (holder_seen holder.entry) (P.signs provider.old) out.items) }
-
-    // Each of these faults in the words of what shows it.
     ensures causes { IfErr result (λ fault. IsCaused bytes.now (divert_order_of order.now) (holder_seen holder.entry) (P.signs provider.old) fault) }
-
-    // The provider's failure has its count.
     ensures failed { names_provider result ≡ true → Rose (P.faults provider.old) (P.faults provider.new) }
-
-    // What the call does to the provider.
     ensures faults { P.faults provider.old ≤ P.faults provider.new }
     ensures asks { P.asks provider.new ≤ P.asks provider.old + 1 }
     ensures asks_stay { P.asks provider.old ≤ P.asks provider.new }
@@ -102,15 +98,9 @@ fn sign_wanted<P: Provider>(
     provider: &mut P,
 ) -> Result<Vec<u8>, SignFault>
     requires { IsTrue (is_order (wanted_of wanted.now)) }
-    ensures exact { Gives told (λ out. out.items) result (signed bytes.now (wanted_of wanted.now) (holder_seen holder.entry) (P.signs provider.old)) }
-    ensures signed { IfOk result (λ out. IsSigned bytes.now (wanted_of wanted.now) (holder_seen holder.entry) (P.signs provider.old) out.items) }
-    ensures causes { IfErr result (λ fault. IsCaused bytes.now (wanted_of wanted.now) (holder_seen holder.entry) (P.signs provider.old) fault) }
-    ensures failed { names_provider result ≡ true → Rose (P.faults provider.old) (P.faults provider.new) }
-    ensures faults { P.faults provider.old ≤ P.faults provider.new }
-    ensures asks { P.asks provider.new ≤ P.asks provider.old + 1 }
-    ensures asks_stay { P.asks provider.old ≤ P.asks provider.new }
-    ensures same_says { P.says provider.new ≡ P.says provider.old }
-    ensures same_signs { P.signs provider.new ≡ P.signs provider.old }
+    ensures promised { IsPromised (λ out. out.items) bytes.now (wanted_of wanted.now) (holder_seen holder.entry) (P.signs provider.old) result }
+    ensures asked { IsAskedOnce (stand (P.says provider.old) (P.signs provider.old) (P.asks provider.old) (P.faults provider.old))
+        (stand (P.says provider.new) (P.signs provider.new) (P.asks provider.new) (P.faults provider.new)) result }
 {
     head_law();
     token_bytes_law();
@@ -130,12 +120,8 @@ fn sign_exactly<P: Provider>(
     requires { IsTrue (is_order (wanted_of wanted.now)) }
     ensures exact { Gives told (λ out. out.items) result (signed bytes.now (wanted_of wanted.now) (holder_seen holder.entry) (P.signs provider.old)) }
     ensures signed { IfOk result (λ out. IsSigned bytes.now (wanted_of wanted.now) (holder_seen holder.entry) (P.signs provider.old) out.items) }
-    ensures failed { names_provider result ≡ true → Rose (P.faults provider.old) (P.faults provider.new) }
-    ensures faults { P.faults provider.old ≤ P.faults provider.new }
-    ensures asks { P.asks provider.new ≤ P.asks provider.old + 1 }
-    ensures asks_stay { P.asks provider.old ≤ P.asks provider.new }
-    ensures same_says { P.says provider.new ≡ P.says provider.old }
-    ensures same_signs { P.signs provider.new ≡ P.signs provider.old }
+    ensures asked { IsAskedOnce (stand (P.says provider.old) (P.signs provider.old) (P.asks provider.old) (P.faults provider.old))
+        (stand (P.says provider.new) (P.signs provider.new) (P.asks provider.new) (P.faults provider.new)) result }
 {
     head_law();
     token_bytes_law();
@@ -152,12 +138,8 @@ fn signature_of<P: Provider>(
     provider: &mut P,
 ) -> Result<[u8; 64], SignFault>
     ensures exact { Gives told (λ signature. signature) result (signature_of (P.signs provider.old) key.now signing.now) }
-    ensures failed { names_provider result ≡ true → Rose (P.faults provider.old) (P.faults provider.new) }
-    ensures faults { P.faults provider.old ≤ P.faults provider.new }
-    ensures asks { P.asks provider.new ≤ P.asks provider.old + 1 }
-    ensures asks_stay { P.asks provider.old ≤ P.asks provider.new }
-    ensures same_says { P.says provider.new ≡ P.says provider.old }
-    ensures same_signs { P.signs provider.new ≡ P.signs provider.old }
+    ensures asked { IsAskedOnce (stand (P.says provider.old) (P.signs provider.old) (P.asks provider.old) (P.faults provider.old))
+        (stand (P.says provider.new) (P.signs provider.new) (P.asks provider.new) (P.faults provider.new)) result }
 {
     let digest = ticket(signing);
     match provider.sign(key, &digest) {

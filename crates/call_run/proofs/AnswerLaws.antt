@@ -2,7 +2,6 @@
 use Rattle.std.proofs.Common.{◌≡◌, ℕ, ◌+◌, ◌≤◌, Bool, true, false, ◌&&◌, List, [], ◌∷◌, ◌++◌, refl, sym, ◌∙◌, ap, subst, arith, inl, append-nil, append_assoc}
 use Rattle.call_log.specs.Entry.{Entry}
 use Rattle.log_run.proofs.ReadLaws.{read_both, read_nothing}
-use Rattle.log_run.proofs.RoundLaws.{and_assoc}
 use Rattle.stir_outside.proofs.CountLaws.{at_most_then, both_at_most}
 use Rattle.log_run.specs.Reading.{ReadCalls}
 use Rattle.stir_outside.specs.Count.{AtMost}
@@ -16,9 +15,14 @@ pub texts_both : (xs ys : List AnswerView) → texts_of (xs ++ ys) ≡ texts_of 
 texts_both [] ys = refl
 texts_both (x ∷ xs) ys = ap (λ t. x.text ++ t) (texts_both xs ys) ∙ sym (append_assoc x.text (texts_of xs) (texts_of ys))
 
+-- one more in front of those that are well together
+well_front : (t first second both : Bool) → both ≡ (first && second) → (t && both) ≡ ((t && first) && second)
+well_front true first second both e = e
+well_front false first second both e = refl
+
 well_both : (xs ys : List AnswerView) → all_well (xs ++ ys) ≡ (all_well xs && all_well ys)
 well_both [] ys = refl
-well_both (x ∷ xs) ys = ap (λ t. is_well x && t) (well_both xs ys) ∙ and_assoc (is_well x) (all_well xs) (all_well ys)
+well_both (x ∷ xs) ys = well_front (is_well x) (all_well xs) (all_well ys) (all_well (xs ++ ys)) (well_both xs ys)
 
 unread_both : (xs ys : List AnswerView) → unread_in (xs ++ ys) ≡ unread_in xs + unread_in ys
 unread_both [] ys = omega arith
@@ -29,7 +33,7 @@ and_true true = refl
 and_true false = refl
 
 good_both : (a b c : Bool) (xs ys : List AnswerView) → b ≡ (a && all_well xs) → c ≡ (b && all_well ys) → c ≡ (a && all_well (xs ++ ys))
-good_both a b c xs ys e f = f ∙ ap (λ t. t && all_well ys) e ∙ sym (and_assoc a (all_well xs) (all_well ys)) ∙ ap (λ t. a && t) (sym (well_both xs ys))
+good_both a b c xs ys e f = f ∙ ap (λ t. t && all_well ys) e ∙ sym (well_front a (all_well xs) (all_well ys) (all_well (xs ++ ys)) (well_both xs ys))
 
 -- ---- each call is answered
 

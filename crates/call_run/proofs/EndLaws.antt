@@ -5,10 +5,11 @@ use Rattle.std.proofs.KnownBytes.{Appends-trans}
 use Rattle.call_log.specs.Entry.{Entry}
 use Rattle.call_log.specs.Log.{Passed, start}
 use Rattle.call_log.specs.declared.fault.LogFault.TheVariants.{Grammar, Backward, Many, Source, Memory}
-use Rattle.log_run.proofs.EndLaws.{FaultyAt, at_backward, at_grammar, at_many}
+use Rattle.log_run.proofs.EndLaws.{at_backward, at_grammar, at_many}
 use Rattle.stir_outside.proofs.CountLaws.{then_rose}
 use Rattle.log_run.proofs.ReadLaws.{read_both}
 use Rattle.log_run.proofs.RunLaws.{front_behind}
+use Rattle.log_run.specs.Clauses.{FaultyAt}
 use Rattle.log_run.specs.Ending.{EndsAlone, EndsAs, EndsRefused, failed_line, memory_line, refused_line, report_status}
 use Rattle.log_run.specs.Reading.{ReadBehind}
 use Rattle.log_run.specs.Running.{Streams}

@@ -1,19 +1,20 @@
 -- A call that was read, and then answered or not.
-use Rattle.std.proofs.Common.{◌≡◌, ℕ, ◌≤◌, Bool, List, [], ◌∷◌, ◌++◌, string_bytes, Option, Some, None, Result, Ok, Err, refl, sym, subst, arith, append-nil}
+use Rattle.std.proofs.Common.{◌≡◌, ℕ, ◌≤◌, Bool, List, [], ◌∷◌, ◌++◌, string_bytes, Option, Some, None, Result, Ok, Err, refl, sym, ap, subst, arith, append-nil}
 use Rattle.std.specs.Io.KnownBytes.{Appends}
 use Rattle.std.proofs.KnownBytes.{Appends-nil}
 use Rattle.call_log.specs.Entry.{Entry}
 use Rattle.call_log.specs.Log.{Passed}
 use Rattle.call_log.specs.declared.fault.LogFault.{LogFault}
-use Rattle.call_log.specs.declared.fault.LogFault.TheVariants.{Grammar, Backward, Many, Source, Memory}
+use Rattle.call_log.specs.declared.fault.LogFault.TheVariants.{Source}
+use Rattle.log_run.proofs.RunLaws.{source_rose}
 use Rattle.log_run.specs.Reading.{ReadBehind, ReadCalls}
-use Rattle.log_run.specs.Running.{Streams, streams}
+use Rattle.log_run.specs.Running.{BehindBy, SourceRose, streams}
 use Rattle.stir_outside.specs.Count.{Rose}
 use Rattle.stir_outside.specs.Told.{AppendsFront}
 use Rattle.call_run.proofs.AnswerLaws.{answers_none, answers_one}
 use Rattle.call_run.specs.Answer.{AnswerView}
 use Rattle.call_run.specs.Answering.{StopsBy}
-use Rattle.call_run.specs.Running.{At, RoseBy, RunsOn, RunsOut, StoppedBy, at}
+use Rattle.call_run.specs.Running.{RunsOn, RunsOut, StoppedBy, at}
 use Rattle.call_run.specs.Steps.{AnsweredCall, From, Replies}
 use Rattle.call_run.specs.declared.ends.Halt.{Halt}
 use Rattle.call_run.specs.declared.ends.Halt.TheVariants as halt
@@ -22,10 +23,11 @@ use Rattle.call_run.specs.declared.stop.AnswerStop.TheVariants.{Unread, Memory a
 
 -- ---- no call was read
 
-pub none_ran : (answered : List Entry → Entry → AnswerView → Type 0) (behind : List Entry → Type 0) (stops : List Entry → Entry → List ℕ → List ℕ → Type 0) (passed passed_now : Passed) (left left_now : Option (List ℕ)) (faults : ℕ) (good : Bool)
-    (reads reads_now writes : ℕ) (written : Option (List ℕ)) → ReadBehind passed left left_now (Ok None) → reads ≤ reads_now
-    → From behind (λ first. RunsOut answered stops first (at passed left faults good) (at passed_now left_now faults good) (streams reads written writes) (streams reads_now written writes) (Ok None))
-none_ran answered behind stops passed passed_now left left_now faults good reads reads_now writes written read h = λ first known. record {
+-- of the log nothing was left, or what was left has a fault
+ended_ran : (answered : List Entry → Entry → AnswerView → Type 0) (behind : List Entry → Type 0) (stops : List Entry → Entry → List ℕ → List ℕ → Type 0) (passed passed_now : Passed) (left left_now : Option (List ℕ)) (faults : ℕ) (good : Bool)
+    (reads reads_now writes : ℕ) (written : Option (List ℕ)) (fault : Option LogFault) → BehindBy {X = Halt} passed left left_now (Ok fault) → SourceRose (streams reads written writes) (streams reads_now written writes) fault → reads ≤ reads_now
+    → From behind (λ first. RunsOut answered stops first (at passed left faults good) (at passed_now left_now faults good) (streams reads written writes) (streams reads_now written writes) (Ok fault))
+ended_ran answered behind stops passed passed_now left left_now faults good reads reads_now writes written fault read rose h = λ first known. record {
   calls = [];
   answers = [];
   mid = at passed left faults good;
@@ -34,34 +36,22 @@ none_ran answered behind stops passed passed_now left left_now faults good reads
   good = refl;
   faults_stay = omega arith;
   reported = Appends-nil written;
-  rose = tt;
+  rose = rose;
   stay = record { reads = h; writes = omega arith };
 }
 
--- the source failed only where its count rose
-rose_of : (stops : List Entry → Entry → List ℕ → List ℕ → Type 0) (calls : List Entry) (mid : At) (faults : ℕ) (s t : Streams) (fault : LogFault) → (◌≡◌ {A = Result (Option Entry) LogFault} (Err fault) (Err Source) → Rose s.reads t.reads)
-    → RoseBy stops calls mid faults s t (Ok (Some fault))
-rose_of stops calls mid faults s t (Grammar place) r = tt
-rose_of stops calls mid faults s t (Backward place) r = tt
-rose_of stops calls mid faults s t (Many place) r = tt
-rose_of stops calls mid faults s t Source r = r refl
-rose_of stops calls mid faults s t Memory r = tt
+pub none_ran : (answered : List Entry → Entry → AnswerView → Type 0) (behind : List Entry → Type 0) (stops : List Entry → Entry → List ℕ → List ℕ → Type 0) (passed passed_now : Passed) (left left_now : Option (List ℕ)) (faults : ℕ) (good : Bool)
+    (reads reads_now writes : ℕ) (written : Option (List ℕ)) → ReadBehind passed left left_now (Ok None) → reads ≤ reads_now
+    → From behind (λ first. RunsOut answered stops first (at passed left faults good) (at passed_now left_now faults good) (streams reads written writes) (streams reads_now written writes) (Ok None))
+none_ran answered behind stops passed passed_now left left_now faults good reads reads_now writes written read h =
+    ended_ran answered behind stops passed passed_now left left_now faults good reads reads_now writes written None read tt h
 
 pub fault_ran : (answered : List Entry → Entry → AnswerView → Type 0) (behind : List Entry → Type 0) (stops : List Entry → Entry → List ℕ → List ℕ → Type 0) (passed passed_now : Passed) (left left_now : Option (List ℕ)) (faults : ℕ) (good : Bool)
     (reads reads_now writes : ℕ) (written : Option (List ℕ)) (fault : LogFault) → ReadBehind passed left left_now (Err fault) → (◌≡◌ {A = Result (Option Entry) LogFault} (Err fault) (Err Source) → Rose reads reads_now) → reads ≤ reads_now
     → From behind (λ first. RunsOut answered stops first (at passed left faults good) (at passed_now left_now faults good) (streams reads written writes) (streams reads_now written writes) (Ok (Some fault)))
-fault_ran answered behind stops passed passed_now left left_now faults good reads reads_now writes written fault read rose h = λ first known. record {
-  calls = [];
-  answers = [];
-  mid = at passed left faults good;
-  stands = answers_none answered first (at passed left faults good);
-  behind = read;
-  good = refl;
-  faults_stay = omega arith;
-  reported = Appends-nil written;
-  rose = rose_of stops (first ++ []) (at passed left faults good) faults (streams reads written writes) (streams reads_now written writes) fault rose;
-  stay = record { reads = h; writes = omega arith };
-}
+fault_ran answered behind stops passed passed_now left left_now faults good reads reads_now writes written fault read rose h =
+    let cause = source_rose (streams reads written writes) (streams reads_now written writes) fault (λ e. rose (ap (λ x. Err x) e)) in
+    ended_ran answered behind stops passed passed_now left left_now faults good reads reads_now writes written (Some fault) read cause h
 
 -- ---- the call was answered
 

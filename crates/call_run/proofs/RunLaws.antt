@@ -1,12 +1,11 @@
 -- Pieces of a run behind one another.
-use Rattle.std.proofs.Common.{◌≡◌, ℕ, Bool, true, List, [], ◌++◌, Option, Some, None, IfOk, Ok, Err, refl, sym, ◌∙◌, ap, subst, arith}
-use Rattle.std.specs.Io.KnownBytes.{Appends, prepend_known}
+use Rattle.std.proofs.Common.{◌≡◌, ℕ, Bool, true, List, [], ◌++◌, Option, None, IfOk, Ok, Err, refl, sym, ◌∙◌, ap, subst, arith}
+use Rattle.std.specs.Io.KnownBytes.{Appends}
 use Rattle.std.proofs.KnownBytes.{Appends-nil, Appends-trans, prepend_known-nil}
 use Rattle.call_log.specs.Entry.{Entry}
 use Rattle.call_log.specs.Log.{Passed, start}
 use Rattle.call_log.specs.Reads.{LogState, left_to}
-use Rattle.call_log.specs.declared.fault.LogFault.TheVariants.{Grammar, Backward, Many, Source, Memory}
-use Rattle.log_run.proofs.RunLaws.{front_behind, stay_both}
+use Rattle.log_run.proofs.RunLaws.{front_behind, source_behind, stay_both, unused_none}
 use Rattle.log_run.specs.Running.{Streams, StreamsStay, streams}
 use Rattle.call_run.proofs.AnswerLaws.{answers_as, answers_both, answers_none, texts_both}
 use Rattle.call_run.specs.Answer.{AnswerView, texts_of}
@@ -41,12 +40,7 @@ stopped_as stops other calls mid faults WantOfMemory included s = tt
 
 rose_behind : (stops other : List Entry → Entry → List ℕ → List ℕ → Type 0) (calls : List Entry) (mid : At) (faults : ℕ) (a b c : Streams) (ended : RunEnd) → IncludedIn other stops → StreamsStay a b → RoseBy other calls mid faults b c ended
     → RoseBy stops calls mid faults a c ended
-rose_behind stops other calls mid faults a b c (Ok None) included s r = tt
-rose_behind stops other calls mid faults a b c (Ok (Some (Grammar place))) included s r = tt
-rose_behind stops other calls mid faults a b c (Ok (Some (Backward place))) included s r = tt
-rose_behind stops other calls mid faults a b c (Ok (Some (Many place))) included s r = tt
-rose_behind stops other calls mid faults a b c (Ok (Some Source)) included s r = λ e. omega (arith, s.reads, r e)
-rose_behind stops other calls mid faults a b c (Ok (Some Memory)) included s r = tt
+rose_behind stops other calls mid faults a b c (Ok fault) included s r = source_behind a b c fault s r
 rose_behind stops other calls mid faults a b c (Err halt.Sink) included s r = λ e. omega (arith, s.writes, r e)
 rose_behind stops other calls mid faults a b c (Err (halt.Stopped stop)) included s r = stopped_as stops other calls mid faults stop included r
 
@@ -112,10 +106,6 @@ out_renamed answered stops a passed left same faults good s t (Err stopped) e r 
 
 at_same : (passed other : Passed) (left same : Option (List ℕ)) (faults : ℕ) (good fine : Bool) → passed ≡ other → left ≡ same → good ≡ fine → at passed left faults good ≡ at other same faults fine
 at_same passed other left same faults good fine e f h = λ i. record { passed = e i; left = f i; faults = faults; all_good = h i }
-
-unused_none : (ahead : List ℕ) (left : Option (List ℕ)) (ended : RunEnd) → IfOk ended (λ fault. ahead ≡ []) → IfOk ended (λ fault. prepend_known ahead left ≡ left)
-unused_none ahead left (Ok fault) e = ap (λ x. prepend_known x left) e ∙ prepend_known-nil left
-unused_none ahead left (Err stopped) e = tt
 
 -- a whole run, from a reader at the beginning of the log
 pub log_ran : (answered : List Entry → Entry → AnswerView → Type 0) (stops : List Entry → Entry → List ℕ → List ℕ → Type 0) (left left_now : Option (List ℕ)) (faults faults_now reads reads_now writes writes_mid writes_now : ℕ)

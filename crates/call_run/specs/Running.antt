@@ -1,12 +1,11 @@
 -- A run over the calls of a log, up to its end or to what stopped it.
-use Rattle.std.specs.Prelude.{◌≡◌, ⊤, ℕ, ◌≤◌, Bool, ◌&&◌, List, [], ◌∷◌, ◌++◌, string_bytes, Option, Some, None, Result, Ok, Err}
+use Rattle.std.specs.Prelude.{◌≡◌, ⊤, ℕ, ◌≤◌, Bool, ◌&&◌, List, [], ◌∷◌, ◌++◌, string_bytes, Option, Result, Ok, Err}
 use Rattle.std.specs.Io.KnownBytes.{Appends}
 use Rattle.call_log.specs.Entry.{Entry}
 use Rattle.call_log.specs.Log.{Passed}
 use Rattle.call_log.specs.declared.fault.LogFault.{LogFault}
-use Rattle.call_log.specs.declared.fault.LogFault.TheVariants.{Grammar, Backward, Many, Source, Memory}
-use Rattle.log_run.specs.Reading.{ReadBehind, ReadCalls}
-use Rattle.log_run.specs.Running.{Streams, StreamsStay}
+use Rattle.log_run.specs.Reading.{ReadCalls}
+use Rattle.log_run.specs.Running.{BehindBy, GoodBy, SourceRose, Streams, StreamsStay}
 use Rattle.stir_outside.specs.Count.{AtMost, Rose}
 use Rattle.stir_outside.specs.Told.{AppendsFront}
 use Rattle.call_run.specs.Answer.{AnswerView, all_well, texts_of, unread_in}
@@ -49,15 +48,6 @@ pub record RunsOn (answered : List Entry → Entry → AnswerView → Type 0) (b
 abbrev pub RunEnd : Type 0
 RunEnd = Result (Option LogFault) Halt
 
-abbrev pub BehindBy : At → Option (List ℕ) → RunEnd → Type 0
-BehindBy mid left_now (Ok None) = ReadBehind mid.passed mid.left left_now (Ok None)
-BehindBy mid left_now (Ok (Some fault)) = ReadBehind mid.passed mid.left left_now (Err fault)
-BehindBy mid left_now (Err stopped) = ⊤
-
-abbrev pub GoodBy : Bool → Bool → RunEnd → Type 0
-GoodBy good good_now (Ok fault) = good_now ≡ good
-GoodBy good good_now (Err stopped) = ⊤
-
 -- The next call is one at which the run may stop, at this file and behind these lines of it, and the file couldn't be read.
 pub record StopsAtCall (stops : List Entry → Entry → List ℕ → List ℕ → Type 0) (before : List Entry) (mid : At) (faults_now : ℕ) (text name : List ℕ) : Type 0 where
   pub call : Entry
@@ -73,12 +63,7 @@ StoppedBy stops before mid faults_now WantOfMemory = ⊤
 
 -- the source or the sink failed, or the call behind these wasn't answered, where that ended the run
 abbrev pub RoseBy : (List Entry → Entry → List ℕ → List ℕ → Type 0) → List Entry → At → ℕ → Streams → Streams → RunEnd → Type 0
-RoseBy stops calls mid faults_now before now (Ok None) = ⊤
-RoseBy stops calls mid faults_now before now (Ok (Some (Grammar place))) = ⊤
-RoseBy stops calls mid faults_now before now (Ok (Some (Backward place))) = ⊤
-RoseBy stops calls mid faults_now before now (Ok (Some (Many place))) = ⊤
-RoseBy stops calls mid faults_now before now (Ok (Some Source)) = Rose before.reads now.reads
-RoseBy stops calls mid faults_now before now (Ok (Some Memory)) = ⊤
+RoseBy stops calls mid faults_now before now (Ok fault) = SourceRose before now fault
 RoseBy stops calls mid faults_now before now (Err halt.Sink) = Rose before.writes now.writes
 RoseBy stops calls mid faults_now before now (Err (halt.Stopped stop)) = StoppedBy stops calls mid faults_now stop
 
@@ -94,7 +79,7 @@ pub record RunsOut (answered : List Entry → Entry → AnswerView → Type 0) (
   pub answers : List AnswerView
   pub mid : At
   pub stands : AnswersTo answered first before mid calls answers
-  pub behind : BehindBy mid now.left ended
+  pub behind : BehindBy mid.passed mid.left now.left ended
   pub good : GoodBy mid.all_good now.all_good ended
   pub faults_stay : mid.faults ≤ now.faults
   pub reported : WroteBy outside.written outside_now.written (texts_of answers) ended

@@ -13,7 +13,7 @@ ghost use Rattle.text_grammar.specs.Moment.{last_second};
 use crate::answerer::Answerer;
 use crate::ends::{Halt, Next};
 use call_log::{Call, LogFault, LogReader};
-use log_run::next_call;
+use log_run::{next_call, reading_law};
 use std::alloc::Global;
 use stir_outside::{Shelf, Sink, Source, write_whole};
 
@@ -71,6 +71,7 @@ fn run_call<A: Answerer, S: Shelf, I: Source, O: Sink>(
     ensures same_files { S.files shelf.new ≡ S.files shelf.old }
     ensures shelf_stays { (S.counts shelf.old).faults ≤ (S.counts shelf.new).faults }
 {
+    reading_law();
     let call = match next_call(reader, input) {
         Ok(Some(call)) => call,
         Ok(None) => return Ok(Next::Whole),

@@ -6,11 +6,9 @@ use Rattle.std.proofs.lemmas.Option.{slice_get_cases, same_Some}
 use Rattle.der_reader.specs.Elem.{AllBytes}
 use Rattle.x509_profile.specs.View.{CertView}
 use Rattle.x509_profile.specs.Chain.{AreCerts, Chain, RefusedCertificate, certificates_in, joined}
-use Rattle.x509_profile.proofs.ChainLaws.{chain_again, chain_ends, chain_found, ends_whole}
 use Rattle.delegation.specs.declared.fault.PathFault.{PathFault}
 use Rattle.delegation.specs.Coverage.{Table}
 use Rattle.delegation.specs.Path.{IsAnchor, Path, anchor_of, issuer_of, shape_of}
-use Rattle.delegation.proofs.PathLaws.{path_again, path_found}
 use Rattle.cert_store.specs.declared.judged.Asked.{Asked}
 use Rattle.cert_store.specs.declared.judged.Asked.TheVariants.{NotAsked, Yes, No, Failed}
 use Rattle.stir_outside.proofs.CountLaws.{not_rose}
@@ -20,6 +18,7 @@ use Rattle.cert_store.specs.Judged.{IsJudged, JudgedAs, JudgedView, QuietIs, ask
 use Rattle.cert_store.specs.Links.{by_number, chain_in, first_or, links_from, links_of, path_of, path_up_to, read_file, read_or_nothing}
 use Rattle.cert_store.specs.Rules.{Says, fault_place, first_out, first_unauthorized, first_unsigned, key_under, keys_of, periods_from, place_in, refused_place, rule_11, rule_12, rule_14, rule_15}
 use Rattle.cert_store.specs.Words.{AuthorityIs, DatesAre, IsAuthorized, IsFirstBroken, IsNumbered, IsSigned, IsValid, KeysAre, PathIs, PathOf, ProfileIs, ProfileOf, SignaturesAre, SignedAs, UnaskedIs}
+use Rattle.cert_store.specs.Below.{Below}
 use Rattle.cert_store.proofs.PathFacts.{some_certificate}
 use Rattle.cert_store.proofs.WordLaws.{authority_worded, dates_worded, signatures_worded, the_issuer}
 
@@ -59,49 +58,49 @@ size_of (c ∷ others) (cert, certs) = let more = size_of others certs in omega 
 pub is_short : (bytes : List ℕ) (chain : List CertView) → Chain bytes chain → length bytes ≤ 49152
 is_short bytes chain c = let size = size_of chain c.each in omega (arith, size, c.most, ap length c.text)
 
-short_by : (bytes : List ℕ) (read : Result (List CertView) RefusedCertificate) → AllBytes bytes → length bytes ≤ 49152 → certificates_in bytes ≡ read
+short_by : Below → (bytes : List ℕ) (read : Result (List CertView) RefusedCertificate) → AllBytes bytes → length bytes ≤ 49152 → certificates_in bytes ≡ read
     → ProfileOf bytes (read_or_nothing (by_number read)) (refused_place (by_number read))
-short_by bytes (Ok chain) typed short e = chain_found bytes chain typed e
-short_by bytes (Err refused) typed short e =
-    let ends = chain_ends bytes refused typed e in
-    (inr (short, omega (arith, ends.number_is), ends_whole bytes refused ends), λ any chain. let k : Ok any ≡ Err refused = sym (chain_again bytes any chain) ∙ e in absurd (cc), refl)
+short_by below bytes (Ok chain) typed short e = below.chain_found bytes chain typed e
+short_by below bytes (Err refused) typed short e =
+    let ends = below.chain_ends bytes refused typed e in
+    (inr (short, omega (arith, ends.number_is), below.chain_whole bytes refused ends), λ any chain. let k : Ok any ≡ Err refused = sym (below.chain_again bytes any chain) ∙ e in absurd (cc), refl)
 
-profile_by : (bytes : List ℕ) (t : Bool) → AllBytes bytes → nat_le (length bytes) 49152 ≡ t
+profile_by : Below → (bytes : List ℕ) (t : Bool) → AllBytes bytes → nat_le (length bytes) 49152 ≡ t
     → ProfileOf bytes (read_or_nothing (cond t (by_number (certificates_in bytes)) (Err 0))) (refused_place (cond t (by_number (certificates_in bytes)) (Err 0)))
-profile_by bytes true typed e = short_by bytes (certificates_in bytes) typed (grind (arith, nat_tests)) refl
-profile_by bytes false typed e =
+profile_by below bytes true typed e = short_by below bytes (certificates_in bytes) typed (grind (arith, nat_tests)) refl
+profile_by below bytes false typed e =
     let long : 49152 < length bytes = grind (arith, nat_tests) in
     (inl (long, refl), λ any chain. let short = is_short bytes any chain in absurd (omega (arith, long, short)), refl)
 
-profile_read : (bytes : List ℕ) → AllBytes bytes → ProfileOf bytes (chain_in bytes) (rule_11 bytes)
+profile_read : Below → (bytes : List ℕ) → AllBytes bytes → ProfileOf bytes (chain_in bytes) (rule_11 bytes)
 unfolding read_file
-profile_read bytes typed = profile_by bytes (nat_le (length bytes) 49152) typed refl
+profile_read below bytes typed = profile_by below bytes (nat_le (length bytes) 49152) typed refl
 
-pub profile_is : (anchors : List CertView) (table : Table) (says : Says) (bytes : List ℕ) (judged : JudgedView) → AllBytes bytes
+pub profile_is : Below → (anchors : List CertView) (table : Table) (says : Says) (bytes : List ℕ) (judged : JudgedView) → AllBytes bytes
     → JudgedAs (judged_of anchors table says bytes) judged → ProfileIs bytes judged
-profile_is anchors table says bytes judged typed j =
+profile_is below anchors table says bytes judged typed j =
     let f = fields_of anchors table says bytes judged j in
     let P : Option ℕ → Type 0 = λ place. ProfileOf bytes judged.certificates place in
     let Q : List CertView → Type 0 = λ chain. ProfileOf bytes chain (rule_11 bytes) in
-    subst P (sym f.profile) (subst Q (sym f.certificates) (profile_read bytes typed))
+    subst P (sym f.profile) (subst Q (sym f.certificates) (profile_read below bytes typed))
 
 -- ---- rule 12
 
-path_in : (chain anchors : List CertView) (shape : Result (Option ℕ) PathFault) → shape_of chain anchors ≡ shape → PathOf chain anchors (fault_place shape)
-path_in chain anchors (Ok anchor) e = (anchor, path_found chain anchors anchor e)
-path_in chain anchors (Err fault) e = λ anchor path. let k : Err fault ≡ Ok anchor = sym e ∙ path_again chain anchors anchor path in absurd (cc)
+path_in : Below → (chain anchors : List CertView) (shape : Result (Option ℕ) PathFault) → shape_of chain anchors ≡ shape → PathOf chain anchors (fault_place shape)
+path_in below chain anchors (Ok anchor) e = (anchor, below.path_found chain anchors anchor e)
+path_in below chain anchors (Err fault) e = λ anchor path. let k : Err fault ≡ Ok anchor = sym e ∙ below.path_again chain anchors anchor path in absurd (cc)
 
-path_by : (anchors : List CertView) (read : Result (List CertView) ℕ) → refused_place read ≡ None → PathOf (read_or_nothing read) anchors (place_in anchors read)
-path_by anchors (Ok chain) e = path_in chain anchors (shape_of chain anchors) refl
-path_by anchors (Err place) e = absurd (cc)
+path_by : Below → (anchors : List CertView) (read : Result (List CertView) ℕ) → refused_place read ≡ None → PathOf (read_or_nothing read) anchors (place_in anchors read)
+path_by below anchors (Ok chain) e = path_in below chain anchors (shape_of chain anchors) refl
+path_by below anchors (Err place) e = absurd (cc)
 
-pub path_is : (anchors : List CertView) (table : Table) (says : Says) (bytes : List ℕ) (judged : JudgedView)
+pub path_is : Below → (anchors : List CertView) (table : Table) (says : Says) (bytes : List ℕ) (judged : JudgedView)
     → JudgedAs (judged_of anchors table says bytes) judged → PathIs anchors judged
-path_is anchors table says bytes judged j none =
+path_is below anchors table says bytes judged j none =
     let f = fields_of anchors table says bytes judged j in
     let P : Option ℕ → Type 0 = λ place. PathOf judged.certificates anchors place in
     let Q : List CertView → Type 0 = λ chain. PathOf chain anchors (rule_12 anchors bytes) in
-    subst P (sym f.shape) (subst Q (sym f.certificates) (path_by anchors (read_file bytes) (sym f.profile ∙ none)))
+    subst P (sym f.shape) (subst Q (sym f.certificates) (path_by below anchors (read_file bytes) (sym f.profile ∙ none)))
 
 -- ---- of a path
 
@@ -121,31 +120,31 @@ top_by chain anchors n last (Some number) some (listed, found, is, fits, first) 
 top_of : (chain anchors : List CertView) (anchor : Option ℕ) → Path chain anchors anchor → Top chain anchors anchor
 top_of chain anchors anchor p = top_by chain anchors _ p.last anchor (some_certificate chain anchors anchor p) p.anchored
 
-links_are : (chain anchors : List CertView) (anchor : Option ℕ) (t : Top chain anchors anchor) → Path chain anchors anchor → links_of anchors chain ≡ links_from 1 chain t.top
-links_are chain anchors anchor t p = rw (path_again chain anchors anchor p, t.is) refl
+links_are : Below → (chain anchors : List CertView) (anchor : Option ℕ) (t : Top chain anchors anchor) → Path chain anchors anchor → links_of anchors chain ≡ links_from 1 chain t.top
+links_are below chain anchors anchor t p = rw (below.path_again chain anchors anchor p, t.is) refl
 
-pub dates_are : (anchors : List CertView) (table : Table) (says : Says) (bytes : List ℕ) (judged : JudgedView)
+pub dates_are : Below → (anchors : List CertView) (table : Table) (says : Says) (bytes : List ℕ) (judged : JudgedView)
     → JudgedAs (judged_of anchors table says bytes) judged → DatesAre anchors judged
-dates_are anchors table says bytes judged j anchor moment path =
+dates_are below anchors table says bytes judged j anchor moment path =
     let f = fields_of anchors table says bytes judged j in
     let p : Path (chain_in bytes) anchors anchor = subst (λ (chain : List CertView). Path chain anchors anchor) f.certificates path in
     let P : Option ℕ → Type 0 = IsFirstBroken (IsValid anchors moment judged.certificates) (length judged.certificates) in
     let Q : List CertView → Type 0 = λ chain. IsFirstBroken (IsValid anchors moment chain) (length chain) (first_out moment (periods_from anchors 1 (path_of anchors (chain_in bytes)))) in
     let R : List CertView → Type 0 = λ dated. IsFirstBroken (IsValid anchors moment (chain_in bytes)) (length (chain_in bytes)) (first_out moment (periods_from anchors 1 dated)) in
-    let all : path_of anchors (chain_in bytes) ≡ chain_in bytes = ap (path_up_to (chain_in bytes)) (path_again (chain_in bytes) anchors anchor p) in
+    let all : path_of anchors (chain_in bytes) ≡ chain_in bytes = ap (path_up_to (chain_in bytes)) (below.path_again (chain_in bytes) anchors anchor p) in
     subst P (sym (f.dates moment)) (subst Q (sym f.certificates) (subst R (sym all) (dates_worded anchors moment (chain_in bytes))))
 
-pub authority_is : (anchors : List CertView) (table : Table) (says : Says) (bytes : List ℕ) (judged : JudgedView)
+pub authority_is : Below → (anchors : List CertView) (table : Table) (says : Says) (bytes : List ℕ) (judged : JudgedView)
     → JudgedAs (judged_of anchors table says bytes) judged → AuthorityIs anchors table judged
-authority_is anchors table says bytes judged j anchor path =
+authority_is below anchors table says bytes judged j anchor path =
     let f = fields_of anchors table says bytes judged j in
     let p : Path (chain_in bytes) anchors anchor = subst (λ (chain : List CertView). Path chain anchors anchor) f.certificates path in
     let t = top_of (chain_in bytes) anchors anchor p in
     let P : Option ℕ → Type 0 = IsFirstBroken (IsAuthorized table anchors anchor judged.certificates) (length judged.certificates) in
     let Q : List CertView → Type 0 = λ chain. IsFirstBroken (IsAuthorized table anchors anchor chain) (length chain) (rule_14 anchors table bytes) in
-    let found : rule_14 anchors table bytes ≡ first_unauthorized table (links_from 1 (chain_in bytes) t.top) = ap (first_unauthorized table) (links_are (chain_in bytes) anchors anchor t p) in
+    let found : rule_14 anchors table bytes ≡ first_unauthorized table (links_from 1 (chain_in bytes) t.top) = ap (first_unauthorized table) (links_are below (chain_in bytes) anchors anchor t p) in
     let R : Option ℕ → Type 0 = IsFirstBroken (IsAuthorized table anchors anchor (chain_in bytes)) (length (chain_in bytes)) in
-    subst P (sym f.authority) (subst Q (sym f.certificates) (subst R (sym found) (authority_worded anchors table (chain_in bytes) anchor t.top t.is)))
+    subst P (sym f.authority) (subst Q (sym f.certificates) (subst R (sym found) (authority_worded below anchors table (chain_in bytes) anchor t.top t.is)))
 
 -- ---- rule 15
 
@@ -159,14 +158,14 @@ signed_as Holds count (Some first) (No part) s w = let same : first ≡ part = c
 signed_as Holds count None (Failed part) s w = λ number some less most. w number some most
 signed_as Holds count (Some first) (Failed part) s w = λ number some less most. w.3 number some (omega (arith, less, s))
 
-pub signatures_are : (anchors : List CertView) (table : Table) (says : Says) (bytes : List ℕ) (judged : JudgedView)
+pub signatures_are : Below → (anchors : List CertView) (table : Table) (says : Says) (bytes : List ℕ) (judged : JudgedView)
     → JudgedAs (judged_of anchors table says bytes) judged → SignaturesAre anchors says judged
-signatures_are anchors table says bytes judged j anchor path none =
+signatures_are below anchors table says bytes judged j anchor path none =
     let f = fields_of anchors table says bytes judged j in
     let p : Path (chain_in bytes) anchors anchor = subst (λ (chain : List CertView). Path chain anchors anchor) f.certificates path in
     let t = top_of (chain_in bytes) anchors anchor p in
     let Q : List CertView → Type 0 = λ chain. SignedAs (IsSigned says anchors anchor chain) (length chain) judged.asked in
-    let links : rule_15 anchors says bytes ≡ first_unsigned says anchors (links_from 1 (chain_in bytes) t.top) = ap (first_unsigned says anchors) (links_are (chain_in bytes) anchors anchor t p) in
+    let links : rule_15 anchors says bytes ≡ first_unsigned says anchors (links_from 1 (chain_in bytes) t.top) = ap (first_unsigned says anchors) (links_are below (chain_in bytes) anchors anchor t p) in
     let profile : rule_11 bytes ≡ None = profile_of_path anchors bytes anchor (read_file bytes) p in
     let shape : rule_12 anchors bytes ≡ None = shape_of_path anchors anchor (read_file bytes) p in
     let authority : rule_14 anchors table bytes ≡ None = sym f.authority ∙ none in
@@ -178,7 +177,7 @@ signatures_are anchors table says bytes judged j anchor path none =
     profile_of_path anchors bytes anchor (Err place) p = let some = some_certificate [] anchors anchor p in absurd (omega (arith, some))
 
     shape_of_path : (anchors : List CertView) (anchor : Option ℕ) (read : Result (List CertView) ℕ) → Path (read_or_nothing read) anchors anchor → place_in anchors read ≡ None
-    shape_of_path anchors anchor (Ok chain) p = ap fault_place (path_again chain anchors anchor p)
+    shape_of_path anchors anchor (Ok chain) p = ap fault_place (below.path_again chain anchors anchor p)
     shape_of_path anchors anchor (Err place) p = refl
 
     asked_here : (profile shape authority unsigned first : Option ℕ) (asked : Asked) → profile ≡ None → shape ≡ None → authority ≡ None → unsigned ≡ first
@@ -208,13 +207,13 @@ key_of_number chain anchors anchor top number c issuer e some numbered above =
     let same = the_issuer chain anchors anchor top issuer (number - 1) e higher in
     key_at anchors 1 chain top (number - 1) c numbered ∙ ap (λ (x : CertView). Some (key_under anchors c x)) same
 
-pub keys_are : (anchors : List CertView) (table : Table) (says : Says) (bytes : List ℕ) (judged : JudgedView)
+pub keys_are : Below → (anchors : List CertView) (table : Table) (says : Says) (bytes : List ℕ) (judged : JudgedView)
     → JudgedAs (judged_of anchors table says bytes) judged → KeysAre anchors judged
-keys_are anchors table says bytes judged j anchor path =
+keys_are below anchors table says bytes judged j anchor path =
     let f = fields_of anchors table says bytes judged j in
     let p : Path (chain_in bytes) anchors anchor = subst (λ (chain : List CertView). Path chain anchors anchor) f.certificates path in
     let t = top_of (chain_in bytes) anchors anchor p in
-    let keys : judged.keys ≡ keys_of anchors (links_from 1 (chain_in bytes) t.top) = f.keys ∙ ap (keys_of anchors) (links_are (chain_in bytes) anchors anchor t p) in
+    let keys : judged.keys ≡ keys_of anchors (links_from 1 (chain_in bytes) t.top) = f.keys ∙ ap (keys_of anchors) (links_are below (chain_in bytes) anchors anchor t p) in
     record {
       count = ap length keys ∙ keys_count anchors 1 (chain_in bytes) t.top ∙ ap length (sym f.certificates);
       each = λ number c issuer some numbered above.
@@ -237,8 +236,14 @@ unfailed_by faults faults_now asked same below c part is =
     let failed : FailedWithCause faults faults_now (Failed part) = subst (FailedWithCause faults faults_now) is c in
     not_rose faults faults_now (record { same = same; below_last = below }) failed.1
 
-abbrev with_answer : JudgedView → Asked → JudgedView
+abbrev pub with_answer : JudgedView → Asked → JudgedView
 with_answer truth asked = record truth { asked = asked }
+
+-- of two providers, what is said differs in how the signatures were answered for alone
+pub answered_apart : (anchors : List CertView) (table : Table) (says other : Says) (bytes : List ℕ)
+    → judged_of anchors table other bytes ≡ with_answer (judged_of anchors table says bytes) (judged_of anchors table other bytes).asked
+unfolding judged_of
+answered_apart anchors table says other bytes = refl
 
 pub quiet_is : (truth : JudgedView) (faults faults_now : ℕ) (judged : JudgedView) → IsJudged truth faults faults_now judged → QuietIs truth faults faults_now judged
 quiet_is truth faults faults_now judged j same below =

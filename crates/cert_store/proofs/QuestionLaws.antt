@@ -6,18 +6,18 @@ use Rattle.x509_profile.specs.View.{CertView}
 use Rattle.delegation.specs.declared.fault.PathFault.{PathFault}
 use Rattle.delegation.specs.Coverage.{Table}
 use Rattle.delegation.specs.Path.{anchor_of, is_listed, shape_of}
-use Rattle.cert_store.specs.declared.judged.Asked.{Asked}
 use Rattle.cert_store.specs.Asking.{Keys, asked_by, first_refused}
 use Rattle.cert_store.specs.Judged.{HasAuthority, JudgedAs, JudgedView, asked_where, judged_of}
 use Rattle.cert_store.specs.Links.{chain_in, links_of, links_up_to, read_file, read_or_nothing}
 use Rattle.cert_store.specs.Questions.{AgreeOn, QuestionsAre, kept_question, question_unless, questions_from, questions_of, with_key}
 use Rattle.cert_store.specs.Rules.{QuestionView, Says, fault_place, first_unsigned, key_under, keys_of, place_in, rule_11, rule_12, rule_14, rule_15}
+use Rattle.cert_store.specs.Below.{Below}
 use Rattle.cert_store.proofs.JudgedLaws.{by_keys_below}
-use Rattle.cert_store.proofs.JudgedWords.{fields_of, keys_are}
+use Rattle.cert_store.proofs.JudgedWords.{fields_of, keys_are, with_answer}
 
 -- ---- the question at an index
 
-kept_none : (certificate : Option CertView) → kept_question certificate None ≡ None
+pub kept_none : (certificate : Option CertView) → kept_question certificate None ≡ None
 kept_none (Some certificate) = refl
 kept_none None = refl
 
@@ -51,16 +51,16 @@ by_listed : (listed : Bool) (c issuer : CertView) → with_key c (cond listed No
 by_listed true c issuer = refl
 by_listed false c issuer = refl
 
-pub questions_are : (anchors : List CertView) (table : Table) (says : Says) (bytes : List ℕ) (judged : JudgedView)
+pub questions_are : Below → (anchors : List CertView) (table : Table) (says : Says) (bytes : List ℕ) (judged : JudgedView)
     → JudgedAs (judged_of anchors table says bytes) judged → QuestionsAre anchors judged
-questions_are anchors table says bytes judged j = record {
+questions_are below anchors table says bytes judged j = record {
   none = λ broken number.
       let f = fields_of anchors table says bytes judged j in
       let none : judged.keys ≡ [] = f.keys ∙ no_keys anchors (read_file bytes) (λ e. broken (f.shape ∙ e)) in
       ap (λ (keys : Keys). kept_question (slice_get judged.certificates (number - 1)) (slice_get keys (number - 1))) none
       ∙ kept_none (slice_get judged.certificates (number - 1));
   path = λ anchor number c issuer path some numbered above.
-      let key : slice_get judged.keys (number - 1) ≡ Some (key_under anchors c issuer) = (keys_are anchors table says bytes judged j anchor path).each number c issuer some numbered above in
+      let key : slice_get judged.keys (number - 1) ≡ Some (key_under anchors c issuer) = (keys_are below anchors table says bytes judged j anchor path).each number c issuer some numbered above in
       ap (λ (x : Option CertView). kept_question x (slice_get judged.keys (number - 1))) numbered
       ∙ ap (λ (x : Option (Option (List ℕ))). kept_question (Some c) x) key ∙ by_listed (is_listed c anchors) c issuer;
 }
@@ -96,9 +96,6 @@ pub same_questions : (anchors : List CertView) (table : Table) (says other : Say
     → questions_of (judged_of anchors table other bytes) ≡ questions_of (judged_of anchors table says bytes)
 unfolding judged_of questions_of
 same_questions anchors table says other bytes = refl
-
-abbrev with_answer : JudgedView → Asked → JudgedView
-with_answer truth asked = record truth { asked = asked }
 
 pub same_where_agreed : (anchors : List CertView) (table : Table) (says other : Says) (bytes : List ℕ)
     → (HasAuthority (judged_of anchors table says bytes) → AgreeOn says other (questions_of (judged_of anchors table says bytes)))

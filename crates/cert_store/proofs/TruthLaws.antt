@@ -9,6 +9,7 @@ use Rattle.cert_store.specs.Judged.{JudgedAs, asked_where, judged_of}
 use Rattle.cert_store.specs.Links.{chain_in, links_of}
 use Rattle.cert_store.specs.Rules.{Says, keys_of, rule_11, rule_12, rule_14, rule_15}
 use Rattle.cert_store.specs.Words.{InWords}
+use Rattle.cert_store.specs.Below.{Below}
 use Rattle.cert_store.proofs.JudgedWords.{authority_is, dates_are, path_is, profile_is, signatures_are}
 
 -- no question fails
@@ -46,13 +47,13 @@ itself anchors table says bytes = record {
   question = question (keys_of anchors (links_of anchors (chain_in bytes))) (rule_11 bytes) (rule_12 anchors bytes) (rule_14 anchors table bytes) (rule_15 anchors says bytes);
 }
 
-pub in_words : (anchors : List CertView) (table : Table) (says : Says) (bytes : List ℕ) → AllBytes bytes → InWords anchors table says bytes (judged_of anchors table says bytes)
-in_words anchors table says bytes typed =
+pub in_words : Below → (anchors : List CertView) (table : Table) (says : Says) (bytes : List ℕ) → AllBytes bytes → InWords anchors table says bytes (judged_of anchors table says bytes)
+in_words below anchors table says bytes typed =
     let j = itself anchors table says bytes in
     record {
-      profile = profile_is anchors table says bytes (judged_of anchors table says bytes) typed j;
-      path = path_is anchors table says bytes (judged_of anchors table says bytes) j;
-      dates = dates_are anchors table says bytes (judged_of anchors table says bytes) j;
-      authority = authority_is anchors table says bytes (judged_of anchors table says bytes) j;
-      signatures = signatures_are anchors table says bytes (judged_of anchors table says bytes) j;
+      profile = profile_is below anchors table says bytes (judged_of anchors table says bytes) typed j;
+      path = path_is below anchors table says bytes (judged_of anchors table says bytes) j;
+      dates = dates_are below anchors table says bytes (judged_of anchors table says bytes) j;
+      authority = authority_is below anchors table says bytes (judged_of anchors table says bytes) j;
+      signatures = signatures_are below anchors table says bytes (judged_of anchors table says bytes) j;
     }

@@ -9,11 +9,11 @@ use Rattle.x509_profile.specs.View.{CertView}
 use Rattle.delegation.specs.Coverage.{Table, Within}
 use Rattle.delegation.specs.Decided.{is_within}
 use Rattle.delegation.specs.Path.{anchor_of, is_listed, issuer_of}
-use Rattle.delegation.proofs.DecidedLaws.{decides}
 use Rattle.cert_store.specs.declared.judged.Period.{Period}
 use Rattle.cert_store.specs.Links.{first_or, links_from}
 use Rattle.cert_store.specs.Rules.{Says, first_out, first_outside, first_unauthorized, first_unsigned, period_of, periods_from}
 use Rattle.cert_store.specs.Words.{IsAuthorized, IsFirstBroken, IsNumbered, IsSigned, IsValid}
+use Rattle.cert_store.specs.Below.{Below}
 use Rattle.cert_store.proofs.WalkLaws.{Means, Test, walk, worded}
 use Rattle.std.proofs.lemmas.Bool.{and_parts}
 
@@ -116,9 +116,9 @@ outside_walk table number [] top = refl
 outside_walk table number (c ∷ above) top =
     ap (λ o. cond (is_within c.list (first_or above top).list table) o (Some number)) (outside_walk table (suc number) above top)
 
-within_means : (anchors : List CertView) (table : Table) (chain : List CertView) (anchor : Option ℕ) (top : CertView) → anchor_of chain anchors anchor ≡ Some top
+within_means : Below → (anchors : List CertView) (table : Table) (chain : List CertView) (anchor : Option ℕ) (top : CertView) → anchor_of chain anchors anchor ≡ Some top
     → ((c : CertView) → slice_get chain 0 ≡ Some c → IsSome c.list) → Means (IsAuthorized table anchors anchor chain) (within_issuer table top) chain
-within_means anchors table chain anchor top e leaf = record {
+within_means below anchors table chain anchor top e leaf = record {
   to = λ i c is t. record {
     listed = λ d numbered one.
         let first : i ≡ 0 = omega (arith, one) in
@@ -126,28 +126,28 @@ within_means anchors table chain anchor top e leaf = record {
     within = λ d issuer numbered k.
         let P : CertView → Type 0 = λ x. Within x.list issuer.list table in
         let Q : CertView → Type 0 = λ x. Within c.list x.list table in
-        subst P (the_one chain i c d is numbered) (subst Q (the_issuer chain anchors anchor top issuer i e k) ((decides c.list (first_or (drop (suc i) chain) top).list table).0 t));
+        subst P (the_one chain i c d is numbered) (subst Q (the_issuer chain anchors anchor top issuer i e k) ((below.within c.list (first_or (drop (suc i) chain) top).list table).0 t));
   };
   from = λ i c is holds.
-      (decides c.list (first_or (drop (suc i) chain) top).list table).1 (holds.within c (first_or (drop (suc i) chain) top) (numbers chain i c is) (issuer_is chain anchors anchor top i e));
+      (below.within c.list (first_or (drop (suc i) chain) top).list table).1 (holds.within c (first_or (drop (suc i) chain) top) (numbers chain i c is) (issuer_is chain anchors anchor top i e));
 }
 
-authority_by : (anchors : List CertView) (table : Table) (leaf : CertView) (above : List CertView) (anchor : Option ℕ) (top : CertView) (t : Bool) → is_some leaf.list ≡ t
+authority_by : Below → (anchors : List CertView) (table : Table) (leaf : CertView) (above : List CertView) (anchor : Option ℕ) (top : CertView) (t : Bool) → is_some leaf.list ≡ t
     → anchor_of (leaf ∷ above) anchors anchor ≡ Some top
     → IsFirstBroken (IsAuthorized table anchors anchor (leaf ∷ above)) (length (leaf ∷ above)) (cond t (first_outside table (links_from 1 (leaf ∷ above) top)) (Some 1))
-authority_by anchors table leaf above anchor top true t e =
+authority_by below anchors table leaf above anchor top true t e =
     let chain : List CertView = leaf ∷ above in
     let P : Option ℕ → Type 0 = IsFirstBroken (IsAuthorized table anchors anchor chain) (length chain) in
     let has : (c : CertView) → slice_get chain 0 ≡ Some c → IsSome c.list =
     λ c is. let Q : CertView → Type 0 = λ x. IsSome x.list in subst Q (same_Some leaf c is) t in
-    subst P (sym (outside_walk table 1 chain top)) (worded (IsAuthorized table anchors anchor chain) (within_issuer table top) chain (within_means anchors table chain anchor top e has))
-authority_by anchors table leaf above anchor top false t e =
+    subst P (sym (outside_walk table 1 chain top)) (worded (IsAuthorized table anchors anchor chain) (within_issuer table top) chain (within_means below anchors table chain anchor top e has))
+authority_by below anchors table leaf above anchor top false t e =
     (omega arith, omega arith, λ h. let listed : is_some leaf.list ≡ true = h.listed leaf refl refl in absurd (cc), λ number some less. absurd (omega (arith, some, less)))
 
-pub authority_worded : (anchors : List CertView) (table : Table) (chain : List CertView) (anchor : Option ℕ) (top : CertView) → anchor_of chain anchors anchor ≡ Some top
+pub authority_worded : Below → (anchors : List CertView) (table : Table) (chain : List CertView) (anchor : Option ℕ) (top : CertView) → anchor_of chain anchors anchor ≡ Some top
     → IsFirstBroken (IsAuthorized table anchors anchor chain) (length chain) (first_unauthorized table (links_from 1 chain top))
-authority_worded anchors table [] anchor top e = λ number some most. absurd (omega (arith, some, most))
-authority_worded anchors table (leaf ∷ above) anchor top e = authority_by anchors table leaf above anchor top (is_some leaf.list) refl e
+authority_worded below anchors table [] anchor top e = λ number some most. absurd (omega (arith, some, most))
+authority_worded below anchors table (leaf ∷ above) anchor top e = authority_by below anchors table leaf above anchor top (is_some leaf.list) refl e
 
 -- ---- rule 15
 

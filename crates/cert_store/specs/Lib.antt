@@ -7,4 +7,5 @@ pub mod Rules
 pub mod Asking
 pub mod Judged
 pub mod Words
+pub mod Below
 pub mod Questions

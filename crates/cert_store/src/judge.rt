@@ -9,6 +9,7 @@ ghost use Rattle.cert_store.specs.Words.{AuthorityIs, DatesAre, KeysAre, PathIs,
 use crate::Memory;
 use crate::authority::first_unauthorized;
 use crate::judged::{Asked, Judged};
+use crate::laws::below_law;
 use crate::path::{issuer_keys, issuer_of_last, periods_of};
 use crate::signatures::ask;
 use delegation::{Anchors, shape};
@@ -57,6 +58,7 @@ pub fn judge_chain<P: Provider>(
     ensures same_says { P.says provider.new ≡ P.says provider.old }
     ensures same_signs { P.signs provider.new ≡ P.signs provider.old }
 {
+    below_law();
     judge_bytes(alloc, bytes, anchors, table, provider)
 }
 

@@ -1,14 +1,28 @@
 //! Laws: a function here does nothing, and its clauses are the law.
-ghost use Rattle.std.specs.Prelude.{◌≡◌, ◌≢◌, ◌≤◌, ℕ, List, length};
+ghost use Rattle.std.specs.Prelude.{◌≡◌, ◌≢◌, ◌≤◌, ℕ, List, length, Option, None};
 ghost use Rattle.der_reader.specs.Elem.{AllBytes};
 ghost use Rattle.x509_profile.specs.Chain.{Chain};
 ghost use Rattle.x509_profile.specs.View.{CertView};
 ghost use Rattle.delegation.specs.Coverage.{Table};
+ghost use Rattle.cert_store.specs.Below.{Below};
 ghost use Rattle.cert_store.specs.Judged.{HasAuthority, judged_of};
-ghost use Rattle.cert_store.specs.Questions.{AgreeOn, questions_of};
+ghost use Rattle.cert_store.specs.Questions.{AgreeOn, kept_question, questions_of};
 ghost use Rattle.cert_store.specs.Rules.{Says};
 ghost use Rattle.cert_store.specs.Words.{InWords};
 ghost use Rattle.cert_store.specs.declared.judged.Asked.TheVariants.{Failed};
+
+use delegation::{path_law, within_law};
+use x509_profile::chain_law;
+
+/// What is read of a chain, what is found to be a path and what lies within what: the laws of the crates below that the rules' own words
+/// rest on.
+pub(crate) fn below_law()
+    ensures { Below }
+{
+    chain_law();
+    path_law();
+    within_law();
+}
 
 /// What the rules on a chain say of bytes, where every question for a signature is answered: each in its own words; and a chain has no
 /// more bytes than a chain file may have.
@@ -16,14 +30,20 @@ pub fn judged_law()
     ensures answered { (anchors : List CertView) (table : Table) (says : Says) (bytes : List ℕ) (part : ℕ) → (judged_of anchors table says bytes).asked ≢ Failed part }
     ensures words { (anchors : List CertView) (table : Table) (says : Says) (bytes : List ℕ) → AllBytes bytes → InWords anchors table says bytes (judged_of anchors table says bytes) }
     ensures short { (bytes : List ℕ) (chain : List CertView) → Chain bytes chain → length bytes ≤ 49152 }
-{}
+{
+    below_law();
+}
 
 /// What the rules say of a chain's bytes depends on a provider by its answers to the chain's questions alone, and on no answer where rule
-/// 11, 12 or 14 is broken; the questions depend on no provider.
+/// 11, 12 or 14 is broken; the questions depend on no provider. By two providers what is said differs in how the signatures were answered for
+/// alone, and where no key is kept there is no question.
 pub fn questions_law()
     ensures same { (anchors : List CertView) (table : Table) (says other : Says) (bytes : List ℕ)
         → questions_of (judged_of anchors table other bytes) ≡ questions_of (judged_of anchors table says bytes) }
     ensures agree { (anchors : List CertView) (table : Table) (says other : Says) (bytes : List ℕ)
         → (HasAuthority (judged_of anchors table says bytes) → AgreeOn says other (questions_of (judged_of anchors table says bytes)))
         → judged_of anchors table other bytes ≡ judged_of anchors table says bytes }
+    ensures apart { (anchors : List CertView) (table : Table) (says other : Says) (bytes : List ℕ)
+        → judged_of anchors table other bytes ≡ record (judged_of anchors table says bytes) { asked = (judged_of anchors table other bytes).asked } }
+    ensures none { (certificate : Option CertView) → kept_question certificate None ≡ None }
 {}

@@ -17,12 +17,12 @@ use Rattle.delegation.specs.Usage.{may_certify}
 use Rattle.delegation.specs.Anchors.{AnchorText, AreAnchors, Gives, anchor_at, anchor_of, anchors_at, anchors_in, as_anchor}
 
 -- an anchor that stands there, and what is behind it
-record Standing (bytes : List ℕ) (c : CertView) (behind : List ℕ) : Type 0 where
-  split : bytes ≡ c.whole ++ behind
-  cert : Cert c.whole c
-  certifies : may_certify c ≡ true
+pub record Standing (bytes : List ℕ) (c : CertView) (behind : List ℕ) : Type 0 where
+  pub split : bytes ≡ c.whole ++ behind
+  pub cert : Cert c.whole c
+  pub certifies : may_certify c ≡ true
 
-anchor_found : (place : ℕ) (bytes : List ℕ) (next : CertView × List ℕ) → AllBytes bytes → anchor_at place bytes ≡ Ok next
+pub anchor_found : (place : ℕ) (bytes : List ℕ) (next : CertView × List ℕ) → AllBytes bytes → anchor_at place bytes ≡ Ok next
     → Standing bytes next.0 next.1 × AllBytes next.1
 unfolding anchor_at
 anchor_found place bytes next b e = of (next_at bytes) refl e
@@ -53,7 +53,7 @@ anchor_found place bytes next b e = of (next_at bytes) refl e
         (λ c k. cert_found found.0.whole c (all_front found.0.whole found.1 (subst AllBytes begins.split b)) k) e
     of (Err x) is e = cc
 
-anchor_again : (place : ℕ) (c : CertView) (behind : List ℕ) → Cert c.whole c → may_certify c ≡ true
+pub anchor_again : (place : ℕ) (c : CertView) (behind : List ℕ) → Cert c.whole c → may_certify c ≡ true
     → anchor_at place (c.whole ++ behind) ≡ Ok (c, behind)
 unfolding anchor_at
 anchor_again place c behind cert t =
@@ -61,7 +61,7 @@ anchor_again place c behind cert t =
     let next : next_at (c.whole ++ behind) ≡ Ok (element, behind) = next_again (c.whole ++ behind) element behind (record { elem = cert.elem; split = refl }) in
     rw (next, cert_again c.whole c cert, t) refl
 
-some_bytes : (c : CertView) (behind : List ℕ) → Cert c.whole c → length (c.whole ++ behind) == 0 ≡ false
+pub some_bytes : (c : CertView) (behind : List ℕ) → Cert c.whole c → length (c.whole ++ behind) == 0 ≡ false
 some_bytes c behind cert =
     let size = ap length cert.elem.text in
     let more = length-append c.whole behind in

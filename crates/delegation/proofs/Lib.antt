@@ -5,5 +5,8 @@ pub mod RowLaws
 pub mod WalkLaws
 pub mod ReadLaws
 pub mod AnchorLaws
+pub mod EndLaws
 pub mod PathLaws
+pub mod FaultTests
+pub mod FaultLaws
 pub mod DecidedLaws

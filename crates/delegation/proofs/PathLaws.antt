@@ -24,7 +24,7 @@ tests true true false i c last e = cc
 tests true false d i c last e = cc
 tests false b d i c last e = cc
 
-link_found : (i : ℕ) (below c d : CertView) → link_at i below c ≡ Ok d → Issues i c below × (c ≡ d)
+pub link_found : (i : ℕ) (below c d : CertView) → link_at i below c ≡ Ok d → Issues i c below × (c ≡ d)
 unfolding link_at
 link_found i below c d e =
     let t = tests (bytes_eq c.subject below.issuer) (may_certify c) (is_long_enough c.path_length (i - 2)) i c d e in (
@@ -41,7 +41,7 @@ link_again i below c s =
 -- ---- all that stand above the leaf
 
 -- each is the issuer of the one before it, where the second of these is certificate i
-abbrev Linked : ℕ → List CertView → Type 0
+abbrev pub Linked : ℕ → List CertView → Type 0
 Linked i cs = (k : ℕ) (c b : CertView) → slice_get cs (suc k) ≡ Some c → slice_get cs k ≡ Some b → Issues (i + k) c b
 
 linked_one : (i : ℕ) (below : CertView) → Linked i (below ∷ [])
@@ -65,7 +65,7 @@ linked_rest i below c cs l k d b e f =
     let same : i + suc k ≡ suc i + k = omega arith in
     subst (λ n. Issues n d b) same (l (suc k) d b e f)
 
-last_found : (i : ℕ) (below last : CertView) (cs : List CertView) → last_of i below cs ≡ Ok last
+pub last_found : (i : ℕ) (below last : CertView) (cs : List CertView) → last_of i below cs ≡ Ok last
     → (slice_get (below ∷ cs) (length cs) ≡ Some last) × Linked i (below ∷ cs)
 unfolding last_of
 last_found i below last [] e = (ap Some (inside below last e), linked_one i below)

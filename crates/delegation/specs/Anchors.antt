@@ -1,5 +1,5 @@
 -- Trust anchors, as a file of certificates one after another (RFC 5280, section 6.1.1 (d)).
-use Rattle.std.specs.Prelude.{◌≡◌, ℕ, zero, suc, ◌-◌, ◌==◌, ◌≤◌, List, [], ◌∷◌, ◌++◌, length, true, Option, Some, None, Result, Ok, Err, ⊤, if◌then◌else◌}
+use Rattle.std.specs.Prelude.{◌≡◌, ◌≢◌, ℕ, zero, suc, ◌-◌, ◌==◌, ◌<◌, ◌≤◌, List, [], ◌∷◌, ◌++◌, length, true, Option, Some, None, Result, Ok, Err, ⊤, if◌then◌else◌}
 use Rattle.lists.specs.Given as given
 use Rattle.lists.specs.Steps.{◌>>=◌}
 use Rattle.der_reader.specs.declared.fault.DerFault.{DerFault}
@@ -22,6 +22,27 @@ AreAnchors (c ∷ cs) bytes =
 pub record AnchorText (bytes : List ℕ) (anchors : List CertView) : Type 0 where
   pub most : length anchors ≤ 256
   pub each : AreAnchors anchors bytes
+
+-- ---- what is no anchor
+
+-- the bytes begin with no certificate of the profile that may certify others
+abbrev pub BeginsWithNone : List ℕ → Type 0
+BeginsWithNone bytes = (c : CertView) (behind : List ℕ) → bytes ≡ c.whole ++ behind → Cert c.whole c → may_certify c ≡ true → ⊥
+
+-- behind so many anchors bytes are left that are no anchor: one would be the 257th, or none begins there
+pub data IsNoAnchor (count : ℕ) (rest : List ℕ) : Type 0 where
+  surplus : count ≡ 256 → rest ≢ [] → IsNoAnchor count rest
+  unfit : count < 256 → rest ≢ [] → BeginsWithNone rest → IsNoAnchor count rest
+
+-- the bytes are these anchors, and behind them, from this place on, what is no anchor
+pub record EndsAt (bytes : List ℕ) (place : ℕ) : Type 0 where
+  pub before : List CertView
+  pub front : List ℕ
+  pub rest : List ℕ
+  pub text : bytes ≡ front ++ rest
+  pub stands : place ≡ length front
+  pub are : AreAnchors before front
+  pub why : IsNoAnchor (length before) rest
 
 -- ---- what reading them gives: the anchors, or the offset of the first that is none
 
@@ -59,6 +80,12 @@ fault_seen Memory = None
 -- The code gives what is read, or its place; want of memory is free.
 abbrev pub Gives : {X Y : Type 0} → (X → Y) → Result X AnchorFault → Result Y ℕ → Type 0
 Gives seen result read = given.Gives fault_seen seen result read
+
+-- a fault's place has this property; want of memory is free
+abbrev pub IfAt : {X : Type 0} → Result X AnchorFault → (ℕ → Type 0) → Type 0
+IfAt (Ok x) P = ⊤
+IfAt (Err (At place)) P = P place
+IfAt (Err Memory) P = ⊤
 
 -- a fault's place is no further than this
 abbrev pub IsPlacedUpTo : {X : Type 0} → ℕ → Result X AnchorFault → Type 0

@@ -1,9 +1,9 @@
 //! Trust anchors.
 
-ghost use Rattle.std.specs.Prelude.{◌≡◌, ◌+◌, ◌<◌, ◌≤◌, List, length, vec_len, IfOk, Ok, Some};
+ghost use Rattle.std.specs.Prelude.{◌≡◌, ◌+◌, ◌<◌, ◌≤◌, ℕ, List, length, vec_len, IfOk, Ok, Err, Some};
 ghost use Rattle.std.specs.List.{slice_get};
 ghost use Rattle.x509_profile.specs.View.{CertView};
-ghost use Rattle.delegation.specs.Anchors.{AnchorText, Gives, IsPlacedUpTo, anchor_at, anchors_in};
+ghost use Rattle.delegation.specs.Anchors.{AnchorText, EndsAt, Gives, IfAt, IsPlacedUpTo, anchor_at, anchors_in};
 ghost use Rattle.delegation.specs.Path.{is_listed};
 
 use crate::fault::AnchorFault;
@@ -53,6 +53,11 @@ impl Anchors {
 
         // The bytes are the anchors of one list at most.
         ensures unique { (a b : List CertView) → AnchorText bytes.now a → AnchorText bytes.now b → a ≡ b }
+
+        // A fault's place is where, behind anchors, the first bytes stand that are none; and where such bytes stand, that is
+        // the fault.
+        ensures refused { IfAt result (EndsAt bytes.now) }
+        ensures only_refused { (place : ℕ) → EndsAt bytes.now place → Gives (λ anchors. anchors) result (Err place) }
 
         ensures place { IsPlacedUpTo (length bytes.now) result }
         ensures limit { IsPlacedUpTo 2097152 result }

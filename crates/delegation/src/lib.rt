@@ -21,7 +21,7 @@ pub use authority::{Authority, within};
 pub use coverage::covers;
 pub use fault::{AnchorFault, PathFault};
 pub use found::Shape;
-pub use laws::covers_law;
+pub use laws::{covers_law, path_law, within_law};
 pub use path::shape;
 /// Memory ran out.
 pub use std::alloc::AllocError as Memory;

@@ -1,5 +1,7 @@
 pub mod NextLaws
+pub mod PartLaws
 pub mod IntegerLaws
+pub mod IntegerTexts
 pub mod PutLaws
 pub mod FlagLaws
 pub mod MomentLaws

@@ -1,5 +1,5 @@
 -- A DER INTEGER that isn't negative: X.690, section 8.3, as two's complement in the fewest bytes.
-use Rattle.std.specs.Prelude.{◌≡◌, ℕ, ◌+◌, ◌-◌, ◌*◌, ◌^◌, ◌<◌, ◌≤◌, Bool, ◌&&◌, ◌||◌, ◌==◌, List, ◌++◌, length, drop, replicate, nat_lt, nat_le, slice_index, fold, Result, Ok, Err, if◌then◌else◌}
+use Rattle.std.specs.Prelude.{◌≡◌, ℕ, zero, suc, ◌+◌, ◌-◌, ◌*◌, ◌/◌, ◌%◌, ◌^◌, ◌<◌, ◌≤◌, Bool, ◌&&◌, ◌||◌, ◌==◌, List, [], ◌∷◌, ◌++◌, length, drop, replicate, nat_lt, nat_le, slice_index, fold, Result, Ok, Err, if◌then◌else◌}
 use Rattle.der_reader.specs.declared.fault.DerFault.{DerFault}
 use Rattle.der_reader.specs.Fault.{bad_value}
 
@@ -39,3 +39,14 @@ scalar_of tag content =
     if (tag == 2) && is_integer_text content && nat_le (length (magnitude content)) 32
     then Ok (replicate (32 - length (magnitude content)) 0 ++ magnitude content)
     else Err bad_value
+
+-- at most so many bytes and one more, the highest first; only the first is below 0x80 for the sign's sake
+abbrev pub integer_within : ℕ → ℕ → List ℕ
+integer_within zero number = number ∷ []
+integer_within (suc bytes) number =
+    if nat_lt number 0x80 then number ∷ []
+    else integer_within bytes (number / 0x100) ++ number % 0x100 ∷ []
+
+-- the content of the INTEGER of a number: its fewest bytes, the highest first and below 0x80 (X.690, section 8.3)
+unfoldable pub integer_content : ℕ → List ℕ
+integer_content number = integer_within number number

@@ -1,6 +1,7 @@
 pub mod Fault
 pub mod Elem
 pub mod Next
+pub mod Part
 pub mod Integer
 pub mod BitString
 pub mod Boolean

@@ -1,10 +1,11 @@
 -- What reading one element off the front of some bytes gives, with the ordered table of its faults.
-use Rattle.std.specs.Prelude.{ℕ, ◌+◌, ◌*◌, ◌==◌, List, length, take, drop, nat_lt, slice_index, bit_and, Result, Ok, Err, if◌then◌else◌}
+use Rattle.std.specs.Prelude.{ℕ, ◌+◌, ◌*◌, ◌&&◌, ◌==◌, List, length, take, drop, nat_lt, slice_index, bit_and, Result, Ok, Err, if◌then◌else◌}
 use Rattle.std.specs.Borrow.{Bor}
 use Rattle.der_reader.specs.declared.element.Der.{Der}
 use Rattle.der_reader.specs.declared.element.Header.{Header}
 use Rattle.der_reader.specs.declared.fault.DerFault.{DerFault}
-use Rattle.der_reader.specs.Fault.{short_at, high_tag_at, bad_length_at}
+use Rattle.lists.specs.Steps.{◌>>=◌}
+use Rattle.der_reader.specs.Fault.{short_at, high_tag_at, bad_length_at, bad_value}
 use Rattle.der_reader.specs.Elem.{Element, element_of}
 
 -- The length of one byte, below 0x80.
@@ -68,3 +69,14 @@ next_at bytes = next_behind bytes (header_at bytes)
 abbrev pub next_view : Result (Der × Bor (List ℕ)) DerFault → Result (Element × List ℕ) DerFault
 next_view (Ok found) = Ok (element_of found.0, found.1.now)
 next_view (Err fault) = Err fault
+
+-- the one element that the bytes are, where it has this tag
+unfoldable pub sole_at : ℕ → List ℕ → Result Element DerFault
+sole_at tag bytes = do
+  found ← next_at bytes
+  if (found.0.tag == tag) && (length found.1 == 0) then Ok found.0 else Err bad_value
+
+-- an answer of `Der::sole` as plain data
+abbrev pub sole_view : Result Der DerFault → Result Element DerFault
+sole_view (Ok der) = Ok (element_of der)
+sole_view (Err fault) = Err fault

@@ -8,9 +8,7 @@ ghost use Rattle.der_reader.specs.BitString.{BitText, FlagsText, bits_of, bits_v
 
 use crate::element::Der;
 use crate::fault::DerFault;
-
-/// The tag byte of a BIT STRING.
-const BIT_STRING: u8 = 0x03;
+use crate::tags::BIT_STRING;
 
 impl<'a> Der<'a> {
     /// The bytes of a BIT STRING with no unused bits; anything else is `VALUE` at 0.

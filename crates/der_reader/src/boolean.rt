@@ -6,9 +6,7 @@ ghost use Rattle.der_reader.specs.Boolean.{boolean_of, boolean_text};
 
 use crate::element::Der;
 use crate::fault::DerFault;
-
-/// The tag byte of a BOOLEAN.
-const BOOLEAN: u8 = 0x01;
+use crate::tags::BOOLEAN;
 
 impl<'a> Der<'a> {
     /// The truth value of a BOOLEAN: `FF` is true and `00` false; anything else is `VALUE` at 0.

@@ -2,7 +2,7 @@
 
 ghost use Rattle.std.specs.Prelude.{◌≡◌, ◌+◌, ◌<◌, ◌≤◌, length, IfOk, IfErr, IsOkAnd, List, ℕ};
 ghost use Rattle.der_reader.specs.Elem.{BeginsWith, Element, element_of};
-ghost use Rattle.der_reader.specs.Next.{content_at, header_at, next_at, next_view};
+ghost use Rattle.der_reader.specs.Next.{content_at, header_at, next_at, next_view, sole_at, sole_view};
 
 use crate::fault::DerFault;
 
@@ -55,6 +55,21 @@ impl<'a> Der<'a> {
         ensures place { IfErr result (λ fault. fault.place ≤ length bytes.now) }
     {
         Header::read(bytes)?.split(bytes)
+    }
+
+    /// The one element that `bytes` are, which has to have this tag; another tag or bytes left over are `VALUE` at 0.
+    #[tactic(auto, unfolding(crate::specs::Next::sole_at), using(crate::proofs::PartLaws::element_sizes))]
+    pub fn sole(bytes: &'a [u8], tag: u8) -> Result<Der<'a>, DerFault>
+        ensures exact { sole_view result ≡ sole_at tag bytes.now }
+        ensures whole { IfOk result (λ der. length der.whole.now ≤ length bytes.now) }
+        ensures inside { IfOk result (λ der. length der.content.now < length bytes.now) }
+    {
+        let (der, rest) = Der::next(bytes)?;
+        if der.tag == tag && rest.is_empty() {
+            Ok(der)
+        } else {
+            Err(DerFault::value())
+        }
     }
 }
 

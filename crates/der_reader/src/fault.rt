@@ -57,7 +57,7 @@ impl DerFault {
     }
 
     /// The element isn't of the form that was asked for.
-    pub(crate) fn value() -> DerFault
+    pub fn value() -> DerFault
         ensures { result ≡ bad_value }
     {
         DerFault {

@@ -6,9 +6,7 @@ ghost use Rattle.der_reader.specs.Integer.{IntegerText, big_endian, is_integer_t
 
 use crate::element::Der;
 use crate::fault::DerFault;
-
-/// The tag byte of an INTEGER.
-const INTEGER: u8 = 0x02;
+use crate::tags::INTEGER;
 
 impl<'a> Der<'a> {
     /// The number of an INTEGER from 0 up to 2^64 - 1 in its fewest bytes.

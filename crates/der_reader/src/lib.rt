@@ -9,10 +9,15 @@ mod boolean;
 mod element;
 mod fault;
 mod integer;
+mod laws;
 mod moment;
+mod part;
+pub mod tags;
 mod time;
 mod write;
 
 pub use element::Der;
 pub use fault::DerFault;
-pub use write::{Memory, put};
+pub use laws::{bit_string_law, boolean_law, bytes_law, element_law, integer_law, time_law};
+pub use part::{Fault, Item, Outer, Part};
+pub use write::{Memory, put, put_integer};

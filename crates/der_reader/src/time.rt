@@ -7,12 +7,7 @@ ghost use Rattle.der_reader.specs.Time.{TimeText, generalized_moment, moment_at,
 use crate::element::Der;
 use crate::fault::DerFault;
 use crate::moment::Moment;
-
-/// The tag byte of a UTCTime.
-const UTC_TIME: u8 = 0x17;
-
-/// The tag byte of a GeneralizedTime.
-const GENERALIZED_TIME: u8 = 0x18;
+use crate::tags::{GENERALIZED_TIME, UTC_TIME};
 
 impl<'a> Der<'a> {
     /// The Unix seconds of a UTCTime `YYMMDDhhmmssZ`, where a year of 50 and above is 19yy and

@@ -3,6 +3,7 @@
 ghost use Rattle.std.specs.Prelude.{◌≡◌, ◌≢◌, ◌+◌, ◌≤◌, ◌<◌, ◌++◌, ◌∷◌, [], length, vec_len, vec_capacity, bit_and, OnOk, OnErr, IsOk};
 ghost use Rattle.std.specs.Vec.{VecUnchanged};
 ghost use Rattle.der_reader.specs.Elem.{length_text};
+ghost use Rattle.der_reader.specs.Integer.{integer_content};
 ghost use Rattle.der_reader.specs.Put.{AddsElement, ReadsBack};
 
 pub use std::alloc::AllocError as Memory;
@@ -40,5 +41,20 @@ fn put_length(out: &mut Vec<u8>, size: usize) -> Result<(), Memory>
         0x80..=0xFF => out.extend_from_slice(&[0x81, size as u8])?,
         _ => out.extend_from_slice(&[0x82, (size / 0x100) as u8, (size % 0x100) as u8])?,
     }
+    Ok(())
+}
+
+/// Appends the content of an INTEGER (X.690, section 8.3): the number in its fewest bytes, the highest first and below
+/// 0x80.
+#[tactic(auto, using(crate::proofs::IntegerTexts::content_small, crate::proofs::IntegerTexts::large_written))]
+pub fn put_integer(out: &mut Vec<u8>, number: u64) -> Result<(), Memory>
+    ensures { OnOk result (out.new.items ≡ out.old.items ++ integer_content number) }
+{
+    if number < 0x80 {
+        out.push(number as u8)?;
+        return Ok(());
+    }
+    put_integer(out, number / 0x100)?;
+    out.push((number % 0x100) as u8)?;
     Ok(())
 }

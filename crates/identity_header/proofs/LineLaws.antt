@@ -1,10 +1,9 @@
 -- The spelling of parts that are in their rows stands in one line, without blanks at its ends.
-use Rattle.std.proofs.Common.{◌≡◌, ℕ, ◌≤◌, Bool, true, false, not, ◌==◌, cond, List, [], ◌∷◌, ◌++◌, length, reverse, Option, Some, None, IfSome, refl, sym, ap, subst, ◌∙◌, append_assoc, arith, codes}
+use Rattle.std.proofs.Common.{◌≡◌, ℕ, ◌<◌, ◌≤◌, Bool, true, false, not, ◌==◌, cond, List, [], ◌∷◌, ◌++◌, length, reverse, Option, Some, None, IfSome, refl, sym, ap, subst, ◌∙◌, append_assoc, arith, codes}
 use Rattle.std.specs.List.{list_all}
 use Rattle.std.proofs.lemmas.Bool.{and_parts}
 use Rattle.std.proofs.lemmas.Bool.Decides.{nat_tests}
 use Rattle.std.proofs.lemmas.List.{append-nil, reverse-append}
-use Rattle.std.proofs.lemmas.List.Folds.{list_all-append}
 use Rattle.text_grammar.specs.Bytes.{is_blank, is_uri_byte}
 use Rattle.text_grammar.specs.Grammar.{Any}
 use Rattle.identity_header.specs.OneLine.{IsOneLine, begins_blank}
@@ -43,29 +42,21 @@ spelling_passes p f passes r =
     all_append p (f.token ++ codes ";info=<" ++ f.info ++ codes ">" ++ param_text (codes ";alg=") f.alg) (param_text (codes ";ppt=") f.ppt) four
     (param_passes p (codes ";ppt=") f.ppt passes passes.ppt r.ppt)
 
-no_return : Passes (λ b. not (b == 13))
-no_return = record {
-  digest = λ b h. grind (arith, nat_tests);
-  uri = λ b h. grind (arith, nat_tests);
-  quoted = λ b h. grind (arith, nat_tests);
-  quote = refl;
-  info = refl;
-  close = refl;
-  alg = refl;
-  ppt = refl;
-}
-
-no_feed : Passes (λ b. not (b == 10))
-no_feed = record {
-  digest = λ b h. grind (arith, nat_tests);
-  uri = λ b h. grind (arith, nat_tests);
-  quoted = λ b h. grind (arith, nat_tests);
-  quote = refl;
-  info = refl;
-  close = refl;
-  alg = refl;
-  ppt = refl;
-}
+-- no control byte stands in it
+no_control : (byte : ℕ) → byte < 32 → Passes (λ b. not (b == byte))
+no_control byte low =
+    let quoted : (b : ℕ) → is_quoted_byte b ≡ true → not (b == byte) ≡ true = λ b h. grind (arith, nat_tests) in
+    let literal : (text : List ℕ) → list_all is_quoted_byte text ≡ true → list_all (λ b. not (b == byte)) text ≡ true = each is_quoted_byte (λ b. not (b == byte)) quoted in
+    record {
+      digest = λ b h. grind (arith, nat_tests);
+      uri = λ b h. grind (arith, nat_tests);
+      quoted = quoted;
+      quote = grind (arith, nat_tests);
+      info = literal (codes ";info=<") refl;
+      close = literal (codes ">") refl;
+      alg = literal (codes ";alg=") refl;
+      ppt = literal (codes ";ppt=") refl;
+    }
 
 -- ---- the first byte
 
@@ -136,8 +127,8 @@ spelled_front f r = ap begins_blank (token_first f) ∙ first_of f.token _ r.tok
 
 pub one_line : (f : Parts) (text : List ℕ) → InRows f → text ≡ spelling f → IsOneLine text
 one_line f text r e = subst IsOneLine (sym e) (record {
-  no_return = spelling_passes (λ b. not (b == 13)) f no_return r;
-  no_feed = spelling_passes (λ b. not (b == 10)) f no_feed r;
+  no_return = spelling_passes (λ b. not (b == 13)) f (no_control 13 (omega arith)) r;
+  no_feed = spelling_passes (λ b. not (b == 10)) f (no_control 10 (omega arith)) r;
   front = spelled_front f r;
   end = last_no_blank (spelling f) (spelling_ended f);
 })

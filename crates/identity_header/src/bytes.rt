@@ -88,12 +88,9 @@ pub(crate) fn digest_len(text: &[u8]) -> usize
     ensures count { result ≡ prefix_len parts.is_digest_byte text.now }
     ensures within { result ≤ length text.now }
 {
-    for (place, byte) in text.iter().enumerate() {
-        if !is_digest_byte(*byte) {
-            return place;
-        }
-    }
-    text.len()
+    text.iter()
+        .take_while(|byte| is_digest_byte(**byte))
+        .count()
 }
 
 /// How many uri bytes a text begins with.
@@ -101,12 +98,7 @@ pub(crate) fn uri_len(text: &[u8]) -> usize
     ensures count { result ≡ prefix_len bytes.is_uri_byte text.now }
     ensures within { result ≤ length text.now }
 {
-    for (place, byte) in text.iter().enumerate() {
-        if !is_uri_byte(*byte) {
-            return place;
-        }
-    }
-    text.len()
+    text.iter().take_while(|byte| is_uri_byte(**byte)).count()
 }
 
 /// How many bare bytes a text begins with.
@@ -114,12 +106,7 @@ pub(crate) fn bare_len(text: &[u8]) -> usize
     ensures count { result ≡ prefix_len parts.is_bare_byte text.now }
     ensures within { result ≤ length text.now }
 {
-    for (place, byte) in text.iter().enumerate() {
-        if !is_bare_byte(*byte) {
-            return place;
-        }
-    }
-    text.len()
+    text.iter().take_while(|byte| is_bare_byte(**byte)).count()
 }
 
 /// How many bytes a text begins with that may stand between quotes.
@@ -127,10 +114,7 @@ pub(crate) fn quoted_len(text: &[u8]) -> usize
     ensures count { result ≡ prefix_len parts.is_quoted_byte text.now }
     ensures within { result ≤ length text.now }
 {
-    for (place, byte) in text.iter().enumerate() {
-        if !is_quoted_byte(*byte) {
-            return place;
-        }
-    }
-    text.len()
+    text.iter()
+        .take_while(|byte| is_quoted_byte(**byte))
+        .count()
 }

@@ -1,12 +1,13 @@
--- Byte texts: when two are one, and what holds of all bytes of one.
-use Rattle.std.proofs.Common.{◌≡◌, ℕ, ◌<◌, Bool, true, ◌==◌, List, [], ◌∷◌, ◌++◌, length, reverse, refl, ap, ◌∙◌, arith}
+-- Byte texts: when two are one, what holds of all bytes of one, and texts of a bounded length.
+use Rattle.std.proofs.Common.{◌≡◌, ℕ, ◌<◌, ◌≤◌, Bool, true, ◌&&◌, nat_le, ◌==◌, List, [], ◌∷◌, ◌++◌, length, reverse, refl, ap, ◌∙◌, arith}
 use Rattle.std.specs.List.{list_all}
-use Rattle.std.specs.Str.{IsAscii, bytes_eq}
+use Rattle.std.specs.Str.{IsAscii, IsUtf8, bytes_eq}
 use Rattle.std.proofs.lemmas.Bool.{and_parts}
 use Rattle.std.proofs.lemmas.Bool.Decides.{nat_tests}
 use Rattle.std.proofs.lemmas.List.{reverse-append}
 use Rattle.std.proofs.lemmas.List.Folds.{list_all-append}
 use Rattle.std.proofs.lemmas.Slice.Eq.{bytes_eq-Decides}
+use Rattle.std.proofs.lemmas.Str.{IsUtf8-from_ascii}
 use Rattle.std.proofs.lemmas.Str.Ascii.{IsAscii-nil, IsAscii-cons}
 
 -- ---- the same text
@@ -50,3 +51,21 @@ all_ascii p below [] h = IsAscii-nil
 all_ascii p below (b ∷ bs) h =
     let t = and_parts (p b) (list_all p bs) h in
     IsAscii-cons b bs (below b t.0) (all_ascii p below bs t.1)
+
+-- and so are text
+pub all_utf8 : (p : ℕ → Bool) → ((b : ℕ) → p b ≡ true → b < 128) → (text : List ℕ) → list_all p text ≡ true → IsUtf8 text
+all_utf8 p below text h = IsUtf8-from_ascii text (all_ascii p below text h)
+
+-- ---- texts of a bounded length
+
+-- a text of 1 to so many bytes, each of this class
+pub record IsBounded (most : ℕ) (p : ℕ → Bool) (text : List ℕ) : Type 0 where
+  pub some : 1 ≤ length text
+  pub short : length text ≤ most
+  pub bytes : list_all p text ≡ true
+
+pub bounded_parts : (most : ℕ) (p : ℕ → Bool) (text : List ℕ) → (nat_le 1 (length text) && nat_le (length text) most && list_all p text) ≡ true → IsBounded most p text
+bounded_parts most p text h =
+    let lengths = and_parts (nat_le 1 (length text) && nat_le (length text) most) (list_all p text) h in
+    let ends = and_parts (nat_le 1 (length text)) (nat_le (length text) most) lengths.0 in
+    record { some = grind (arith, nat_tests, ends.0); short = grind (arith, nat_tests, ends.1); bytes = lengths.1 }

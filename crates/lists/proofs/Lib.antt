@@ -2,3 +2,4 @@ pub mod Bytes
 pub mod GivenLaws
 pub mod Options
 pub mod StepLaws
+pub mod Tests

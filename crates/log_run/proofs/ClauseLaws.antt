@@ -1,14 +1,15 @@
 -- The promises of a run, from how it ended.
 use Rattle.std.proofs.Common.{◌≡◌, ◌≢◌, ℕ, ◌≤◌, inl, inr, Bool, true, false, List, [], ◌++◌, Option, Some, None, IfSome, Ok, refl, sym, ◌∙◌, ap, subst, arith}
 use Rattle.std.proofs.KnownBytes.{Consumes-trans}
-use Rattle.call_log.specs.Entry.{Entry, headed}
+use Rattle.call_log.proofs.HeaderLaws.{headed_some}
+use Rattle.call_log.specs.Entry.{Entry}
 use Rattle.call_log.specs.HandsOut.{HandsOutOf, OneLog}
 use Rattle.call_log.specs.Log.{AreCalls, LogText, NoEntry, Passed, after_all, entry_texts, start}
-use Rattle.log_run.proofs.EndLaws.{Base, Ended, EndedFailed, EndedFaulty, EndedFront, EndedShort, EndedWhole, FaultyAt, ended_of, first_at}
+use Rattle.log_run.proofs.EndLaws.{Base, Ended, EndedFailed, EndedFaulty, EndedFront, EndedShort, EndedWhole, ended_of, first_at}
 use Rattle.log_run.proofs.JudgedLaws.{aside_on}
 use Rattle.log_run.proofs.LegalLaws.{first_of, legal_of}
 use Rattle.log_run.specs.Bench.{Bench}
-use Rattle.log_run.specs.Clauses.{AnswersFaulty, AnswersWhole, AreFirst, AreJudged, Around, DoneReport, FailedReport, Fails, FrontReport, HasCauses, HasEnded, Headline, IsComplete, IsFaulty, LogRan, PartReport, Refuses, ShortReport, WholeReport}
+use Rattle.log_run.specs.Clauses.{AnswersFaulty, AnswersWhole, AreFirst, AreJudged, Around, DoneReport, FailedReport, Fails, FaultyAt, FrontReport, HasCauses, HasEnded, Headline, IsComplete, IsFaulty, LogRan, PartLog, PartReport, Refuses, ShortReport, WholeReport}
 use Rattle.log_run.specs.Ending.{report_status}
 use Rattle.log_run.specs.Judged.{At}
 use Rattle.log_run.specs.Reading.{ReadCalls}
@@ -31,12 +32,6 @@ pub whole_log : (passed : Passed) (bytes : List ℕ) (left now : Option (List �
 whole_log passed bytes None now calls r h = absurd r.consumed
 whole_log passed bytes (Some rest) now calls r h = joined passed bytes rest [] calls r.consumed r.follow r.moves h
 
--- a log that isn't whole, with what is behind its calls
-pub record PartLog (bytes : List ℕ) (calls : List Entry) (place : ℕ) : Type 0 where
-  pub rest : List ℕ
-  pub log : LogText (start 0 0) bytes calls rest
-  pub fault : IsFaulty (after_all (start 0 0) calls) place rest
-
 pub part_log : (passed : Passed) (bytes : List ℕ) (left : Option (List ℕ)) (calls : List Entry) (place : ℕ) → ReadCalls (start 0 0) (Some bytes) left passed calls → FaultyAt passed left place → PartLog bytes calls place
 part_log passed bytes None calls place r f = absurd r.consumed
 part_log passed bytes (Some rest) calls place r f = record {
@@ -44,10 +39,6 @@ part_log passed bytes (Some rest) calls place r f = record {
   log = joined passed bytes rest rest calls r.consumed r.follow r.moves f.0;
   fault = subst (λ p. IsFaulty p place rest) r.moves f.1;
 }
-
-headed_some : (moment said : ℕ) (behind : List ℕ) → headed moment said behind ≢ []
-unfolding headed
-headed_some moment said behind = λ e. cc
 
 pub faulty_some : (passed : Passed) (place : ℕ) (rest : List ℕ) → IsFaulty passed place rest → rest ≢ []
 faulty_some passed place rest (inl g) = g.some

@@ -4,12 +4,12 @@ use Rattle.std.specs.Io.KnownBytes.{Appends}
 use Rattle.std.proofs.KnownBytes.{Appends-trans}
 use Rattle.call_log.specs.Entry.{Entry}
 use Rattle.call_log.specs.HandsOut.{HandsOutOf}
-use Rattle.call_log.specs.Log.{LogText, Passed, start}
+use Rattle.call_log.specs.Log.{Passed, start}
 use Rattle.call_log.specs.declared.fault.LogFault.TheVariants.{Grammar, Backward, Many, Source, Memory}
 use Rattle.log_run.proofs.RunLaws.{front_behind}
 use Rattle.stir_outside.proofs.CountLaws.{then_rose}
 use Rattle.log_run.specs.Bench.{Bench}
-use Rattle.log_run.specs.Clauses.{Around, IsEndLine, IsFaulty, LogRan}
+use Rattle.log_run.specs.Clauses.{Around, FaultyAt, IsEndLine, LogRan}
 use Rattle.log_run.specs.Ending.{EndsAlone, EndsAs, EndsBy, EndsRefused, failed_line, memory_line, refused_line, report_status}
 use Rattle.log_run.specs.Judged.{At, Judged, at}
 use Rattle.log_run.specs.Reading.{ReadBehind}
@@ -30,11 +30,6 @@ pub record Base (judged : Entry → Outcome → Type 0) (bench : Bench) (before 
   pub cut : IsCut rounds
   pub shelf_stays : mid.standing.shelf ≤ now.standing.shelf
   pub provider_stays : mid.standing.provider ≤ now.standing.provider
-
--- what is left behind the calls is faulty at this place
-abbrev pub FaultyAt : Passed → Option (List ℕ) → ℕ → Type 0
-FaultyAt passed None place = Unit {0}
-FaultyAt passed (Some rest) place = LogText passed rest [] rest × IsFaulty passed place rest
 
 -- ---- the five ends
 

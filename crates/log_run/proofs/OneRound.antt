@@ -6,14 +6,15 @@ use Rattle.std.specs.declared.alloc.AllocError.{AllocError}
 use Rattle.call_log.specs.Entry.{Entry}
 use Rattle.call_log.specs.Log.{AreCalls, Passed, after_all}
 use Rattle.call_log.specs.declared.fault.LogFault.{LogFault}
-use Rattle.call_log.specs.declared.fault.LogFault.TheVariants.{Grammar, Backward, Many, Source, Memory}
+use Rattle.call_log.specs.declared.fault.LogFault.TheVariants.{Source, Memory}
 use Rattle.log_run.proofs.JudgedLaws.{judged_none, round_judged}
 use Rattle.log_run.proofs.ReadLaws.{counted, follow_of, moment_same, number_same, numbered}
+use Rattle.log_run.proofs.RunLaws.{source_rose}
 use Rattle.log_run.specs.Bench.{Bench, Moves, Standing}
 use Rattle.log_run.specs.Judged.{At, Judged, at}
 use Rattle.log_run.specs.Reading.{ReadCalls, ReadFull, ReadRound}
 use Rattle.log_run.specs.Rounds.{most_in_round}
-use Rattle.log_run.specs.Running.{BehindBy, RanRound, RoseBy, RunsOn, RunsOut, Streams, StreamsStay, lines_behind, streams}
+use Rattle.log_run.specs.Running.{BehindBy, RanRound, RoseBy, RunsOn, RunsOut, SourceRose, Streams, StreamsStay, lines_behind, streams}
 use Rattle.log_run.specs.Steps.{JudgedRound, Reports, StandsBy, first_number}
 use Rattle.log_run.specs.declared.ends.Next.{Next}
 use Rattle.log_run.specs.declared.ends.Next.TheVariants.{More, Whole, Fault}
@@ -96,7 +97,7 @@ empty_last judged bench a mid mid_left calls read none =
     }
 
 ended_empty : (judged : Entry → Outcome → Type 0) (bench : Bench) (a : At) (passed : Passed) (left_now : Option (List ℕ)) (calls : List Entry) (fault : Option LogFault) (s t : Streams) (mid : Passed) (mid_left : Option (List ℕ))
-    → ReadCalls a.passed a.left mid_left mid calls → calls ≡ [] → BehindBy (at mid mid_left a.standing a.all_good) left_now (Ok fault) → RoseBy s t (Ok fault) → StreamsStay s t → Appends s.written t.written []
+    → ReadCalls a.passed a.left mid_left mid calls → calls ≡ [] → BehindBy {X = Stop} mid mid_left left_now (Ok fault) → SourceRose s t fault → StreamsStay s t → Appends s.written t.written []
     → RunsOut judged bench a (at passed left_now a.standing a.all_good) s t (Ok fault)
 ended_empty judged bench a passed left_now calls fault s t mid mid_left read none behind rose stay same = record {
   rounds = [];
@@ -112,14 +113,6 @@ ended_empty judged bench a passed left_now calls fault s t mid mid_left read non
   stay = stay;
 }
 
--- the source failed only where its count rose
-pub rose_of : (s t : Streams) (fault : LogFault) → (fault ≡ Source → Rose s.reads t.reads) → RoseBy s t (Ok (Some fault))
-rose_of s t (Grammar place) r = tt
-rose_of s t (Backward place) r = tt
-rose_of s t (Many place) r = tt
-rose_of s t Source r = r refl
-rose_of s t Memory r = tt
-
 pub no_calls : (calls : List Entry) → length calls ≡ 0 → calls ≡ []
 no_calls [] e = refl
 no_calls (call ∷ others) e = absurd (omega (arith, e))
@@ -131,7 +124,7 @@ pub none_read : (judged : Entry → Outcome → Type 0) (bench : Bench) (a : At)
 none_read judged bench a passed left_now calls More s t r none rose stay same = absurd (omega (arith, r.full, ap length none))
 none_read judged bench a passed left_now calls Whole s t r none rose stay same = ended_empty judged bench a passed left_now calls None s t r.mid r.mid_left r.read none r.behind tt stay same
 none_read judged bench a passed left_now calls (Fault fault) s t r none rose stay same =
-    ended_empty judged bench a passed left_now calls (Some fault) s t r.mid r.mid_left r.read none r.behind (rose_of s t fault (λ e. rose (ap (λ x. Ok (Fault x)) e))) stay same
+    ended_empty judged bench a passed left_now calls (Some fault) s t r.mid r.mid_left r.read none r.behind (source_rose s t fault (λ e. rose (ap (λ x. Ok (Fault x)) e))) stay same
 
 -- ---- a round that was judged
 
@@ -163,7 +156,7 @@ more_ran judged bench a b calls s t one full stay = record {
 }
 
 last_ran : (judged : Entry → Outcome → Type 0) (bench : Bench) (a : At) (passed mid : Passed) (mid_left left_now : Option (List ℕ)) (b : Standing) (good : Bool) (calls : List Entry) (fault : Option LogFault) (s t : Streams)
-    → OneRound judged bench a (at mid mid_left b good) calls (Appends s.written t.written) → 0 < length calls → length calls < most_in_round → BehindBy (at mid mid_left b good) left_now (Ok fault) → RoseBy s t (Ok fault) → StreamsStay s t
+    → OneRound judged bench a (at mid mid_left b good) calls (Appends s.written t.written) → 0 < length calls → length calls < most_in_round → BehindBy {X = Stop} mid mid_left left_now (Ok fault) → RoseBy s t (Ok fault) → StreamsStay s t
     → RunsOut judged bench a (at passed left_now b good) s t (Ok fault)
 last_ran judged bench a passed mid mid_left left_now b good calls fault s t one some few behind rose stay = record {
   rounds = record { calls = calls; outcomes = one.outcomes } ∷ [];
@@ -188,7 +181,7 @@ round_ran judged bench a passed left_now b good calls Whole s t r some rose stay
     last_ran judged bench a passed r.mid r.mid_left left_now b good calls None s t (one_round judged bench a r.mid r.mid_left b good calls (Appends s.written t.written) r.read some moves reports) some r.few r.behind tt stay
 round_ran judged bench a passed left_now b good calls (Fault fault) s t r some rose stay moves reports =
     last_ran judged bench a passed r.mid r.mid_left left_now b good calls (Some fault) s t (one_round judged bench a r.mid r.mid_left b good calls (Appends s.written t.written) r.read some moves reports) some r.few r.behind
-    (rose_of s t fault (λ e. rose (ap (λ x. Ok (Fault x)) e))) stay
+    (source_rose s t fault (λ e. rose (ap (λ x. Ok (Fault x)) e))) stay
 
 -- ---- a round that was stopped
 

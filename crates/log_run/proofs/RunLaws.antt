@@ -1,10 +1,11 @@
 -- Pieces of a run behind one another.
-use Rattle.std.proofs.Common.{◌≡◌, ℕ, ◌+◌, Bool, true, List, [], ◌++◌, length, Option, Some, None, IfOk, Ok, Err, refl, sym, ◌∙◌, ap, subst, arith, append_assoc}
+use Rattle.std.proofs.Common.{◌≡◌, ℕ, ◌+◌, Bool, true, List, [], ◌++◌, length, Option, Some, None, Result, IfOk, Ok, Err, refl, sym, ◌∙◌, ap, subst, arith, append_assoc}
 use Rattle.std.specs.Io.KnownBytes.{Appends, prepend_known}
 use Rattle.std.proofs.KnownBytes.{Appends-nil, Appends-trans, prepend_known-nil}
 use Rattle.call_log.specs.Entry.{Entry}
 use Rattle.call_log.specs.Log.{Passed, start}
 use Rattle.call_log.specs.Reads.{LogState, left_to}
+use Rattle.call_log.specs.declared.fault.LogFault.{LogFault}
 use Rattle.call_log.specs.declared.fault.LogFault.TheVariants.{Grammar, Backward, Many, Source, Memory}
 use Rattle.log_run.proofs.JudgedLaws.{judged_as, judged_both, judged_none, number_behind}
 use Rattle.log_run.proofs.ReportLaws.{report_append}
@@ -14,9 +15,10 @@ use Rattle.log_run.specs.Clauses.{LogRan, around}
 use Rattle.log_run.specs.Ending.{EndsBy}
 use Rattle.log_run.specs.Judged.{At, Judged, at}
 use Rattle.log_run.specs.Rounds.{Round, outcomes_in}
-use Rattle.log_run.specs.Running.{RoseBy, RunEnd, RunsOn, RunsOut, Streams, StreamsStay, WroteBy, lines_behind, streams}
+use Rattle.log_run.specs.Running.{RoseBy, RunEnd, RunsOn, RunsOut, SourceRose, Streams, StreamsStay, WroteBy, lines_behind, streams}
 use Rattle.log_run.specs.declared.ends.Stop.TheVariants as stop
 use Rattle.replay_law.specs.Law.{MoreRounds}
+use Rattle.stir_outside.specs.Count.{Rose}
 use Rattle.stir_outside.specs.Told.{AppendsFront}
 use Rattle.verify_service.specs.Report.{report}
 use Rattle.verify_service.specs.declared.outcome.Outcome.{Outcome}
@@ -43,13 +45,26 @@ lines_both judged bench a b xs ys f =
     ap (report (a.passed.number + 1)) (outcomes_both xs ys) ∙ report_append (a.passed.number + 1) (outcomes_in xs) (outcomes_in ys)
     ∙ ap (λ n. lines_behind a xs ++ report n (outcomes_in ys)) at_b
 
+-- ---- what rose
+
+-- the source failed only where its count rose
+pub source_rose : (s t : Streams) (fault : LogFault) → (fault ≡ Source → Rose s.reads t.reads) → SourceRose s t (Some fault)
+source_rose s t (Grammar place) r = tt
+source_rose s t (Backward place) r = tt
+source_rose s t (Many place) r = tt
+source_rose s t Source r = r refl
+source_rose s t Memory r = tt
+
+pub source_behind : (a b c : Streams) (fault : Option LogFault) → StreamsStay a b → SourceRose b c fault → SourceRose a c fault
+source_behind a b c None s r = tt
+source_behind a b c (Some (Grammar place)) s r = tt
+source_behind a b c (Some (Backward place)) s r = tt
+source_behind a b c (Some (Many place)) s r = tt
+source_behind a b c (Some Source) s r = λ e. omega (arith, s.reads, r e)
+source_behind a b c (Some Memory) s r = tt
+
 rose_behind : (a b c : Streams) (ended : RunEnd) → StreamsStay a b → RoseBy b c ended → RoseBy a c ended
-rose_behind a b c (Ok None) s r = tt
-rose_behind a b c (Ok (Some (Grammar place))) s r = tt
-rose_behind a b c (Ok (Some (Backward place))) s r = tt
-rose_behind a b c (Ok (Some (Many place))) s r = tt
-rose_behind a b c (Ok (Some Source)) s r = λ e. omega (arith, s.reads, r e)
-rose_behind a b c (Ok (Some Memory)) s r = tt
+rose_behind a b c (Ok fault) s r = source_behind a b c fault s r
 rose_behind a b c (Err stop.Sink) s r = λ e. omega (arith, s.writes, r e)
 rose_behind a b c (Err stop.Memory) s r = tt
 
@@ -115,7 +130,7 @@ out_renamed judged bench a passed left same standing good s t (Err stopped) e r 
 at_same : (passed other : Passed) (left same : Option (List ℕ)) (standing : Standing) (good fine : Bool) → passed ≡ other → left ≡ same → good ≡ fine → at passed left standing good ≡ at other same standing fine
 at_same passed other left same standing good fine e f h = λ i. record { passed = e i; left = f i; standing = standing; all_good = h i }
 
-unused_none : (ahead : List ℕ) (left : Option (List ℕ)) (ended : RunEnd) → IfOk ended (λ fault. ahead ≡ []) → IfOk ended (λ fault. prepend_known ahead left ≡ left)
+pub unused_none : {X : Type 0} (ahead : List ℕ) (left : Option (List ℕ)) (ended : Result (Option LogFault) X) → IfOk ended (λ fault. ahead ≡ []) → IfOk ended (λ fault. prepend_known ahead left ≡ left)
 unused_none ahead left (Ok fault) e = ap (λ x. prepend_known x left) e ∙ prepend_known-nil left
 unused_none ahead left (Err stopped) e = tt
 

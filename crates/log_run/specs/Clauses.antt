@@ -1,5 +1,5 @@
 -- What a run over a whole log promises, for each status.
-use Rattle.std.specs.Prelude.{◌≡◌, ◌≢◌, ℕ, ◌≤◌, ◌⊎◌, Bool, true, List, [], ◌++◌, Option, Some, IfSome}
+use Rattle.std.specs.Prelude.{◌≡◌, ◌≢◌, ⊤, ℕ, ◌≤◌, ◌⊎◌, Bool, true, List, [], ◌++◌, Option, Some, None, IfSome}
 use Rattle.std.specs.Io.KnownBytes.{Appends, Consumes, IsAtEnd}
 use Rattle.call_log.specs.Entry.{Entry}
 use Rattle.call_log.specs.Fault.{IsBackward, IsGrammar, IsMany}
@@ -67,6 +67,17 @@ HasEnded now status = status ≤ 1 → IsAtEnd now.left
 -- what stands at this offset behind the calls is no entry, one whose moment falls, or one too many
 abbrev pub IsFaulty : Passed → ℕ → List ℕ → Type 0
 IsFaulty passed place rest = IsGrammar passed place rest ⊎ (IsBackward passed place rest ⊎ IsMany passed place rest)
+
+-- what is left behind the calls that were read is so, where it is known what is left
+abbrev pub FaultyAt : Passed → Option (List ℕ) → ℕ → Type 0
+FaultyAt passed None place = ⊤
+FaultyAt passed (Some rest) place = LogText passed rest [] rest × IsFaulty passed place rest
+
+-- the bytes are these calls and what is behind them, which is so
+pub record PartLog (bytes : List ℕ) (calls : List Entry) (place : ℕ) : Type 0 where
+  pub rest : List ℕ
+  pub log : LogText (start 0 0) bytes calls rest
+  pub fault : IsFaulty (after_all (start 0 0) calls) place rest
 
 -- The bytes are no whole log; the calls before the fault were judged; their report and the line of the fault were written.
 pub record PartReport (judged : Entry → Outcome → Type 0) (bench : Bench) (before now : Around) (bytes : List ℕ) : Type 0 where

@@ -2,6 +2,7 @@
 use Rattle.std.specs.Prelude.{◌≡◌, ⊤, ℕ, ◌+◌, ◌≤◌, Bool, List, Option, Some, None, Result, Ok, Err}
 use Rattle.std.specs.Io.KnownBytes.{Appends}
 use Rattle.call_log.specs.Entry.{Entry}
+use Rattle.call_log.specs.Log.{Passed}
 use Rattle.call_log.specs.declared.fault.LogFault.{LogFault}
 use Rattle.call_log.specs.declared.fault.LogFault.TheVariants.{Grammar, Backward, Many, Source, Memory}
 use Rattle.log_run.specs.Bench.{Bench}
@@ -43,27 +44,36 @@ pub record RunsOn (judged : Entry → Outcome → Type 0) (bench : Bench) (befor
   pub reported : Appends outside.written outside_now.written (lines_behind before rounds)
   pub stay : StreamsStay outside outside_now
 
--- what ended the run: the end of the log or a fault of it, or what stopped it before
-abbrev pub RunEnd : Type 0
-RunEnd = Result (Option LogFault) Stop
+-- ---- what ended a run: the end of the log or a fault of it, or what stopped it before
 
-abbrev pub BehindBy : At → Option (List ℕ) → RunEnd → Type 0
-BehindBy mid left_now (Ok None) = ReadBehind mid.passed mid.left left_now (Ok None)
-BehindBy mid left_now (Ok (Some fault)) = ReadBehind mid.passed mid.left left_now (Err fault)
-BehindBy mid left_now (Err stopped) = ⊤
+-- the log was read to its end or to its fault, where that ended the run
+abbrev pub BehindBy : {X : Type 0} → Passed → Option (List ℕ) → Option (List ℕ) → Result (Option LogFault) X → Type 0
+BehindBy passed left left_now (Ok None) = ReadBehind passed left left_now (Ok None)
+BehindBy passed left left_now (Ok (Some fault)) = ReadBehind passed left left_now (Err fault)
+BehindBy passed left left_now (Err stopped) = ⊤
 
-abbrev pub GoodBy : Bool → Bool → RunEnd → Type 0
+-- and then no call came that could change this
+abbrev pub GoodBy : {X : Type 0} → Bool → Bool → Result (Option LogFault) X → Type 0
 GoodBy good good_now (Ok fault) = good_now ≡ good
 GoodBy good good_now (Err stopped) = ⊤
 
+-- the source failed where that ended the log
+abbrev pub SourceRose : Streams → Streams → Option LogFault → Type 0
+SourceRose before now None = ⊤
+SourceRose before now (Some (Grammar place)) = ⊤
+SourceRose before now (Some (Backward place)) = ⊤
+SourceRose before now (Some (Many place)) = ⊤
+SourceRose before now (Some Source) = Rose before.reads now.reads
+SourceRose before now (Some Memory) = ⊤
+
+-- ---- what ended the rounds of a log
+
+abbrev pub RunEnd : Type 0
+RunEnd = Result (Option LogFault) Stop
+
 -- the source or the sink failed where that ended the run
 abbrev pub RoseBy : Streams → Streams → RunEnd → Type 0
-RoseBy before now (Ok None) = ⊤
-RoseBy before now (Ok (Some (Grammar place))) = ⊤
-RoseBy before now (Ok (Some (Backward place))) = ⊤
-RoseBy before now (Ok (Some (Many place))) = ⊤
-RoseBy before now (Ok (Some Source)) = Rose before.reads now.reads
-RoseBy before now (Ok (Some Memory)) = ⊤
+RoseBy before now (Ok fault) = SourceRose before now fault
 RoseBy before now (Err stop.Sink) = Rose before.writes now.writes
 RoseBy before now (Err stop.Memory) = ⊤
 
@@ -79,7 +89,7 @@ pub record RunsOut (judged : Entry → Outcome → Type 0) (bench : Bench) (befo
   pub mid : At
   pub stands : Judged judged bench before mid rounds
   pub cut : IsCut rounds
-  pub behind : BehindBy mid now.left ended
+  pub behind : BehindBy mid.passed mid.left now.left ended
   pub good : GoodBy mid.all_good now.all_good ended
   pub shelf_stays : mid.standing.shelf ≤ now.standing.shelf
   pub provider_stays : mid.standing.provider ≤ now.standing.provider

@@ -6,12 +6,14 @@
 
 mod ends;
 mod judge;
+mod laws;
 mod reading;
 mod report;
 mod rounds;
 mod run;
 
 pub use judge::Judge;
+pub use laws::{log_law, reading_law, run_law};
 pub use reading::next_call;
 pub use run::{end_at, end_with, judge_log, report_status};
 /// Memory ran out.

@@ -1,8 +1,8 @@
 -- What is read of header and payload is what the relation says, and nothing else.
-use Rattle.std.proofs.Common.{◌≡◌, ◌≤◌, ℕ, Bool, true, false, not, List, length, cond, nat_le, Option, Some, None, Result, Ok, Err, refl, sym, ap, ◌∙◌, subst, codes, arith, inl, inr}
+use Rattle.std.proofs.Common.{◌≡◌, ◌≤◌, ℕ, Bool, true, false, not, List, length, cond, nat_le, Option, Some, None, Result, Ok, Err, refl, sym, ap, ◌∙◌, subst, codes, arith, inl, inr, le-leb}
 use Rattle.std.specs.Prelude.{option_and_then, IfOk}
 use Rattle.std.proofs.lemmas.Bool.Decides.{nat_tests}
-use Rattle.std.proofs.lemmas.Option.{option_and_then_some}
+use Rattle.std.proofs.lemmas.Option.{cond_some, option_and_then_some}
 use Rattle.serde_json.specs.Data.{Num, unsigned, negative, float, Data, null, boolean, number, string, array, object}
 use Rattle.serde_json.specs.Find.{as_number, as_u64, get}
 use Rattle.passport_json.specs.IssuedAt.{IsIssuedAt, issued_at, not_past}
@@ -30,13 +30,6 @@ use Rattle.lists.proofs.StepLaws.{came}
 there : {A : Type 0} (broken : ClaimFault) (found : Option A) (a : A) → or_fault broken found ≡ Ok a → found ≡ Some a
 there broken None a h = absurd cc
 there broken (Some x) a h = let e : x ≡ a = cc in ap (λ y. Some y) e
-
--- ---- the time
-
-issued_again : (payload : Data) (seconds : ℕ) → IsIssuedAt payload seconds → issued_at payload ≡ Some seconds
-issued_again payload seconds is =
-    let low : nat_le seconds last_second ≡ true = let k = is.within in grind (arith, nat_tests) in
-    rw (is.member, low) refl
 
 -- ---- the header
 
@@ -79,10 +72,6 @@ kind_again payload kinds.Base h = refl
 kind_again payload (kinds.Shaken level origid) h = rw (h.0, attest_again level, h.1, origid_again origid h.2) refl
 kind_again payload (kinds.Div div) h = rw (number_again (codes "div") payload div h) refl
 
-origid_by : (t : Bool) (text origid : List ℕ) → cond t (Some text) None ≡ Some origid → (text ≡ origid) × (t ≡ true)
-origid_by true text origid h = let e : text ≡ origid = cc in (e, refl)
-origid_by false text origid h = absurd cc
-
 attest_found : (payload : Data) (level : Attest) → option_and_then attest_of (text_in (codes "attest") payload) ≡ Some level → HasText (codes "attest") (attest_text level) payload
 attest_found payload level h =
     option_and_then_some attest_of (text_in (codes "attest") payload) level h
@@ -91,8 +80,8 @@ attest_found payload level h =
 origid_found : (payload : Data) (origid : List ℕ) → option_and_then origid_of (text_in (codes "origid") payload) ≡ Some origid → HasText (codes "origid") origid payload × IsOrigid origid
 origid_found payload origid h =
     option_and_then_some origid_of (text_in (codes "origid") payload) origid h
-    (λ text et eo. let k = origid_by (is_origid text) text origid eo in
-    (subst (λ t. HasText (codes "origid") t payload) k.0 (found_text (get (codes "origid") payload) text et), subst IsOrigid k.0 (origid_tells text k.1)))
+    (λ text et eo. let k = cond_some (is_origid text) text origid eo in
+    (subst (λ t. HasText (codes "origid") t payload) k.1 (found_text (get (codes "origid") payload) text et), subst IsOrigid k.1 (origid_tells text k.0)))
 
 record IsOfType (payload : Data) (ppt : Option (List ℕ)) (kind : Kind) : Type 0 where
   has : HasKind payload kind
@@ -134,9 +123,10 @@ unfolding read_claims
 claims_again header payload ppt info claims c =
     let kind : checked_kind ppt payload ≡ Ok claims.kind = subst (λ p. checked_kind p payload ≡ Ok claims.kind) c.kept_ppt (kind_again payload claims.kind c.kind) in
     let kept : info ≡ claims.x5u = sym c.kept_x5u in
+    let issued : issued_at payload ≡ Some claims.iat = rw (c.iat.member, le-leb claims.iat last_second c.iat.within) refl in
     rw (
       header_again header ppt info c.typ c.alg (where_again (codes "ppt") ppt header c.same_ppt) c.same_x5u,
-      issued_again payload claims.iat c.iat,
+      issued,
       number_again (codes "orig") payload claims.orig c.orig,
       called_again (most_called ppt) payload claims.dest c.dest c.some_called c.few_called,
       kind,

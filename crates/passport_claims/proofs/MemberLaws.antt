@@ -4,7 +4,7 @@ use Rattle.std.specs.Prelude.{option_and_then}
 use Rattle.std.specs.List.{list_all}
 use Rattle.std.specs.Str.{bytes_eq}
 use Rattle.std.proofs.lemmas.Bool.Decides.{nat_tests}
-use Rattle.std.proofs.lemmas.Option.{option_and_then_some}
+use Rattle.std.proofs.lemmas.Option.{cond_some, option_and_then_some}
 use Rattle.std.proofs.lemmas.Slice.Eq.{bytes_eq-Decides}
 use Rattle.serde_json.specs.Data.{Data, null, boolean, number, string, array, object, Items, no_items, item}
 use Rattle.serde_json.specs.Find.{get, as_array, as_str}
@@ -66,17 +66,13 @@ found_text (Some (object ms)) text h = absurd cc
 
 -- ---- numbers
 
-exact_by : (t : Bool) (text n : List ℕ) → cond t (Some text) None ≡ Some n → (text ≡ n) × (t ≡ true)
-exact_by true text n h = let e : text ≡ n = cc in (e, refl)
-exact_by false text n h = absurd cc
-
 pub number_found : (value : Data) (n : List ℕ) → number_of value ≡ Some n → (value ≡ string n) × (is_number n ≡ true)
 number_found null n h = absurd cc
 number_found (boolean b) n h = absurd cc
 number_found (number x) n h = absurd cc
 number_found (string s) n h =
-    let k = exact_by (is_number s) s n h in
-    (ap string k.0, subst (λ t. is_number t ≡ true) k.0 k.1)
+    let k = cond_some (is_number s) s n h in
+    (ap string k.1, subst (λ t. is_number t ≡ true) k.1 k.0)
 number_found (array items) n h = absurd cc
 number_found (object ms) n h = absurd cc
 

@@ -3,6 +3,7 @@ use Rattle.std.proofs.Common.{◌≡◌, ℕ, ◌^◌, ◌<◌, true, List, [], 
 use Rattle.std.specs.Prelude.{IfSome}
 use Rattle.std.specs.List.{list_all}
 use Rattle.std.proofs.lemmas.Bool.{and_parts}
+use Rattle.std.proofs.lemmas.Option.{same_Some}
 use Rattle.serde_json.specs.Data.{Data, array, number, string, unsigned}
 use Rattle.serde_json.specs.Find.{get}
 use Rattle.serde_json.proofs.OnLiterals.{serde_json_on_literals}
@@ -32,9 +33,6 @@ tn_is : (held : Data) → get (codes "tn") (with_tn held) ≡ Some held
 unfolding serde_json_on_literals
 tn_is held = refl
 
-same_some : {A : Type 0} → (a b : A) (o : Option A) → o ≡ Some a → o ≡ Some b → a ≡ b
-same_some a b o one other = cc
-
 same_number : (a b : ℕ) → ◌≡◌ {A = Data} (number (unsigned a)) (number (unsigned b)) → a ≡ b
 same_number a b e = cc
 
@@ -44,14 +42,14 @@ same_text a b e = cc
 -- what the member's `tn` is
 held_in : (name : List ℕ) (payload holder held other : Data) → get name payload ≡ Some (with_tn held) → get name payload ≡ Some holder → get (codes "tn") holder ≡ Some other → held ≡ other
 held_in name payload holder held other built_as member tn =
-    let same : with_tn held ≡ holder = same_some (with_tn held) holder (get name payload) built_as member in
-    same_some held other (get (codes "tn") holder) (ap (get (codes "tn")) (sym same) ∙ tn_is held) tn
+    let same : with_tn held ≡ holder = same_Some (with_tn held) holder (sym built_as ∙ member) in
+    same_Some held other (sym (ap (get (codes "tn")) (sym same) ∙ tn_is held) ∙ tn)
 
 -- ---- what is claimed of it
 
 moment_given : (payload : Data) (iat seconds : ℕ) → get (codes "iat") payload ≡ Some (number (unsigned iat)) → IsIssuedAt payload seconds → iat < 2 ^ 64
 moment_given payload iat seconds is h =
-    let same : iat ≡ seconds = same_number iat seconds (same_some (number (unsigned iat)) (number (unsigned seconds)) (get (codes "iat") payload) is h.member) in
+    let same : iat ≡ seconds = same_number iat seconds (same_Some (number (unsigned iat)) (number (unsigned seconds)) (sym is ∙ h.member)) in
     let within = h.within in
     omega (arith, same, within)
 
@@ -81,7 +79,7 @@ given_by : (header payload : Data) (claimed_ppt : Option (List ℕ)) (claimed_in
     → (iat : Option ℕ) (orig dest : Option (List ℕ)) (info : List ℕ) (ppt : Option (List ℕ)) (passport : PassportView) → base_by iat orig dest info ppt ≡ Some passport
     → payload ≡ Payload passport → Given iat orig dest
 given_by header payload claimed_ppt claimed_info claims h (Some iat) (Some orig) (Some dest) info None passport e p =
-    let same : base iat orig dest info ≡ passport = same_some (base iat orig dest info) passport (base_by (Some iat) (Some orig) (Some dest) info None) refl e in
+    let same : base iat orig dest info ≡ passport = same_Some (base iat orig dest info) passport e in
     let is : payload ≡ Payload (base iat orig dest info) = p ∙ ap Payload (sym same) in
     let b = built iat orig dest info in
     record {

@@ -1,5 +1,5 @@
 -- How long the deterministic texts of a PASSporT that calls one number are.
-use Rattle.std.proofs.Common.{◌≡◌, ◌≤◌, ◌+◌, ◌*◌, ◌/◌, ◌%◌, ℕ, Bool, true, false, ◌&&◌, nat_le, nat_lt, cond, List, [], ◌∷◌, ◌++◌, length, codes, refl, ap, subst, ◌∙◌, arith, length-append}
+use Rattle.std.proofs.Common.{◌≡◌, ◌≤◌, ◌+◌, ◌*◌, ◌/◌, ◌%◌, ℕ, Bool, true, false, nat_lt, cond, List, [], ◌∷◌, ◌++◌, length, codes, refl, ap, subst, ◌∙◌, arith, length-append}
 use Rattle.std.specs.Char.{digit_char}
 use Rattle.std.specs.List.{list_all}
 use Rattle.std.specs.Prelude.{IsTrue}
@@ -13,6 +13,8 @@ use Rattle.serde_json.specs.Written.{comma_if, compact_text, members_text}
 use Rattle.text_grammar.specs.Bytes.{is_uri_byte}
 use Rattle.text_grammar.specs.Moment.{last_second}
 use Rattle.text_grammar.specs.Uri.{is_uri}
+use Rattle.text_grammar.proofs.UriLaws.{uri_parts}
+use Rattle.lists.proofs.Bytes.{bounded_parts}
 use Rattle.tn_values.specs.Number.{is_number, is_number_byte}
 use Rattle.passport_json.specs.Passport.{number_object, with_tn}
 use Rattle.passport_claims.specs.Claims.{Claims, HasKind}
@@ -62,19 +64,14 @@ escape_uri (b ∷ bs) h =
     ap (λ x. x ++ escape bs) (uri_byte b t.0) ∙ ap (λ x. b ∷ x) (escape_uri bs t.1)
 
 uri_le : (x5u : List ℕ) → IsTrue (is_uri x5u) → (length (quoted x5u) ≤ 2 + length x5u) × (length x5u ≤ 2048)
-unfolding is_uri
 uri_le x5u h =
-    let t = and_parts (nat_le 1 (length x5u) && nat_le (length x5u) 2048) (list_all is_uri_byte x5u) h in
-    let s = and_parts (nat_le 1 (length x5u)) (nat_le (length x5u) 2048) t.0 in
-    let same = ap length (escape_uri x5u t.1) in
-    (omega (arith, length-append (escape x5u) (34 ∷ []), same), grind (arith, nat_tests, s.1))
+    let parts = uri_parts x5u h in
+    let same = ap length (escape_uri x5u parts.bytes) in
+    (omega (arith, length-append (escape x5u) (34 ∷ []), same), parts.short)
 
 number_le : (digits : List ℕ) → is_number digits ≡ true → length (quoted digits) ≤ 92
 unfolding is_number
-number_le digits h =
-    let t = and_parts (nat_le 1 (length digits) && nat_le (length digits) 15) (list_all is_number_byte digits) h in
-    let s = and_parts (nat_le 1 (length digits)) (nat_le (length digits) 15) t.0 in
-    quoted_le digits 15 (grind (arith, nat_tests, s.1))
+number_le digits h = quoted_le digits 15 (bounded_parts 15 is_number_byte digits h).short
 
 -- ---- members
 

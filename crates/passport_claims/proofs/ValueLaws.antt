@@ -1,18 +1,20 @@
 -- Header and payload as they are written: they have a deterministic text, and the claims are read from them again.
-use Rattle.std.proofs.Common.{◌≡◌, ◌≤◌, ◌<◌, ◌+◌, ℕ, true, false, List, [], ◌∷◌, ◌++◌, length, take, get_or, map, refl, sym, ap, ◌∙◌, arith, rules, String, Global, string_bytes}
+use Rattle.std.proofs.Common.{◌≡◌, ◌≤◌, ◌<◌, ◌+◌, ℕ, true, false, List, [], ◌∷◌, ◌++◌, length, take, get_or, map, Some, codes, refl, sym, ap, ◌∙◌, arith, rules, String, Global, string_bytes}
 use Rattle.std.specs.List.{list_all}
 use Rattle.std.proofs.lemmas.List.{map-append, take_all, take_more}
 use Rattle.std.proofs.lemmas.List.Folds.{list_all-append}
-use Rattle.serde_json.specs.Data.{Data, string, array, Items, no_items, item, items_depth}
+use Rattle.serde_json.specs.Data.{Data, string, array, number as numeral, unsigned, Items, no_items, item, items_depth}
+use Rattle.serde_json.specs.Find.{get}
 use Rattle.serde_json.specs.View.{items_of, items_view, view}
 use Rattle.serde_json.specs.Written.{items_have_float}
 use Rattle.serde_json.specs.declared.value.Value.{Value, the_lemmas}
 use Rattle.tn_values.specs.Number.{is_number}
 use Rattle.passport_json.specs.Deterministic.{IsWritable}
-use Rattle.passport_json.specs.Passport.{Header, Payload, texts, with_tn}
-use Rattle.passport_claims.specs.Claims.{Claims}
+use Rattle.passport_json.specs.Passport.{Header, Payload, text_where, texts, with_tn}
+use Rattle.passport_claims.specs.Claims.{Claims, HasKind}
 use Rattle.passport_claims.specs.Kind.{ppt_of}
-use Rattle.passport_claims.specs.Passport.{AreNumbers, ClaimsView, IsPassport, members_of}
+use Rattle.passport_claims.specs.Members.{HasText}
+use Rattle.passport_claims.specs.Passport.{AreNumbers, ClaimsView, IsDiverted, IsKind, IsPassport, members_of}
 use Rattle.passport_claims.specs.declared.kind.Kind.{Kind}
 use Rattle.passport_claims.specs.declared.kind.Kind.TheVariants as kinds
 
@@ -82,49 +84,42 @@ payload_writable value claims e = rw e (payload_of_kind claims.kind claims.x5u c
 
 -- ---- read again
 
-claims_by : (kind : Kind) (x5u : List ℕ) (iat : ℕ) (orig : List ℕ) (dest : List (List ℕ)) → IsPassport (record { kind = kind; x5u = x5u; iat = iat; orig = orig; dest = dest })
-    → AreNumbers (record { kind = kind; x5u = x5u; iat = iat; orig = orig; dest = dest })
-    → Claims (Header (members_of (record { kind = kind; x5u = x5u; iat = iat; orig = orig; dest = dest }))) (Payload (members_of (record { kind = kind; x5u = x5u; iat = iat; orig = orig; dest = dest })))
-    (ppt_of kind) x5u (record { kind = kind; x5u = x5u; iat = iat; orig = orig; dest = dest })
-claims_by kinds.Base x5u iat orig dest is numbers = record {
-  typ = refl;
-  alg = refl;
-  same_ppt = refl;
-  same_x5u = refl;
-  iat = record { member = refl; within = is.iat_within };
-  orig = record { holder = with_tn (string orig); member = refl; tn = refl; ok = numbers.orig };
-  dest = record { holder = with_tn (array (texts dest)); member = refl; tn = refl; ok = numbers.dest };
+-- the members of a header and a payload
+record HasMembers (header payload : Data) (claims : ClaimsView) : Type 0 where
+  typ : HasText (codes "typ") (codes "passport") header
+  alg : HasText (codes "alg") (codes "ES256") header
+  ppt : get (codes "ppt") header ≡ text_where (ppt_of claims.kind)
+  x5u : HasText (codes "x5u") claims.x5u header
+  iat : get (codes "iat") payload ≡ Some (numeral (unsigned claims.iat))
+  orig : get (codes "orig") payload ≡ Some (with_tn (string claims.orig))
+  dest : get (codes "dest") payload ≡ Some (with_tn (array (texts claims.dest)))
+
+has_members : (kind : Kind) (x5u : List ℕ) (iat : ℕ) (orig : List ℕ) (dest : List (List ℕ))
+    → HasMembers (Header (members_of (record { kind = kind; x5u = x5u; iat = iat; orig = orig; dest = dest }))) (Payload (members_of (record { kind = kind; x5u = x5u; iat = iat; orig = orig; dest = dest })))
+    (record { kind = kind; x5u = x5u; iat = iat; orig = orig; dest = dest })
+has_members kinds.Base x5u iat orig dest = record { typ = refl; alg = refl; ppt = refl; x5u = refl; iat = refl; orig = refl; dest = refl }
+has_members (kinds.Shaken level origid) x5u iat orig dest = record { typ = refl; alg = refl; ppt = refl; x5u = refl; iat = refl; orig = refl; dest = refl }
+has_members (kinds.Div div) x5u iat orig dest = record { typ = refl; alg = refl; ppt = refl; x5u = refl; iat = refl; orig = refl; dest = refl }
+
+has_kind : (kind : Kind) (x5u : List ℕ) (iat : ℕ) (orig : List ℕ) (dest : List (List ℕ)) → IsKind kind → IsDiverted kind
+    → HasKind (Payload (members_of (record { kind = kind; x5u = x5u; iat = iat; orig = orig; dest = dest }))) kind
+has_kind kinds.Base x5u iat orig dest is ok = tt
+has_kind (kinds.Shaken level origid) x5u iat orig dest is ok = (refl, refl, is)
+has_kind (kinds.Div div) x5u iat orig dest is ok = record { holder = with_tn (string div); member = refl; tn = refl; ok = ok }
+
+claims_by : (claims : ClaimsView) → HasMembers (Header (members_of claims)) (Payload (members_of claims)) claims → HasKind (Payload (members_of claims)) claims.kind → IsPassport claims → AreNumbers claims
+    → Claims (Header (members_of claims)) (Payload (members_of claims)) (ppt_of claims.kind) claims.x5u claims
+claims_by claims has kind is numbers = record {
+  typ = has.typ;
+  alg = has.alg;
+  same_ppt = has.ppt;
+  same_x5u = has.x5u;
+  iat = record { member = has.iat; within = is.iat_within };
+  orig = record { holder = with_tn (string claims.orig); member = has.orig; tn = refl; ok = numbers.orig };
+  dest = record { holder = with_tn (array (texts claims.dest)); member = has.dest; tn = refl; ok = numbers.dest };
   some_called = is.some_called;
   few_called = is.few_called;
-  kind = tt;
-  kept_ppt = refl;
-  kept_x5u = refl;
-}
-claims_by (kinds.Shaken level origid) x5u iat orig dest is numbers = record {
-  typ = refl;
-  alg = refl;
-  same_ppt = refl;
-  same_x5u = refl;
-  iat = record { member = refl; within = is.iat_within };
-  orig = record { holder = with_tn (string orig); member = refl; tn = refl; ok = numbers.orig };
-  dest = record { holder = with_tn (array (texts dest)); member = refl; tn = refl; ok = numbers.dest };
-  some_called = is.some_called;
-  few_called = is.few_called;
-  kind = (refl, refl, is.kind_ok);
-  kept_ppt = refl;
-  kept_x5u = refl;
-}
-claims_by (kinds.Div div) x5u iat orig dest is numbers = record {
-  typ = refl;
-  alg = refl;
-  same_ppt = refl;
-  same_x5u = refl;
-  iat = record { member = refl; within = is.iat_within };
-  orig = record { holder = with_tn (string orig); member = refl; tn = refl; ok = numbers.orig };
-  dest = record { holder = with_tn (array (texts dest)); member = refl; tn = refl; ok = numbers.dest };
-  some_called = is.some_called;
-  few_called = is.few_called;
-  kind = record { holder = with_tn (string div); member = refl; tn = refl; ok = numbers.div };
+  kind = kind;
   kept_ppt = refl;
   kept_x5u = refl;
 }
@@ -132,4 +127,6 @@ claims_by (kinds.Div div) x5u iat orig dest is numbers = record {
 pub written_claims : (header payload : Data) (claims : ClaimsView) → header ≡ Header (members_of claims) → payload ≡ Payload (members_of claims) → IsPassport claims → AreNumbers claims
     → Claims header payload (ppt_of claims.kind) claims.x5u claims
 written_claims header payload claims h p is numbers =
-    rw (h, p) (claims_by claims.kind claims.x5u claims.iat claims.orig claims.dest is numbers)
+    rw (h, p)
+    (claims_by claims (has_members claims.kind claims.x5u claims.iat claims.orig claims.dest)
+    (has_kind claims.kind claims.x5u claims.iat claims.orig claims.dest is.kind_ok numbers.div) is numbers)

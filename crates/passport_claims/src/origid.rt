@@ -1,5 +1,5 @@
 //! The identifier of a call.
-ghost use Rattle.std.specs.Prelude.{◌≡◌, is_some};
+ghost use Rattle.std.specs.Prelude.{◌≡◌, true, length, is_some};
 ghost use Rattle.uuid.specs.Text.{parsed};
 ghost use Rattle.passport_claims.specs.Origid.{is_origid};
 ghost use Rattle.passport_claims.specs.Read.{origid_of};
@@ -11,7 +11,6 @@ use std::str;
 use uuid::Uuid;
 
 /// The identifier that a text is, a UUID (RFC 4122, section 3) in 36 characters.
-#[tactic(auto, using(crate::proofs::OrigidLaws::origid_size))]
 pub(crate) fn origid_of(text: &str) -> Result<[u8; 36], ClaimFault>
     ensures { result ≡ or_fault ClaimFault.Origid (origid_of text.now) }
 {
@@ -27,7 +26,8 @@ pub(crate) fn origid_of(text: &str) -> Result<[u8; 36], ClaimFault>
 /// Whether a text can be the identifier of a call (RFC 8588, section 5): a UUID (RFC 4122, section 3) in 36 characters.
 #[tactic(auto, using(crate::proofs::OrigidLaws::text_is, crate::proofs::OrigidLaws::text_not), unfolding(crate::specs::Origid::is_origid))]
 pub fn is_origid(text: &[u8]) -> bool
-    ensures { result ≡ is_origid text.now }
+    ensures exact { result ≡ is_origid text.now }
+    ensures size { result ≡ true → length text.now ≡ 36 }
 {
     if text.len() != 36 {
         return false;

@@ -68,7 +68,7 @@ begins_full_by x xs rest h =
     let other : nat_eq dot x ≡ false = grind (arith, nat_tests, k.0) in
     rw other refl
 
-begins_full_at : (header rest : List ℕ) → (header ≡ [] → ⊥) → lacks dot header ≡ true → starts_with nat_eq (header ++ rest) (codes "..") ≡ false
+pub begins_full_at : (header rest : List ℕ) → (header ≡ [] → ⊥) → lacks dot header ≡ true → starts_with nat_eq (header ++ rest) (codes "..") ≡ false
 begins_full_at [] rest some h = absurd (some refl)
 begins_full_at (x ∷ xs) rest some h = begins_full_by x xs (xs ++ rest) h
 
@@ -100,11 +100,11 @@ read_unique text call one other a b =
     let e : ◌≡◌ {A = Result TokenView TokenFault} (Ok one) (Ok other) = sym (read_again text call one a) ∙ read_again text call other b in
     cc
 
-read_dots : (text : List ℕ) (call : CallView) → starts_with nat_eq text (codes "..") ≡ true → read_token call text ≡ read_compact call text
+pub read_dots : (text : List ℕ) (call : CallView) → starts_with nat_eq text (codes "..") ≡ true → read_token call text ≡ read_compact call text
 unfolding read_token
 read_dots text call h = rw h refl
 
-read_else : (text : List ℕ) (call : CallView) → starts_with nat_eq text (codes "..") ≡ false → read_token call text ≡ read_full text
+pub read_else : (text : List ℕ) (call : CallView) → starts_with nat_eq text (codes "..") ≡ false → read_token call text ≡ read_full text
 unfolding read_token
 read_else text call h = rw h refl
 

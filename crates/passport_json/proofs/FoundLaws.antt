@@ -28,8 +28,6 @@ use Rattle.passport_json.proofs.DecodedLaws.{base64_found}
 use Rattle.passport_json.proofs.TokenLaws.{token_text}
 use Rattle.lists.proofs.StepLaws.{came, inside}
 
--- ---- steps
-
 -- ---- the parts
 
 cut_by : (text : List ℕ) (parts : List ℕ × List ℕ) (k : Option ℕ) → position (λ b. b == dot) text ≡ k
@@ -53,7 +51,7 @@ whole_by : (first second : List ℕ × List ℕ) (parts : PartTexts) (t : Bool) 
 whole_by first second parts true e h = (e, same_Some _ parts h)
 whole_by first second parts false e h = absurd cc
 
-parts_found : (text : List ℕ) (parts : PartTexts) → parts_of text ≡ Some parts → AreParts text parts
+pub parts_found : (text : List ℕ) (parts : PartTexts) → parts_of text ≡ Some parts → AreParts text parts
 parts_found text parts h =
     option_and_then_some (λ first. option_and_then (whole_of first) (cut dot first.1)) (cut dot text) parts h
     (λ first e f. option_and_then_some (whole_of first) (cut dot first.1) parts f
@@ -76,7 +74,7 @@ checked_by text parts None e h = absurd cc
 checked_by text parts (Some found) e h =
     parts_found text parts (e ∙ ap (λ p. Some p) (kept_by found parts (one_is_empty found.header found.payload) h))
 
-checked_found : (text : List ℕ) (parts : PartTexts) → checked_parts text ≡ Ok parts → AreParts text parts
+pub checked_found : (text : List ℕ) (parts : PartTexts) → checked_parts text ≡ Ok parts → AreParts text parts
 checked_found text parts h = checked_by text parts (parts_of text) refl h
 
 behind_bytes : (xs ys : List ℕ) → IsBytes (xs ++ ys) → IsBytes ys
@@ -84,12 +82,12 @@ behind_bytes [] ys h i = h i
 behind_bytes (x ∷ xs) ys h i = behind_bytes xs ys (λ k. h (suc k)) i
 
 -- each part of bytes is bytes
-record TypedParts (parts : PartTexts) : Type 0 where
-  header : IsBytes parts.header
-  payload : IsBytes parts.payload
-  signature : IsBytes parts.signature
+pub record TypedParts (parts : PartTexts) : Type 0 where
+  pub header : IsBytes parts.header
+  pub payload : IsBytes parts.payload
+  pub signature : IsBytes parts.signature
 
-typed : (text : List ℕ) (parts : PartTexts) → IsBytes text → AreParts text parts → TypedParts parts
+pub typed : (text : List ℕ) (parts : PartTexts) → IsBytes text → AreParts text parts → TypedParts parts
 typed text parts bytes are =
     let all : IsBytes (parts.header ++ dot ∷ (parts.payload ++ dot ∷ parts.signature)) = subst IsBytes are.joined bytes in
     let rest : IsBytes (parts.payload ++ dot ∷ parts.signature) = λ i. behind_bytes parts.header (dot ∷ (parts.payload ++ dot ∷ parts.signature)) all (suc i) in
@@ -106,7 +104,7 @@ decoded_by : (part : ℕ) (text bytes : List ℕ) (k : Result (List ℕ) DecodeE
 decoded_by part text bytes (Ok found) e h = let same : found ≡ bytes = cc in e ∙ ap (λ x. Ok x) same
 decoded_by part text bytes (Err error) e h = absurd cc
 
-encoded : (part : ℕ) (text bytes : List ℕ) → IsBytes text → checked_base64 part text ≡ Ok bytes → IsBase64 text bytes
+pub encoded : (part : ℕ) (text bytes : List ℕ) → IsBytes text → checked_base64 part text ≡ Ok bytes → IsBase64 text bytes
 encoded part text bytes is h = base64_found text bytes is (decoded_by part text bytes (decode_of url_safe_no_pad text) refl h)
 
 signature_by : (bytes signature : List ℕ) (t : Bool) → (length bytes == 64) ≡ t → cond t (Ok bytes) (Err SignatureLength) ≡ Ok signature
@@ -114,7 +112,7 @@ signature_by : (bytes signature : List ℕ) (t : Bool) → (length bytes == 64) 
 signature_by bytes signature true e h = let same : bytes ≡ signature = cc in (sym same, eqb-true (length bytes) 64 e)
 signature_by bytes signature false e h = absurd cc
 
-signed : (bytes signature : List ℕ) → checked_signature bytes ≡ Ok signature → (signature ≡ bytes) × (length bytes ≡ 64)
+pub signed : (bytes signature : List ℕ) → checked_signature bytes ≡ Ok signature → (signature ≡ bytes) × (length bytes ≡ 64)
 signed bytes signature h = signature_by bytes signature _ refl h
 
 only_found : (found value : Data) → only_object found ≡ Some value → (found ≡ value) × ((members : _) × (value ≡ object members))
@@ -137,7 +135,7 @@ json_by : (part : ℕ) (value : Data) (k : Option Data) → or_json_fault part k
 json_by part value None h = absurd cc
 json_by part value (Some found) h = let same : found ≡ value = cc in ap (λ x. Some x) same
 
-object_found : (part : ℕ) (bytes : List ℕ) (value : Data) → checked_json part bytes ≡ Ok value → IsObjectText bytes value
+pub object_found : (part : ℕ) (bytes : List ℕ) (value : Data) → checked_json part bytes ≡ Ok value → IsObjectText bytes value
 object_found part bytes value h = object_by bytes value _ refl (json_by part value (object_of bytes) h)
 
 -- ---- the two forms

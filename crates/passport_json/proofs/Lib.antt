@@ -6,6 +6,8 @@ pub mod OrderLaws
 pub mod PartLaws
 pub mod PayloadLaws
 pub mod PlainLaws
+pub mod RefusedLaws
+pub mod RefusedSteps
 pub mod SignedLaws
 pub mod SpelledLaws
 pub mod TokenLaws

@@ -1,5 +1,5 @@
 -- The payload that is built is ASCII as it is written, and is read back.
-use Rattle.std.proofs.Common.{◌≡◌, ℕ, zero, suc, ◌^◌, ◌<◌, ◌≤◌, Bool, true, false, ◌&&◌, nat_le, nat_lt, List, [], ◌∷◌, ◌++◌, length, codes, decimal, Option, Some, None, refl, sym, ◌∙◌, ap, subst, arith, append-nil, lt-ltb, ltb-true}
+use Rattle.std.proofs.Common.{◌≡◌, ℕ, zero, suc, ◌^◌, ◌<◌, ◌≤◌, Bool, true, false, nat_lt, List, [], ◌∷◌, ◌++◌, codes, decimal, Option, Some, None, refl, sym, ◌∙◌, ap, subst, arith, append-nil, lt-ltb, ltb-true}
 use Rattle.std.specs.Prelude.{IfSome, option_and_then}
 use Rattle.std.specs.Char.{digit_value}
 use Rattle.std.specs.List.{list_all}
@@ -24,6 +24,7 @@ use Rattle.serde_json.specs.Written.{compact_text, members_text, outline}
 use Rattle.serde_json.proofs.Numbers.{number_of-decimal}
 use Rattle.serde_json.proofs.OnLiterals.{serde_json_on_literals}
 use Rattle.serde_json.proofs.Texts.{print-outline}
+use Rattle.lists.proofs.Bytes.{bounded_parts}
 use Rattle.tn_values.specs.Number.{is_number, is_number_byte}
 use Rattle.passport_json.specs.Compact.{CallView, CompactText, base, base_by}
 use Rattle.passport_json.specs.Deterministic.{Det}
@@ -64,8 +65,7 @@ bytes_ascii (b ∷ text) h =
 
 number_ascii : (text : List ℕ) → is_number text ≡ true → are_ascii (quoted text) ≡ true
 unfolding is_number
-number_ascii text h =
-    let p = and_parts (nat_le 1 (length text) && nat_le (length text) 15) (list_all is_number_byte text) h in ascii_append (escape text) (34 ∷ []) (bytes_ascii text p.1) refl
+number_ascii text h = ascii_append (escape text) (34 ∷ []) (bytes_ascii text (bounded_parts 15 is_number_byte text h).bytes) refl
 
 digits_ascii : (ds : List ℕ) → AllDigits 10 ds → are_ascii ds ≡ true
 digits_ascii [] h = refl

@@ -8,6 +8,7 @@ pub mod Object
 pub mod Parts
 pub mod Passport
 pub mod Reading
+pub mod Refused
 pub mod Seen
 pub mod Signed
 pub mod Signing

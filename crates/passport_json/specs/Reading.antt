@@ -1,5 +1,5 @@
 -- What a reader's result says of a text, where want of memory is free.
-use Rattle.std.specs.Prelude.{Option, Some, None, Result}
+use Rattle.std.specs.Prelude.{Option, Some, None, Result, Ok, Err, IfSome, ⊤}
 use Rattle.lists.specs.Given as given
 use Rattle.passport_json.specs.declared.fault.TokenFault.{TokenFault}
 use Rattle.passport_json.specs.declared.fault.TokenFault.TheVariants.{Memory}
@@ -16,3 +16,8 @@ Gives seen result read = given.Gives fault_seen seen result read
 -- a value with this property came; or memory was wanting
 abbrev pub IsOkUnlessMemory : {X : Type 0} → Result X TokenFault → (X → Type 0) → Type 0
 IsOkUnlessMemory result P = given.IsOkUnlessMemory fault_seen result P
+
+-- a fault has this property; want of memory is free
+abbrev pub IfRefused : {X : Type 0} → Result X TokenFault → (TokenFault → Type 0) → Type 0
+IfRefused (Ok value) P = ⊤
+IfRefused (Err fault) P = IfSome (fault_seen fault) P

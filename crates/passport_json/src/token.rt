@@ -1,10 +1,11 @@
-ghost use Rattle.std.specs.Prelude.{◌≡◌, ℕ, true, false, Some, IfOk, IfSome, IsTrue, codes};
+ghost use Rattle.std.specs.Prelude.{◌≡◌, ℕ, true, false, Err, Some, IfOk, IfSome, IsTrue, codes};
 ghost use Rattle.std.specs.Bool.{nat_eq};
 ghost use Rattle.std.specs.List.{starts_with};
 ghost use Rattle.passport_json.specs.Compact.{CompactText, rebuilt};
 ghost use Rattle.passport_json.specs.IssuedAt.{issued_at, IsIssuedAt};
 ghost use Rattle.passport_json.specs.Object.{is_object};
-ghost use Rattle.passport_json.specs.Reading.{Gives, IsOkUnlessMemory};
+ghost use Rattle.passport_json.specs.Reading.{Gives, IfRefused, IsOkUnlessMemory};
+ghost use Rattle.passport_json.specs.Refused.{Refused};
 ghost use Rattle.passport_json.specs.Seen.{call_of, passport_of};
 ghost use Rattle.passport_json.specs.Signed.{payload_in};
 ghost use Rattle.passport_json.specs.Token.{FullText, TokenText, read_compact, read_full, read_token};
@@ -74,6 +75,12 @@ impl Token {
             → IsOkUnlessMemory result (λ read. read ≡ token) }
         ensures unique { (one other : TokenView) → TokenText text.now (call_of view.now) one
             → TokenText text.now (call_of view.now) other → one ≡ other }
+
+        // A fault is the first check that the text breaks for its call, and the first that it breaks is the fault.
+        ensures refused { IfRefused result (Refused text.now (call_of view.now)) }
+        ensures only_refused { (fault : TokenFault) → Refused text.now (call_of view.now) fault
+            → Gives (λ token. token) result (Err fault) }
+
         ensures read_again { (token : TokenView) → TokenText text.now (call_of view.now) token
             → read_token (call_of view.now) text.now ≡ Ok token }
         ensures signed { IfOk result (λ token. payload_in token.signing ≡ Some token.payload) }

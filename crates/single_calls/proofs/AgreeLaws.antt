@@ -7,15 +7,17 @@ use Rattle.std.specs.Cmp.Lexicographic.{bytes_decides}
 use Rattle.std.proofs.lemmas.Bool.{and_parts}
 use Rattle.call_log.specs.Entry.{Entry}
 use Rattle.delegation.specs.Coverage.{Table}
+use Rattle.lists.proofs.Options.{or_same}
+use Rattle.cert_store.proofs.JudgedWords.{answered_apart}
 use Rattle.cert_store.specs.Judged.{HasAuthority, JudgedView, judged_of}
 use Rattle.cert_store.specs.Questions.{AgreeOn, questions_of}
 use Rattle.cert_store.specs.Rules.{QuestionView, Says, is_good}
+use Rattle.verify_rules.proofs.WorldEvents.{first_append}
 use Rattle.verify_rules.specs.Call.{Call, Reading, in_chain}
 use Rattle.verify_rules.specs.Late.{is_signed_by}
 use Rattle.verify_rules.specs.Rules.{each, early_rules, first}
 use Rattle.verify_rules.specs.States.{State, have, no_chain, long, unread}
 use Rattle.verify_rules.specs.World.{First, World, certificate_rules, content_of, forged, forged_by, late_rules, signature_rules, truth_by, truth_for, truth_of, truths, unless_good, with_says}
-use Rattle.verify_rules.specs.declared.refusal.Place.{Place}
 use Rattle.verify_rules.specs.declared.refusal.Refusal.{Refusal}
 use Rattle.verify_rules.specs.declared.settings.Settings.{Settings}
 use Rattle.verify_service.specs.Judging.{call_in}
@@ -24,7 +26,7 @@ use Rattle.single_calls.specs.Agreement.{JudgedAlike}
 use Rattle.single_calls.specs.Asks.{asked_of, calls_questions, fresh, is_same, unless_asked, was_asked}
 use Rattle.single_calls.specs.CallQuestions.{call_questions, chain_questions, chains_questions, judged_questions, late_questions, own_question, own_questions, questions_over, under_leaf}
 use Rattle.single_calls.proofs.StateLaws.{Alike, AllAlike, chains_same, owns_same}
-use Rattle.single_calls.proofs.VerdictLaws.{first_both, late_parts}
+use Rattle.single_calls.proofs.VerdictLaws.{late_parts}
 
 -- ---- agreement on lists
 
@@ -130,9 +132,6 @@ forged_same : (world : World) (other : Says) (one : Reading) → truth_for (with
 unfolding forged
 forged_same world other one same agree = ap (forged_by (with_says world other) one) same ∙ forged_state world other one (truth_for world one) agree
 
-either : (mine yours later later_now : Option Place) → mine ≡ yours → later ≡ later_now → option_or mine later ≡ option_or yours later_now
-either mine yours later later_now same more = ap (λ (x : Option Place). option_or x later) same ∙ ap (λ (x : Option Place). option_or yours x) more
-
 asking_same : SameJudged → (world : World) (other : Says) (readings : List Reading) → AgreeOn world.says other (chains_questions (truths world readings))
     → AgreeOn world.says other (own_questions readings (truths world readings)) → each (forged (with_says world other)) readings ≡ each (forged world) readings
 asking_same law world other [] agree own = refl
@@ -141,7 +140,7 @@ asking_same law world other (one ∷ readings) agree own =
     let rest = agree_right world.says other (chain_questions (truth_for world one)) (chains_questions (truths world readings)) agree in
     let own_here = agree_left world.says other (own_question one (truth_for world one)) (own_questions readings (truths world readings)) own in
     let own_rest = agree_right world.says other (own_question one (truth_for world one)) (own_questions readings (truths world readings)) own in
-    either _ _ _ _ (forged_same world other one (truth_agree law world other one here) own_here) (asking_same law world other readings rest own_rest)
+    or_same _ _ _ _ (forged_same world other one (truth_agree law world other one here) own_here) (λ none. asking_same law world other readings rest own_rest)
 
 -- ---- a call
 
@@ -154,10 +153,6 @@ abbrev pub SameSignatures : Type 0
 SameSignatures = (world : World) (other : Says) (call : Call) → truths (with_says world other) (in_chain call) ≡ truths world (in_chain call)
     → each (forged (with_says world other)) (in_chain call) ≡ each (forged world) (in_chain call)
     → first (signature_rules (with_says world other)) call ≡ first (signature_rules world) call
-
-or_same : (mine yours : Option Refusal) (late late_now : Option Refusal) → mine ≡ yours → (yours ≡ None → late ≡ late_now) → option_or mine late ≡ option_or yours late_now
-or_same mine None late late_now same more = ap (λ (x : Option Refusal). option_or x late) same ∙ more refl
-or_same mine (Some refused) late late_now same more = ap (λ (x : Option Refusal). option_or x late) same
 
 asked_late : (world : World) (call : Call) → first early_rules call ≡ None → call_questions world call ≡ late_questions world (is_none (first (certificate_rules world) call)) (in_chain call)
 unfolding call_questions
@@ -181,8 +176,8 @@ late_alike law first_ones last_ones world other call early agree =
 
 early_alike : (world : World) (other : Says) (call : Call) (refused : Refusal) → first early_rules call ≡ Some refused → First (with_says world other) call ≡ First world call
 early_alike world other call refused is =
-    first_both early_rules (late_rules (with_says world other)) call ∙ ap (λ (x : Option Refusal). option_or x (first (late_rules (with_says world other)) call)) is
-    ∙ sym (ap (λ (x : Option Refusal). option_or x (first (late_rules world) call)) is) ∙ sym (first_both early_rules (late_rules world) call)
+    first_append early_rules (late_rules (with_says world other)) call ∙ ap (λ (x : Option Refusal). option_or x (first (late_rules (with_says world other)) call)) is
+    ∙ sym (ap (λ (x : Option Refusal). option_or x (first (late_rules world) call)) is) ∙ sym (first_append early_rules (late_rules world) call)
 
 alike_by : SameJudged → SameCertificates → SameSignatures → (world : World) (other : Says) (call : Call) (early : Option Refusal) → first early_rules call ≡ early → AgreeOn world.says other (call_questions world call)
     → First (with_says world other) call ≡ First world call
@@ -191,15 +186,10 @@ alike_by law first_ones last_ones world other call (Some refused) is agree = ear
 
 -- ---- what is asked depends on no provider
 
-judged_alike : (world : World) (says other : Says) (bytes : List ℕ)
-    → judged_of world.anchors world.table other bytes ≡ record (judged_of world.anchors world.table says bytes) { asked = (judged_of world.anchors world.table other bytes).asked }
-unfolding judged_of
-judged_alike world says other bytes = refl
-
 size_alike : (world : World) (other : Says) (bytes : List ℕ) (t : Bool)
     → Alike (cond t long (have (judged_of world.anchors world.table other bytes))) (cond t long (have (judged_of world.anchors world.table world.says bytes)))
 size_alike world other bytes true = tt
-size_alike world other bytes false = judged_alike world world.says other bytes
+size_alike world other bytes false = answered_apart world.anchors world.table world.says other bytes
 
 content_alike : (world : World) (other : Says) (content : Option (List ℕ)) → Alike (truth_by (with_says world other) content) (truth_by world content)
 content_alike world other None = tt

@@ -1,8 +1,10 @@
 -- One certificate more of those whose questions are written.
-use Rattle.std.proofs.Common.{◌≡◌, ℕ, zero, suc, ◌+◌, ◌-◌, ◌<◌, ◌≤◌, List, [], ◌∷◌, ◌++◌, length, drop, append_assoc, append-nil, Option, Some, None, refl, sym, ◌∙◌, ap, subst, arith}
+use Rattle.std.proofs.Common.{◌≡◌, ℕ, zero, suc, ◌+◌, ◌-◌, ◌<◌, ◌≤◌, List, [], ◌∷◌, ◌++◌, length, drop, append_assoc, append-nil, Option, refl, sym, ◌∙◌, ap, subst, arith}
 use Rattle.std.specs.Option.{option_to_list}
 use Rattle.std.specs.List.{slice_get}
+use Rattle.std.proofs.lemmas.List.{drop_all}
 use Rattle.x509_profile.specs.View.{CertView}
+use Rattle.cert_store.proofs.QuestionLaws.{kept_none}
 use Rattle.cert_store.specs.Asking.{Keys}
 use Rattle.cert_store.specs.Judged.{JudgedView}
 use Rattle.cert_store.specs.Questions.{kept_question, question_at, questions_from, questions_of}
@@ -16,10 +18,6 @@ without_keys : (chain : List CertView) → questions_from chain [] ≡ []
 without_keys [] = refl
 without_keys (c ∷ above) = refl
 
-none_kept : (certificate : Option CertView) → kept_question certificate None ≡ None
-none_kept (Some certificate) = refl
-none_kept None = refl
-
 -- the question at an index, and those of the certificates behind it
 step : (chain : List CertView) (keys : Keys) (i : ℕ) → i < length chain
     → questions_from (drop i chain) (drop i keys) ≡ option_to_list (kept_question (slice_get chain i) (slice_get keys i)) ++ questions_from (drop (suc i) chain) (drop (suc i) keys)
@@ -27,16 +25,9 @@ step [] keys i within = absurd (omega arith)
 step (c ∷ above) [] zero within = sym (without_keys above)
 step (c ∷ above) [] (suc i) within =
     without_keys (drop i above)
-    ∙ sym (ap (λ (o : Option QuestionView). option_to_list o ++ questions_from (drop (suc i) above) []) (none_kept (slice_get above i)) ∙ without_keys (drop (suc i) above))
+    ∙ sym (ap (λ (o : Option QuestionView). option_to_list o ++ questions_from (drop (suc i) above) []) (kept_none (slice_get above i)) ∙ without_keys (drop (suc i) above))
 step (c ∷ above) (key ∷ keys) zero within = refl
 step (c ∷ above) (key ∷ keys) (suc i) within = step above keys i (omega arith)
-
--- behind the last there is none
-past_all : (chain : List CertView) (i : ℕ) → length chain ≤ i → drop i chain ≡ []
-past_all [] zero past = refl
-past_all [] (suc i) past = refl
-past_all (c ∷ above) zero past = absurd (omega arith)
-past_all (c ∷ above) (suc i) past = past_all above i (omega arith)
 
 pub none_yet : (judged : JudgedView) (before : Lines) → AskedUpTo judged before before 0
 unfolding questions_of
@@ -62,6 +53,6 @@ one_more judged before mid now i asked within more =
 pub all_written : (judged : JudgedView) (before now : Lines) (i : ℕ) → AskedUpTo judged before now i → length judged.certificates ≤ i
     → Writes before.held now.held before.text now.text (questions_of judged)
 all_written judged before now i asked past =
-    let none : questions_from (drop i judged.certificates) (drop i judged.keys) ≡ [] = ap (λ (c : List CertView). questions_from c (drop i judged.keys)) (past_all judged.certificates i past) in
+    let none : questions_from (drop i judged.certificates) (drop i judged.keys) ≡ [] = ap (λ (c : List CertView). questions_from c (drop i judged.keys)) (drop_all i judged.certificates past) in
     let all : asked.done ≡ questions_of judged = sym (append-nil asked.done) ∙ ap (λ (x : List QuestionView). asked.done ++ x) (sym none) ∙ asked.split in
     subst (Writes before.held now.held before.text now.text) all asked.writes

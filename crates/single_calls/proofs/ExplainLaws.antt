@@ -1,14 +1,12 @@
 -- What is explained is told by the first rule that is broken.
 use Rattle.std.proofs.Common.{◌≡◌, ℕ, suc, ◌-◌, ◌≤◌, List, [], ◌∷◌, ◌++◌, length, append_assoc, Option, Some, None, refl, sym, ◌∙◌, ap, subst, arith}
+use Rattle.std.proofs.lemmas.Option.{same_Some}
 use Rattle.verify_rules.specs.Call.{Call}
 use Rattle.verify_rules.specs.Rules.{Rule, early_rules, first, or_later, refusal}
 use Rattle.verify_rules.specs.World.{First, World, late_rules}
 use Rattle.verify_rules.specs.declared.refusal.Place.{Place}
 use Rattle.verify_rules.specs.declared.refusal.Refusal.{Refusal}
 use Rattle.single_calls.specs.Explain.{Explain, broken_line, broken_text, explain_rules, line_or_more, ok_line, ok_lines}
-
-some_same : (a b : Refusal) → ◌≡◌ {A = Option Refusal} (Some a) (Some b) → a ≡ b
-some_same a b e = cc
 
 not_none : {A : Type 0} → (a : A) → ◌≡◌ {A = Option A} (Some a) None → ⊥
 not_none a e = cc
@@ -66,7 +64,7 @@ broken_by : (number from named : ℕ) (bad : Option Place) (later : Option Refus
     → BrokenFrom number from (line_or_more number named bad others) refused
 broken_by number from named None later others refused same is more = broken_later number from named others refused same (more is)
 broken_by number from named (Some bad) later others refused same is more =
-    subst (λ (r : Refusal). BrokenFrom number from (broken_line number (refusal named bad)) r) (some_same (refusal named bad) refused is) (broken_here number from named bad same)
+    subst (λ (r : Refusal). BrokenFrom number from (broken_line number (refusal named bad)) r) (same_Some (refusal named bad) refused is) (broken_here number from named bad same)
 
 broken_from : (number from : ℕ) (rules : List Rule) (call : Call) (refused : Refusal) → AreNumbered from rules → first rules call ≡ Some refused
     → BrokenFrom number from (explain_rules number rules call) refused

@@ -1,9 +1,9 @@
 -- What is explained of a call, from what is found of it.
-use Rattle.std.proofs.Common.{◌≡◌, ◌≢◌, ℕ, ◌≤◌, nat_le, Bool, true, false, inl, inr, List, Option, Some, None, Result, Ok, Err, IfOk, refl, sym, ◌∙◌, ap, subst, arith}
-use Rattle.std.proofs.lemmas.Bool.Decides.{nat_tests}
+use Rattle.std.proofs.Common.{◌≡◌, ℕ, ◌≤◌, inl, inr, List, Option, Some, None, Result, Ok, Err, IfOk, refl, sym, ◌∙◌, ap, subst}
 use Rattle.call_log.specs.Entry.{Entry}
 use Rattle.call_run.specs.Answer.{AnswerView, unread_lines}
-use Rattle.stir_outside.specs.Count.{AtMost, Rose, last_count}
+use Rattle.stir_outside.proofs.CountLaws.{at_most_of_rose, never_rose, none_at}
+use Rattle.stir_outside.specs.Count.{AtMost}
 use Rattle.stir_outside.specs.Files.{Files}
 use Rattle.stir_outside.specs.Held.{held_says}
 use Rattle.verify_rules.specs.World.{World}
@@ -16,10 +16,6 @@ use Rattle.verify_service.specs.declared.finding.Finding.TheVariants as found
 use Rattle.single_calls.specs.Explainer.{ExplainedBy, ExplainerView, IsExplained, explanation, sign_by}
 use Rattle.single_calls.proofs.ExplainLaws.{explains_broken, explains_met}
 
--- a count that stays at 0 didn't rise
-zero_not_rose : Rose 0 0 → ⊥
-zero_not_rose rose = let low : 0 ≢ last_count = λ e. omega arith in absurd (omega (arith, rose low))
-
 -- what is found of a call is explained, where no question failed
 found_explained : (world : World) (settings : Settings) (entry : Entry) (finding : Finding) → HasCauseIf (found_unasked finding) 0 0 → IsFound world (call_in settings entry) finding
     → IsExplained world settings entry (explanation entry.number finding)
@@ -28,7 +24,7 @@ found_explained world settings entry (found.Refused refused) cause is = inl (rec
   sign = ap sign_by (sym is);
 })
 found_explained world settings entry (found.Unread bad) cause is = inr (record { bad = bad; may_be = is; lines = refl; sign = refl })
-found_explained world settings entry (found.Unasked bad) cause is = absurd (zero_not_rose (cause refl))
+found_explained world settings entry (found.Unasked bad) cause is = absurd (never_rose (cause refl))
 found_explained world settings entry (found.Passes pass) cause is = inl (record {
   lines = sym (explains_met world entry.number (call_in settings entry) is);
   sign = ap sign_by (sym is);
@@ -49,21 +45,12 @@ explained_by explainer told before entry finding answer cause is same =
 
 -- ---- how often a line says that a file couldn't be read
 
-one_at_most : (faults faults_now : ℕ) (t : Bool) → nat_le last_count faults_now ≡ t → Rose faults faults_now → AtMost 1 faults faults_now
-one_at_most faults faults_now true e rose = inr (grind (arith, nat_tests))
-one_at_most faults faults_now false e rose =
-    let low : faults_now ≢ last_count = λ same. absurd (grind (arith, nat_tests)) in
-    inl (omega (arith, rose low))
-
-none_at_most : (faults faults_now : ℕ) → faults ≤ faults_now → AtMost 0 faults faults_now
-none_at_most faults faults_now stay = inl (omega (arith, stay))
-
 unread_where : (number faults faults_now : ℕ) (finding : Finding) → HasCauseIf (found_unread finding) faults faults_now → faults ≤ faults_now
     → AtMost (unread_lines (explanation number finding)) faults faults_now
-unread_where number faults faults_now (found.Refused refused) cause stay = none_at_most faults faults_now stay
-unread_where number faults faults_now (found.Unread bad) cause stay = one_at_most faults faults_now (nat_le last_count faults_now) refl (cause refl)
-unread_where number faults faults_now (found.Unasked bad) cause stay = none_at_most faults faults_now stay
-unread_where number faults faults_now (found.Passes pass) cause stay = none_at_most faults faults_now stay
+unread_where number faults faults_now (found.Refused refused) cause stay = none_at faults faults_now stay
+unread_where number faults faults_now (found.Unread bad) cause stay = at_most_of_rose faults faults_now (cause refl)
+unread_where number faults faults_now (found.Unasked bad) cause stay = none_at faults faults_now stay
+unread_where number faults faults_now (found.Passes pass) cause stay = none_at faults faults_now stay
 
 pub unread_counted : (number faults faults_now : ℕ) (finding : Finding) (answer : AnswerView) → HasCauseIf (found_unread finding) faults faults_now → faults ≤ faults_now
     → answer ≡ explanation number finding → AtMost (unread_lines answer) faults faults_now

@@ -1,5 +1,6 @@
 -- One PASSporT more of those whose own questions are written.
-use Rattle.std.proofs.Common.{◌≡◌, ℕ, zero, suc, ◌+◌, ◌<◌, ◌≤◌, List, [], ◌∷◌, ◌++◌, length, drop, append_assoc, append-nil, Option, Some, inl, inr, refl, sym, ◌∙◌, ap, subst, arith}
+use Rattle.std.proofs.Common.{◌≡◌, ℕ, zero, suc, ◌+◌, ◌<◌, ◌≤◌, List, [], ◌∷◌, ◌++◌, length, drop, append_assoc, append-nil, Some, inl, inr, refl, sym, ◌∙◌, ap, subst, arith}
+use Rattle.std.proofs.lemmas.Option.{same_Some}
 use Rattle.std.specs.List.{slice_get}
 use Rattle.std.proofs.lemmas.Option.{slice_get_cases}
 use Rattle.cert_store.specs.Rules.{QuestionView}
@@ -11,15 +12,12 @@ use Rattle.single_calls.specs.Steps.{OwnUpTo}
 use Rattle.single_calls.specs.Written.{Writes}
 use Rattle.single_calls.proofs.WriteLaws.{writes_both, writes_none}
 
-same : {A : Type 0} → (a b : A) → ◌≡◌ {A = Option A} (Some a) (Some b) → a ≡ b
-same a b e = cc
-
 step : (readings : List Reading) (states : List State) (i : ℕ) (one : Reading) (state : State) → slice_get readings i ≡ Some one → slice_get states i ≡ Some state
     → own_questions (drop i readings) (drop i states) ≡ own_question one state ++ own_questions (drop (suc i) readings) (drop (suc i) states)
 step [] states i one state is known = absurd (cc)
 step (r ∷ readings) [] i one state is known = absurd (cc)
 step (r ∷ readings) (s ∷ states) zero one state is known =
-    ap (λ (x : Reading). own_question x s ++ own_questions readings states) (same r one is) ∙ ap (λ (x : State). own_question one x ++ own_questions readings states) (same s state known)
+    ap (λ (x : Reading). own_question x s ++ own_questions readings states) (same_Some r one is) ∙ ap (λ (x : State). own_question one x ++ own_questions readings states) (same_Some s state known)
 step (r ∷ readings) (s ∷ states) (suc i) one state is known = step readings states i one state is known
 
 past_all : (readings : List Reading) (states : List State) (i : ℕ) → length readings ≤ i → own_questions (drop i readings) states ≡ []

@@ -1,11 +1,15 @@
 -- What a verdict says of rules 10 to 14.
-use Rattle.std.proofs.Common.{◌≡◌, ℕ, ◌≤◌, nat_lt, true, false, List, [], ◌∷◌, ◌++◌, is_none, Option, Some, None, refl, sym, ◌∙◌, ap, subst, arith}
+use Rattle.std.proofs.Common.{◌≡◌, ℕ, ◌≤◌, nat_lt, true, false, List, [], ◌∷◌, is_none, Option, Some, None, refl, sym, ◌∙◌, ap, subst, arith}
 use Rattle.std.specs.List.{list_any}
 use Rattle.std.specs.Option.{option_or}
 use Rattle.std.proofs.lemmas.Bool.Decides.{nat_tests}
+use Rattle.std.proofs.lemmas.Map.Keys.{any_passes_from_place}
+use Rattle.std.proofs.lemmas.Option.{same_Some}
+use Rattle.verify_rules.proofs.FirstLaws.{none_first}
+use Rattle.verify_rules.proofs.WorldEvents.{first_append}
 use Rattle.verify_rules.specs.Call.{Call, Reading}
 use Rattle.verify_rules.specs.Causes.{IsCaused}
-use Rattle.verify_rules.specs.Rules.{HoldAll, Rule, early_rules, first, or_later, refusal}
+use Rattle.verify_rules.specs.Rules.{Rule, early_rules, first, or_later, refusal}
 use Rattle.verify_rules.specs.States.{State, unread}
 use Rattle.verify_rules.specs.World.{First, VerdictOf, World, certificate_rules, late_rules, signature_rules}
 use Rattle.verify_rules.specs.declared.refusal.Place.{Place}
@@ -13,35 +17,15 @@ use Rattle.verify_rules.specs.declared.refusal.Refusal.{Refusal}
 use Rattle.verify_rules.specs.declared.verdict.Verdict.{Verdict}
 use Rattle.verify_rules.specs.declared.verdict.Verdict.TheVariants.{Passed, Refused, Unread, Unasked}
 use Rattle.verify_service.specs.Chains.{is_unread}
-use Rattle.verify_service.proofs.JudgeLaws.{any_at}
 use Rattle.single_calls.specs.Verdicts.{asks_own}
 
-some_same : (a b : Refusal) → ◌≡◌ {A = Option Refusal} (Some a) (Some b) → a ≡ b
-some_same a b e = cc
-
 -- ---- some rules and then others
-
-or_step : (number : ℕ) (bad : Option Place) (first_of rest all : Option Refusal) → all ≡ option_or first_of rest → or_later number bad all ≡ option_or (or_later number bad first_of) rest
-or_step number None first_of rest all e = e
-or_step number (Some bad) first_of rest all e = refl
-
-pub first_both : (rules others : List Rule) (call : Call) → first (rules ++ others) call ≡ option_or (first rules call) (first others call)
-first_both [] others call = refl
-first_both (rule ∷ rules) others call = or_step rule.number (rule.broken call) (first rules call) (first others call) _ (first_both rules others call)
 
 pub late_parts : (world : World) (call : Call) → first early_rules call ≡ None
     → First world call ≡ option_or (first (certificate_rules world) call) (first (signature_rules world) call)
 late_parts world call early =
-    first_both early_rules (late_rules world) call ∙ ap (λ (x : Option Refusal). option_or x (first (late_rules world) call)) early
-    ∙ first_both (certificate_rules world) (signature_rules world) call
-
-hold_by : (number : ℕ) (bad : Option Place) (later : Option Refusal) → bad ≡ None → later ≡ None → or_later number bad later ≡ None
-hold_by number None later holds others = others
-hold_by number (Some bad) later holds others = absurd (cc)
-
-hold_none : (rules : List Rule) (call : Call) → HoldAll rules call → first rules call ≡ None
-hold_none [] call hold = refl
-hold_none (rule ∷ rules) call hold = hold_by rule.number (rule.broken call) (first rules call) hold.0 (hold_none rules call hold.1)
+    first_append early_rules (late_rules world) call ∙ ap (λ (x : Option Refusal). option_or x (first (late_rules world) call)) early
+    ∙ first_append (certificate_rules world) (signature_rules world) call
 
 -- ---- the numbers
 
@@ -53,7 +37,7 @@ within_by : (low high number : ℕ) (bad : Option Place) (later : Option Refusal
     → or_later number bad later ≡ Some refused → (later ≡ Some refused → (low ≤ refused.rule) × (refused.rule ≤ high)) → (low ≤ refused.rule) × (refused.rule ≤ high)
 within_by low high number None later refused above below is more = more is
 within_by low high number (Some bad) later refused above below is more =
-    subst (λ (r : Refusal). (low ≤ r.rule) × (r.rule ≤ high)) (some_same (refusal number bad) refused is) (above, below)
+    subst (λ (r : Refusal). (low ≤ r.rule) × (r.rule ≤ high)) (same_Some (refusal number bad) refused is) (above, below)
 
 first_within : (low high : ℕ) (rules : List Rule) (call : Call) (refused : Refusal) → NumberedWithin low high rules → first rules call ≡ Some refused
     → (low ≤ refused.rule) × (refused.rule ≤ high)
@@ -76,7 +60,7 @@ refused_by : (mine yours : Option Refusal) (refused : Refusal) → Some refused 
     → ((r : Refusal) → yours ≡ Some r → 15 ≤ r.rule) → nat_lt 14 refused.rule ≡ is_none mine
 refused_by None yours refused is low high = let above = high refused (sym is) in grind (arith, nat_tests)
 refused_by (Some r) yours refused is low high =
-    let same : refused ≡ r = some_same refused r is in
+    let same : refused ≡ r = same_Some refused r is in
     let below = low r refl in
     let number : refused.rule ≡ r.rule = ap (λ (x : Refusal). x.rule) same in
     grind (arith, nat_tests)
@@ -95,7 +79,7 @@ asks_own_where world call readings states faults faults_now (Refused refused) ea
     refused_by (first (certificate_rules world) call) (first (signature_rules world) call) refused (sym is ∙ late_parts world call early)
     (certificates_low world call) (signatures_high world call)
 asks_own_where world call readings states faults faults_now (Unread bad) early is caused known =
-    let some : list_any is_unread states ≡ true = any_at is_unread states caused.at unread caused.chain refl in
+    let some : list_any is_unread states ≡ true = any_passes_from_place is_unread states caused.at unread caused.chain refl in
     absurd (cc)
 asks_own_where world call readings states faults faults_now (Unasked bad) early is caused known =
-    sym (ap (λ (x : Option Refusal). is_none x) (hold_none (certificate_rules world) call is.chains))
+    sym (ap (λ (x : Option Refusal). is_none x) (none_first (certificate_rules world) call is.chains))

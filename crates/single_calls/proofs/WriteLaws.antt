@@ -1,7 +1,7 @@
 -- The lines of no question, of one, and of some and then others.
-use Rattle.std.proofs.Common.{◌≡◌, ℕ, Bool, true, false, not, ◌||◌, cond, List, [], ◌∷◌, ◌++◌, append_assoc, append-nil, refl, sym, ◌∙◌, ap, subst}
+use Rattle.std.proofs.Common.{◌≡◌, ℕ, Bool, true, false, not, cond, List, [], ◌∷◌, ◌++◌, append_assoc, append-nil, refl, sym, ◌∙◌, ap, subst}
 use Rattle.std.specs.List.{list_any}
-use Rattle.std.proofs.Math.Bool.{or-true, or-false}
+use Rattle.lists.proofs.Tests.{or_more}
 use Rattle.std.proofs.lemmas.List.Folds.{list_any-append}
 use Rattle.cert_store.specs.Rules.{QuestionView}
 use Rattle.single_calls.specs.Asks.{ask_line, ask_lines, fresh, is_same, unless_asked, was_asked}
@@ -27,17 +27,13 @@ writes_both held mid now text text_mid text_now xs ys one other = record {
 
 -- ---- one question
 
-asked_more : (b t : Bool) → cond t true b ≡ (b || (t || false))
-asked_more b true = sym (or-true b)
-asked_more b false = sym (or-false b)
-
 -- a set of triples that has one more
 abbrev Puts : List Triple → List Triple → Triple → Type 0
 Puts held now triple = (q : Triple) → list_any (same_triple q) now ≡ cond (same_triple triple q) true (list_any (same_triple q) held)
 
 holds_more : (held now : List Triple) (asked : QuestionView) → Puts held now (triple_of asked) → (before : List QuestionView) → Holds held before → Holds now (before ++ asked ∷ [])
 holds_more held now asked put before h other =
-    put (triple_of other) ∙ ap (cond (is_same asked other) true) (h other) ∙ asked_more (was_asked before other) (is_same asked other)
+    put (triple_of other) ∙ ap (cond (is_same asked other) true) (h other) ∙ or_more (was_asked before other) (is_same asked other)
     ∙ sym (list_any-append (λ (one : QuestionView). is_same one other) before (asked ∷ []))
 
 -- it was asked before

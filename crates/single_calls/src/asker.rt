@@ -19,7 +19,7 @@ use std::alloc::Global;
 use std::marker::Model;
 use stir_outside::Shelf;
 use verify_rules::{ScreenFault, Screened, Settings, Verdict, finish, screen, screened_law};
-use verify_service::{CallChains, World};
+use verify_service::{CallChains, World, call_law};
 
 /// The last rule that is tried before a signature is asked for.
 const LAST_UNSIGNED: u8 = 14;
@@ -108,6 +108,7 @@ fn ask_call<S: Shelf>(
     ensures same_files { S.files shelf.new ≡ S.files shelf.old }
     ensures counts { CountsGoOn (S.counts shelf.old) (S.counts shelf.new) }
 {
+    call_law();
     match screen(alloc, call.message(), call.moment(), settings) {
         Ok(screened) => ask_screened(alloc, world, shelf, call.moment(), &screened, written, text),
         Err(fault) => match fault {

@@ -14,7 +14,7 @@ use crate::written::Written;
 use std::alloc::Global;
 use stir_outside::Shelf;
 use verify_rules::{Screened, right_law};
-use verify_service::{CallChain, CallChains, World, chain_in};
+use verify_service::{CallChain, CallChains, World, chain_in, chains_law};
 
 /// What stops the reading of a call's chains.
 #[derive(Drop)]
@@ -45,7 +45,7 @@ pub(crate) fn ask_chains<S: Shelf>(
     ensures same_files { S.files shelf.new ≡ S.files shelf.old }
     ensures counts { CountsGoOn (S.counts shelf.old) (S.counts shelf.new) }
 {
-    right_law();
+    chains_law();
     'passports: for i in 0..screened.count() {
         let x5u = screened.passport(i).x5u();
         let chain = match known_chain(alloc, world, shelf, provider, x5u) {

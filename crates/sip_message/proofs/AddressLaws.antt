@@ -7,8 +7,10 @@ use Rattle.std.proofs.lemmas.Bool.Decides.{nat_tests}
 use Rattle.sip_message.specs.declared.address.Quoting.{Quoting}
 use Rattle.sip_message.specs.declared.address.Quoting.TheVariants.{Outside, Inside, Escaped}
 use Rattle.sip_message.specs.Address.{address, before, behind_bracket}
-use Rattle.sip_message.specs.Quoted.{IsAddress, IsBracketed, Piece, Quote, bare, escaped, in_brackets, is_piece, is_quote, pieces_text, plain, quoted, quotes_text, without}
+use Rattle.sip_message.specs.Quoted.{IsAddress, IsBracketed, Piece, Quote, bare, ends_address, escaped, in_brackets, is_piece, is_quote, pieces_text, plain, quoted, quotes_text, without}
 use Rattle.sip_message.specs.Quoting.{after, bracket_from}
+use Rattle.sip_message.specs.UpTo.{UpTo}
+use Rattle.sip_message.proofs.UpToLaws.{before_first, before_front, before_is, before_only, front_is, front_of, front_only}
 use Rattle.std.proofs.lemmas.Bool.{and_parts}
 
 -- ---- what is in the form is found
@@ -122,10 +124,19 @@ bracket_found value rest h = found value rest Outside h
 
 -- ---- the address
 
+-- without brackets the value up to its first `;`, `,`, space or tab
+value_front : (value : List ℕ) → before 9 (before 32 (before 44 (before 59 value))) ≡ front_of ends_address value
+value_front value =
+    let one = before_first 59 value in
+    let two = before_front (λ b. b == 59) 44 value (before 59 value) one in
+    let three = before_front (λ b. b == 59 || b == 44) 32 value (before 44 (before 59 value)) two in
+    before_front (λ b. b == 59 || b == 44 || b == 32) 9 value (before 32 (before 44 (before 59 value))) three
+
 address_by : (value : List ℕ) (k : Option (List ℕ)) → behind_bracket value ≡ k
     → IsAddress value (option_map_or (before 62) k (before 9 (before 32 (before 44 (before 59 value)))))
-address_by value (Some rest) e = in_brackets rest (bracket_found value rest e) refl
-address_by value None e = without (λ rest i. let s = bracket_only value rest i in absurd cc) refl
+address_by value (Some rest) e = in_brackets rest (bracket_found value rest e) (before_is 62 rest)
+address_by value None e =
+    without (λ rest i. let s = bracket_only value rest i in absurd cc) (subst (UpTo ends_address value) (sym (value_front value)) (front_is ends_address value))
 
 pub address_is : (value : List ℕ) → IsAddress value (address value)
 address_is value = address_by value (behind_bracket value) refl
@@ -136,10 +147,7 @@ none_found value (Some rest) e none = absurd (none rest (bracket_found value res
 
 -- and there is no other
 pub address_only : (value uri : List ℕ) → IsAddress value uri → uri ≡ address value
-address_only value uri (in_brackets rest i e) = let s = bracket_only value rest i in e ∙ rw s refl
-address_only value uri (without none e) =
+address_only value uri (in_brackets rest i front) = let s = bracket_only value rest i in before_only 62 rest uri front ∙ rw s refl
+address_only value uri (without none front) =
     let s : ◌≡◌ {A = Option (List ℕ)} (behind_bracket value) None = none_found value (behind_bracket value) refl none in
-    e ∙ rw s refl
-
-pub address_of : (value uri : List ℕ) → uri ≡ address value → IsAddress value uri
-address_of value uri e = subst (IsAddress value) (sym e) (address_is value)
+    front_only ends_address value uri front ∙ sym (value_front value) ∙ rw s refl

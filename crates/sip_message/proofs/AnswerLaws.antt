@@ -3,12 +3,12 @@ use Rattle.std.proofs.Common.{◌≡◌, ℕ, ◌≤◌, List, length, Result, O
 use Rattle.sip_message.specs.declared.fault.FormFault.{FormFault}
 use Rattle.sip_message.specs.declared.fault.MessageFault.{MessageFault}
 use Rattle.sip_message.specs.declared.fault.MessageFault.TheVariants.{Form, Memory}
-use Rattle.sip_message.specs.Answer.{IfForm, IsFault, IsMessage}
+use Rattle.sip_message.specs.Answer.{IfForm, IsFault}
 use Rattle.sip_message.specs.Form.{FormOf}
 use Rattle.sip_message.specs.Head.{Head}
 use Rattle.sip_message.specs.Message.{MessageView}
 use Rattle.sip_message.specs.Reading.{read}
-use Rattle.sip_message.specs.Seen.{Gives}
+use Rattle.sip_message.specs.Seen.{Gives, IsOkUnlessMemory}
 use Rattle.sip_message.proofs.FormLaws.{form_read, read_fault, read_found}
 use Rattle.sip_message.proofs.HeadLaws.{head_read}
 use Rattle.sip_message.proofs.PlaceLaws.{place_within}
@@ -17,7 +17,7 @@ pub answers_head : (bytes : List ℕ) (answer : Result MessageView MessageFault)
 answers_head bytes (Ok message) r = read_found bytes message r
 answers_head bytes (Err fault) r = tt
 
-pub answers_only : (bytes : List ℕ) (answer : Result MessageView MessageFault) (m : MessageView) → Gives (λ (message : MessageView). message) answer (read bytes) → Head bytes m → IsMessage answer m
+pub answers_only : (bytes : List ℕ) (answer : Result MessageView MessageFault) (m : MessageView) → Gives (λ (message : MessageView). message) answer (read bytes) → Head bytes m → IsOkUnlessMemory answer (λ found. found ≡ m)
 answers_only bytes (Ok message) m r h = let k = head_read bytes m h in let e : read bytes ≡ Ok message = r in cc
 answers_only bytes (Err (Form fault)) m r h = let k = head_read bytes m h in let e : read bytes ≡ Err fault = r in absurd cc
 answers_only bytes (Err Memory) m r h = tt

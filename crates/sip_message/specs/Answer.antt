@@ -1,15 +1,9 @@
--- What `Message::read` answers, where want of memory is free.
+-- The faults that `Message::read` answers, where want of memory is free.
 use Rattle.std.specs.Prelude.{◌≡◌, Result, Ok, Err}
 use Rattle.sip_message.specs.declared.fault.FormFault.{FormFault}
 use Rattle.sip_message.specs.declared.fault.MessageFault.{MessageFault}
 use Rattle.sip_message.specs.declared.fault.MessageFault.TheVariants.{Form, Memory}
 use Rattle.sip_message.specs.Message.{MessageView}
-
--- the answer is the message, unless memory was wanting
-abbrev pub IsMessage : Result MessageView MessageFault → MessageView → Type 0
-IsMessage (Ok message) wanted = message ≡ wanted
-IsMessage (Err (Form fault)) wanted = ⊥
-IsMessage (Err Memory) wanted = Unit {0}
 
 -- the answer is the fault, unless memory was wanting
 abbrev pub IsFault : Result MessageView MessageFault → FormFault → Type 0

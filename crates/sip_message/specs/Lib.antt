@@ -2,7 +2,9 @@ pub mod Accessors
 pub mod Added
 pub mod Address
 pub mod Answer
+pub mod FieldDate
 pub mod FieldLine
+pub mod FieldNumber
 pub mod Form
 pub mod Group
 pub mod Head
@@ -17,4 +19,6 @@ pub mod Reading
 pub mod Seen
 pub mod Short
 pub mod StartLine
+pub mod UpTo
+pub mod UriNumber
 pub mod Value

@@ -2,7 +2,7 @@
 -- leniency), and the address in it.
 use Rattle.std.specs.Prelude.{◌≡◌, ℕ, Bool, true, not, ◌==◌, ◌||◌, List, [], ◌∷◌, ◌++◌}
 use Rattle.std.specs.List.{list_all}
-use Rattle.sip_message.specs.Address.{before}
+use Rattle.sip_message.specs.UpTo.{UpTo}
 
 -- what stands in a quoted string: a byte, or a backslash and any byte
 pub data Quote : Type 0 where
@@ -40,7 +40,15 @@ pub record IsBracketed (value rest : List ℕ) : Type 0 where
   pub pieces_ok : list_all is_piece pieces ≡ true
   pub text : value ≡ pieces_text pieces ++ 60 ∷ rest
 
+-- `;`, `,`, space or tab
+abbrev pub ends_address : ℕ → Bool
+ends_address byte = byte == 59 || byte == 44 || byte == 32 || byte == 9
+
+-- `>`
+abbrev pub closes_bracket : ℕ → Bool
+closes_bracket byte = byte == 62
+
 -- the URI of the first address of a value: in brackets up to the next `>`; without them up to the first `;`, `,`, space or tab
 pub data IsAddress (value uri : List ℕ) : Type 0 where
-  in_brackets : (rest : List ℕ) → IsBracketed value rest → uri ≡ before 62 rest → IsAddress value uri
-  without : ((rest : List ℕ) → IsBracketed value rest → ⊥) → uri ≡ before 9 (before 32 (before 44 (before 59 value))) → IsAddress value uri
+  in_brackets : (rest : List ℕ) → IsBracketed value rest → UpTo closes_bracket rest uri → IsAddress value uri
+  without : ((rest : List ℕ) → IsBracketed value rest → ⊥) → UpTo ends_address value uri → IsAddress value uri

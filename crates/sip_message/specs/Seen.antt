@@ -44,6 +44,10 @@ fault_seen Memory = None
 abbrev pub Gives : {X Y : Type 0} → (X → Y) → Result X MessageFault → Result Y FormFault → Type 0
 Gives seen result read = given.Gives fault_seen seen result read
 
+-- a value with this property came; or memory was wanting
+abbrev pub IsOkUnlessMemory : {X : Type 0} → Result X MessageFault → (X → Type 0) → Type 0
+IsOkUnlessMemory result P = given.IsOkUnlessMemory fault_seen result P
+
 -- the code gives what is there, or the fault where it isn't
 abbrev pub GivesOr : {X Y : Type 0} → (X → Y) → FormFault → Result X MessageFault → Option Y → Type 0
 GivesOr seen absent (Ok x) read = read ≡ Some (seen x)

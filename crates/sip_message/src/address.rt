@@ -1,6 +1,5 @@
 //! The telephone number of an address or a URI.
-ghost use Rattle.std.specs.Prelude.{◌≡◌, ℕ, List};
-ghost use Rattle.sip_message.specs.Quoted.{IsAddress};
+ghost use Rattle.std.specs.Prelude.{◌≡◌};
 ghost use Rattle.std.specs.Option.{option_copied};
 ghost use Rattle.sip_message.specs.Address.{address, address_number, before, uri_number, behind_bracket, behind_scheme, user_number};
 ghost use Rattle.sip_message.specs.Quoting.{after, bracket_from};
@@ -84,15 +83,6 @@ fn behind_scheme<'a>(uri: &'a [u8], scheme: &[u8]) -> Option<&'a [u8]>
 
 /// The URI of the first address of a value.
 fn address(value: &[u8]) -> &[u8]
-    ensures exact { result.now ≡ address value.now }
-    ensures meaning { IsAddress value.now result.now }
-    ensures only { (uri : List ℕ) → IsAddress value.now uri → uri ≡ result.now }
-{
-    first_uri(value)
-}
-
-/// The URI of the first address of a value.
-fn first_uri(value: &[u8]) -> &[u8]
     ensures { result.now ≡ address value.now }
 {
     match behind_bracket(value) {

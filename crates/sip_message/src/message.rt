@@ -1,13 +1,17 @@
 //! A message and what is asked of it.
-ghost use Rattle.std.specs.Prelude.{◌≡◌, ◌<◌, ◌≤◌, length, slice_index_or, [], Ok, Err, IfOk};
-ghost use Rattle.sip_message.specs.Answer.{IfForm, IsFault, IsMessage};
+ghost use Rattle.std.specs.Prelude.{◌≡◌, ◌<◌, ◌≤◌, ℕ, List, length, slice_index_or, [], Some, Ok, Err, IfOk, IfSome};
+ghost use Rattle.sip_message.specs.Answer.{IfForm, IsFault};
+ghost use Rattle.sip_message.specs.FieldDate.{IsTimeOf};
+ghost use Rattle.sip_message.specs.FieldNumber.{IsCalling, IsFirstNumber, IsNumberOf};
 ghost use Rattle.sip_message.specs.Form.{FormOf};
 ghost use Rattle.sip_message.specs.Head.{Head};
 ghost use Rattle.sip_message.specs.Message.{MessageView};
+ghost use Rattle.sip_message.specs.Names.{is_asserted, is_date, is_from, is_to};
 ghost use Rattle.sip_message.specs.Accessors.{asserted_number, calling_number, date, from_number, identities, is_invite, target_number, to_number};
 ghost use Rattle.sip_message.specs.Reading.{checked, fault, read};
-ghost use Rattle.sip_message.specs.Seen.{Gives, head_seen, parts_seen};
+ghost use Rattle.sip_message.specs.Seen.{Gives, IsOkUnlessMemory, head_seen, parts_seen};
 ghost use Rattle.sip_message.specs.Short.{AreShort};
+ghost use Rattle.sip_message.specs.UriNumber.{GivesNumber};
 
 use crate::address::uri_number;
 use crate::fault::{FormFault, MessageFault};
@@ -78,11 +82,11 @@ impl<'a> Message<'a> {
     /// The faults are tried in this order: 1 the size, at 65,535; the first bad line, which is 2 for the start line, at 0,
     /// or 3, at its first byte; 4 no empty line, at the length; 5 and 6 where there isn't exactly one From or To, at the
     /// second such field or else at the empty line. `Memory` comes for want of memory alone.
-    #[tactic(auto, using(crate::proofs::AnswerLaws::answers_head, crate::proofs::AnswerLaws::answers_only, crate::proofs::AnswerLaws::answers_fault, crate::proofs::AnswerLaws::answers_only_fault, crate::proofs::AnswerLaws::answers_place, crate::proofs::ShortLaws::answers_short))]
+    #[tactic(auto, using(crate::proofs::AnswerLaws::answers_head, crate::proofs::AnswerLaws::answers_fault, crate::proofs::AnswerLaws::answers_only_fault, crate::proofs::AnswerLaws::answers_place, crate::proofs::ShortLaws::answers_short))]
     pub fn read(alloc: Global, bytes: &'a [u8]) -> Result<Message<'a>, MessageFault>
         ensures exact { Gives (λ message. message) result (read bytes.now) }
         ensures head { IfOk result (λ message. Head bytes.now message) }
-        ensures only { (message : MessageView) → Head bytes.now message → IsMessage result message }
+        ensures only { (message : MessageView) → Head bytes.now message → IsOkUnlessMemory result (λ found. found ≡ message) }
         ensures fault { IfForm result (λ fault. FormOf bytes.now fault) }
         ensures only_fault { (fault : FormFault) → FormOf bytes.now fault → IsFault result fault }
         ensures place { IfForm result (λ fault. fault.place ≤ length bytes.now) }
@@ -98,36 +102,53 @@ impl<'a> Message<'a> {
         self.method == b"INVITE".as_slice()
     }
 
-    /// The number of From, None where its address has none.
+    /// The number of From (RFC 3261, section 20.20): that of the first address in the value of the first such field, None where it has none.
     pub fn from_number(&self, local: &Local) -> Option<Number>
-        ensures { result ≡ from_number self.now local.now }
+        ensures exact { result ≡ from_number self.now local.now }
+        ensures found { IfSome result (λ number. IsNumberOf is_from self.now.fields local.now number) }
+        ensures only { (number : List ℕ) → IsNumberOf is_from self.now.fields local.now number → result ≡ Some number }
     {
         number_of(&self.fields, Known::From, local)
     }
 
-    /// The number of To, None where its address has none.
+    /// The number of To (RFC 3261, section 20.39): that of the first address in the value of the first such field, None where it has none.
     pub fn to_number(&self, local: &Local) -> Option<Number>
-        ensures { result ≡ to_number self.now local.now }
+        ensures exact { result ≡ to_number self.now local.now }
+        ensures found { IfSome result (λ number. IsNumberOf is_to self.now.fields local.now number) }
+        ensures only { (number : List ℕ) → IsNumberOf is_to self.now.fields local.now number → result ≡ Some number }
     {
         number_of(&self.fields, Known::To, local)
     }
 
-    /// The number of the request URI, None where it has none.
+    /// The number of the request URI (RFC 3261, section 19.1.6; RFC 3966, section 3), None where it has none.
     pub fn target_number(&self, local: &Local) -> Option<Number>
-        ensures { result ≡ target_number self.now local.now }
+        ensures exact { result ≡ target_number self.now local.now }
+        ensures found { IfSome result (λ number. GivesNumber self.now.uri local.now number) }
+        ensures only { (number : List ℕ) → GivesNumber self.now.uri local.now number → result ≡ Some number }
     {
         uri_number(self.uri, local)
     }
 
     /// The number of the first P-Asserted-Identity field (RFC 3325, section 9.1) that gives one, None where none does.
     pub fn asserted_number(&self, local: &Local) -> Option<Number>
-        ensures { result ≡ asserted_number self.now local.now }
+        ensures exact { result ≡ asserted_number self.now local.now }
+        ensures found { IfSome result (λ number. IsFirstNumber is_asserted self.now.fields local.now number) }
+        ensures only { (number : List ℕ) → IsFirstNumber is_asserted self.now.fields local.now number → result ≡ Some number }
     {
         first_number(&self.fields, Known::Asserted, local)
     }
 
     /// The calling number: the asserted one, or else that of From.
     pub fn calling_number(&self, local: &Local) -> Option<Number>
+        ensures exact { result ≡ calling_number self.now local.now }
+        ensures found { IfSome result (λ number. IsCalling self.now local.now number) }
+        ensures only { (number : List ℕ) → IsCalling self.now local.now number → result ≡ Some number }
+    {
+        self.calling_number_exactly(local)
+    }
+
+    /// The calling number: the asserted one, or else that of From.
+    fn calling_number_exactly(&self, local: &Local) -> Option<Number>
         ensures { result ≡ calling_number self.now local.now }
     {
         match self.asserted_number(local) {
@@ -139,7 +160,9 @@ impl<'a> Message<'a> {
     /// The time of the first Date field (RFC 3261, section 20.17), in Unix seconds; None where there is no such field or
     /// its value is no date in one of the three forms of HTTP (RFC 9110, section 5.6.7).
     pub fn date(&self) -> Option<u64>
-        ensures { result ≡ date self.now }
+        ensures exact { result ≡ date self.now }
+        ensures found { IfSome result (λ second. IsTimeOf is_date self.now.fields second) }
+        ensures only { (second : ℕ) → IsTimeOf is_date self.now.fields second → result ≡ Some second }
     {
         time_of(&self.fields, Known::Date)
     }

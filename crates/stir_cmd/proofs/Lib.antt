@@ -4,6 +4,7 @@ pub mod ShowLaws
 pub mod ShowSteps
 pub mod SignLaws
 pub mod SignSteps
+pub mod StatusCauses
 pub mod StopLaws
 pub mod StopSteps
 pub mod VerifyLaws

@@ -1,10 +1,10 @@
 -- What a run promises, by what its words order.
 use Rattle.std.proofs.Common.{◌≡◌, ℕ, ◌≤◌, inl, inr, List, [], codes, Option, Some, None, Err, refl, sym, subst, arith}
-use Rattle.std.specs.Io.KnownBytes.{Consumes, IsAtEnd}
+use Rattle.std.specs.Io.KnownBytes.{Appends, Consumes, IsAtEnd}
 use Rattle.log_run.specs.Ending.{EndsAs, memory_line}
 use Rattle.stir_words.specs.Order.{AskBy, DivertBy, ExplainBy, OrderView, ShowCertificates, SignBy, VerifyBy}
 use Rattle.stir_cmd.specs.Around.{IsUntouched, Outside}
-use Rattle.stir_cmd.specs.Causes.{HasCauses, IsComplete, IsThrough, Ran, Signed}
+use Rattle.stir_cmd.specs.Causes.{HasCauses, IsComplete, IsRefusal, IsThrough, Ran, Signed}
 use Rattle.stir_cmd.specs.Headline.{Headline}
 use Rattle.stir_cmd.specs.Showing.{Showed, TakesAtMost}
 use Rattle.stir_cmd.specs.declared.answer.ShowFault.TheVariants as show_fault
@@ -16,6 +16,7 @@ use Rattle.stir_cmd.proofs.ShowLaws.{ReadsChain}
 use Rattle.stir_cmd.proofs.ShowLaws as showing
 use Rattle.stir_cmd.proofs.SignLaws as signing
 use Rattle.stir_cmd.proofs.SinglyLaws as singly
+use Rattle.stir_cmd.proofs.StatusCauses.{CausesOf, at_memory, at_words, at_write, has_causes}
 use Rattle.stir_cmd.proofs.StopLaws.{ends_quiet}
 use Rattle.stir_cmd.proofs.VerifyLaws as verifying
 
@@ -28,63 +29,24 @@ headline (Some (DivertBy words)) before now status ran = tt
 headline (Some (ExplainBy judging)) before now status ran = tt
 headline (Some (AskBy words)) before now status ran = tt
 
-refused_by : (before now : Outside) (status : ℕ) → EndsAs before.written now.written before.writes now.writes status (codes "words refused\n") 2 → HasCauses None before now status
-refused_by before now status (inl ends) = record {
-  known = omega (arith, ends.0);
-  done = λ h. absurd (omega (arith, ends.0, h));
-  words = λ h. refl;
-  read = λ h. absurd (omega (arith, ends.0, h));
-  write = λ h. absurd (omega (arith, ends.0, h));
-  input = λ h. absurd (omega (arith, ends.0, h));
-  memory = λ h. absurd (omega (arith, ends.0, h));
-}
-refused_by before now status (inr ends) = record {
-  known = omega (arith, ends.0);
-  done = λ h. absurd (omega (arith, ends.0, h));
-  words = λ h. refl;
-  read = λ h. absurd (omega (arith, ends.0, h));
-  write = λ h. record { rose = ends.1; line = codes "words refused\n"; says = inl refl; front = ends.2 };
-  input = λ h. absurd (omega (arith, ends.0, h));
-  memory = λ h. absurd (omega (arith, ends.0, h));
-}
+-- the line that ends a run without an order
+of_line : (before now : Outside) (status said : ℕ) (line : List ℕ) → IsRefusal line → EndsAs before.written now.written before.writes now.writes status line said
+    → (status ≡ said → Appends before.written now.written line → CausesOf None before now status) → CausesOf None before now status
+of_line before now status said line is (inl ends) written = written ends.0 ends.1
+of_line before now status said line is (inr ends) written = at_write status ends.0 (record { rose = ends.1; line = line; says = is; front = ends.2 })
 
-wanting_by : (before now : Outside) (status : ℕ) → EndsAs before.written now.written before.writes now.writes status (codes "want of memory\n") 6 → HasCauses None before now status
-wanting_by before now status (inl ends) = record {
-  known = omega (arith, ends.0);
-  done = λ h. absurd (omega (arith, ends.0, h));
-  words = λ h. refl;
-  read = λ h. absurd (omega (arith, ends.0, h));
-  write = λ h. absurd (omega (arith, ends.0, h));
-  input = λ h. absurd (omega (arith, ends.0, h));
-  memory = λ h. ends.1;
-}
-wanting_by before now status (inr ends) = record {
-  known = omega (arith, ends.0);
-  done = λ h. absurd (omega (arith, ends.0, h));
-  words = λ h. refl;
-  read = λ h. absurd (omega (arith, ends.0, h));
-  write = λ h. record { rose = ends.1; line = codes "want of memory\n"; says = inr refl; front = ends.2 };
-  input = λ h. absurd (omega (arith, ends.0, h));
-  memory = λ h. absurd (omega (arith, ends.0, h));
-}
+causes_of : ReadsChain → (order : Option OrderView) (before now : Outside) (status : ℕ) → Ran order before now status → CausesOf order before now status
+causes_of law None before now status (inl refused) = of_line before now status 2 _ (inl refl) refused.ends (λ e written. at_words status e refl)
+causes_of law None before now status (inr wanting) = of_line before now status 6 _ (inr refl) wanting.ends (λ e written. at_memory status e written)
+causes_of law (Some ShowCertificates) before now status ran = showing.causes law before now status ran
+causes_of law (Some (VerifyBy judging)) before now status ran = verifying.causes judging before now status ran
+causes_of law (Some (SignBy words)) before now status ran = signing.causes (signing_command words) before now status ran
+causes_of law (Some (DivertBy words)) before now status ran = signing.causes (diverting_command words) before now status ran
+causes_of law (Some (ExplainBy judging)) before now status ran = singly.causes (explain_way judging before.files) before now status ran
+causes_of law (Some (AskBy words)) before now status ran = singly.causes (ask_way words before.files) before now status ran
 
 pub causes : ReadsChain → (order : Option OrderView) (before now : Outside) (status : ℕ) → Ran order before now status → HasCauses order before now status
-causes law None before now status (inl refused) = refused_by before now status refused.ends
-causes law None before now status (inr wanting) = wanting_by before now status wanting.ends
-causes law (Some ShowCertificates) before now status ran = showing.causes law before now status ran
-causes law (Some (VerifyBy judging)) before now status ran = verifying.causes judging before now status ran
-causes law (Some (SignBy words)) before now status ran =
-    let c = signing.causes (signing_command words) before now status ran in
-    record { known = c.known; done = c.done; words = λ h. absurd (c.no_words h); read = c.read; write = c.write; input = c.input; memory = c.memory }
-causes law (Some (DivertBy words)) before now status ran =
-    let c = signing.causes (diverting_command words) before now status ran in
-    record { known = c.known; done = c.done; words = λ h. absurd (c.no_words h); read = c.read; write = c.write; input = c.input; memory = c.memory }
-causes law (Some (ExplainBy judging)) before now status ran =
-    let c = singly.causes (explain_way judging before.files) before now status ran in
-    record { known = c.known; done = c.done; words = λ h. absurd (c.no_words h); read = c.read; write = c.write; input = c.input; memory = c.memory }
-causes law (Some (AskBy words)) before now status ran =
-    let c = singly.causes (ask_way words before.files) before now status ran in
-    record { known = c.known; done = c.done; words = λ h. absurd (c.no_words h); read = c.read; write = c.write; input = c.input; memory = c.memory }
+causes law order before now status ran = has_causes order before now status (causes_of law order before now status ran)
 
 pub complete : ReadsChain → (order : Option OrderView) (before now : Outside) (status : ℕ) → Ran order before now status
     → ((order ≡ Some ShowCertificates) → status ≤ 1 → Showed before.left before.written now.written) → IsComplete order before now status

@@ -1,10 +1,10 @@
 -- What `show` answers to what was read, up to the limit, is its answer to all that the source had left; and what it promises, from what it came to.
-use Rattle.std.proofs.Common.{◌≡◌, ℕ, ◌<◌, ◌≤◌, ◌⊎◌, inl, inr, List, [], ◌++◌, length, codes, nat_lt, Bool, true, false, Option, Some, None, Result, Ok, Err, IfSome, refl, sym, ◌∙◌, ap, subst, arith, append-nil, length-append}
+use Rattle.std.proofs.Common.{◌≡◌, ℕ, ◌<◌, ◌≤◌, ◌⊎◌, inl, inr, List, [], ◌++◌, length, nat_lt, Bool, true, false, Option, Some, None, Result, Ok, Err, IfSome, refl, sym, ◌∙◌, ap, subst, arith, append-nil, length-append}
 use Rattle.std.specs.Io.KnownBytes.{Appends, IsAtEnd}
 use Rattle.std.proofs.lemmas.Bool.Decides.{nat_tests}
 use Rattle.log_run.specs.Ending.{EndsAs}
 use Rattle.stir_outside.proofs.CountLaws.{not_rose}
-use Rattle.stir_outside.specs.Count.{NotRisen, Rose}
+use Rattle.stir_outside.specs.Count.{NotRisen}
 use Rattle.stir_outside.specs.Told.{Takes}
 use Rattle.stir_words.specs.Order.{ShowCertificates}
 use Rattle.stir_words.specs.Status.{status_number}
@@ -12,11 +12,11 @@ use Rattle.x509_profile.specs.Chain.{Chain, RefusedCertificate, certificates_in}
 use Rattle.x509_profile.specs.View.{CertView}
 use Rattle.stir_cmd.specs.Answer.{Reply, fault_status, long_input, shown, shown_reply, status_of, text_of}
 use Rattle.stir_cmd.specs.Around.{Outside}
-use Rattle.stir_cmd.specs.Causes.{AnswersChain, AnswersNoChain, HasCauses, IsShown, ShowComplete, Showing}
-use Rattle.stir_cmd.specs.Stopping.{Front}
+use Rattle.stir_cmd.specs.Causes.{AnswersChain, AnswersNoChain, ShowComplete, Showing}
 use Rattle.stir_cmd.specs.Showing.{HasReason, IsAnswerTo, IsNoChain, Showed, Shows, TakesAtMost}
 use Rattle.stir_cmd.specs.declared.answer.ShowFault.{ShowFault}
 use Rattle.stir_cmd.specs.declared.answer.ShowFault.TheVariants.{Read, Memory}
+use Rattle.stir_cmd.proofs.StatusCauses.{CausesOf, at_done, at_input, at_memory, at_read, at_write}
 
 pub takes_at_most : (left left_now : Option (List ℕ)) (bytes : List ℕ) → Takes left left_now [] bytes → length bytes ≤ 49153 → TakesAtMost 49153 left left_now
 takes_at_most left left_now bytes t short = record { taken = t.taken; from_front = t.from_front; limited = omega (arith, ap length t.behind) }
@@ -141,52 +141,21 @@ refused_of : (left : Option (List ℕ)) (status : ℕ) → StatusOf left status 
 refused_of None status s e = tt
 refused_of (Some bytes) status s e = s.refused e
 
-answered : (before now : Outside) (status : ℕ) → (status ≡ 0) ⊎ (status ≡ 5) → (status ≡ 5 → IfSome before.left IsNoChain) → HasCauses (Some ShowCertificates) before now status
-answered before now status (inl e) refused = record {
-  known = omega (arith, e);
-  done = λ h. e;
-  words = λ h. absurd (omega (arith, e, h));
-  read = λ h. absurd (omega (arith, e, h));
-  write = λ h. absurd (omega (arith, e, h));
-  input = λ h. absurd (omega (arith, e, h));
-  memory = λ h. absurd (omega (arith, e, h));
-}
-answered before now status (inr e) refused = record {
-  known = omega (arith, e);
-  done = λ h. absurd (omega (arith, e, h));
-  words = λ h. absurd (omega (arith, e, h));
-  read = λ h. absurd (omega (arith, e, h));
-  write = λ h. absurd (omega (arith, e, h));
-  input = refused;
-  memory = λ h. absurd (omega (arith, e, h));
-}
-
-faulted : (before now : Outside) (status : ℕ) → 3 ≤ status → status ≤ 6 → (status ≡ 5 → ⊥) → (status ≡ 3 → Rose before.reads now.reads) → (status ≡ 4 → Front before now (IsShown before now))
-    → (status ≡ 6 → Appends before.written now.written (codes "want of memory\n")) → HasCauses (Some ShowCertificates) before now status
-faulted before now status low high input read write memory = record {
-  known = high;
-  done = λ h. absurd (omega (arith, low, h));
-  words = λ h. absurd (omega (arith, low, h));
-  read = read;
-  write = write;
-  input = λ h. absurd (input h);
-  memory = memory;
-}
+answered : (before now : Outside) (status : ℕ) → (status ≡ 0) ⊎ (status ≡ 5) → (status ≡ 5 → IfSome before.left IsNoChain) → CausesOf (Some ShowCertificates) before now status
+answered before now status (inl e) refused = at_done status (omega (arith, e)) e
+answered before now status (inr e) refused = at_input status e (refused e)
 
 causes_by : ReadsChain → (before now : Outside) (status : ℕ) (outcome : Result Reply ShowFault) → HasReason before.left before.reads now.reads outcome
-    → EndsAs before.written now.written before.writes now.writes status (text_of outcome) (status_number (status_of outcome)) → HasCauses (Some ShowCertificates) before now status
+    → EndsAs before.written now.written before.writes now.writes status (text_of outcome) (status_number (status_of outcome)) → CausesOf (Some ShowCertificates) before now status
 causes_by law before now status (Ok reply) reason (inl ends) =
     let s = subst (StatusOf before.left) (sym ends.0) (status_of_answer law before.left reply reason) in
     answered before now status (each_of before.left status s) (refused_of before.left status s)
-causes_by law before now status (Err Read) reason (inl ends) =
-    faulted before now status (omega (arith, ends.0)) (omega (arith, ends.0)) (λ h. omega (arith, ends.0, h)) (λ h. reason) (λ h. absurd (omega (arith, ends.0, h))) (λ h. absurd (omega (arith, ends.0, h)))
-causes_by law before now status (Err Memory) reason (inl ends) =
-    faulted before now status (omega (arith, ends.0)) (omega (arith, ends.0)) (λ h. omega (arith, ends.0, h)) (λ h. absurd (omega (arith, ends.0, h))) (λ h. absurd (omega (arith, ends.0, h))) (λ h. ends.1)
+causes_by law before now status (Err Read) reason (inl ends) = at_read status ends.0 reason
+causes_by law before now status (Err Memory) reason (inl ends) = at_memory status ends.0 ends.1
 causes_by law before now status outcome reason (inr ends) =
-    faulted before now status (omega (arith, ends.0)) (omega (arith, ends.0)) (λ h. omega (arith, ends.0, h)) (λ h. absurd (omega (arith, ends.0, h)))
-    (λ h. record { rose = ends.1; line = text_of outcome; says = (outcome, reason, refl); front = ends.2 }) (λ h. absurd (omega (arith, ends.0, h)))
+    at_write status ends.0 (record { rose = ends.1; line = text_of outcome; says = (outcome, reason, refl); front = ends.2 })
 
-pub causes : ReadsChain → (before now : Outside) (status : ℕ) → Showing before now status → HasCauses (Some ShowCertificates) before now status
+pub causes : ReadsChain → (before now : Outside) (status : ℕ) → Showing before now status → CausesOf (Some ShowCertificates) before now status
 causes law before now status showing = causes_by law before now status showing.ran.outcome showing.ran.reason showing.ran.ends
 
 -- ---- which status comes

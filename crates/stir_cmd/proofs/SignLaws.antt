@@ -7,11 +7,12 @@ use Rattle.auth_service.specs.declared.fault.SignFault.{SignFault}
 use Rattle.stir_files.specs.declared.signing.SigningMaterials.{SigningMaterials}
 use Rattle.stir_outside.proofs.CountLaws.{not_rose}
 use Rattle.stir_cmd.specs.Around.{Outside}
-use Rattle.stir_cmd.specs.Signing.{AnswersCall, AnswersMessage, BySigningFiles, EndsOrShort, HasReason, IsAll, IsInput, IsWritten, MessageFailed, RanBySigningFiles, RanMessage, RanSign, RefusedMessage, SignCauses, SignCommand, SignComplete, SignDone, SignThrough, SignedMessage, Told, Wrote, files_named, reason_line, reason_status, signed_by, status_for}
-use Rattle.stir_cmd.specs.Stopping.{AnswersFault, Front, IsQuiet}
+use Rattle.stir_cmd.specs.Signing.{AnswersCall, AnswersMessage, BySigningFiles, EndsOrShort, HasReason, IsAll, IsInput, IsWritten, MessageFailed, RanBySigningFiles, RanMessage, RanSign, RefusedMessage, SignCommand, SignComplete, SignDone, SignEnded, SignFailed, SignShort, SignThrough, SignUnwritten, SignedMessage, Told, Wrote, files_named, reason_line, reason_status, signed_by, status_for}
+use Rattle.stir_cmd.specs.Stopping.{AnswersFault, FileRefused, Front, IsQuiet}
 use Rattle.stir_cmd.specs.declared.sign.Unsigned.{Unsigned}
 use Rattle.stir_cmd.specs.declared.sign.Unsigned.TheVariants.{Read, Memory, Fault}
-use Rattle.stir_cmd.proofs.StopLaws.{EarlyCause, FailedRead, FailedWrite, RefusedFile, WantedMemory, early_cause, early_fault, early_high, early_six, no_such}
+use Rattle.stir_cmd.proofs.StatusCauses.{CauseOf, at_done, at_memory, at_read, at_write}
+use Rattle.stir_cmd.proofs.StopLaws.{early_causes, early_fault, early_high, early_six, no_such}
 
 -- ---- how the run over a message ended
 
@@ -65,95 +66,23 @@ saying : (command : SignCommand) (before now : Outside) (status : ℕ) (Says : S
     → BySigningFiles command before now Says
 saying command before now status Says ran says = record { materials = ran.materials; stands = ran.stands; no_fault = ran.no_fault; says = says }
 
-of_message : (command : SignCommand) (before now : Outside) (status : ℕ) (ran : RanBySigningFiles command before now status) → MessageCause command.order ran.materials before now status
-    → SignCauses command before now status
-of_message command before now status ran (Signs e was) = record {
-  known = omega (arith, e);
-  no_words = λ h. omega (arith, e, h);
-  done = λ h. inl (e, saying command before now status _ ran was);
-  read = λ h. absurd (omega (arith, e, h));
-  write = λ h. absurd (omega (arith, e, h));
-  input = λ h. absurd (omega (arith, e, h));
-  memory = λ h. absurd (omega (arith, e, h));
-}
-of_message command before now status ran (Refuses e was) = record {
-  known = omega (arith, e);
-  no_words = λ h. omega (arith, e, h);
-  done = λ h. inr (e, saying command before now status _ ran was);
-  read = λ h. absurd (omega (arith, e, h));
-  write = λ h. absurd (omega (arith, e, h));
-  input = λ h. absurd (omega (arith, e, h));
-  memory = λ h. absurd (omega (arith, e, h));
-}
-of_message command before now status ran (Fails e failed) = record {
-  known = omega (arith, e);
-  no_words = λ h. omega (arith, e, h);
-  done = λ h. absurd (omega (arith, e, h));
-  read = λ h. inr failed;
-  write = λ h. absurd (omega (arith, e, h));
-  input = λ h. absurd (omega (arith, e, h));
-  memory = λ h. absurd (omega (arith, e, h));
-}
-of_message command before now status ran (Unwritten e front) = record {
-  known = omega (arith, e);
-  no_words = λ h. omega (arith, e, h);
-  done = λ h. absurd (omega (arith, e, h));
-  read = λ h. absurd (omega (arith, e, h));
-  write = λ h. inr (saying command before now status _ ran front);
-  input = λ h. absurd (omega (arith, e, h));
-  memory = λ h. absurd (omega (arith, e, h));
-}
-of_message command before now status ran (Wants e reported) = record {
-  known = omega (arith, e);
-  no_words = λ h. omega (arith, e, h);
-  done = λ h. absurd (omega (arith, e, h));
-  read = λ h. absurd (omega (arith, e, h));
-  write = λ h. absurd (omega (arith, e, h));
-  input = λ h. absurd (omega (arith, e, h));
-  memory = λ h. inr reported;
-}
+abbrev SignCauses : Type 0 → SignCommand → Outside → Outside → ℕ → Type 0
+SignCauses Words command before now status =
+    CauseOf (SignEnded command before now status) Words (SignFailed command before now) (SignUnwritten command before now) (FileRefused (files_named command) before now) (SignShort command before now) status
 
-of_early : (command : SignCommand) (before now : Outside) (status : ℕ) → EarlyCause (files_named command) before now status → SignCauses command before now status
-of_early command before now status (FailedRead e failed) = record {
-  known = omega (arith, e);
-  no_words = λ h. omega (arith, e, h);
-  done = λ h. absurd (omega (arith, e, h));
-  read = λ h. inl failed;
-  write = λ h. absurd (omega (arith, e, h));
-  input = λ h. absurd (omega (arith, e, h));
-  memory = λ h. absurd (omega (arith, e, h));
-}
-of_early command before now status (FailedWrite e front) = record {
-  known = omega (arith, e);
-  no_words = λ h. omega (arith, e, h);
-  done = λ h. absurd (omega (arith, e, h));
-  read = λ h. absurd (omega (arith, e, h));
-  write = λ h. inl front;
-  input = λ h. absurd (omega (arith, e, h));
-  memory = λ h. absurd (omega (arith, e, h));
-}
-of_early command before now status (RefusedFile e refused) = record {
-  known = omega (arith, e);
-  no_words = λ h. omega (arith, e, h);
-  done = λ h. absurd (omega (arith, e, h));
-  read = λ h. absurd (omega (arith, e, h));
-  write = λ h. absurd (omega (arith, e, h));
-  input = λ h. refused;
-  memory = λ h. absurd (omega (arith, e, h));
-}
-of_early command before now status (WantedMemory e early) = record {
-  known = omega (arith, e);
-  no_words = λ h. omega (arith, e, h);
-  done = λ h. absurd (omega (arith, e, h));
-  read = λ h. absurd (omega (arith, e, h));
-  write = λ h. absurd (omega (arith, e, h));
-  input = λ h. absurd (omega (arith, e, h));
-  memory = λ h. inl early;
-}
+of_message : {Words : Type 0} (command : SignCommand) (before now : Outside) (status : ℕ) (ran : RanBySigningFiles command before now status) → MessageCause command.order ran.materials before now status
+    → SignCauses Words command before now status
+of_message command before now status ran (Signs e was) = at_done status (omega (arith, e)) (inl (e, saying command before now status _ ran was))
+of_message command before now status ran (Refuses e was) = at_done status (omega (arith, e)) (inr (e, saying command before now status _ ran was))
+of_message command before now status ran (Fails e failed) = at_read status e (inr failed)
+of_message command before now status ran (Unwritten e front) = at_write status e (inr (saying command before now status _ ran front))
+of_message command before now status ran (Wants e reported) = at_memory status e (inr reported)
 
-pub causes : (command : SignCommand) (before now : Outside) (status : ℕ) → RanSign command before now status → SignCauses command before now status
+-- each status with its cause; 5 is for a named file alone
+pub causes : {Words : Type 0} (command : SignCommand) (before now : Outside) (status : ℕ) → RanSign command before now status → SignCauses Words command before now status
 causes command before now status (inl ran) = of_message command before now status ran (message_cause command.order ran.materials before now status ran.says)
-causes command before now status (inr early) = of_early command before now status (early_cause (files_named command) before now status early)
+causes command before now status (inr early) =
+    early_causes (files_named command) before now status (λ failed. inl failed) (λ front. inl front) (λ refused. refused) (λ short. inl short) early
 
 -- ---- which status comes
 

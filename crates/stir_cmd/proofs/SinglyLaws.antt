@@ -1,12 +1,13 @@
 -- What a run promises that answers calls one by one, from what it came to.
-use Rattle.std.proofs.Common.{◌≡◌, ◌≢◌, ℕ, ◌≤◌, ◌⊎◌, inl, inr, List, Option, Some, None, arith}
+use Rattle.std.proofs.Common.{◌≡◌, ℕ, ◌≤◌, ◌⊎◌, inl, inr, List, Option, Some, None, arith}
 use Rattle.std.specs.Io.KnownBytes.{IsAtEnd}
 use Rattle.call_run.specs.Clauses.{Around, IsQuiet as CallsQuiet}
 use Rattle.stir_cmd.specs.Around.{Outside}
 use Rattle.stir_cmd.specs.Singly.{AnswersPart, AnswersWhole, LogAnswers, RanSingly, Saying, SinglyComplete, SinglyDone, SinglyInput, SinglyMemory, SinglyRead, SinglyWrite, Way, around_calls}
 use Rattle.stir_cmd.specs.Stopping.{AnswersFault, EndsEarly, IsQuiet}
-use Rattle.stir_outside.specs.Count.{NotRisen}
-use Rattle.stir_cmd.proofs.StopLaws.{EarlyCause, FailedRead, FailedWrite, RefusedFile, WantedMemory, early_cause, early_fault, early_high, early_six, no_such}
+use Rattle.stir_outside.proofs.CountLaws.{not_risen_behind}
+use Rattle.stir_cmd.proofs.StatusCauses.{CauseOf}
+use Rattle.stir_cmd.proofs.StopLaws.{early_causes, early_fault, early_high, early_six, no_such}
 
 -- ---- the run over the log
 
@@ -37,75 +38,27 @@ ended way before now status ran low = (over_log way before now status ran low).s
 
 -- ---- the causes
 
-pub record SinglyCauses (way : Way) (before now : Outside) (status : ℕ) : Type 0 where
-  pub known : status ≤ 6
-  pub done : status ≤ 1 → SinglyDone way before now status
-  pub no_words : status ≢ 2
-  pub read : status ≡ 3 → SinglyRead way before now
-  pub write : status ≡ 4 → SinglyWrite way before now
-  pub input : status ≡ 5 → SinglyInput way before now
-  pub memory : status ≡ 6 → SinglyMemory way before now
+abbrev SinglyCauses : Type 0 → Way → Outside → Outside → ℕ → Type 0
+SinglyCauses Words way before now status =
+    CauseOf (SinglyDone way before now status) Words (SinglyRead way before now) (SinglyWrite way before now) (SinglyInput way before now) (SinglyMemory way before now) status
 
-of_log : (way : Way) (before now : Outside) (status : ℕ) → RanCalls way before now status → SinglyCauses way before now status
+of_log : {Words : Type 0} (way : Way) (before now : Outside) (status : ℕ) → RanCalls way before now status → SinglyCauses Words way before now status
 of_log way before now status ran = record {
   known = ran.says.causes.known;
   done = λ h. saying way before now status _ ran (ran.says.causes.done h);
-  no_words = ran.says.causes.no_words;
+  words = λ h. absurd (ran.says.causes.no_words h);
   read = λ h. inr (saying way before now status _ ran (ran.says.fails h));
   write = λ h. inr (saying way before now status _ ran (ran.says.causes.sink_failed h));
   input = λ h. inr (saying way before now status _ ran (ran.says.refuses h));
   memory = λ h. inr (saying way before now status _ ran (ran.says.causes.short h));
 }
 
--- the statuses of a run that ended before the log
-of_early : (way : Way) (before now : Outside) (status : ℕ) → EarlyCause way.named before now status → SinglyCauses way before now status
-of_early way before now status (FailedRead e failed) = record {
-  known = omega (arith, e);
-  done = λ h. absurd (omega (arith, e, h));
-  no_words = λ h. omega (arith, e, h);
-  read = λ h. inl failed;
-  write = λ h. absurd (omega (arith, e, h));
-  input = λ h. absurd (omega (arith, e, h));
-  memory = λ h. absurd (omega (arith, e, h));
-}
-of_early way before now status (FailedWrite e front) = record {
-  known = omega (arith, e);
-  done = λ h. absurd (omega (arith, e, h));
-  no_words = λ h. omega (arith, e, h);
-  read = λ h. absurd (omega (arith, e, h));
-  write = λ h. inl front;
-  input = λ h. absurd (omega (arith, e, h));
-  memory = λ h. absurd (omega (arith, e, h));
-}
-of_early way before now status (RefusedFile e refused) = record {
-  known = omega (arith, e);
-  done = λ h. absurd (omega (arith, e, h));
-  no_words = λ h. omega (arith, e, h);
-  read = λ h. absurd (omega (arith, e, h));
-  write = λ h. absurd (omega (arith, e, h));
-  input = λ h. inl refused;
-  memory = λ h. absurd (omega (arith, e, h));
-}
-of_early way before now status (WantedMemory e early) = record {
-  known = omega (arith, e);
-  done = λ h. absurd (omega (arith, e, h));
-  no_words = λ h. omega (arith, e, h);
-  read = λ h. absurd (omega (arith, e, h));
-  write = λ h. absurd (omega (arith, e, h));
-  input = λ h. absurd (omega (arith, e, h));
-  memory = λ h. inl early;
-}
-
-pub causes : (way : Way) (before now : Outside) (status : ℕ) → RanSingly way before now status → SinglyCauses way before now status
+pub causes : {Words : Type 0} (way : Way) (before now : Outside) (status : ℕ) → RanSingly way before now status → SinglyCauses Words way before now status
 causes way before now status (inl ran) = of_log way before now status ran
-causes way before now status (inr early) = of_early way before now status (early_cause way.named before now status early)
+causes way before now status (inr early) =
+    early_causes way.named before now status (λ failed. inl failed) (λ front. inl front) (λ refused. inl refused) (λ short. inl short) early
 
 -- ---- which status comes
-
-not_risen_from : (before mid now : ℕ) → before ≤ mid → mid ≤ now → NotRisen before now → NotRisen mid now
-not_risen_from before mid now low high q =
-    let same : mid ≡ before = omega (arith, low, high, q.same) in
-    record { same = omega (arith, q.same, same); below_last = λ e. q.below_last (omega (arith, same, e)) }
 
 -- nothing failed in the run over the log where nothing failed in the whole
 quiet : (way : Way) (before now : Outside) (status : ℕ) (ran : RanCalls way before now status) → IsQuiet before now
@@ -113,7 +66,7 @@ quiet : (way : Way) (before now : Outside) (status : ℕ) (ran : RanCalls way be
 quiet way before now status ran q = record {
   reads = q.reads;
   writes = q.writes;
-  files = λ calls call text name may. not_risen_from before.counts.faults ran.faults now.counts.faults ran.low ran.high q.files;
+  files = λ calls call text name may. not_risen_behind before.counts.faults ran.faults now.counts.faults ran.low ran.high q.files;
 }
 
 whole : (way : Way) (before now : Outside) (status : ℕ) → RanSingly way before now status → AnswersWhole way before now status

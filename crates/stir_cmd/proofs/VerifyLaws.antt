@@ -13,11 +13,12 @@ use Rattle.stir_words.specs.Order.{JudgingView, VerifyBy}
 use Rattle.verify_rules.specs.declared.settings.Settings.{Settings}
 use Rattle.stir_cmd.specs.Around.{IfTold, Outside}
 use Rattle.stir_cmd.specs.Calls.{AnswersBy, bench_by, settings_by}
-use Rattle.stir_cmd.specs.Causes.{AnswersPart, AnswersWhole, HasCauses, VerifyComplete}
+use Rattle.stir_cmd.specs.Causes.{AnswersPart, AnswersWhole, VerifyComplete}
 use Rattle.stir_cmd.specs.Headline.{AreJudged, Headline, Verified}
 use Rattle.stir_cmd.specs.Stopping.{AnswersFault}
 use Rattle.stir_cmd.specs.Verifying.{ByFiles, RanLog, RanVerify, around_by}
-use Rattle.stir_cmd.proofs.StopLaws.{EarlyCause, FailedRead, FailedWrite, RefusedFile, WantedMemory, early_cause, early_fault, early_high, early_six, no_such}
+use Rattle.stir_cmd.proofs.StatusCauses.{CausesOf}
+use Rattle.stir_cmd.proofs.StopLaws.{early_causes, early_fault, early_high, early_six, no_such}
 
 -- ---- how the log's run is seen from the whole run
 
@@ -84,7 +85,7 @@ saying judging before now status Says ran says = record {
   says = says;
 }
 
-of_log : (judging : JudgingView) (before now : Outside) (status : ℕ) → RanLog judging before now status → HasCauses (Some (VerifyBy judging)) before now status
+of_log : (judging : JudgingView) (before now : Outside) (status : ℕ) → RanLog judging before now status → CausesOf (Some (VerifyBy judging)) before now status
 of_log judging before now status ran = record {
   known = ran.says.causes.known;
   done = λ h. saying judging before now status _ ran (ran.says.causes.done h);
@@ -95,48 +96,10 @@ of_log judging before now status ran = record {
   memory = λ h. inr (saying judging before now status _ ran (ran.says.causes.short h));
 }
 
--- the statuses of a run that ended before the log
-of_early : (judging : JudgingView) (before now : Outside) (status : ℕ) → EarlyCause (files_of judging) before now status → HasCauses (Some (VerifyBy judging)) before now status
-of_early judging before now status (FailedRead e failed) = record {
-  known = omega (arith, e);
-  done = λ h. absurd (omega (arith, e, h));
-  words = λ h. absurd (omega (arith, e, h));
-  read = λ h. inl failed;
-  write = λ h. absurd (omega (arith, e, h));
-  input = λ h. absurd (omega (arith, e, h));
-  memory = λ h. absurd (omega (arith, e, h));
-}
-of_early judging before now status (FailedWrite e front) = record {
-  known = omega (arith, e);
-  done = λ h. absurd (omega (arith, e, h));
-  words = λ h. absurd (omega (arith, e, h));
-  read = λ h. absurd (omega (arith, e, h));
-  write = λ h. inl front;
-  input = λ h. absurd (omega (arith, e, h));
-  memory = λ h. absurd (omega (arith, e, h));
-}
-of_early judging before now status (RefusedFile e refused) = record {
-  known = omega (arith, e);
-  done = λ h. absurd (omega (arith, e, h));
-  words = λ h. absurd (omega (arith, e, h));
-  read = λ h. absurd (omega (arith, e, h));
-  write = λ h. absurd (omega (arith, e, h));
-  input = λ h. inl refused;
-  memory = λ h. absurd (omega (arith, e, h));
-}
-of_early judging before now status (WantedMemory e early) = record {
-  known = omega (arith, e);
-  done = λ h. absurd (omega (arith, e, h));
-  words = λ h. absurd (omega (arith, e, h));
-  read = λ h. absurd (omega (arith, e, h));
-  write = λ h. absurd (omega (arith, e, h));
-  input = λ h. absurd (omega (arith, e, h));
-  memory = λ h. inl early;
-}
-
-pub causes : (judging : JudgingView) (before now : Outside) (status : ℕ) → RanVerify judging before now status → HasCauses (Some (VerifyBy judging)) before now status
+pub causes : (judging : JudgingView) (before now : Outside) (status : ℕ) → RanVerify judging before now status → CausesOf (Some (VerifyBy judging)) before now status
 causes judging before now status (inl ran) = of_log judging before now status ran
-causes judging before now status (inr early) = of_early judging before now status (early_cause (files_of judging) before now status early)
+causes judging before now status (inr early) =
+    early_causes (files_of judging) before now status (λ failed. inl failed) (λ front. inl front) (λ refused. inl refused) (λ short. inl short) early
 
 -- ---- which status comes
 

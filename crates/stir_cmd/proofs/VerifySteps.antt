@@ -21,11 +21,11 @@ use Rattle.stir_cmd.proofs.StopSteps.{no_fault}
 
 -- ---- the files were read
 
-pub from_files : (judging : JudgingView) (materials : Materials) (files files_now : Option Files) (counts counts_now : Counts) (left : Option (List ℕ)) (reads : ℕ) (written : Option (List ℕ)) (writes : ℕ)
+pub from_files : (judging : JudgingView) (materials : Materials) (settings : Settings) (files files_now : Option Files) (counts counts_now : Counts) (left : Option (List ℕ)) (reads : ℕ) (written : Option (List ℕ)) (writes : ℕ)
     (now : Outside) (status : ℕ) → MaterialsOf files judging materials → Truly files (files_of judging) (Ok materials) → files_now ≡ files → CountsGoOn counts counts_now
-    → RanBy materials (settings_by judging.settings) (outside files_now counts_now left reads written writes) now status
+    → settings ≡ settings_by judging.settings → RanBy materials settings (outside files_now counts_now left reads written writes) now status
     → RanVerify judging (outside files counts left reads written writes) now status
-from_files judging materials files files_now counts counts_now left reads written writes now status stands truly same goes (inl log) = inl (record {
+from_files judging materials settings files files_now counts counts_now left reads written writes now status stands truly same goes given (inl log) = inl (record {
   materials = materials;
   stands = stands;
   no_fault = no_fault files (files_of judging) materials truly;
@@ -36,10 +36,10 @@ from_files judging materials files files_now counts counts_now left reads writte
   shelf_now = log.shelf_now;
   provider = log.provider;
   provider_now = log.provider_now;
-  says = subst (λ (x : Option Files). LogSays materials (settings_by judging.settings) x (around_by (outside files counts left reads written writes) log.standing) (around_by now log.standing_now) status)
-      same log.says;
+  says = subst (λ (x : Settings). LogSays materials x files (around_by (outside files counts left reads written writes) log.standing) (around_by now log.standing_now) status) given
+      (subst (λ (x : Option Files). LogSays materials settings x (around_by (outside files counts left reads written writes) log.standing) (around_by now log.standing_now) status) same log.says);
 })
-from_files judging materials files files_now counts counts_now left reads written writes now status stands truly same goes (inr none) =
+from_files judging materials settings files files_now counts counts_now left reads written writes now status stands truly same goes given (inr none) =
     inr (inr (record { stays = record { left = none.stays.left; reads = none.stays.reads }; ends = none.ends }))
 
 -- ---- a new service stands at first

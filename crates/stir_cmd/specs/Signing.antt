@@ -243,16 +243,6 @@ SignShort command before now = Early (files_named command) before now ⊎ Append
 abbrev pub SignEnded : SignCommand → Outside → Outside → ℕ → Type 0
 SignEnded command before now status = ((status ≡ 0) × SignDone command before now) ⊎ ((status ≡ 1) × SignRefused command before now)
 
--- each status with its cause; 5 is for a named file alone
-pub record SignCauses (command : SignCommand) (before now : Outside) (status : ℕ) : Type 0 where
-  pub known : status ≤ 6
-  pub no_words : status ≡ 2 → ⊥
-  pub done : status ≤ 1 → SignEnded command before now status
-  pub read : status ≡ 3 → SignFailed command before now
-  pub write : status ≡ 4 → SignUnwritten command before now
-  pub input : status ≡ 5 → FileRefused (files_named command) before now
-  pub memory : status ≡ 6 → SignShort command before now
-
 -- the input was read to its end; or the message wasn't signed, and more bytes were taken than a message may have
 pub record IsTooLong (left left_now : Option (List ℕ)) : Type 0 where
   pub taken : List ℕ

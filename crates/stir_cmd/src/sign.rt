@@ -13,7 +13,7 @@ ghost use Rattle.stir_outside.specs.Held.{held_signs};
 ghost use Rattle.stir_words.specs.Seen.{holder_view};
 ghost use Rattle.stir_cmd.specs.Around.{outside};
 ghost use Rattle.stir_cmd.specs.Showing.{TakesAtMost};
-ghost use Rattle.stir_cmd.specs.SignCode.{command_of, outcome_of, unsigned_by};
+ghost use Rattle.stir_cmd.specs.SignCode.{command_of, outcome_of, unread_by, unsigned_by};
 ghost use Rattle.stir_cmd.specs.Signing.{EndsOrShort, GivesMessage, GivesWhy, HasLine, HasList, HasReason, IsDecided, RanMessage, RanSign, WasSigned, fault_line, holder_by, reason_line, reason_status, unsigned_line};
 
 use crate::verify::end_at;
@@ -47,29 +47,6 @@ pub(crate) enum Unsigned {
     Memory,
     /// The message isn't signed.
     Fault(SignFault),
-}
-
-impl From<AllocError> for Unsigned {
-    ghost use Rattle.stir_cmd.specs.declared.sign.Unsigned.{Unsigned};
-
-    ghost from_gives = { λ _ why. why ≡ Unsigned.Memory };
-
-    fn from(_: AllocError) -> Self {
-        Unsigned::Memory
-    }
-}
-
-impl From<ReadFault> for Unsigned {
-    ghost use Rattle.stir_cmd.specs.SignCode.{unread_by};
-
-    ghost from_gives = { λ read why. why ≡ unread_by read };
-
-    fn from(fault: ReadFault) -> Self {
-        match fault {
-            ReadFault::Source => Unsigned::Read,
-            ReadFault::Memory => Unsigned::Memory,
-        }
-    }
 }
 
 impl<'a> SignerCommand<'a> {
@@ -200,7 +177,17 @@ fn sign_input<I: Source>(
     let mut bytes = Vec::new(alloc);
     match read_up_to(input, &mut bytes, MOST_MESSAGE + 1) {
         Ok(()) => sign_bytes(alloc, command, materials, bytes.as_slice()),
-        Err(fault) => Err(Unsigned::from(fault)),
+        Err(fault) => Err(unread_by(fault)),
+    }
+}
+
+/// What a read that failed means for the command.
+fn unread_by(fault: ReadFault) -> Unsigned
+    ensures { result ≡ unread_by fault }
+{
+    match fault {
+        ReadFault::Source => Unsigned::Read,
+        ReadFault::Memory => Unsigned::Memory,
     }
 }
 

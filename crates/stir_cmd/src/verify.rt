@@ -7,6 +7,7 @@ ghost use Rattle.stir_files.specs.Stop.{stop_of};
 ghost use Rattle.stir_words.specs.Seen.{judging_view};
 
 use crate::bench::Bench;
+use crate::settings::settings_of;
 use log_run::{end_with, judge_log};
 use std::alloc::Global;
 use std::thread::Threads;
@@ -31,13 +32,15 @@ pub(crate) fn verify<R: Threads + Sync, S: Shelf, I: Source, O: Sink>(
     ensures same_files { S.files shelf.new ≡ S.files shelf.old }
 {
     match read_materials(alloc, shelf, judging) {
-        Ok(materials) => {
-            let settings = Settings {
-                local: judging.settings.local,
-                window: judging.settings.window,
-            };
-            judge_by(rt, alloc, materials, settings, shelf, input, sink)
-        }
+        Ok(materials) => judge_by(
+            rt,
+            alloc,
+            materials,
+            settings_of(&judging.settings),
+            shelf,
+            input,
+            sink,
+        ),
         Err(stop) => end_at(alloc, &stop, sink),
     }
 }

@@ -1,5 +1,5 @@
 -- The steps of reading one file after another.
-use Rattle.std.proofs.Common.{◌≡◌, ℕ, ◌≤◌, ◌⊎◌, inl, inr, List, [], ◌∷◌, ◌++◌, length, Option, Some, None, Result, Ok, Err, refl, sym, ◌∙◌, ap, subst}
+use Rattle.std.proofs.Common.{◌≡◌, ℕ, ◌≤◌, inl, inr, List, [], ◌∷◌, ◌++◌, length, Option, Some, None, Result, Err, refl, ◌∙◌, ap, subst}
 use Rattle.stir_outside.proofs.CountLaws.{then_rose}
 use Rattle.stir_outside.specs.Files.{Counts, CountsGoOn, Files, OfFile}
 use Rattle.stir_outside.specs.Held.{AnswersOf, Held}

@@ -3,7 +3,7 @@ ghost use Rattle.std.specs.Prelude.{◌≡◌, IfOk, IfErr};
 ghost use Rattle.stir_outside.specs.Files.{CountsGoOn};
 ghost use Rattle.stir_files.specs.Grounds.{GroundsOf, grounds_of};
 ghost use Rattle.stir_files.specs.Named.{CausedBy, StopsAt};
-ghost use Rattle.stir_files.specs.Stop.{Truly, stop_of};
+ghost use Rattle.stir_files.specs.Stop.{IsReadInOrder, Truly, stop_of};
 ghost use Rattle.stir_words.specs.Seen.{asking_view};
 
 use crate::anchors::read_anchors;
@@ -57,11 +57,8 @@ fn read_three<'a, S: Shelf>(
     shelf: &mut S,
     asking: &Asking<'a>,
 ) -> Result<Grounds, FileStop<'a>>
-    ensures same { S.files shelf.new ≡ S.files shelf.old }
-    ensures go_on { CountsGoOn (S.counts shelf.old) (S.counts shelf.new) }
-    ensures read { IfOk result (GroundsOf (S.files shelf.old) (asking_view asking.now)) }
-    ensures stopped { IfErr result (λ stop. StopsAt (S.files shelf.old) (grounds_of (asking_view asking.now)) (stop_of stop)) }
-    ensures cause { IfErr result (λ stop. CausedBy (S.counts shelf.old) (S.counts shelf.new) stop.fault) }
+    ensures { IsReadInOrder (grounds_of (asking_view asking.now)) (GroundsOf (S.files shelf.old) (asking_view asking.now))
+        (S.files shelf.old) (S.files shelf.new) (S.counts shelf.old) (S.counts shelf.new) result }
 {
     let chains = match read_chains(alloc, shelf, asking.chains) {
         Ok(chains) => chains,

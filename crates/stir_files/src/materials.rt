@@ -3,7 +3,7 @@ ghost use Rattle.std.specs.Prelude.{◌≡◌, IfOk, IfErr};
 ghost use Rattle.stir_outside.specs.Files.{CountsGoOn};
 ghost use Rattle.stir_files.specs.Materials.{MaterialsOf, files_of};
 ghost use Rattle.stir_files.specs.Named.{CausedBy, StopsAt};
-ghost use Rattle.stir_files.specs.Stop.{Truly, stop_of};
+ghost use Rattle.stir_files.specs.Stop.{IsReadInOrder, Truly, stop_of};
 ghost use Rattle.stir_words.specs.Seen.{judging_view};
 
 use crate::answers::read_answers;
@@ -58,11 +58,8 @@ fn read_all<'a, S: Shelf>(
     shelf: &mut S,
     judging: &Judging<'a>,
 ) -> Result<Materials, FileStop<'a>>
-    ensures same { S.files shelf.new ≡ S.files shelf.old }
-    ensures go_on { CountsGoOn (S.counts shelf.old) (S.counts shelf.new) }
-    ensures read { IfOk result (MaterialsOf (S.files shelf.old) (judging_view judging.now)) }
-    ensures stopped { IfErr result (λ stop. StopsAt (S.files shelf.old) (files_of (judging_view judging.now)) (stop_of stop)) }
-    ensures cause { IfErr result (λ stop. CausedBy (S.counts shelf.old) (S.counts shelf.new) stop.fault) }
+    ensures { IsReadInOrder (files_of (judging_view judging.now)) (MaterialsOf (S.files shelf.old) (judging_view judging.now))
+        (S.files shelf.old) (S.files shelf.new) (S.counts shelf.old) (S.counts shelf.new) result }
 {
     let asking = Asking {
         chains: judging.chains,

@@ -4,7 +4,7 @@ ghost use Rattle.std.specs.Option.{option_map};
 ghost use Rattle.stir_outside.specs.Files.{CountsGoOn};
 ghost use Rattle.stir_files.specs.Named.{CausedBy, StopsAt};
 ghost use Rattle.stir_files.specs.Signing.{HolderOf, SigningOf, holder_files, signing_files};
-ghost use Rattle.stir_files.specs.Stop.{Truly, stop_of};
+ghost use Rattle.stir_files.specs.Stop.{IsReadInOrder, Truly, stop_of};
 ghost use Rattle.stir_words.specs.Seen.{holder_view};
 
 use crate::answers::read_answers;
@@ -67,11 +67,8 @@ fn read_in_order<'a, S: Shelf>(
     answers: &'a str,
     holder: Option<HolderFiles<'a>>,
 ) -> Result<SigningMaterials, FileStop<'a>>
-    ensures same { S.files shelf.new ≡ S.files shelf.old }
-    ensures go_on { CountsGoOn (S.counts shelf.old) (S.counts shelf.new) }
-    ensures read { IfOk result (SigningOf (S.files shelf.old) answers.entry.now (option_map holder_view holder.entry)) }
-    ensures stopped { IfErr result (λ stop. StopsAt (S.files shelf.old) (signing_files answers.entry.now (option_map holder_view holder.entry)) (stop_of stop)) }
-    ensures cause { IfErr result (λ stop. CausedBy (S.counts shelf.old) (S.counts shelf.new) stop.fault) }
+    ensures { IsReadInOrder (signing_files answers.entry.now (option_map holder_view holder.entry)) (SigningOf (S.files shelf.old) answers.entry.now (option_map holder_view holder.entry))
+        (S.files shelf.old) (S.files shelf.new) (S.counts shelf.old) (S.counts shelf.new) result }
 {
     let held = match read_answers(alloc, shelf, answers) {
         Ok(held) => held,
@@ -104,11 +101,8 @@ fn read_holder<'a, S: Shelf>(
     shelf: &mut S,
     names: &HolderFiles<'a>,
 ) -> Result<HolderMaterials, FileStop<'a>>
-    ensures same { S.files shelf.new ≡ S.files shelf.old }
-    ensures go_on { CountsGoOn (S.counts shelf.old) (S.counts shelf.new) }
-    ensures read { IfOk result (HolderOf (S.files shelf.old) (holder_view names.now)) }
-    ensures stopped { IfErr result (λ stop. StopsAt (S.files shelf.old) (holder_files (Some (holder_view names.now))) (stop_of stop)) }
-    ensures cause { IfErr result (λ stop. CausedBy (S.counts shelf.old) (S.counts shelf.new) stop.fault) }
+    ensures { IsReadInOrder (holder_files (Some (holder_view names.now))) (HolderOf (S.files shelf.old) (holder_view names.now))
+        (S.files shelf.old) (S.files shelf.new) (S.counts shelf.old) (S.counts shelf.new) result }
 {
     let leaf = match read_leaf(alloc, shelf, names.leaf) {
         Ok(leaf) => leaf,

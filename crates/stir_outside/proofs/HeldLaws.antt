@@ -1,25 +1,26 @@
 -- What is held, with one row more.
-use Rattle.std.proofs.Common.{◌≡◌, ℕ, Bool, true, false, not, ◌||◌, cond, List, [], ◌∷◌, ◌++◌, Option, Some, None, is_some, Ok, Err, refl, sym, ap, ◌∙◌}
+use Rattle.std.proofs.Common.{◌≡◌, ℕ, Bool, true, false, not, ◌||◌, cond, List, [], ◌∷◌, ◌++◌, Option, Some, None, is_some, Ok, refl, sym, ap, ◌∙◌}
 use Rattle.std.specs.Bool.{MatchBool}
 use Rattle.std.specs.List.{list_any}
 use Rattle.std.specs.Map.{lookup}
 use Rattle.std.specs.Option.{option_or}
 use Rattle.std.specs.Str.{bytes_eq}
 use Rattle.std.specs.Cmp.Lexicographic.{bytes_decides}
-use Rattle.std.proofs.Math.Bool.{or-true, or-false}
+use Rattle.std.proofs.Math.Bool.{or-false}
 use Rattle.std.proofs.lemmas.List.Folds.{list_any-append}
 use Rattle.stir_outside.specs.AnswersText.{confirms, says, signature_in, signs, is_repeated, add_row, answer_rows}
-use Rattle.stir_outside.specs.Held.{Held, same_triple, same_order, held_for, HoldsRows, AddsLine, Reached, AnswersOf}
+use Rattle.stir_outside.specs.Held.{Held, same_triple, same_order, held_for, HoldsRows, Reached, AnswersOf}
 use Rattle.stir_outside.specs.KeyName.{is_name}
 use Rattle.stir_outside.proofs.AnswerLaws.{none_for_other}
 use Rattle.text_file.specs.FileLines.{text_lines}
 use Rattle.text_file.specs.Reading.{read_lines}
-use Rattle.text_file.proofs.ReachedLaws as reached_laws
+use Rattle.text_file.proofs.ReachedLaws.{all_given}
 use Rattle.stir_outside.specs.declared.answers.rows.Triple.{Triple}
 use Rattle.stir_outside.specs.declared.answers.rows.Order.{Order}
 use Rattle.stir_outside.specs.declared.answers.rows.Row.{Row}
 use Rattle.stir_outside.specs.declared.answers.rows.Row.TheVariants.{Confirm, Sign}
 use Rattle.lists.proofs.Options.{or_none}
+use Rattle.lists.proofs.Tests.{or_more}
 use Rattle.std.proofs.lemmas.Bool.{and_parts}
 
 abbrev triple_of : List ℕ → List ℕ → List ℕ → Triple
@@ -29,10 +30,6 @@ abbrev order_of : List ℕ → List ℕ → Order
 order_of name digest = record { name = name; digest = digest }
 
 -- ---- a triple more
-
-says_more : (b t : Bool) → cond t true b ≡ (b || (t || false))
-says_more b true = sym (or-true b)
-says_more b false = sym (or-false b)
 
 says_push : (rows : List Row) (triple : Triple) (key digest signature : List ℕ)
     → says (rows ++ Confirm triple ∷ []) key digest signature ≡ (says rows key digest signature || (same_triple triple (triple_of key digest signature) || false))
@@ -52,7 +49,7 @@ pub holds_triple : (rows : List Row) (triple : Triple) (old new : Held)
 holds_triple rows triple old new put kept holds = record {
   says = λ key digest signature.
       let q = triple_of key digest signature in
-      put q ∙ ap (cond (same_triple triple q) true) (holds.says key digest signature) ∙ says_more (says rows key digest signature) (same_triple triple q) ∙ sym (says_push rows triple key digest signature);
+      put q ∙ ap (cond (same_triple triple q) true) (holds.says key digest signature) ∙ or_more (says rows key digest signature) (same_triple triple q) ∙ sym (says_push rows triple key digest signature);
   signs = λ name digest.
       ap (λ (es : List (Order × List ℕ)). lookup (same_order (order_of name digest)) es) kept ∙ holds.signs name digest
       ∙ sym (signs_append rows (Confirm triple ∷ []) name digest ∙ or_none (signs rows name digest));
@@ -110,14 +107,6 @@ pub none_read : (text : List ℕ) (lines : List (ℕ × List ℕ)) (held : Held)
 unfolding answer_rows
 none_read text lines held e holds = record { rows = []; holds = holds; reads = ap (λ (ls : List (ℕ × List ℕ)). read_lines add_row ls []) e }
 
-pub one_more : (text : List ℕ) (lines more : List (ℕ × List ℕ)) (number : ℕ) (line : List ℕ) (old new : Held) → lines ≡ (number, line) ∷ more
-    → AddsLine old new line true → Reached text lines old → Reached text more new
-one_more text lines more number line old new e adds reached = reached_laws.one_more add_row HoldsRows (answer_rows text) lines more number line old new e adds reached
-
-pub bad_line : (text : List ℕ) (lines more : List (ℕ × List ℕ)) (number : ℕ) (line : List ℕ) (old new : Held) → lines ≡ (number, line) ∷ more
-    → AddsLine old new line false → Reached text lines old → answer_rows text ≡ Err number
-bad_line text lines more number line old new e adds reached = reached_laws.bad_line add_row HoldsRows (answer_rows text) lines more number line old new e adds reached
-
 signed_by : (text : List ℕ) (rows : List Row) (held : Held) (name digest : List ℕ) (t : Bool) → is_name name ≡ t → answer_rows text ≡ Ok rows → HoldsRows rows held
     → cond t (held_for held name digest) None ≡ signs rows name digest
 signed_by text rows held name digest true e read holds = holds.signs name digest
@@ -125,7 +114,7 @@ signed_by text rows held name digest false e read holds = sym (none_for_other te
 
 pub all_read : (text : List ℕ) (lines : List (ℕ × List ℕ)) (held : Held) → lines ≡ [] → Reached text lines held → AnswersOf text held
 all_read text lines held e reached =
-    let read : answer_rows text ≡ Ok reached.rows = reached_laws.all_given add_row HoldsRows (answer_rows text) lines held e reached in
+    let read : answer_rows text ≡ Ok reached.rows = all_given add_row HoldsRows (answer_rows text) lines held e reached in
     record {
       rows = reached.rows;
       read = read;

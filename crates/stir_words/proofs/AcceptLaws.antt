@@ -1,20 +1,17 @@
 -- Which options a table accepts.
 use Rattle.std.proofs.Common.{◌≡◌, Bool, true, false, not, ◌&&◌, ◌||◌, List, [], ◌∷◌, refl, ◌∙◌, sym, ◌↔◌}
+use Rattle.lists.proofs.Tests.{not_true}
 use Rattle.std.proofs.lemmas.Bool.{and_parts}
 use Rattle.stir_words.specs.Options.{Pair}
 use Rattle.stir_words.specs.Table.{Accepted, HoldsRequired, Known, KnownOnce, accepts, are_known, has, has_required, is_known}
 use Rattle.stir_words.proofs.TableLaws.{known_first, known_once}
-
-pub not_false : (b : Bool) → not b ≡ true → b ≡ false
-not_false true h = absurd cc
-not_false false h = refl
 
 once : (table : List Known) (pairs : List Pair) → known_once table pairs ≡ true → KnownOnce table pairs
 once table [] h = tt
 once table (pair ∷ pairs) h =
     let first = and_parts (is_known table pair.name) (not (has pair.name pairs) && known_once table pairs) h in
     let more = and_parts (not (has pair.name pairs)) (known_once table pairs) first.1 in
-    (first.0, not_false (has pair.name pairs) more.0, once table pairs more.1)
+    (first.0, not_true (has pair.name pairs) more.0, once table pairs more.1)
 
 once_again : (table : List Known) (pairs : List Pair) → KnownOnce table pairs → known_once table pairs ≡ true
 once_again table [] h = refl

@@ -9,7 +9,7 @@ use Rattle.clap.specs.Lexer.{has_byte, long_of, name_and_value, short_of}
 use Rattle.text_grammar.specs.Cut.{lacks}
 use Rattle.text_grammar.proofs.CutLaws.{cut_again}
 use Rattle.stir_words.specs.Options.{is_filled, is_value}
-use Rattle.stir_words.proofs.AcceptLaws.{not_false}
+use Rattle.lists.proofs.Tests.{not_true}
 
 abbrev is_sign : ℕ → Bool
 is_sign byte = byte == 61
@@ -26,7 +26,7 @@ no_sign : (name : List ℕ) → lacks 61 name ≡ true → has_byte 61 name ≡ 
 no_sign [] h = refl
 no_sign (x ∷ xs) h =
     let parts = and_parts (not (x == 61)) (lacks 61 xs) h in
-    rw (not_false (x == 61) parts.0, no_sign xs parts.1) refl
+    rw (not_true (x == 61) parts.0, no_sign xs parts.1) refl
 
 whole_before : (name : List ℕ) → lacks 61 name ≡ true → before_first is_sign name ≡ name
 whole_before [] h = refl
@@ -80,5 +80,5 @@ pub record IsPlain (word : List ℕ) : Type 0 where
 pub plain_value : (word : List ℕ) → is_value word ≡ true → IsPlain word
 plain_value [] h = absurd cc
 plain_value (x ∷ xs) h =
-    let other = not_false (x == 45) h in
+    let other = not_true (x == 45) h in
     record { no_end = rw other refl; no_long = rw other refl; no_short = rw other refl }

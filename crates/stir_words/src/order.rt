@@ -165,27 +165,12 @@ impl<'a> Order<'a> {
 fn judging_of<'a>(given: &ArgMatches<'a>) -> Option<Judging<'a>>
     ensures { option_map judging_view result ≡ judging_of (values_in given.now) }
 {
-    let Some(chains) = given.get_str("chains") else {
-        return None;
-    };
-    let Some(anchors) = given.get_str("anchors") else {
-        return None;
-    };
-    let Some(table) = given.get_str("table") else {
-        return None;
-    };
-    let Some(answers) = given.get_str("answers") else {
-        return None;
-    };
-    let Some(settings) = settings_of(given) else {
-        return None;
-    };
     Some(Judging {
-        chains,
-        anchors,
-        table,
-        answers,
-        settings,
+        chains: given.get_str("chains")?,
+        anchors: given.get_str("anchors")?,
+        table: given.get_str("table")?,
+        answers: given.get_str("answers")?,
+        settings: settings_of(given)?,
     })
 }
 
@@ -193,23 +178,11 @@ fn judging_of<'a>(given: &ArgMatches<'a>) -> Option<Judging<'a>>
 fn asking_of<'a>(given: &ArgMatches<'a>) -> Option<Asking<'a>>
     ensures { option_map asking_view result ≡ asking_of (values_in given.now) }
 {
-    let Some(chains) = given.get_str("chains") else {
-        return None;
-    };
-    let Some(anchors) = given.get_str("anchors") else {
-        return None;
-    };
-    let Some(table) = given.get_str("table") else {
-        return None;
-    };
-    let Some(settings) = settings_of(given) else {
-        return None;
-    };
     Some(Asking {
-        chains,
-        anchors,
-        table,
-        settings,
+        chains: given.get_str("chains")?,
+        anchors: given.get_str("anchors")?,
+        table: given.get_str("table")?,
+        settings: settings_of(given)?,
     })
 }
 
@@ -217,11 +190,8 @@ fn asking_of<'a>(given: &ArgMatches<'a>) -> Option<Asking<'a>>
 fn settings_of(given: &ArgMatches<'_>) -> Option<Settings>
     ensures { option_map settings_view result ≡ settings_of (values_in given.now) }
 {
-    let Some(window) = window_of(given) else {
-        return None;
-    };
-    let Some(local) = local_of(given) else {
-        return None;
-    };
-    Some(Settings { window, local })
+    Some(Settings {
+        window: window_of(given)?,
+        local: local_of(given)?,
+    })
 }

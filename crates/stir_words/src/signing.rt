@@ -115,31 +115,13 @@ pub(crate) fn diverting_of<'a>(given: &ArgMatches<'a>) -> Option<Diverting<'a>>
 fn signer_of<'a>(given: &ArgMatches<'a>) -> Option<Signer<'a>>
     ensures { option_map signer_view result ≡ signer_of (values_in given.now) }
 {
-    let Some(key) = key_of(given) else {
-        return None;
-    };
-    let Some(x5u) = x5u_of(given) else {
-        return None;
-    };
-    let Some(iat) = iat_of(given) else {
-        return None;
-    };
-    let Some(local) = local_of(given) else {
-        return None;
-    };
-    let Some(answers) = given.get_str("answers") else {
-        return None;
-    };
-    let Some(holder) = holder_of(given) else {
-        return None;
-    };
     Some(Signer {
-        key,
-        x5u,
-        iat,
-        local,
-        answers,
-        holder,
+        key: key_of(given)?,
+        x5u: x5u_of(given)?,
+        iat: iat_of(given)?,
+        local: local_of(given)?,
+        answers: given.get_str("answers")?,
+        holder: holder_of(given)?,
     })
 }
 

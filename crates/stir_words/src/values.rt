@@ -214,7 +214,6 @@ fn shaken_by(attest: &str, origid: &str) -> Option<Form>
 }
 
 /// The identifier of the call that a text is.
-#[tactic(auto, using(passport_claims::proofs::OrigidLaws::origid_size))]
 fn origid_of(text: &str) -> Option<[u8; 36]>
     ensures { result ≡ text_if is_origid text.now }
 {

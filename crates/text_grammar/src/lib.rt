@@ -74,12 +74,7 @@ pub fn blank_count(text: &[u8]) -> usize
     ensures count { result ≡ prefix_len bytes.is_blank text.now }
     ensures within { result ≤ length text.now }
 {
-    for (place, byte) in text.iter().enumerate() {
-        if !is_blank(*byte) {
-            return place;
-        }
-    }
-    text.len()
+    text.iter().take_while(|byte| is_blank(**byte)).count()
 }
 
 /// How many name bytes a text begins with.
@@ -87,12 +82,7 @@ pub fn name_len(text: &[u8]) -> usize
     ensures count { result ≡ prefix_len bytes.is_name_byte text.now }
     ensures within { result ≤ length text.now }
 {
-    for (place, byte) in text.iter().enumerate() {
-        if !is_name_byte(*byte) {
-            return place;
-        }
-    }
-    text.len()
+    text.iter().take_while(|byte| is_name_byte(**byte)).count()
 }
 
 /// What stands behind the blanks that a text begins with.

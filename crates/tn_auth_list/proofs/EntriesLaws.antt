@@ -2,10 +2,11 @@
 use Rattle.std.proofs.Common.{◌≡◌, ℕ, zero, suc, ◌-◌, ◌<◌, ◌≤◌, ◌==◌, true, false, List, [], ◌∷◌, ◌++◌, length, Result, Ok, Err, refl, sym, ap, subst, ◌∙◌, length-append, append_assoc, append-nil, arith}
 use Rattle.std.proofs.lemmas.Bool.Decides.{nat_tests}
 use Rattle.tn_auth_list.specs.declared.entries.Entry.{Entry}
-use Rattle.tn_auth_list.specs.declared.faults.Fault.{Fault}
+use Rattle.der_reader.specs.declared.part.Fault.{Fault}
 use Rattle.lists.specs.Steps.{◌>>=◌}
 use Rattle.tn_auth_list.specs.Fault.{past_limit_at}
-use Rattle.tn_auth_list.specs.Read.{PartView, EntryView, entry_at, entries_at}
+use Rattle.der_reader.specs.Part.{PartView}
+use Rattle.tn_auth_list.specs.Read.{EntryView, entry_at, entries_at}
 
 -- entries that were found before those that are left
 abbrev pub continued : List Entry → Result (List Entry) Fault → Result (List Entry) Fault

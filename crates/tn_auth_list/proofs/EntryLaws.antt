@@ -1,6 +1,7 @@
 -- Laws of reading one entry: it gives the entry whose text stands there, and no other.
-use Rattle.std.proofs.Common.{◌≡◌, ℕ, ◌<◌, ◌≤◌, ◌^◌, ◌&&◌, nat_le, nat_lt, Bool, true, false, cond, List, [], ◌++◌, Some, None, Result, Ok, Err, refl, sym, ap, subst, ◌∙◌, inl, inr, ◌⊎◌, append-nil, arith}
+use Rattle.std.proofs.Common.{◌≡◌, ℕ, ◌<◌, ◌≤◌, ◌^◌, ◌&&◌, nat_le, nat_lt, Bool, true, false, cond, List, [], ◌++◌, Option, Some, None, Result, Ok, Err, refl, sym, ap, subst, ◌∙◌, inl, inr, ◌⊎◌, append-nil, arith}
 use Rattle.std.proofs.lemmas.Bool.Decides.{nat_tests}
+use Rattle.std.proofs.lemmas.Option.{cond_some}
 use Rattle.der_reader.specs.declared.fault.DerFault.{DerFault}
 use Rattle.der_reader.specs.Elem.{AllBytes, element_text}
 use Rattle.der_reader.specs.Integer.{unsigned_of}
@@ -12,12 +13,16 @@ use Rattle.tn_auth_list.specs.declared.entries.Entry.{Entry}
 use Rattle.tn_auth_list.specs.declared.entries.Entry.TheVariants.{Code, Range, Single}
 use Rattle.tn_auth_list.specs.Code.{code_of, is_code}
 use Rattle.tn_auth_list.specs.Entry.{is_entry}
+use Rattle.lists.specs.Steps.{◌>>=◌}
+use Rattle.der_reader.specs.declared.part.Fault.{Fault}
 use Rattle.tn_auth_list.specs.Fault.{no_code_at, no_number_at, no_count_at}
-use Rattle.tn_auth_list.specs.ListText.{integer_content, string_text, integer_text, entry_text}
-use Rattle.tn_auth_list.specs.Read.{PartView, ItemView, EntryView, item_at, element_at, or_fault, code_in, single_in, start_of, counted, span_in, range_in, entry_in, entry_at}
-use Rattle.tn_auth_list.proofs.IntegerLaws.{integer_text_is}
+use Rattle.der_reader.specs.Integer.{integer_content}
+use Rattle.tn_auth_list.specs.ListText.{string_text, integer_text, entry_text}
+use Rattle.der_reader.specs.Part.{PartView, ItemView, item_at, element_at, end_at, or_fault}
+use Rattle.tn_auth_list.specs.Read.{EntryView, code_in, single_in, start_of, counted, span_in, range_in, entry_in, entry_at}
+use Rattle.der_reader.proofs.IntegerTexts.{integer_text_is}
 use Rattle.lists.proofs.StepLaws.{came, inside}
-use Rattle.tn_auth_list.proofs.ReadLaws.{there, ended, Begins, item_found, element_found}
+use Rattle.der_reader.proofs.PartLaws.{there, ended, item_found, element_found, known, begins_text}
 
 -- ---- an entry's tag and what is in it
 
@@ -38,18 +43,14 @@ entry_text_is (Single number) = refl
 
 -- ---- a text at a test
 
-some_text : (t : Bool) (text found : List ℕ) → cond t (Some text) None ≡ Some found → (t ≡ true) × (text ≡ found)
-some_text true text found e = (refl, cc)
-some_text false text found e = cc
-
 code_found : (text code : List ℕ) → code_of text ≡ Some code → (text ≡ code) × (is_code code ≡ true)
 code_found text code e =
-    let t = some_text (is_code text) text code e in
+    let t = cond_some (is_code text) text code e in
     (t.1, sym (ap is_code t.1) ∙ t.0)
 
 number_found : (text number : List ℕ) → exact text ≡ Some number → (text ≡ number) × (is_number number ≡ true)
 number_found text number e =
-    let t = some_text (is_number text) text number e in
+    let t = cond_some (is_number text) text number e in
     (t.1, sym (ap is_number t.1) ∙ t.0)
 
 start_found : (text start : List ℕ) → start_of text ≡ Some start → (text ≡ start) × (is_number start ≡ true) × (are_digits start ≡ true)
@@ -80,36 +81,29 @@ counted_found start (Err fault) span e = cc
 
 -- ---- what is found
 
--- nothing stands behind the element
-alone : (left : List ℕ) (tag : ℕ) (content behind : List ℕ) → Begins left tag content behind → behind ≡ [] → left ≡ element_text tag content
-alone left tag content behind b e = b.text ∙ ap (λ r. element_text tag content ++ r) e ∙ append-nil (element_text tag content)
+-- the text of the one element in a part, where a test says what it is
+text_in_found : (read : List ℕ → Option (List ℕ)) (test : List ℕ → Bool) (fault_at : ℕ → Fault) (make : List ℕ → Entry) (part : PartView) (entry : Entry)
+    → ((text found : List ℕ) → read text ≡ Some found → (text ≡ found) × (test found ≡ true)) → AllBytes part.left
+    → element_at 22 part >>= (λ string. or_fault (read string.content.left) (fault_at string.place) >>= (λ found. end_at string.behind (make found))) ≡ Ok entry
+    → (found : List ℕ) × (make found ≡ entry) × (part.left ≡ string_text found) × (test found ≡ true)
+text_in_found read test fault_at make part entry is b e =
+    let a = came (element_at 22 part) _ entry e in
+    let c = came (or_fault (read a.0.content.left) (fault_at a.0.place)) _ entry a.2 in
+    let end = ended a.0.behind (make c.0) entry c.2 in
+    let text = is a.0.content.left c.0 (there _ _ c.0 c.1) in
+    (c.0, end.1, known 22 part a.0 c.0 (element_found 22 part a.0 b a.1) end.0 text.0, text.1)
 
--- an element alone, and what is in it
-pub known : (left : List ℕ) (tag : ℕ) (content inner behind : List ℕ) → Begins left tag content behind → behind ≡ [] → content ≡ inner
-    → left ≡ element_text tag inner
-known left tag content inner behind b e k = alone left tag content behind b e ∙ ap (λ t. element_text tag t) k
+-- what is found of an entry with this tag
+abbrev IsFound : ℕ → PartView → Entry → Type 0
+IsFound tag part entry = (entry_tag entry ≡ tag) × (part.left ≡ inner_text entry) × (is_entry entry ≡ true)
 
-code_in_found : (part : PartView) (entry : Entry) → AllBytes part.left → code_in part ≡ Ok entry
-    → (entry_tag entry ≡ 160) × (part.left ≡ inner_text entry) × (is_entry entry ≡ true)
+code_in_found : (part : PartView) (entry : Entry) → AllBytes part.left → code_in part ≡ Ok entry → IsFound 160 part entry
 unfolding code_in
-code_in_found part entry b e =
-    let a = came (element_at 22 part) _ entry e in
-    let c = came (or_fault (code_of a.0.content.left) (no_code_at a.0.place)) _ entry a.2 in
-    let end = ended a.0.behind (Code c.0) entry c.2 in
-    let code = code_found a.0.content.left c.0 (there _ _ c.0 c.1) in
-    let P : Entry → Type 0 = λ entry. (entry_tag entry ≡ 160) × (part.left ≡ inner_text entry) × (is_entry entry ≡ true) in
-    subst P end.1 (refl, known part.left 22 a.0.content.left c.0 a.0.behind.left (element_found 22 part a.0 b a.1) end.0 code.0, code.1)
+code_in_found part entry b e = let t = text_in_found code_of is_code no_code_at Code part entry code_found b e in subst (IsFound 160 part) t.1 (refl, t.2, t.3)
 
-single_in_found : (part : PartView) (entry : Entry) → AllBytes part.left → single_in part ≡ Ok entry
-    → (entry_tag entry ≡ 162) × (part.left ≡ inner_text entry) × (is_entry entry ≡ true)
+single_in_found : (part : PartView) (entry : Entry) → AllBytes part.left → single_in part ≡ Ok entry → IsFound 162 part entry
 unfolding single_in
-single_in_found part entry b e =
-    let a = came (element_at 22 part) _ entry e in
-    let c = came (or_fault (exact a.0.content.left) (no_number_at a.0.place)) _ entry a.2 in
-    let end = ended a.0.behind (Single c.0) entry c.2 in
-    let number = number_found a.0.content.left c.0 (there _ _ c.0 c.1) in
-    let P : Entry → Type 0 = λ entry. (entry_tag entry ≡ 162) × (part.left ≡ inner_text entry) × (is_entry entry ≡ true) in
-    subst P end.1 (refl, known part.left 22 a.0.content.left c.0 a.0.behind.left (element_found 22 part a.0 b a.1) end.0 number.0, number.1)
+single_in_found part entry b e = let t = text_in_found exact is_number no_number_at Single part entry number_found b e in subst (IsFound 162 part) t.1 (refl, t.2, t.3)
 
 -- two elements, one behind the other
 two_elements : (left a start rest end : List ℕ) → left ≡ string_text a ++ rest → a ≡ start → rest ≡ end → left ≡ string_text start ++ end
@@ -131,34 +125,32 @@ span_in_found part span b e =
     let c = came (or_fault (counted s.0 (unsigned_of i.0.tag i.0.content.left)) (no_count_at i.0.place)) _ span i.2 in
     let end = ended i.0.behind c.0 span c.2 in
     let string = element_found 22 part a.0 b a.1 in
-    let integer = element_found 2 a.0.behind i.0 string.behind_bytes i.1 in
+    let integer = element_found 2 a.0.behind i.0 string.0.behind_bytes i.1 in
     let start = start_found a.0.content.left s.0 (there _ _ s.0 s.1) in
     let count = counted_found s.0 (unsigned_of i.0.tag i.0.content.left) c.0 (there _ _ c.0 c.1) in
     let number = unsigned_found i.0.tag i.0.content.left c.0.size count.0 in
-    let content : i.0.content.left ≡ integer_content c.0.size = integer_text_is i.0.content.left c.0.size integer.content_bytes number.1 in
+    let content : i.0.content.left ≡ integer_content c.0.size = integer_text_is i.0.content.left c.0.size integer.0.content_bytes number.1 in
     let first : a.0.content.left ≡ c.0.start = both_are a.0.content.left s.0 c.0.start start.0 count.2 in
-    let second : a.0.behind.left ≡ integer_text c.0.size = known a.0.behind.left 2 i.0.content.left (integer_content c.0.size) i.0.behind.left integer end.0 content in
+    let second : a.0.behind.left ≡ integer_text c.0.size = known 2 a.0.behind i.0 (integer_content c.0.size) integer end.0 content in
     let digits : are_digits c.0.start ≡ true = passes are_digits c.0.start s.0 count.2 start.2 in
     let is : is_number c.0.start ≡ true = passes is_number c.0.start s.0 count.2 start.1 in
     let large : 2 ≤ c.0.size = count.1 in
     let small : c.0.size < 2 ^ 64 = number.2 in
     let P : SpanView → Type 0 = λ span. (part.left ≡ string_text span.start ++ integer_text span.size) × (is_entry (Range span) ≡ true) in
     subst P end.1 (
-      two_elements part.left a.0.content.left c.0.start a.0.behind.left (integer_text c.0.size) string.text first second,
+      two_elements part.left a.0.content.left c.0.start a.0.behind.left (integer_text c.0.size) (begins_text 22 part a.0 string) first second,
       grind (arith, nat_tests, digits, is, large, small),
     )
 
-range_in_found : (part : PartView) (entry : Entry) → AllBytes part.left → range_in part ≡ Ok entry
-    → (entry_tag entry ≡ 161) × (part.left ≡ inner_text entry) × (is_entry entry ≡ true)
+range_in_found : (part : PartView) (entry : Entry) → AllBytes part.left → range_in part ≡ Ok entry → IsFound 161 part entry
 unfolding range_in
 range_in_found part entry b e =
     let a = came (element_at 48 part) _ entry e in
     let s = came (span_in a.0.content) _ entry a.2 in
     let end = ended a.0.behind (Range s.0) entry s.2 in
     let sequence = element_found 48 part a.0 b a.1 in
-    let span = span_in_found a.0.content s.0 sequence.content_bytes s.1 in
-    let P : Entry → Type 0 = λ entry. (entry_tag entry ≡ 161) × (part.left ≡ inner_text entry) × (is_entry entry ≡ true) in
-    subst P end.1 (refl, known part.left 48 a.0.content.left (string_text s.0.start ++ integer_text s.0.size) a.0.behind.left sequence end.0 span.0, span.1)
+    let span = span_in_found a.0.content s.0 sequence.0.content_bytes s.1 in
+    subst (IsFound 161 part) end.1 (refl, known 48 part a.0 (string_text s.0.start ++ integer_text s.0.size) sequence end.0 span.0, span.1)
 
 -- which entry a tag announces
 tagged : (item : ItemView) (entry : Entry) → entry_in item ≡ Ok entry
@@ -198,7 +190,7 @@ entry_at_found part found b e =
     let entry = entry_in_found a.0 c.0 begins.content_bytes c.1 in
     let is : record { entry = c.0; behind = a.0.behind } ≡ found = inside _ _ c.2 in
     subst (Starts part.left) is (record {
-      text = stands part.left a.0.tag a.0.content.left a.0.behind.left c.0 begins.text entry.0 entry.1;
+      text = stands part.left a.0.tag a.0.content.left a.0.behind.left c.0 (begins_text a.0.tag part a.0 (begins, refl)) entry.0 entry.1;
       is = entry.2;
       behind_bytes = begins.behind_bytes;
     })

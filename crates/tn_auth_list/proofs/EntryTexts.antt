@@ -1,31 +1,31 @@
 -- The text of an entry is read as that entry.
 use Rattle.std.proofs.Common.{◌≡◌, ◌≢◌, ℕ, ◌+◌, ◌<◌, ◌≤◌, ◌^◌, nat_le, nat_lt, true, false, List, [], ◌++◌, length, bit_and, Some, Ok, refl, sym, ap, ◌∙◌, append-nil, length-append, arith}
-use Rattle.der_reader.proofs.NextLaws.{short_text}
 use Rattle.std.proofs.lemmas.Bool.Decides.{nat_tests}
 use Rattle.der_reader.specs.Elem.{element_text, length_text}
 use Rattle.der_reader.proofs.IntegerLaws.{unsigned_again}
 use Rattle.tn_values.specs.Digit.{are_digits}
 use Rattle.tn_values.specs.Number.{exact, is_number}
 use Rattle.tn_values.specs.Span.{SpanView}
-use Rattle.tn_values.proofs.NumberFacts.{number_parts}
 use Rattle.tn_auth_list.specs.declared.entries.Entry.{Entry}
 use Rattle.tn_auth_list.specs.declared.entries.Entry.TheVariants.{Code, Range, Single}
 use Rattle.tn_auth_list.specs.Code.{code_of, is_code}
 use Rattle.tn_auth_list.specs.Entry.{is_entry}
-use Rattle.tn_auth_list.specs.ListText.{integer_content, string_text, integer_text, entry_text}
-use Rattle.tn_auth_list.specs.Read.{PartView, ItemView, item_at, element_at, code_in, single_in, start_of, counted, span_in, range_in, entry_in, entry_at}
+use Rattle.der_reader.specs.Integer.{integer_content}
+use Rattle.tn_auth_list.specs.ListText.{string_text, integer_text, entry_text}
+use Rattle.der_reader.specs.Part.{PartView, ItemView, item_at, element_at}
+use Rattle.tn_auth_list.specs.Read.{code_in, single_in, start_of, counted, span_in, range_in, entry_in, entry_at}
 use Rattle.tn_auth_list.proofs.CodeFacts.{code_parts}
-use Rattle.tn_auth_list.proofs.IntegerLaws.{integer_is_text, integer_short}
+use Rattle.der_reader.proofs.IntegerTexts.{integer_is_text, integer_short}
 use Rattle.lists.proofs.StepLaws.{after}
-use Rattle.tn_auth_list.proofs.ReadLaws.{ends, standing, item_again, element_again}
+use Rattle.der_reader.proofs.PartLaws.{ends, standing, item_again, element_again}
 use Rattle.tn_auth_list.proofs.EntryLaws.{entry_tag, inner_text, entry_text_is}
 
 -- ---- how long texts are
 
 -- an element of few bytes has two more
 pub element_length : (tag : ℕ) (content : List ℕ) → length content < 128 → length (element_text tag content) ≡ 2 + length content
-element_length tag content l =
-    omega (arith, ap length (short_text (length content) l), length-append (length_text (length content)) content)
+unfolding length_text
+element_length tag content l = let short : nat_lt (length content) 128 ≡ true = grind (arith, nat_tests) in rw short (omega arith)
 
 -- what an entry of a range is
 pub record IsRange (span : SpanView) : Type 0 where
@@ -49,7 +49,8 @@ code_short : (text : List ℕ) → is_code text ≡ true → length text ≤ 32
 code_short text e = (code_parts text e).short
 
 number_short : (text : List ℕ) → is_number text ≡ true → length text ≤ 15
-number_short text e = (number_parts text e).short
+unfolding is_number
+number_short text e = grind (arith, nat_tests)
 
 -- the texts of a start and a count
 pub range_length : (span : SpanView) → IsRange span → length (string_text span.start ++ integer_text span.size) ≤ 28

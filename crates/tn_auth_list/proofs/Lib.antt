@@ -4,11 +4,7 @@ pub mod GrantLaws
 pub mod GroupLaws
 pub mod HeldLaws
 pub mod TableLaws
-pub mod TableSteps
-pub mod PartLaws
 pub mod EntriesLaws
-pub mod IntegerLaws
-pub mod ReadLaws
 pub mod EntryLaws
 pub mod EntryTexts
 pub mod ListLaws

@@ -5,7 +5,7 @@ use Rattle.std.proofs.lemmas.Bool.Decides.{nat_tests}
 use Rattle.std.specs.Cmp.Derive.{both_true}
 use Rattle.std.specs.List.{list_all, flat_map}
 use Rattle.der_reader.specs.Elem.{AllBytes, element_text}
-use Rattle.tn_auth_list.specs.declared.faults.Fault.{Fault}
+use Rattle.der_reader.specs.declared.part.Fault.{Fault}
 use Rattle.tn_auth_list.specs.declared.entries.Entry.{Entry}
 use Rattle.tn_auth_list.specs.declared.entries.Entry.TheVariants.{Code, Range, Single}
 use Rattle.tn_auth_list.specs.declared.faults.ListFault.{ListFault}
@@ -15,9 +15,10 @@ use Rattle.lists.proofs.Bytes.{no_byte}
 use Rattle.lists.proofs.StepLaws.{after, came, inside}
 use Rattle.tn_auth_list.specs.Fault.{Gives, no_entry, past_limit_at}
 use Rattle.tn_auth_list.specs.ListText.{ListText, entry_text}
-use Rattle.tn_auth_list.specs.Read.{PartView, whole, element_at, entry_at, entries_at, content_entries, read_list}
-use Rattle.tn_auth_list.proofs.ReadLaws.{ended, ends, element_found, standing, element_again}
-use Rattle.tn_auth_list.proofs.EntryLaws.{entry_at_found, entry_text_is, known}
+use Rattle.der_reader.specs.Part.{PartView, whole_text, element_at}
+use Rattle.tn_auth_list.specs.Read.{entry_at, entries_at, content_entries, read_list}
+use Rattle.der_reader.proofs.PartLaws.{ended, ends, element_found, known, standing, element_again}
+use Rattle.tn_auth_list.proofs.EntryLaws.{entry_at_found, entry_text_is}
 use Rattle.tn_auth_list.proofs.EntryTexts.{part_at, entry_at_again, entry_length}
 
 -- ---- what is found
@@ -62,14 +63,14 @@ entries_found (suc room) part entries b e = by_end (λ behind more. entries_foun
 pub list_found : (bytes : List ℕ) (entries : List Entry) → AllBytes bytes → read_list bytes ≡ Ok entries → ListText bytes entries
 unfolding read_list content_entries
 list_found bytes entries b e =
-    let a = came (element_at 48 (whole bytes)) _ entries e in
+    let a = came (element_at 48 (whole_text bytes)) _ entries e in
     let c = came (content_entries a.0.content) _ entries a.2 in
     let end = ended a.0.behind c.0 entries c.2 in
-    let list = element_found 48 (whole bytes) a.0 b a.1 in
+    let list = element_found 48 (whole_text bytes) a.0 b a.1 in
     let some = not_empty a.0.content c.0 c.1 in
-    let held = entries_found 1000 a.0.content c.0 list.content_bytes some.1 in
+    let held = entries_found 1000 a.0.content c.0 list.0.content_bytes some.1 in
     subst (ListText bytes) end.1 (record {
-      text = known bytes 48 a.0.content.left (flat_map entry_text c.0) a.0.behind.left list end.0 held.text;
+      text = known 48 (whole_text bytes) a.0 (flat_map entry_text c.0) list end.0 held.text;
       some = one_at_least c.0 a.0.content.left held.text some.0;
       most = held.most;
       each = held.each;
@@ -128,7 +129,7 @@ list_again bytes entries t =
     let content : List ℕ = flat_map entry_text entries in
     let size : length content < 65536 = omega (arith, entries_length entries t.each, t.most) in
     let alone : bytes ≡ element_text 48 content ++ [] = t.text ∙ sym (append-nil (element_text 48 content)) in
-    rw alone (after (element_at 48 (whole (element_text 48 content ++ []))) (standing 48 content [] 0) _ _
+    rw alone (after (element_at 48 (whole_text (element_text 48 content ++ []))) (standing 48 content [] 0) _ _
     (element_again 48 content [] 0 (λ e. omega (arith, e)) size)
     (after (content_entries (standing 48 content [] 0).content) entries _ _
     (content_again entries [] t.some t.most t.each)

@@ -4,7 +4,7 @@ use Rattle.std.proofs.lemmas.Bool.{and_parts}
 use Rattle.std.proofs.lemmas.Bool.Decides.{nat_tests}
 use Rattle.std.specs.List.{list_all, flat_map}
 use Rattle.der_reader.specs.Elem.{element_text, length_text}
-use Rattle.tn_auth_list.specs.declared.faults.Fault.{Fault}
+use Rattle.der_reader.specs.declared.part.Fault.{Fault}
 use Rattle.tn_auth_list.specs.declared.faults.ListFault.{ListFault}
 use Rattle.tn_auth_list.specs.declared.entries.Entry.{Entry}
 use Rattle.tn_auth_list.specs.Entry.{is_entry}
@@ -12,9 +12,10 @@ use Rattle.lists.specs.Steps.{◌>>=◌}
 use Rattle.lists.proofs.StepLaws.{after}
 use Rattle.tn_auth_list.specs.Fault.{Gives, der_at, no_entry, past_limit_at}
 use Rattle.tn_auth_list.specs.ListText.{entry_text, list_text}
-use Rattle.tn_auth_list.specs.Read.{whole, element_at, end_at, entry_at, entries_at, content_entries, read_list}
+use Rattle.der_reader.specs.Part.{whole_text, element_at, end_at}
+use Rattle.tn_auth_list.specs.Read.{entry_at, entries_at, content_entries, read_list}
 use Rattle.tn_auth_list.specs.Refused.{IsLeftOver, IsPastLimit}
-use Rattle.tn_auth_list.proofs.ReadLaws.{standing, element_again}
+use Rattle.der_reader.proofs.PartLaws.{standing, element_again}
 use Rattle.tn_auth_list.proofs.EntryLaws.{entry_tag, inner_text, entry_text_is}
 use Rattle.tn_auth_list.proofs.EntryTexts.{part_at, entry_at_again}
 use Rattle.tn_auth_list.proofs.EntriesLaws.{continued, no_room}
@@ -31,7 +32,7 @@ led : (bytes : List ℕ) (content rest : List ℕ) (z : Result (List Entry) Faul
     → read_list bytes ≡ z
 unfolding read_list
 led bytes content rest z text size e =
-    ap read_list text ∙ after (element_at 48 (whole (element_text 48 content ++ rest))) (standing 48 content rest 0) _ _
+    ap read_list text ∙ after (element_at 48 (whole_text (element_text 48 content ++ rest))) (standing 48 content rest 0) _ _
     (element_again 48 content rest 0 (λ e. omega (arith, e)) size) e
 
 -- an empty SEQUENCE

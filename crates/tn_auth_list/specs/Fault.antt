@@ -1,37 +1,38 @@
 -- The faults of an authority list, by kind and place: this project's own rule. A place counts from the list's first byte.
 use Rattle.std.specs.Prelude.{◌≤◌, ℕ, Option, Some, None, Result, Ok, Err, ⊤}
 use Rattle.lists.specs.Given as given
-use Rattle.tn_auth_list.specs.declared.faults.Fault.{Fault}
+use Rattle.der_reader.specs.Part.{at_kind}
+use Rattle.der_reader.specs.declared.part.Fault.{Fault}
 use Rattle.tn_auth_list.specs.declared.faults.ListFault.{ListFault}
 use Rattle.tn_auth_list.specs.declared.faults.ListFault.TheVariants.{At, Memory}
 
 -- an element at this place can't be read or has another tag, or bytes that stand here are left over
 abbrev pub der_at : ℕ → Fault
-der_at place = record { kind = 1; place = place }
+der_at place = at_kind 1 place
 
 -- the list has no entry
 abbrev pub no_entry : Fault
-no_entry = record { kind = 2; place = 0 }
+no_entry = at_kind 2 0
 
 -- the IA5String at this place is no code
 abbrev pub no_code_at : ℕ → Fault
-no_code_at place = record { kind = 3; place = place }
+no_code_at place = at_kind 3 place
 
 -- the IA5String at this place is no number, or no start of a range
 abbrev pub no_number_at : ℕ → Fault
-no_number_at place = record { kind = 4; place = place }
+no_number_at place = at_kind 4 place
 
 -- the INTEGER at this place is no count of a range
 abbrev pub no_count_at : ℕ → Fault
-no_count_at place = record { kind = 5; place = place }
+no_count_at place = at_kind 5 place
 
 -- an entry past the last that a list may have begins at this place
 abbrev pub past_limit_at : ℕ → Fault
-past_limit_at place = record { kind = 6; place = place }
+past_limit_at place = at_kind 6 place
 
 -- a fault other than want of memory
 abbrev pub fault_seen : ListFault → Option Fault
-fault_seen (At kind place) = Some (record { kind = kind; place = place })
+fault_seen (At kind place) = Some (at_kind kind place)
 fault_seen Memory = None
 
 -- the result, as it is seen, is what was read, or its fault; want of memory is free

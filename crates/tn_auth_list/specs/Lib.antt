@@ -9,4 +9,3 @@ pub mod Entry
 pub mod ListText
 pub mod Read
 pub mod Refused
-pub mod Views

@@ -1,21 +1,11 @@
 -- The DER text of an authority list: `TNAuthorizationList` of RFC 8226, section 9, in the encoding of X.690, section 10.
-use Rattle.std.specs.Prelude.{◌≡◌, ℕ, zero, suc, ◌/◌, ◌%◌, ◌≤◌, true, nat_lt, List, [], ◌∷◌, ◌++◌, length, if◌then◌else◌}
+use Rattle.std.specs.Prelude.{◌≡◌, ℕ, ◌≤◌, true, List, ◌++◌, length}
 use Rattle.std.specs.List.{list_all, flat_map}
 use Rattle.der_reader.specs.Elem.{element_text}
+use Rattle.der_reader.specs.Integer.{integer_content}
 use Rattle.tn_auth_list.specs.declared.entries.Entry.{Entry}
 use Rattle.tn_auth_list.specs.declared.entries.Entry.TheVariants.{Code, Range, Single}
 use Rattle.tn_auth_list.specs.Entry.{is_entry}
-
--- at most so many bytes and one more, the highest first; only the first is below 0x80 for the sign's sake
-abbrev pub integer_within : ℕ → ℕ → List ℕ
-integer_within zero number = number ∷ []
-integer_within (suc bytes) number =
-    if nat_lt number 0x80 then number ∷ []
-    else integer_within bytes (number / 0x100) ++ number % 0x100 ∷ []
-
--- the content of the INTEGER of a number: its fewest bytes, the highest first and below 0x80 (X.690, section 8.3)
-unfoldable pub integer_content : ℕ → List ℕ
-integer_content number = integer_within number number
 
 -- an IA5String (X.690, section 8.23, tag 0x16) and an INTEGER (section 8.3, tag 0x02)
 abbrev pub string_text : List ℕ → List ℕ

@@ -1,62 +1,18 @@
 -- What reading an authority list gives: its entries, or the first fault in the order in which its elements are read.
-use Rattle.std.specs.Prelude.{ℕ, zero, suc, ◌+◌, ◌-◌, ◌==◌, nat_lt, List, [], ◌∷◌, length, Option, Some, None, Result, Ok, Err, if◌then◌else◌}
+use Rattle.std.specs.Prelude.{ℕ, zero, suc, ◌==◌, nat_lt, List, [], ◌∷◌, length, Option, Some, None, Result, Ok, Err, if◌then◌else◌}
 use Rattle.der_reader.specs.declared.fault.DerFault.{DerFault}
-use Rattle.der_reader.specs.Elem.{Element}
-use Rattle.der_reader.specs.Next.{next_at}
 use Rattle.der_reader.specs.Integer.{unsigned_of}
 use Rattle.tn_values.specs.Digit.{are_digits}
 use Rattle.tn_values.specs.Number.{exact}
 use Rattle.tn_values.specs.Span.{SpanView, span_of}
-use Rattle.tn_auth_list.specs.declared.faults.Fault.{Fault}
+use Rattle.der_reader.specs.declared.part.Fault.{Fault}
+use Rattle.der_reader.specs.Part.{ItemView, PartView, element_at, end_at, item_at, or_fault, part_of, whole_text}
+use Rattle.tn_auth_list.specs.declared.reading.Found.{Found}
 use Rattle.tn_auth_list.specs.declared.entries.Entry.{Entry}
 use Rattle.tn_auth_list.specs.declared.entries.Entry.TheVariants.{Code, Range, Single}
 use Rattle.tn_auth_list.specs.Code.{code_of}
 use Rattle.lists.specs.Steps.{◌>>=◌}
 use Rattle.tn_auth_list.specs.Fault.{der_at, no_entry, no_code_at, no_number_at, no_count_at, past_limit_at}
-
--- the bytes that are left up to the end of the element around them, and the place of the first of them in the whole list
-pub record PartView : Type 0 where
-  pub left : List ℕ
-  pub place : ℕ
-
--- all bytes of a list
-abbrev pub whole : List ℕ → PartView
-whole bytes = record { left = bytes; place = 0 }
-
--- an element: its tag, its place in the whole list, its content, and what stands behind it in the element around it
-pub record ItemView : Type 0 where
-  pub tag : ℕ
-  pub place : ℕ
-  pub content : PartView
-  pub behind : PartView
-
--- the element that a part begins with; a fault stands as far behind the part's place as in the part
-abbrev pub item_from : ℕ → Result (Element × List ℕ) DerFault → Result ItemView Fault
-item_from place (Ok found) = Ok (record {
-  tag = found.0.tag;
-  place = place;
-  content = record { left = found.0.content; place = place + (length found.0.whole - length found.0.content) };
-  behind = record { left = found.1; place = place + length found.0.whole };
-})
-item_from place (Err fault) = Err (der_at (place + fault.place))
-
-unfoldable pub item_at : PartView → Result ItemView Fault
-item_at part = item_from part.place (next_at part.left)
-
--- the same, where it has this tag
-unfoldable pub element_at : ℕ → PartView → Result ItemView Fault
-element_at tag part = do
-  item ← item_at part
-  if item.tag == tag then Ok item else Err (der_at item.place)
-
--- nothing is left over
-abbrev pub end_at : {A : Type 0} → PartView → A → Result A Fault
-end_at part value = if length part.left == 0 then Ok value else Err (der_at part.place)
-
--- a value, or the fault that there is none
-abbrev pub or_fault : {A : Type 0} → Option A → Fault → Result A Fault
-or_fault (Some value) fault = Ok value
-or_fault None fault = Err fault
 
 -- the IA5String of a code, and nothing more
 unfoldable pub code_in : PartView → Result Entry Fault
@@ -130,6 +86,11 @@ content_entries part = if length part.left == 0 then Err no_entry else entries_a
 -- the entries of the list that the bytes are, or its first fault
 unfoldable pub read_list : List ℕ → Result (List Entry) Fault
 read_list bytes = do
-  list ← element_at 0x30 (whole bytes)
+  list ← element_at 0x30 (whole_text bytes)
   entries ← content_entries list.content
   end_at list.behind entries
+
+-- an answer of the code that reads one entry
+abbrev pub entry_view : Result Found Fault → Result EntryView Fault
+entry_view (Ok found) = Ok (record { entry = found.entry; behind = part_of found.behind })
+entry_view (Err fault) = Err fault

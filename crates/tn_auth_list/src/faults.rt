@@ -1,8 +1,8 @@
 //! Why some bytes are no authority list.
 ghost use Rattle.std.specs.Prelude.{◌≡◌};
 ghost use Rattle.tn_auth_list.specs.declared.faults.ListFault.TheVariants.{At, Memory};
-ghost use Rattle.tn_auth_list.specs.Fault.{der_at, no_entry, no_code_at, no_number_at, no_count_at, past_limit_at};
 
+use der_reader::Fault;
 use std::alloc::AllocFailed;
 use std::error::Error;
 use std::fmt;
@@ -75,75 +75,6 @@ impl From<Fault> for ListFault {
         ListFault::At {
             kind: own.kind,
             place: own.place,
-        }
-    }
-}
-
-/// The first fault of the bytes, by its kind and its place.
-#[derive(Clone, Copy)]
-pub(crate) struct Fault {
-    pub(crate) kind: u8,
-    pub(crate) place: u32,
-}
-
-impl Fault {
-    /// An element at this place can't be read or has another tag, or bytes that stand here are left over.
-    pub(crate) fn der(place: u32) -> Fault
-        ensures { result ≡ der_at place }
-    {
-        Fault {
-            kind: ListFault::DER,
-            place,
-        }
-    }
-
-    /// The list has no entry.
-    pub(crate) fn empty() -> Fault
-        ensures { result ≡ no_entry }
-    {
-        Fault {
-            kind: ListFault::EMPTY,
-            place: 0,
-        }
-    }
-
-    /// The IA5String at this place is no code.
-    pub(crate) fn code(place: u32) -> Fault
-        ensures { result ≡ no_code_at place }
-    {
-        Fault {
-            kind: ListFault::CODE,
-            place,
-        }
-    }
-
-    /// The IA5String at this place is no number, or no start of a range.
-    pub(crate) fn number(place: u32) -> Fault
-        ensures { result ≡ no_number_at place }
-    {
-        Fault {
-            kind: ListFault::NUMBER,
-            place,
-        }
-    }
-
-    /// The INTEGER at this place is no count of a range.
-    pub(crate) fn count(place: u32) -> Fault
-        ensures { result ≡ no_count_at place }
-    {
-        Fault {
-            kind: ListFault::COUNT,
-            place,
-        }
-    }
-
-    /// An entry past the last that a list may have begins at this place.
-    pub(crate) fn limit(place: u32) -> Fault
-        ensures { result ≡ past_limit_at place }
-    {
-        Fault {
-            kind: ListFault::LIMIT,
-            place,
         }
     }
 }

@@ -8,7 +8,7 @@ mod auth_list;
 mod codes;
 mod entries;
 mod faults;
-mod parts;
+mod laws;
 mod reading;
 mod table;
 mod table_groups;
@@ -20,6 +20,7 @@ pub use auth_list::AuthList;
 pub use codes::Code;
 pub use entries::Entry;
 pub use faults::ListFault;
+pub use laws::list_law;
 pub use table::{CodeTable, Grant, TableFault};
 /// Memory ran out.
 pub use std::alloc::AllocError as Memory;

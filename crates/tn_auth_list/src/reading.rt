@@ -1,17 +1,17 @@
 //! From the bytes of a list to its entries.
-ghost use Rattle.std.specs.Prelude.{◌≡◌, ◌+◌, ◌-◌, ◌<◌, ◌≤◌, ◌^◌, length, ◌⊎◌, IfOk, IfErr};
+ghost use Rattle.std.specs.Prelude.{◌≡◌, ◌≤◌, length, ◌⊎◌, IfOk, IfErr};
 ghost use Rattle.tn_auth_list.specs.Fault.{GivesSeen, IsPlaceBelow};
-ghost use Rattle.tn_auth_list.specs.Read.{code_in, single_in, start_of, counted, span_in, range_in, entry_in, entry_at, entries_at, content_entries, read_list, element_at, whole};
-ghost use Rattle.tn_auth_list.specs.Views.{part_of, item_of, entry_view, list_view, end_of, content_end};
+ghost use Rattle.tn_auth_list.specs.Read.{code_in, single_in, start_of, counted, span_in, range_in, entry_in, entry_at, entries_at, content_entries, read_list, entry_view};
+ghost use Rattle.der_reader.specs.Part.{part_of, item_of, end_of, content_end};
 ghost use Rattle.tn_values.specs.Digit.{are_digits};
 ghost use Rattle.der_reader.specs.Integer.{unsigned_of};
 
 use crate::codes::Code;
 use crate::entries::{Entry, MOST};
-use crate::faults::{Fault, ListFault};
-use crate::parts::{Item, Part};
+use crate::faults::ListFault;
 use crate::tags;
-use der_reader::Der;
+use der_reader::tags::{IA5_STRING, INTEGER, SEQUENCE};
+use der_reader::{Der, Fault, Item, Outer, Part};
 use std::alloc::Global;
 use tn_values::{Number, Span};
 
@@ -28,45 +28,12 @@ pub(crate) fn read_list(alloc: Global, bytes: &[u8]) -> Result<Vec<Entry>, ListF
     ensures exact { GivesSeen (λ entries. entries.items) result (read_list bytes.now) }
     ensures place { IsPlaceBelow (length bytes.now) result }
 {
-    let (list, rest) = list_element(bytes)?;
-    let entries = content_entries(alloc, &list_content(&list))?;
-    if rest.is_empty() {
+    let list = Outer::read(bytes, SEQUENCE)?;
+    let entries = content_entries(alloc, &list.content())?;
+    if list.behind.is_empty() {
         Ok(entries)
     } else {
-        Err(Fault::der(list.whole.len() as u32).into())
-    }
-}
-
-/// The list's SEQUENCE and the bytes behind it.
-#[tactic(auto, unfolding(crate::specs::Read::element_at, crate::specs::Read::item_at), using(crate::proofs::PartLaws::element_small))]
-fn list_element(bytes: &[u8]) -> Result<(Der<'_>, &[u8]), Fault>
-    ensures exact { list_view result ≡ element_at 0x30 (whole bytes.now) }
-    ensures small { IfOk result (λ r. length r.0.whole.now < 2 ^ 17) }
-    ensures sizes { IfOk result (λ r. length r.0.content.now ≤ length r.0.whole.now) }
-    ensures within { IfOk result (λ r. length r.0.whole.now ≤ length bytes.now) }
-    ensures place { IfErr result (λ fault. fault.place ≤ length bytes.now) }
-{
-    let (der, rest) = match Der::next(bytes) {
-        Ok(found) => found,
-        Err(fault) => return Err(Fault::der(fault.place)),
-    };
-    if der.tag == tags::SEQUENCE {
-        Ok((der, rest))
-    } else {
-        Err(Fault::der(0))
-    }
-}
-
-/// The content of the list's SEQUENCE.
-fn list_content<'a>(list: &Der<'a>) -> Part<'a>
-    requires small { length list.now.whole.now < 2 ^ 17 }
-    requires sizes { length list.now.content.now ≤ length list.now.whole.now }
-    ensures left { result.left.now ≡ list.now.content.now }
-    ensures place { result.place ≡ 0 + (length list.now.whole.now - length list.now.content.now) }
-{
-    Part {
-        left: list.content,
-        place: (list.whole.len() - list.content.len()) as u32,
+        Err(list.left_over().into())
     }
 }
 
@@ -77,7 +44,7 @@ fn content_entries(alloc: Global, content: &Part) -> Result<Vec<Entry>, ListFaul
     ensures place { IsPlaceBelow (end_of content.now) result }
 {
     if content.left.is_empty() {
-        return Err(Fault::empty().into());
+        return Err(Fault::at(ListFault::EMPTY, 0).into());
     }
     entries_at(alloc, content)
 }
@@ -92,7 +59,7 @@ fn entries_at(alloc: Global, part: &Part) -> Result<Vec<Entry>, ListFault>
     let mut rest = *part;
     while !rest.left.is_empty() {
         if entries.len() == MOST {
-            return Err(Fault::limit(rest.place).into());
+            return Err(Fault::at(ListFault::LIMIT, rest.place).into());
         }
         let found = match entry_at(&rest) {
             Ok(found) => found,
@@ -129,7 +96,7 @@ fn entry_in(item: &Item) -> Result<Entry, Fault>
         tags::CODE => code_in(&item.content()),
         tags::RANGE => range_in(&item.content()),
         tags::SINGLE => single_in(&item.content()),
-        _ => Err(Fault::der(item.place)),
+        _ => Err(item.fault(ListFault::DER)),
     }
 }
 
@@ -139,9 +106,9 @@ fn code_in(part: &Part) -> Result<Entry, Fault>
     ensures exact { result ≡ code_in (part_of part.now) }
     ensures place { IfErr result (λ fault. fault.place ≤ end_of part.now) }
 {
-    let string = part.element(tags::IA5_STRING)?;
+    let string = part.element(IA5_STRING)?;
     let Some(code) = Code::new(string.der.content) else {
-        return Err(Fault::code(string.place));
+        return Err(string.fault(ListFault::CODE));
     };
     string.behind.end(Entry::Code(code))
 }
@@ -152,9 +119,9 @@ fn single_in(part: &Part) -> Result<Entry, Fault>
     ensures exact { result ≡ single_in (part_of part.now) }
     ensures place { IfErr result (λ fault. fault.place ≤ end_of part.now) }
 {
-    let string = part.element(tags::IA5_STRING)?;
+    let string = part.element(IA5_STRING)?;
     let Some(number) = Number::exact(string.der.content) else {
-        return Err(Fault::number(string.place));
+        return Err(string.fault(ListFault::NUMBER));
     };
     string.behind.end(Entry::Single(number))
 }
@@ -165,7 +132,7 @@ fn range_in(part: &Part) -> Result<Entry, Fault>
     ensures exact { result ≡ range_in (part_of part.now) }
     ensures place { IfErr result (λ fault. fault.place ≤ end_of part.now) }
 {
-    let sequence = part.element(tags::SEQUENCE)?;
+    let sequence = part.element(SEQUENCE)?;
     let span = span_in(&sequence.content())?;
     sequence.behind.end(Entry::Range(span))
 }
@@ -176,13 +143,13 @@ fn span_in(part: &Part) -> Result<Span, Fault>
     ensures exact { result ≡ span_in (part_of part.now) }
     ensures place { IfErr result (λ fault. fault.place ≤ end_of part.now) }
 {
-    let string = part.element(tags::IA5_STRING)?;
+    let string = part.element(IA5_STRING)?;
     let Some(start) = start_of(string.der.content) else {
-        return Err(Fault::number(string.place));
+        return Err(string.fault(ListFault::NUMBER));
     };
-    let integer = string.behind.element(tags::INTEGER)?;
+    let integer = string.behind.element(INTEGER)?;
     let Some(span) = counted(start, &integer.der) else {
-        return Err(Fault::count(integer.place));
+        return Err(integer.fault(ListFault::COUNT));
     };
     integer.behind.end(span)
 }

@@ -121,7 +121,7 @@ impl CodeTable {
 }
 
 /// Reads the lines one by one, up to the first bad one.
-#[tactic(auto, using(crate::proofs::TableSteps::one_more, crate::proofs::TableSteps::bad_line))]
+#[tactic(auto, using(text_file::proofs::ReachedLaws::one_more, text_file::proofs::ReachedLaws::bad_line))]
 fn read_table(alloc: Global, text: &[u8]) -> Result<CodeTable, TableFault>
     requires { length text.now < 4294967295 }
     ensures table { IfOk result (TableOf text.now) }

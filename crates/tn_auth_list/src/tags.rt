@@ -1,11 +1,5 @@
-//! The tag bytes of a list's elements (X.690, section 8.1.2).
+//! The tag bytes of a list's entries (RFC 8226, section 9, X.690, section 8.1.2).
 
-/// An INTEGER.
-pub(crate) const INTEGER: u8 = 0x02;
-/// An IA5String.
-pub(crate) const IA5_STRING: u8 = 0x16;
-/// A SEQUENCE.
-pub(crate) const SEQUENCE: u8 = 0x30;
 /// The entry of a code, `[0]`.
 pub(crate) const CODE: u8 = 0xA0;
 /// The entry of a range, `[1]`.

@@ -4,11 +4,12 @@ ghost use Rattle.std.specs.List.{list_all, flat_map};
 ghost use Rattle.der_reader.specs.Elem.{element_text};
 ghost use Rattle.tn_auth_list.specs.declared.entries.Entry.TheVariants.{Range};
 ghost use Rattle.tn_auth_list.specs.Entry.{is_list, is_typed};
-ghost use Rattle.tn_auth_list.specs.ListText.{entry_text, list_text, string_text, integer_text, integer_content};
+ghost use Rattle.tn_auth_list.specs.ListText.{entry_text, list_text, string_text, integer_text};
 
 use crate::entries::Entry;
 use crate::{Memory, tags};
-use der_reader::put;
+use der_reader::tags::{IA5_STRING, INTEGER, SEQUENCE};
+use der_reader::{put, put_integer};
 use std::alloc::Global;
 use tn_values::Span;
 
@@ -23,7 +24,7 @@ pub(crate) fn list_text(alloc: Global, entries: &[Entry]) -> Result<Vec<u8>, Mem
     for entry in entries {
         put_entry(alloc, &mut content, entry)?;
     }
-    element(alloc, tags::SEQUENCE, &content)
+    element(alloc, SEQUENCE, &content)
 }
 
 /// Appends an entry.
@@ -34,7 +35,7 @@ fn put_entry(alloc: Global, out: &mut Vec<u8>, entry: &Entry) -> Result<(), Memo
 {
     match entry {
         Entry::Code(code) => {
-            let text = short_element(alloc, tags::IA5_STRING, code.bytes())?;
+            let text = short_element(alloc, IA5_STRING, code.bytes())?;
             put_short(out, tags::CODE, &text)
         }
         Entry::Range(span) => {
@@ -42,38 +43,24 @@ fn put_entry(alloc: Global, out: &mut Vec<u8>, entry: &Entry) -> Result<(), Memo
             put_short(out, tags::RANGE, &range)
         }
         Entry::Single(number) => {
-            let text = short_element(alloc, tags::IA5_STRING, number.bytes())?;
+            let text = short_element(alloc, IA5_STRING, number.bytes())?;
             put_short(out, tags::SINGLE, &text)
         }
     }
 }
 
 /// The SEQUENCE of a range.
-#[tactic(auto, using(crate::proofs::IntegerLaws::integer_short, crate::proofs::WriteLaws::span_typed))]
+#[tactic(auto, using(der_reader::proofs::IntegerTexts::integer_short, crate::proofs::WriteLaws::span_typed))]
 fn span_text(alloc: Global, span: &Span) -> Result<Vec<u8>, Memory>
     ensures typed { OnOk result (is_typed (Range span.now) ≡ true) }
     ensures short { IfOk result (λ text. length text.items ≤ 34) }
     ensures text { IfOk result (λ text. text.items ≡ element_text 0x30 (string_text span.now.start ++ integer_text span.now.size)) }
 {
-    let mut content = short_element(alloc, tags::IA5_STRING, span.start().bytes())?;
+    let mut content = short_element(alloc, IA5_STRING, span.start().bytes())?;
     let mut count = Vec::new(alloc);
     put_integer(&mut count, span.size())?;
-    put_short(&mut content, tags::INTEGER, &count)?;
-    short_element(alloc, tags::SEQUENCE, &content)
-}
-
-/// Appends the content of an INTEGER: the number in its fewest bytes, the highest first and below 0x80.
-#[tactic(auto, using(crate::proofs::IntegerLaws::content_small, crate::proofs::IntegerLaws::large_written))]
-fn put_integer(out: &mut Vec<u8>, number: u64) -> Result<(), Memory>
-    ensures { OnOk result (out.new.items ≡ out.old.items ++ integer_content number) }
-{
-    if number < 0x80 {
-        out.push(number as u8)?;
-        return Ok(());
-    }
-    put_integer(out, number / 0x100)?;
-    out.push((number % 0x100) as u8)?;
-    Ok(())
+    put_short(&mut content, INTEGER, &count)?;
+    short_element(alloc, SEQUENCE, &content)
 }
 
 /// One element: tag, length and content.

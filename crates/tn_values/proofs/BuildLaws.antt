@@ -71,7 +71,7 @@ ones_more numbers i number o inside at is =
 
 -- ---- the other numbers
 
-abbrev is_other : List ℕ → Bool
+abbrev pub is_other : List ℕ → Bool
 is_other number = not (are_digits number)
 
 others_by : (first number : List ℕ) (numbers : List (List ℕ)) (b : Bool) → are_digits first ≡ b
@@ -132,30 +132,16 @@ any_moved P xs ys moved (k, span, inside, at, h) =
 -- ---- the set that is built
 
 -- what the code made of the spans and the numbers that were given
-pub record IsBuilt (spans all : List SpanView) (numbers singles : List (List ℕ)) : Type 0 where
-  pub moved : IsPermutation (spans ++ ones numbers) all
-  pub rises : IsNonDecreasingBy (λ span. rank_of span.start) all
-  pub are : All IsSpan all
-  pub others : All (λ number. are_digits number ≡ false) singles
-  pub order : IsStrictlySortedBy (slice_cmp nat_cmp) singles
-  pub same : (number : List ℕ) → Contains singles number ↔ Contains (filter is_other numbers) number
-  pub few : length singles ≤ length (filter is_other numbers)
+record IsBuilt (spans all : List SpanView) (numbers singles : List (List ℕ)) : Type 0 where
+  moved : IsPermutation (spans ++ ones numbers) all
+  rises : IsNonDecreasingBy (λ span. rank_of span.start) all
+  are : All IsSpan all
+  others : All (λ number. are_digits number ≡ false) singles
+  order : IsStrictlySortedBy (slice_cmp nat_cmp) singles
+  same : (number : List ℕ) → Contains singles number ↔ Contains (filter is_other numbers) number
+  few : length singles ≤ length (filter is_other numbers)
 
-pub built_of : (spans all was : List SpanView) (numbers singles : List (List ℕ)) → was ≡ spans ++ ones numbers → IsPermutation was all
-    → IsNonDecreasingBy (λ span. rank_of span.start) all → All IsSpan all → All (λ number. are_digits number ≡ false) singles
-    → IsStrictlySortedBy (slice_cmp nat_cmp) singles → ((number : List ℕ) → Contains singles number ↔ Contains (filter is_other numbers) number)
-    → length singles ≤ length (filter is_other numbers) → IsBuilt spans all numbers singles
-built_of spans all was numbers singles is moved rises are others order same few = record {
-  moved = subst (λ (xs : List SpanView). IsPermutation xs all) is moved;
-  rises = rises;
-  are = are;
-  others = others;
-  order = order;
-  same = same;
-  few = few;
-}
-
-pub built_merged : (spans all : List SpanView) (numbers singles : List (List ℕ)) → IsBuilt spans all numbers singles
+built_merged : (spans all : List SpanView) (numbers singles : List (List ℕ)) → IsBuilt spans all numbers singles
     → IsMerged (set_of (merged all) singles)
 built_merged spans all numbers singles b = record {
   apart = merged_apart all (recursion_from_All IsSpan all b.are);
@@ -199,11 +185,11 @@ has_built spans all numbers singles b number (inr held) =
       | inr d ↦ inr ((b.same number).1 (contains (filter is_other numbers) number (has_others numbers number d (has numbers number held))))
     ]
 
-pub built_holds : (spans all : List SpanView) (numbers singles : List (List ℕ)) → IsBuilt spans all numbers singles → (number : List ℕ)
+built_holds : (spans all : List SpanView) (numbers singles : List (List ℕ)) → IsBuilt spans all numbers singles → (number : List ℕ)
     → SetHolds (set_of (merged all) singles) number ↔ SetHolds (set_of spans numbers) number
 built_holds spans all numbers singles b number = (built_has spans all numbers singles b number, has_built spans all numbers singles b number)
 
-pub built_few : (spans all : List SpanView) (numbers singles : List (List ℕ)) → IsBuilt spans all numbers singles
+built_few : (spans all : List SpanView) (numbers singles : List (List ℕ)) → IsBuilt spans all numbers singles
     → part_count (set_of (merged all) singles) ≤ length spans + length numbers
 built_few spans all numbers singles b =
     let fewer = merged_fewer all in
@@ -212,3 +198,34 @@ built_few spans all numbers singles b =
     let kinds = both_kinds numbers in
     let few = b.few in
     omega (arith, fewer, kept, joined, kinds, few)
+
+-- what is wanted of the set: it is kept in order, has the numbers that were given, and no more entries
+pub record Serves (spans made : List SpanView) (numbers singles : List (List ℕ)) : Type 0 where
+  pub is_merged : IsMerged (set_of made singles)
+  pub holds : (number : List ℕ) → SetHolds (set_of made singles) number ↔ SetHolds (set_of spans numbers) number
+  pub few : part_count (set_of made singles) ≤ length spans + length numbers
+
+serves_by : (spans all made : List SpanView) (numbers singles : List (List ℕ)) → IsBuilt spans all numbers singles → made ≡ merged all → Serves spans made numbers singles
+serves_by spans all made numbers singles b is = subst (λ (made : List SpanView). Serves spans made numbers singles) (sym is) (record {
+  is_merged = built_merged spans all numbers singles b;
+  holds = built_holds spans all numbers singles b;
+  few = built_few spans all numbers singles b;
+})
+
+-- the spans and the numbers as they are read, the spans of both and these in order; what those in order are joined to, and the other numbers
+pub serves : (spans read ranked all sorted made : List SpanView) (numbers listed singles : List (List ℕ)) → ranked ≡ read ++ ones listed → read ≡ spans → listed ≡ numbers
+    → IsPermutation ranked all → IsNonDecreasingBy (λ span. rank_of span.start) all → made ≡ merged sorted → All IsSpan sorted → sorted ≡ all
+    → All (λ number. are_digits number ≡ false) singles → IsStrictlySortedBy (slice_cmp nat_cmp) singles
+    → ((number : List ℕ) → Contains singles number ↔ Contains (filter is_other numbers) number) → length singles ≤ length (filter is_other numbers) → Serves spans made numbers singles
+serves spans read ranked all sorted made numbers listed singles are_ranked same_spans same_numbers moved rises is are same_sorted others order same few =
+    serves_by spans all made numbers singles
+    (record {
+      moved = subst (λ (xs : List SpanView). IsPermutation xs all) (are_ranked ∙ (λ i. same_spans i ++ ones (same_numbers i))) moved;
+      rises = rises;
+      are = subst (All IsSpan) same_sorted are;
+      others = others;
+      order = order;
+      same = same;
+      few = few;
+    })
+    (is ∙ ap merged same_sorted)

@@ -1,9 +1,11 @@
 -- Laws of the canonical number.
-use Rattle.std.proofs.Common.{◌≡◌, ℕ, Bool, true, false, cond, not, ◌==◌, List, [], ◌∷◌, ◌++◌, Some, None, arith, refl, sym, ◌∙◌, ap}
+use Rattle.std.proofs.Common.{◌≡◌, ℕ, Bool, true, false, cond, not, ◌&&◌, ◌==◌, List, [], ◌∷◌, ◌++◌, length, Option, Some, None, IfSome, arith, refl, sym, ◌∙◌, ap, eq-eqb, eqb-true}
 use Rattle.std.proofs.lemmas.Bool.{and_parts}
 use Rattle.std.proofs.lemmas.Bool.Decides.{nat_tests}
+use Rattle.std.specs.Cmp.Derive.{both_true}
 use Rattle.std.specs.List.{list_all}
 use Rattle.std.specs.Option.{option_map}
+use Rattle.tn_values.specs.Digit.{are_digits}
 use Rattle.tn_values.specs.Number.{is_number_byte, is_number, exact}
 use Rattle.tn_values.specs.Local.{LocalView}
 use Rattle.tn_values.specs.Canon.{is_separator, plus, without_separators, is_national, with_country, number_of_kept, Canon, StandsFor, international, plain, national}
@@ -38,12 +40,28 @@ without_plus (first ∷ rest) local h =
     let each = and_parts (is_number_byte first) (list_all is_number_byte rest) bytes in
     ap (λ b. cond b (exact rest) (option_map (with_country local) (exact (first ∷ rest)))) (no_plus first each.0)
 
-exact_number : (number : List ℕ) → is_number number ≡ true → exact number ≡ Some number
+pub exact_number : (number : List ℕ) → is_number number ≡ true → exact number ≡ Some number
 exact_number number h = ap (λ b. cond b (Some number) None) h
 
 -- a number without a `+`
 plain_number : (number : List ℕ) (local : LocalView) → is_number number ≡ true → number_of_kept number local ≡ Some (with_country local number)
 plain_number number local h = without_plus number local h ∙ ap (option_map (with_country local)) (exact_number number h)
+
+-- ---- national numbers
+
+-- digits, as many as a national number has, are a national number
+national_digits : (digits : List ℕ) (local : LocalView) → are_digits digits ≡ true → length digits ≡ local.national → is_national digits local ≡ true
+national_digits digits local own long = both_true own (eq-eqb (length digits) local.national long)
+
+other_by : (number : List ℕ) (local : LocalView) (t u : Bool) → are_digits number ≡ t → (length number == local.national) ≡ u
+    → (are_digits number ≡ true → length number ≡ local.national → ⊥) → (t && u) ≡ false
+other_by number local false u own long none = refl
+other_by number local true false own long none = refl
+other_by number local true true own long none = absurd (none own (eqb-true (length number) local.national long))
+
+-- any other number isn't
+other_number : (number : List ℕ) (local : LocalView) → (are_digits number ≡ true → length number ≡ local.national → ⊥) → is_national number local ≡ false
+other_number number local none = other_by number local (are_digits number) (length number == local.national) refl refl none
 
 -- ---- each way gives the number
 
@@ -51,10 +69,10 @@ pub given : (text : List ℕ) (local : LocalView) (number : List ℕ) → Stands
 unfolding Canon
 given text local number (international h kept) = ap (λ k. number_of_kept k local) kept ∙ exact_number number h
 given text local number (plain h kept other) =
-    ap (λ k. number_of_kept k local) kept ∙ plain_number number local h ∙ ap (λ b. Some (cond b (local.country ++ number) number)) other
-given text local number (national digits h kept own whole) =
+    ap (λ k. number_of_kept k local) kept ∙ plain_number number local h ∙ ap (λ b. Some (cond b (local.country ++ number) number)) (other_number number local other)
+given text local number (national digits h kept own long whole) =
     ap (λ k. number_of_kept k local) kept ∙ plain_number digits local h
-    ∙ ap (λ b. Some (cond b (local.country ++ digits) digits)) own ∙ ap Some (sym whole)
+    ∙ ap (λ b. Some (cond b (local.country ++ digits) digits)) (national_digits digits local own long) ∙ ap Some (sym whole)
 
 -- ---- and each number comes in one of the ways
 
@@ -69,9 +87,14 @@ completed_by text number local false h = cc
 
 completed_stands : (text kept number : List ℕ) (local : LocalView) (b : Bool) → is_national kept local ≡ b → is_number kept ≡ true
     → without_separators text ≡ kept → cond b (local.country ++ kept) kept ≡ number → StandsFor text local number
-completed_stands text kept number local true own h is whole = national kept h is own (sym whole)
+completed_stands text kept number local true own h is whole =
+    let each = and_parts (are_digits kept) (length kept == local.national) own in
+    national kept h is each.0 (eqb-true (length kept) local.national each.1) (sym whole)
 completed_stands text kept number local false other h is same =
-    plain (ap is_number (sym same) ∙ h) (is ∙ same) (ap (λ k. is_national k local) (sym same) ∙ other)
+    plain (ap is_number (sym same) ∙ h) (is ∙ same) (λ own long.
+    let here : is_national number local ≡ false = ap (λ k. is_national k local) (sym same) ∙ other in
+    let there : is_national number local ≡ true = national_digits number local own long in
+    cc)
 
 eq_plus : (first : ℕ) → (first == plus) ≡ true → first ≡ plus
 eq_plus first h = grind (arith, nat_tests)
@@ -95,13 +118,22 @@ pub stands : (text : List ℕ) (local : LocalView) (number : List ℕ) → Canon
 unfolding Canon
 stands text local number h = kept_stands text (without_separators text) number local refl h
 
+-- so what is read is a number that the text stands for
+pub ways : (text : List ℕ) (local : LocalView) (read : Option (List ℕ)) → read ≡ Canon text local → IfSome read (λ number. StandsFor text local number)
+ways text local None h = tt
+ways text local (Some number) h = stands text local number (sym h)
+
+-- texts that differ in their separators alone are read alike
+pub read_alike : (text other : List ℕ) (local : LocalView) → without_separators other ≡ without_separators text → Canon other local ≡ Canon text local
+unfolding Canon
+read_alike text other local same = ap (λ k. number_of_kept k local) same
+
 -- ---- a number reads back
 
-pub international_again : (text : List ℕ) (local : LocalView) (number : List ℕ) → is_number number ≡ true
-    → text ≡ plus ∷ number → Canon text local ≡ Some number
-international_again text local number h is =
+pub international_again : (text number : List ℕ) (local : LocalView) → is_number number ≡ true → text ≡ plus ∷ number → Canon text local ≡ Some number
+international_again text number local h is =
     given text local number (international h (ap without_separators is ∙ ap (λ kept. plus ∷ kept) (number_stays number h)))
 
-pub plain_again : (text : List ℕ) (local : LocalView) (number : List ℕ) → is_number number ≡ true
-    → text ≡ number → is_national number local ≡ false → Canon text local ≡ Some number
-plain_again text local number h is other = given text local number (plain h (ap without_separators is ∙ number_stays number h) other)
+pub plain_again : (number : List ℕ) (local : LocalView) → is_number number ≡ true → (are_digits number ≡ true → length number ≡ local.national → ⊥)
+    → Canon number local ≡ Some number
+plain_again number local h other = given number local number (plain h (number_stays number h) other)

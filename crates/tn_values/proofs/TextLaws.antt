@@ -1,5 +1,5 @@
 -- Laws of texts in order: what equal in order is, and that lists in order that have the same texts are the same.
-use Rattle.std.proofs.Common.{◌≡◌, ℕ, zero, suc, ◌≤◌, ◌⊎◌, inl, inr, Bool, true, false, cond, not, bytes_eq, List, [], ◌∷◌, length, Contains, Less, Equal, Greater, nat_cmp, is_eq, arith, refl, sym, ap, ◌∙◌, subst}
+use Rattle.std.proofs.Common.{◌≡◌, ℕ, zero, suc, ◌≤◌, ◌⊎◌, inl, inr, Bool, true, false, cond, bytes_eq, List, [], ◌∷◌, length, Contains, Less, Equal, Greater, nat_cmp, is_eq, arith, refl, sym, ap, ◌∙◌, subst}
 use Rattle.std.proofs.lemmas.Cmp.{nat_list_cmp_total, tied_itself}
 use Rattle.std.proofs.lemmas.Map.Keys.{sorted_head, sorted_tail}
 use Rattle.std.specs.Cmp.Lexicographic.{slice_cmp, bytes_decides, texts_ties}
@@ -98,7 +98,3 @@ fewer_from text (next ∷ texts) = fewer_by text next texts (bytes_eq next text)
 pub dedup_fewer : (texts : List (List ℕ)) → length (dedup bytes_eq texts) ≤ length texts
 dedup_fewer [] = omega arith
 dedup_fewer (text ∷ texts) = fewer_from text texts
-
-pub not_true : (b : Bool) → not b ≡ true → b ≡ false
-not_true true h = cc
-not_true false h = refl

@@ -11,6 +11,7 @@
 
 mod alphabet;
 mod kept;
+mod laws;
 mod merging;
 mod numbering;
 mod numbers;
@@ -22,6 +23,7 @@ mod sorted;
 mod spans;
 mod steps;
 
+pub use laws::{every_number_law, number_law, set_law};
 pub use numbering::Local;
 pub use numbers::Number;
 pub use sets::NumberSet;

@@ -1,12 +1,13 @@
 //! A telephone number.
-ghost use Rattle.std.specs.Prelude.{◌≡◌, ◌≤◌, ◌↔◌, ◌∷◌, length, false, IsTrue, IfSome, Some};
+ghost use Rattle.std.specs.Prelude.{◌≡◌, ◌≤◌, ◌∷◌, ℕ, List, length, true, IsTrue, IfSome, Some};
 ghost use Rattle.std.specs.Fmt.{padded};
+ghost use Rattle.tn_values.specs.Digit.{are_digits};
 ghost use Rattle.tn_values.specs.Number.{exact, is_number};
-ghost use Rattle.tn_values.specs.Canon.{Canon, is_national, plus, without_separators, StandsFor};
+ghost use Rattle.tn_values.specs.Canon.{Canon, plus, without_separators, StandsFor};
 
 use crate::alphabet::is_number;
 use crate::numbering::Local;
-use crate::reading::{canonical, is_read_as};
+use crate::reading::canonical;
 use short_text::ShortText;
 use std::marker::Model;
 use std::{fmt, str};
@@ -52,33 +53,19 @@ impl Number {
     /// The bytes `(`, `)`, `-`, `.` and space are dropped. Behind a leading `+` the text is international and stands as
     /// it is. Otherwise a text of digits alone that is as long as a national number of `local` gets the country's digits
     /// in front, and any other stands as it is. What is left has to be a number: 1 to 15 bytes of `0-9 * #`.
+    ///
+    /// Texts that differ in the dropped bytes alone are read alike. Every number is read from its bytes behind a `+`, and from
+    /// its bytes alone unless they are digits and as many as a national number of `local` has.
     pub fn read(text: &[u8], local: &Local) -> Option<Number>
         ensures canonical { result ≡ Canon text.now local.now }
         ensures number { IfSome result (λ number. IsTrue (is_number number)) }
+        ensures ways { IfSome result (λ number. StandsFor text.now local.now number) }
+        ensures only { (number : List ℕ) → StandsFor text.now local.now number → result ≡ Some number }
+        ensures separators { (other : List ℕ) → without_separators other ≡ without_separators text.now → Canon other local.now ≡ result }
+        ensures international { (number : List ℕ) → is_number number ≡ true → text.now ≡ plus ∷ number → result ≡ Some number }
+        ensures plain { is_number text.now ≡ true → (are_digits text.now ≡ true → length text.now ≡ local.now.national → ⊥) → result ≡ Some text.now }
     {
         canonical(text, local)
-    }
-
-    /// Whether `text` stands for this number: whether [`Number::read`] gives it.
-    ///
-    /// Every number is read from its bytes behind a `+`, and from its bytes alone unless they are digits and as many as a
-    /// national number of `local` has.
-    pub fn is_read_from(&self, text: &[u8], local: &Local) -> bool
-        ensures canonical { IsTrue result ↔ (Canon text.now local.now ≡ Some self.now) }
-        ensures ways { IsTrue result ↔ StandsFor text.now local.now self.now }
-        ensures international { text.now ≡ plus ∷ self.now → IsTrue result }
-        ensures plain { text.now ≡ self.now → is_national self.now local.now ≡ false → IsTrue result }
-    {
-        is_read_as(text, self.bytes(), local)
-    }
-
-    /// Whether two texts stand for one number, or neither for any, as texts do that differ in their separators alone.
-    #[tactic(auto, unfolding(crate::specs::Canon::Canon))]
-    pub fn are_read_alike(left: &[u8], right: &[u8], local: &Local) -> bool
-        ensures canonical { IsTrue result ↔ (Canon left.now local.now ≡ Canon right.now local.now) }
-        ensures separators { without_separators left.now ≡ without_separators right.now → IsTrue result }
-    {
-        Number::read(left, local) == Number::read(right, local)
     }
 
     /// The bytes of the number, 1 to 15 of `0-9 * #`.

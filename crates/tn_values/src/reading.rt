@@ -1,5 +1,5 @@
 //! From a text to its canonical number.
-ghost use Rattle.std.specs.Prelude.{◌≡◌, ◌↔◌, IsTrue, Some};
+ghost use Rattle.std.specs.Prelude.{◌≡◌, IsTrue};
 ghost use Rattle.std.specs.Option.{option_map};
 ghost use Rattle.tn_values.specs.Number.{exact};
 ghost use Rattle.tn_values.specs.Canon.{Canon, is_national, with_country};
@@ -21,16 +21,6 @@ pub(crate) fn canonical(text: &[u8], local: &Local) -> Option<Number>
         [] => None,
         [b'+', rest @ ..] => Number::exact(rest),
         number => completed(number, local),
-    }
-}
-
-/// Whether `text` is read as the number of these bytes.
-pub(crate) fn is_read_as(text: &[u8], bytes: &[u8], local: &Local) -> bool
-    ensures { IsTrue result ↔ (Canon text.now local.now ≡ Some bytes.now) }
-{
-    match canonical(text, local) {
-        Some(number) => number.bytes() == bytes,
-        None => false,
     }
 }
 

@@ -4,7 +4,7 @@ use crate::answer::{Answer, line, or_none, word};
 use crate::authority::table_of;
 use crate::paths::anchors_of;
 use crate::table::{Unread, number, text};
-use cert_store::{Asked, ChainMap, Judged, MapFault, judge_chain};
+use cert_store::{Asked, ChainMap, Judged, MapFault, Question, judge_chain};
 use delegation::Anchors;
 use std::alloc::{AllocError, Global};
 use stir_outside::{AnswerFault, AnswerProvider, Answers};
@@ -71,6 +71,8 @@ impl Case<'_> {
             "judge" => self.said(alloc, words),
             "out_of_date" => self.out_of_date(alloc, words),
             "leaf" => self.leaf(alloc),
+            "length" => self.length(alloc),
+            "question" => self.question(alloc, words),
             _ => Err(Unread::Call),
         }
     }
@@ -113,6 +115,40 @@ impl Case<'_> {
             None => word(alloc, "none"),
         }
     }
+
+    /// How many certificates there are.
+    fn length(self, alloc: Global) -> Result<String, Unread> {
+        let mut provider = self.answers.provider(&[])?;
+        let judged = self.judge(alloc, &mut provider)?;
+        word(alloc, judged.length())
+    }
+
+    /// The key, the digest and the signature of the question for a certificate, or `none`.
+    fn question(self, alloc: Global, words: &[&[u8]]) -> Result<String, Unread> {
+        let [place] = words else {
+            return Err(Unread::Call);
+        };
+        let place = number::<u8>(place)?;
+        let mut provider = self.answers.provider(&[])?;
+        let judged = self.judge(alloc, &mut provider)?;
+        if place == 0 || place > judged.length() {
+            return Err(Unread::Value);
+        }
+        match judged.question(place) {
+            Some(question) => put_question(Answer::new(alloc), question).line(),
+            None => word(alloc, "none"),
+        }
+    }
+}
+
+/// Puts what is asked for a certificate behind other words.
+fn put_question(answer: Answer, question: Question<'_>) -> Answer {
+    let Question {
+        key,
+        digest,
+        signature,
+    } = question;
+    answer.hex(key).hex(digest).hex(signature)
 }
 
 /// Puts where rules 11, 12 and 14 are broken, and how the signatures were answered for, behind other words.

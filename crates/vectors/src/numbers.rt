@@ -30,8 +30,6 @@ fn local_answer(alloc: Global, call: &str, words: &[&[u8]]) -> Result<String, Un
     let local = local_of(country, national)?;
     match call {
         "read" => read(alloc, &local, words),
-        "is_read_from" => is_read_from(alloc, &local, words),
-        "are_read_alike" => are_read_alike(alloc, &local, words),
         _ => Err(Unread::Call),
     }
 }
@@ -75,22 +73,6 @@ fn read(alloc: Global, local: &Local, words: &[&[u8]]) -> Result<String, Unread>
         return Err(Unread::Call);
     };
     or_none(alloc, Number::read(text, local))
-}
-
-/// Whether a number is read from a text.
-fn is_read_from(alloc: Global, local: &Local, words: &[&[u8]]) -> Result<String, Unread> {
-    let [digits, text] = words else {
-        return Err(Unread::Call);
-    };
-    word(alloc, number_of(digits)?.is_read_from(text, local))
-}
-
-/// Whether two texts are read alike.
-fn are_read_alike(alloc: Global, local: &Local, words: &[&[u8]]) -> Result<String, Unread> {
-    let [left, right] = words else {
-        return Err(Unread::Call);
-    };
-    word(alloc, Number::are_read_alike(left, right, local))
 }
 
 /// The number that a word is.

@@ -15,11 +15,8 @@ use Rattle.verify_rules.specs.declared.late.LateRule.TheVariants as late
 use Rattle.verify_rules.specs.declared.refusal.Place.{Place}
 use Rattle.verify_rules.specs.declared.verdict.Verdict.{Verdict}
 use Rattle.verify_rules.specs.declared.verdict.Verdict.TheVariants.{Passed, Refused, Unread, Unasked}
-use Rattle.verify_rules.proofs.FirstOf.{found}
+use Rattle.verify_rules.proofs.FirstOf.{found, unread_same}
 use Rattle.verify_rules.proofs.VerdictLaws.{quiet}
-
-unread_same : (a b : Place) → Some (events.Unread a) ≡ Some (events.Unread b) → b ≡ a
-unread_same a b e = cc
 
 unknown_here : (table : Table) (moment : ℕ) (readings : List Reading) (states : List State) (i : ℕ) (one : Reading) (state : State) (bad : Place) → slice_get readings i ≡ Some one
     → slice_get states i ≡ Some state → at_rule late.Listed table moment one state ≡ Some (events.Unread bad) → IsUnknownAt readings states bad

@@ -7,6 +7,8 @@ use Rattle.verify_rules.specs.Call.{Reading}
 use Rattle.verify_rules.specs.Late.{first_of}
 use Rattle.verify_rules.specs.States.{State}
 use Rattle.verify_rules.specs.declared.late.Event.{Event}
+use Rattle.verify_rules.specs.declared.late.Event.TheVariants.{Unread}
+use Rattle.verify_rules.specs.declared.refusal.Place.{Place}
 
 -- ---- one more
 
@@ -98,3 +100,9 @@ none_at at (item ∷ items) (other ∷ others) zero one state h e f =
     let like : other ≡ state = cc in
     ap (λ x. at one x) (sym like) ∙ ap (λ x. at x other) (sym same) ∙ (both_none (at item other) (first_of at items others) h).0
 none_at at (item ∷ items) (other ∷ others) (suc i) one state h e f = none_at at items others i one state (both_none (at item other) (first_of at items others) h).1 e f
+
+-- ---- what it is
+
+-- what can't be read, twice, stands at one place
+pub unread_same : (a b : Place) → Some (Unread a) ≡ Some (Unread b) → b ≡ a
+unread_same a b e = cc

@@ -2,7 +2,8 @@
 use Rattle.std.proofs.Common.{◌≡◌, ℕ, true, List, Option, Some, None, refl, ap, codes, inl, inr}
 use Rattle.std.proofs.lemmas.Slice.Eq.{bytes_eq-Decides}
 use Rattle.passport_claims.specs.Claims.{IsKnown}
-use Rattle.verify_rules.specs.Call.{IdentityField, has_ppt, is_absent, is_text, lacks_ppt}
+use Rattle.passport_claims.specs.Passport.{is_text}
+use Rattle.verify_rules.specs.Call.{IdentityField, has_ppt, is_absent, lacks_ppt}
 
 pub text_by : (text : List ℕ) (given : Option (List ℕ)) → is_text text given ≡ true → given ≡ Some text
 text_by text None h = absurd cc

@@ -19,6 +19,7 @@ pub mod ReadSteps
 pub mod ReadingLaws
 pub mod ScreenedLaws
 pub mod SignedLaws
+pub mod ToldLaws
 pub mod TokenWords
 pub mod TurnSteps
 pub mod VerdictLaws

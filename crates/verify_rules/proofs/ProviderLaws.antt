@@ -1,13 +1,13 @@
 -- What the late rules take of a provider of signatures.
-use Rattle.std.proofs.Common.{◌≡◌, ℕ, Bool, true, false, cond, nat_lt, List, [], ◌∷◌, length, map, Option, Some, None, refl, sym, ◌∙◌, ap}
-use Rattle.std.specs.Option.{option_or}
+use Rattle.std.proofs.Common.{◌≡◌, ℕ, Bool, true, false, cond, nat_lt, List, [], ◌∷◌, length, Option, Some, None, refl, ◌∙◌, ap}
 use Rattle.delegation.specs.Coverage.{Table}
 use Rattle.cert_store.specs.Judged.{JudgedView, judged_of}
 use Rattle.cert_store.specs.Rules.{Says}
+use Rattle.lists.proofs.Options.{or_same}
 use Rattle.verify_rules.specs.Call.{Call, Reading, in_chain}
 use Rattle.verify_rules.specs.Late.{tell, tell_judged}
 use Rattle.verify_rules.specs.Rules.{each, first, or_later}
-use Rattle.verify_rules.specs.States.{State, have, no_chain, long, unread}
+use Rattle.verify_rules.specs.States.{State, have, long}
 use Rattle.verify_rules.specs.World.{World, broken_by, certificate_rules, content_of, forged, part_at, signature_rules, truth_by, truth_for, truth_of, truths, with_says}
 use Rattle.verify_rules.specs.declared.late.LateRule.{LateRule}
 use Rattle.verify_rules.specs.declared.late.LateRule.TheVariants as late
@@ -15,9 +15,6 @@ use Rattle.verify_rules.specs.declared.refusal.Place.{Place}
 use Rattle.verify_rules.specs.declared.refusal.Refusal.{Refusal}
 
 -- ---- one rule more
-
-either : (mine yours later later_now : Option Place) → mine ≡ yours → later ≡ later_now → option_or mine later ≡ option_or yours later_now
-either mine yours later later_now same more = ap (λ (x : Option Place). option_or x later) same ∙ ap (λ (x : Option Place). option_or yours x) more
 
 later_same : (n : ℕ) (mine yours : Option Place) (later later_now : Option Refusal) → mine ≡ yours → later ≡ later_now → or_later n mine later ≡ or_later n yours later_now
 later_same n mine yours later later_now same more = ap (λ (x : Option Place). or_later n x later) same ∙ ap (or_later n yours) more
@@ -74,7 +71,7 @@ unsigned_same : (world : World) (other : Says) (rule : LateRule) (moment : ℕ) 
 unfolding broken_by
 unsigned_same world other rule moment [] unsigned = refl
 unsigned_same world other rule moment (one ∷ readings) unsigned =
-    either _ _ _ _ (ap (part_at one.mark.field) (tells_same world other rule moment one unsigned)) (unsigned_same world other rule moment readings unsigned)
+    or_same _ _ _ _ (ap (part_at one.mark.field) (tells_same world other rule moment one unsigned)) (λ none. unsigned_same world other rule moment readings unsigned)
 
 pub certificates_same : (world : World) (other : Says) (call : Call) → first (certificate_rules (with_says world other)) call ≡ first (certificate_rules world) call
 certificates_same world other call =
@@ -99,7 +96,7 @@ chains_same world other rule moment [] same = refl
 chains_same world other rule moment (one ∷ readings) same =
     let here : truth_for (with_says world other) one ≡ truth_for world one = head_same _ _ _ _ same in
     let rest : truths (with_says world other) readings ≡ truths world readings = tail_same _ _ _ _ same in
-    either _ _ _ _ (ap (λ (state : State). part_at one.mark.field (tell rule world.table moment one state)) here) (chains_same world other rule moment readings rest)
+    or_same _ _ _ _ (ap (λ (state : State). part_at one.mark.field (tell rule world.table moment one state)) here) (λ none. chains_same world other rule moment readings rest)
 
 pub signatures_same : (world : World) (other : Says) (call : Call) → truths (with_says world other) (in_chain call) ≡ truths world (in_chain call)
     → each (forged (with_says world other)) (in_chain call) ≡ each (forged world) (in_chain call)

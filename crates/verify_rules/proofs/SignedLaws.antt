@@ -8,7 +8,7 @@ use Rattle.serde_json.specs.Data.{Data}
 use Rattle.passport_claims.specs.Claims.{Claims}
 use Rattle.passport_claims.specs.Passport.{ClaimsView}
 use Rattle.passport_json.specs.Compact.{CallView}
-use Rattle.passport_json.specs.IssuedAt.{IsIssuedAt, issued_at}
+use Rattle.passport_json.specs.IssuedAt.{issued_at}
 use Rattle.passport_json.specs.Signed.{payload_in}
 use Rattle.passport_json.specs.Token.{TokenText}
 use Rattle.passport_json.specs.View.{TokenView}
@@ -81,9 +81,6 @@ read_at said (field ∷ fields) (r ∷ readings) (suc at) one h e =
 
 -- ---- how long what was signed is fresh
 
-issued_again : (payload : Data) (seconds : ℕ) → IsIssuedAt payload seconds → issued_at payload ≡ Some seconds
-issued_again payload seconds h = rw (h.member, le-leb seconds last_second h.within) refl
-
 last_is : (window : ℕ) (signing : List ℕ) (payload : Data) (seconds : ℕ) → payload_in signing ≡ Some payload → issued_at payload ≡ Some seconds → last_by window signing ≡ seconds + window
 unfolding last_by
 last_is window signing payload seconds there issued =
@@ -98,8 +95,10 @@ known_by tokens signed call at one h last here =
     let text : TokenText here.field.parts.token (given_to_compact (facts call) here.field.parts) token = here.read.text in
     let payload : payload_in token.signing ≡ Some token.payload =
     signed here.field.parts.token (given_to_compact (facts call) here.field.parts) token here.field.parts.ppt here.field.parts.info one.passport text here.read.claims in
+    let iat = here.read.claims.iat in
+    let issued : issued_at token.payload ≡ Some one.passport.iat = rw (iat.member, le-leb one.passport.iat last_second iat.within) refl in
     let until : last_by call.settings.window token.signing ≡ one.passport.iat + call.settings.window =
-    last_is call.settings.window token.signing token.payload one.passport.iat payload (issued_again token.payload one.passport.iat here.read.claims.iat) in
+    last_is call.settings.window token.signing token.payload one.passport.iat payload issued in
     record {
       signing = token.signing;
       signed = record {

@@ -4,12 +4,12 @@ use Rattle.std.specs.List.{slice_get}
 use Rattle.std.specs.Option.{option_or}
 use Rattle.stir_outside.specs.Count.{Rose, last_count}
 use Rattle.delegation.specs.Coverage.{Table}
-use Rattle.cert_store.specs.Judged.{JudgedView, out_of_date}
+use Rattle.cert_store.specs.Judged.{JudgedView}
 use Rattle.cert_store.specs.Rules.{Says}
 use Rattle.cert_store.specs.declared.judged.Asked.{Asked}
 use Rattle.cert_store.specs.declared.judged.Asked.TheVariants.{NotAsked, Yes, No, Failed}
 use Rattle.verify_rules.specs.Call.{Reading}
-use Rattle.verify_rules.specs.Late.{asking, at_asking, at_rule, by_answer, by_part, covers_leaf, event_of, first_event, first_rule, is_signed_by, or_broken, rules_after, rules_before, told_by, unless_signed}
+use Rattle.verify_rules.specs.Late.{asking, at_asking, at_rule, by_answer, event_of, first_event, first_rule, is_signed_by, number, rules_after, rules_before, tell_judged, tell_long, tell_missing, told_by, unless_signed}
 use Rattle.verify_rules.specs.Rules.{place}
 use Rattle.verify_rules.specs.States.{State, have, no_chain, long, unread}
 use Rattle.verify_rules.specs.Verdict.{IsLeftOpen, IsOpenAt, IsVerdict, QuietIs, verdict_of}
@@ -20,61 +20,41 @@ use Rattle.verify_rules.specs.declared.late.LateRule.TheVariants as late
 use Rattle.verify_rules.specs.declared.refusal.Place.{Place}
 use Rattle.verify_rules.specs.declared.verdict.Verdict.{Verdict}
 use Rattle.verify_rules.specs.declared.verdict.Verdict.TheVariants.{Passed, Refused, Unread, Unasked}
+use Rattle.lists.proofs.Options.{or_none}
 use Rattle.verify_rules.proofs.FirstOf.{both_none, found, none_at}
+use Rattle.verify_rules.proofs.ToldLaws.{AsksNothing, IsSetAside, definite_event, judged_definite, unjudged_definite}
 
--- ---- what a rule on a chain that is known can't make of it
+-- ---- what a rule leaves open of a chain: nothing, but where it asks for the chain's signatures, or the chain isn't known
 
-part_known : (n field : ℕ) (o : Option ℕ) (bad : Place) → event_of n field (by_part o) ≡ Some (events.Unread bad) → ⊥
-part_known n field None bad h = cc
-part_known n field (Some part) bad h = cc
+judged_closed : (rule : LateRule) (table : Table) (moment : ℕ) (one : Reading) (judged : JudgedView) → AsksNothing rule → IsSetAside (at_rule rule table moment one (have judged)) → ⊥
+unfolding at_rule
+judged_closed rule table moment one judged nothing aside =
+    definite_event (number rule) one.mark.field (tell_judged rule table moment one judged) (judged_definite rule table moment one judged nothing) aside
 
-part_asks_none : (n field : ℕ) (o : Option ℕ) (bad : Place) → event_of n field (by_part o) ≡ Some (events.Unasked bad) → ⊥
-part_asks_none n field None bad h = cc
-part_asks_none n field (Some part) bad h = cc
+missing_closed : (rule : LateRule) (table : Table) (moment : ℕ) (one : Reading) → IsSetAside (at_rule rule table moment one no_chain) → ⊥
+unfolding at_rule
+missing_closed rule table moment one aside = definite_event (number rule) one.mark.field (tell_missing rule) (unjudged_definite rule).0 aside
 
-test_known : (n field : ℕ) (t : Bool) (bad : Place) → event_of n field (or_broken t) ≡ Some (events.Unread bad) → ⊥
-test_known n field true bad h = cc
-test_known n field false bad h = cc
+long_closed : (rule : LateRule) (table : Table) (moment : ℕ) (one : Reading) → IsSetAside (at_rule rule table moment one long) → ⊥
+unfolding at_rule
+long_closed rule table moment one aside = definite_event (number rule) one.mark.field (tell_long rule) (unjudged_definite rule).1 aside
 
-test_asks_none : (n field : ℕ) (t : Bool) (bad : Place) → event_of n field (or_broken t) ≡ Some (events.Unasked bad) → ⊥
-test_asks_none n field true bad h = cc
-test_asks_none n field false bad h = cc
+signed_closed : (field : ℕ) (t : Bool) → IsSetAside (unless_signed field t) → ⊥
+signed_closed field true aside = aside
+signed_closed field false aside = aside
 
-answer_known : (n field : ℕ) (asked : Asked) (bad : Place) → event_of n field (by_answer asked) ≡ Some (events.Unread bad) → ⊥
-answer_known n field NotAsked bad h = cc
-answer_known n field Yes bad h = cc
-answer_known n field (No part) bad h = cc
-answer_known n field (Failed part) bad h = cc
-
-signed_known : (field : ℕ) (t : Bool) (bad : Place) → unless_signed field t ≡ Some (events.Unread bad) → ⊥
-signed_known field true bad h = cc
-signed_known field false bad h = cc
-
-signed_asks_none : (field : ℕ) (t : Bool) (bad : Place) → unless_signed field t ≡ Some (events.Unasked bad) → ⊥
-signed_asks_none field true bad h = cc
-signed_asks_none field false bad h = cc
+answer_known : (field : ℕ) (asked : Asked) (bad : Place) → event_of 15 field (by_answer asked) ≡ Some (events.Unread bad) → ⊥
+answer_known field NotAsked bad h = cc
+answer_known field Yes bad h = cc
+answer_known field (No part) bad h = cc
+answer_known field (Failed part) bad h = cc
 
 -- ---- rule 10 meets a chain that isn't known first
 
 judged_known : (rule : LateRule) (table : Table) (moment : ℕ) (one : Reading) (judged : JudgedView) (bad : Place) → at_rule rule table moment one (have judged) ≡ Some (events.Unread bad) → ⊥
 unfolding at_rule
-judged_known late.Listed table moment one judged bad h = cc
-judged_known late.Profile table moment one judged bad h = part_known 11 one.mark.field judged.profile bad h
-judged_known late.Shape table moment one judged bad h = part_known 12 one.mark.field judged.shape bad h
-judged_known late.Dates table moment one judged bad h = part_known 13 one.mark.field (out_of_date judged moment) bad h
-judged_known late.Authority table moment one judged bad h = part_known 14 one.mark.field judged.authority bad h
-judged_known late.Asked table moment one judged bad h = answer_known 15 one.mark.field judged.asked bad h
-judged_known late.Covers table moment one judged bad h = test_known 17 one.mark.field (covers_leaf table one.passport (slice_get judged.certificates 0)) bad h
-
-long_known : (rule : LateRule) (table : Table) (moment : ℕ) (one : Reading) (bad : Place) → at_rule rule table moment one long ≡ Some (events.Unread bad) → ⊥
-unfolding at_rule
-long_known late.Listed table moment one bad h = cc
-long_known late.Profile table moment one bad h = cc
-long_known late.Shape table moment one bad h = cc
-long_known late.Dates table moment one bad h = cc
-long_known late.Authority table moment one bad h = cc
-long_known late.Asked table moment one bad h = cc
-long_known late.Covers table moment one bad h = cc
+judged_known late.Asked table moment one judged bad h = answer_known one.mark.field judged.asked bad h
+judged_known rule table moment one judged bad h = judged_closed rule table moment one judged tt (subst IsSetAside (sym h) tt)
 
 listed_missing : (table : Table) (moment : ℕ) (one : Reading) → at_rule late.Listed table moment one no_chain ≡ None → ⊥
 unfolding at_rule
@@ -88,13 +68,14 @@ known_here : (rule : LateRule) (table : Table) (moment : ℕ) (one : Reading) (s
     → at_rule rule table moment one state ≡ Some (events.Unread bad) → ⊥
 known_here rule table moment one (have judged) bad holds h = judged_known rule table moment one judged bad h
 known_here rule table moment one no_chain bad holds h = listed_missing table moment one holds
-known_here rule table moment one long bad holds h = long_known rule table moment one bad h
+known_here rule table moment one long bad holds h = long_closed rule table moment one (subst IsSetAside (sym h) tt)
 known_here rule table moment one unread bad holds h = listed_unread table moment one holds
 
 signing_here : (says : Says) (table : Table) (moment : ℕ) (one : Reading) (state : State) (bad : Place) → at_rule late.Listed table moment one state ≡ None
     → at_asking says one state ≡ Some (events.Unread bad) → ⊥
 unfolding at_asking
-signing_here says table moment one (have judged) bad holds h = signed_known one.mark.field (is_signed_by says one (slice_get judged.certificates 0)) bad h
+signing_here says table moment one (have judged) bad holds h =
+    signed_closed one.mark.field (is_signed_by says one (slice_get judged.certificates 0)) (subst IsSetAside (sym h) tt)
 signing_here says table moment one no_chain bad holds h = cc
 signing_here says table moment one long bad holds h = cc
 signing_here says table moment one unread bad holds h = listed_unread table moment one holds
@@ -154,34 +135,8 @@ failed_by one judged (Failed part) bad e h = let same : place one.mark.field par
 failed_judged : (rule : LateRule) (table : Table) (moment : ℕ) (one : Reading) (judged : JudgedView) (bad : Place) → at_rule rule table moment one (have judged) ≡ Some (events.Unasked bad)
     → (part : ℕ) × (judged.asked ≡ Failed part) × (bad ≡ place one.mark.field part)
 unfolding at_rule
-failed_judged late.Listed table moment one judged bad h = absurd cc
-failed_judged late.Profile table moment one judged bad h = absurd (part_asks_none 11 one.mark.field judged.profile bad h)
-failed_judged late.Shape table moment one judged bad h = absurd (part_asks_none 12 one.mark.field judged.shape bad h)
-failed_judged late.Dates table moment one judged bad h = absurd (part_asks_none 13 one.mark.field (out_of_date judged moment) bad h)
-failed_judged late.Authority table moment one judged bad h = absurd (part_asks_none 14 one.mark.field judged.authority bad h)
 failed_judged late.Asked table moment one judged bad h = failed_by one judged judged.asked bad refl h
-failed_judged late.Covers table moment one judged bad h =
-    absurd (test_asks_none 17 one.mark.field (covers_leaf table one.passport (slice_get judged.certificates 0)) bad h)
-
-missing_asks_none : (rule : LateRule) (table : Table) (moment : ℕ) (one : Reading) (bad : Place) → at_rule rule table moment one no_chain ≡ Some (events.Unasked bad) → ⊥
-unfolding at_rule
-missing_asks_none late.Listed table moment one bad h = cc
-missing_asks_none late.Profile table moment one bad h = cc
-missing_asks_none late.Shape table moment one bad h = cc
-missing_asks_none late.Dates table moment one bad h = cc
-missing_asks_none late.Authority table moment one bad h = cc
-missing_asks_none late.Asked table moment one bad h = cc
-missing_asks_none late.Covers table moment one bad h = cc
-
-long_asks_none : (rule : LateRule) (table : Table) (moment : ℕ) (one : Reading) (bad : Place) → at_rule rule table moment one long ≡ Some (events.Unasked bad) → ⊥
-unfolding at_rule
-long_asks_none late.Listed table moment one bad h = cc
-long_asks_none late.Profile table moment one bad h = cc
-long_asks_none late.Shape table moment one bad h = cc
-long_asks_none late.Dates table moment one bad h = cc
-long_asks_none late.Authority table moment one bad h = cc
-long_asks_none late.Asked table moment one bad h = cc
-long_asks_none late.Covers table moment one bad h = cc
+failed_judged rule table moment one judged bad h = absurd (judged_closed rule table moment one judged tt (subst IsSetAside (sym h) tt))
 
 unread_asks_none : (rule : LateRule) (table : Table) (moment : ℕ) (one : Reading) (bad : Place) → at_rule rule table moment one unread ≡ Some (events.Unasked bad) → ⊥
 unfolding at_rule
@@ -191,8 +146,8 @@ failed_here : (rule : LateRule) (table : Table) (moment : ℕ) (readings : List 
     → slice_get states i ≡ Some state → at_rule rule table moment one state ≡ Some (events.Unasked bad) → IsLeftOpen readings states bad
 failed_here rule table moment readings states i one (have judged) bad e f h =
     let p = failed_judged rule table moment one judged bad h in record { at = i; here = one; is = e; judged = judged; chain = f; part = p.0; failed = p.1; place = p.2 }
-failed_here rule table moment readings states i one no_chain bad e f h = absurd (missing_asks_none rule table moment one bad h)
-failed_here rule table moment readings states i one long bad e f h = absurd (long_asks_none rule table moment one bad h)
+failed_here rule table moment readings states i one no_chain bad e f h = absurd (missing_closed rule table moment one (subst IsSetAside (sym h) tt))
+failed_here rule table moment readings states i one long bad e f h = absurd (long_closed rule table moment one (subst IsSetAside (sym h) tt))
 failed_here rule table moment readings states i one unread bad e f h = absurd (unread_asks_none rule table moment one bad h)
 
 failed_chain : (rules : List LateRule) (table : Table) (moment : ℕ) (readings : List Reading) (states : List State) (bad : Place)
@@ -204,21 +159,17 @@ failed_chain rules table moment readings states bad h =
 
 covering_here : (table : Table) (moment : ℕ) (one : Reading) (state : State) (bad : Place) → at_rule late.Covers table moment one state ≡ Some (events.Unasked bad) → ⊥
 unfolding at_rule
-covering_here table moment one (have judged) bad h = test_asks_none 17 one.mark.field (covers_leaf table one.passport (slice_get judged.certificates 0)) bad h
+covering_here table moment one (have judged) bad h = judged_closed late.Covers table moment one judged tt (subst IsSetAside (sym h) tt)
 covering_here table moment one no_chain bad h = cc
 covering_here table moment one long bad h = cc
 covering_here table moment one unread bad h = cc
 
 asking_here : (says : Says) (one : Reading) (state : State) (bad : Place) → at_asking says one state ≡ Some (events.Unasked bad) → ⊥
 unfolding at_asking
-asking_here says one (have judged) bad h = signed_asks_none one.mark.field (is_signed_by says one (slice_get judged.certificates 0)) bad h
+asking_here says one (have judged) bad h = signed_closed one.mark.field (is_signed_by says one (slice_get judged.certificates 0)) (subst IsSetAside (sym h) tt)
 asking_here says one no_chain bad h = cc
 asking_here says one long bad h = cc
 asking_here says one unread bad h = cc
-
-or_none : (o : Option Event) (event : Event) → option_or o None ≡ Some event → o ≡ Some event
-or_none None event h = h
-or_none (Some x) event h = h
 
 -- ---- the verdict of each exit
 
@@ -249,7 +200,7 @@ after_by says table moment readings states faults now (events.Unread bad) none s
     let r = rule_of rules_after table moment readings states (events.Unread bad) h in
     absurd (told_known r.0 table moment readings states bad (listed_holds table moment readings states none) r.1)
 after_by says table moment readings states faults now (events.Unasked bad) none signed h =
-    let e = or_none (told_by late.Covers table moment readings states) (events.Unasked bad) h in
+    let e = sym (or_none (told_by late.Covers table moment readings states)) ∙ h in
     let f = found (at_rule late.Covers table moment) readings states (events.Unasked bad) e in absurd (covering_here table moment f.one f.state bad f.gives)
 
 pub by_before : (says : Says) (table : Table) (moment : ℕ) (readings : List Reading) (states : List State) (faults now : ℕ) (event : Event) (o : Option Event) (v : Verdict)

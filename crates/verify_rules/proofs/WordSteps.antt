@@ -13,7 +13,8 @@ use Rattle.sip_message.specs.Head.{Head}
 use Rattle.sip_message.specs.Message.{MessageView}
 use Rattle.sip_message.specs.Reading.{read}
 use Rattle.sip_message.specs.declared.fault.FormFault.{FormFault}
-use Rattle.verify_rules.specs.Call.{IdentityField, Reading, has_ppt, is_absent, is_text, lacks_ppt, originating}
+use Rattle.passport_claims.specs.Passport.{is_text}
+use Rattle.verify_rules.specs.Call.{IdentityField, Reading, has_ppt, is_absent, lacks_ppt, originating}
 use Rattle.verify_rules.specs.Rules.{bad_field, bad_or_later, foreign_alg, other_calling, is_es256, no_identity, no_invite, no_originating, place, stale}
 use Rattle.verify_rules.specs.Words.{AreFewFields, Each, IsEs256, IsFieldText, IsFresh, IsFrom, IsInvite, MayOriginate, OfOne}
 use Rattle.verify_rules.specs.declared.refusal.Place.{Place}

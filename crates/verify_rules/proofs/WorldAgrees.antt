@@ -1,6 +1,5 @@
 -- What is known of the chains leads to the same first event as what there is to know, or the call is set aside.
 use Rattle.std.proofs.Common.{◌≡◌, ◌⊎◌, inl, inr, ℕ, List, [], ◌∷◌, take, zero, suc, Option, Some, None, refl, sym, ◌∙◌, ap, subst}
-use Rattle.std.specs.Prelude.{⊤}
 use Rattle.std.specs.List.{slice_get}
 use Rattle.std.specs.Option.{option_or}
 use Rattle.cert_store.specs.Asking.{SoFar}
@@ -16,14 +15,9 @@ use Rattle.verify_rules.specs.declared.late.Event.{Event}
 use Rattle.verify_rules.specs.declared.late.Event.TheVariants as events
 use Rattle.verify_rules.specs.declared.late.LateRule.{LateRule}
 use Rattle.verify_rules.specs.declared.late.LateRule.TheVariants as late
+use Rattle.verify_rules.proofs.ToldLaws.{IsSetAside}
 
 -- ---- the same event, or one that sets aside
-
-abbrev pub IsSetAside : Option Event → Type 0
-IsSetAside None = ⊥
-IsSetAside (Some (events.Refused refused)) = ⊥
-IsSetAside (Some (events.Unread bad)) = ⊤
-IsSetAside (Some (events.Unasked bad)) = ⊤
 
 abbrev pub Agrees : Option Event → Option Event → Type 0
 Agrees truth event = (truth ≡ event) ⊎ IsSetAside event

@@ -1,5 +1,5 @@
 -- Where a call is set aside, it may be: the place, and what holds before it.
-use Rattle.std.proofs.Common.{◌≡◌, inl, inr, ℕ, ◌≤◌, suc, Bool, true, false, List, [], ◌∷◌, take, Option, Some, None, refl, sym, ◌∙◌, ap, subst}
+use Rattle.std.proofs.Common.{◌≡◌, inl, inr, ℕ, ◌≤◌, suc, List, [], ◌∷◌, take, Option, Some, None, refl, sym, ◌∙◌, ap, subst}
 use Rattle.std.specs.Prelude.{⊤}
 use Rattle.std.specs.List.{slice_get}
 use Rattle.std.specs.Option.{option_or}
@@ -10,7 +10,7 @@ use Rattle.cert_store.specs.declared.judged.Asked.{Asked}
 use Rattle.cert_store.specs.declared.judged.Asked.TheVariants.{NotAsked, Yes, No, Failed}
 use Rattle.delegation.specs.Coverage.{Table}
 use Rattle.verify_rules.specs.Call.{Call, Reading, in_chain}
-use Rattle.verify_rules.specs.Late.{asking, at_rule, by_answer, by_part, event_of, first_rule, number, or_broken, rules_before, tell_judged, tell_long, tell_missing, told_by}
+use Rattle.verify_rules.specs.Late.{asking, at_rule, by_answer, event_of, first_rule, number, rules_before, tell_judged, tell_long, tell_missing, told_by}
 use Rattle.verify_rules.specs.Rules.{HoldAll, each, early_rules, place}
 use Rattle.verify_rules.specs.States.{State, have, no_chain, long, unread}
 use Rattle.verify_rules.specs.Verdict.{IsOpenAt}
@@ -19,7 +19,12 @@ use Rattle.verify_rules.specs.declared.late.Event.{Event}
 use Rattle.verify_rules.specs.declared.late.Event.TheVariants as events
 use Rattle.verify_rules.specs.declared.late.LateRule.{LateRule}
 use Rattle.verify_rules.specs.declared.late.LateRule.TheVariants as late
+use Rattle.verify_rules.specs.declared.late.Told.{Told}
+use Rattle.verify_rules.specs.declared.late.Told.TheVariants as told
 use Rattle.verify_rules.specs.declared.refusal.Place.{Place}
+use Rattle.lists.proofs.Options.{or_none}
+use Rattle.verify_rules.proofs.FirstOf.{both_none, unread_same}
+use Rattle.verify_rules.proofs.ToldLaws.{AsksNothing, IsDefinite, judged_definite, unjudged_definite}
 use Rattle.verify_rules.proofs.WorldAgrees.{Agrees, asking_agrees, right_before, state_agrees, told_agrees}
 use Rattle.verify_rules.proofs.WorldEvents.{AnsweredLaw, asking_is, broken_event, rule_is, told_is}
 
@@ -77,9 +82,6 @@ unread_later world moment one others bad holds u = record {
   named = u.named;
   before = none_before (broken_by world late.Listed moment) one (take u.at others) holds u.before;
 }
-
-unread_same : (a b : Place) → Some (events.Unread a) ≡ Some (events.Unread b) → b ≡ a
-unread_same a b e = cc
 
 -- by what the rule makes of the first PASSporT
 unread_here : (world : World) (moment : ℕ) (one : Reading) (others : List Reading) (state : State) (bad : Place) (later : Option Event) → AnsweredLaw
@@ -186,57 +188,18 @@ answered_or : (a b : Option Event) → IsAnswered a → IsAnswered b → IsAnswe
 answered_or None b first later = later
 answered_or (Some event) b first later = first
 
-part_answered : (n field : ℕ) (part : Option ℕ) → IsAnswered (event_of n field (by_part part))
-part_answered n field None = tt
-part_answered n field (Some part) = tt
-
--- every rule but 15
-abbrev AsksNothing : LateRule → Type 0
-AsksNothing late.Listed = ⊤
-AsksNothing late.Profile = ⊤
-AsksNothing late.Shape = ⊤
-AsksNothing late.Dates = ⊤
-AsksNothing late.Authority = ⊤
-AsksNothing late.Asked = ⊥
-AsksNothing late.Covers = ⊤
-
-test_answered : (n field : ℕ) (t : Bool) → IsAnswered (event_of n field (or_broken t))
-test_answered n field true = tt
-test_answered n field false = tt
-
-missing_answered : (rule : LateRule) (n field : ℕ) → IsAnswered (event_of n field (tell_missing rule))
-missing_answered late.Listed n field = tt
-missing_answered late.Profile n field = tt
-missing_answered late.Shape n field = tt
-missing_answered late.Dates n field = tt
-missing_answered late.Authority n field = tt
-missing_answered late.Asked n field = tt
-missing_answered late.Covers n field = tt
-
-long_answered : (rule : LateRule) (n field : ℕ) → IsAnswered (event_of n field (tell_long rule))
-long_answered late.Listed n field = tt
-long_answered late.Profile n field = tt
-long_answered late.Shape n field = tt
-long_answered late.Dates n field = tt
-long_answered late.Authority n field = tt
-long_answered late.Asked n field = tt
-long_answered late.Covers n field = tt
-
-judged_answered : (rule : LateRule) (table : Table) (moment : ℕ) (one : Reading) (judged : JudgedView) → AsksNothing rule
-    → IsAnswered (event_of (number rule) one.mark.field (tell_judged rule table moment one judged))
-judged_answered late.Listed table moment one judged nothing = tt
-judged_answered late.Profile table moment one judged nothing = part_answered _ _ _
-judged_answered late.Shape table moment one judged nothing = part_answered _ _ _
-judged_answered late.Dates table moment one judged nothing = part_answered _ _ _
-judged_answered late.Authority table moment one judged nothing = part_answered _ _ _
-judged_answered late.Asked table moment one judged nothing = absurd nothing
-judged_answered late.Covers table moment one judged nothing = test_answered _ _ _
+definite_answered : (n field : ℕ) (said : Told) → IsDefinite said → IsAnswered (event_of n field said)
+definite_answered n field told.Holds d = tt
+definite_answered n field (told.Broken part) d = tt
+definite_answered n field told.Unknown d = tt
+definite_answered n field (told.Unasked part) d = d
 
 one_answered : (rule : LateRule) (table : Table) (moment : ℕ) (one : Reading) (state : State) → AsksNothing rule → IsAnswered (at_rule rule table moment one state)
 unfolding at_rule
-one_answered rule table moment one (have judged) nothing = judged_answered rule table moment one judged nothing
-one_answered rule table moment one no_chain nothing = missing_answered rule (number rule) one.mark.field
-one_answered rule table moment one long nothing = long_answered rule (number rule) one.mark.field
+one_answered rule table moment one (have judged) nothing =
+    definite_answered (number rule) one.mark.field (tell_judged rule table moment one judged) (judged_definite rule table moment one judged nothing)
+one_answered rule table moment one no_chain nothing = definite_answered (number rule) one.mark.field (tell_missing rule) (unjudged_definite rule).0
+one_answered rule table moment one long nothing = definite_answered (number rule) one.mark.field (tell_long rule) (unjudged_definite rule).1
 one_answered rule table moment one unread nothing = tt
 
 told_answered : (rule : LateRule) (table : Table) (moment : ℕ) (readings : List Reading) (states : List State) → AsksNothing rule → IsAnswered (told_by rule table moment readings states)
@@ -250,14 +213,6 @@ passed_over None b bad answered h = (refl, h)
 passed_over (Some (events.Refused refused)) b bad answered h = absurd cc
 passed_over (Some (events.Unread other)) b bad answered h = absurd cc
 passed_over (Some (events.Unasked other)) b bad answered h = absurd answered
-
-alone : (a : Option Event) → option_or a None ≡ a
-alone None = refl
-alone (Some event) = refl
-
-none_both : (a b : Option Event) → option_or a b ≡ None → (a ≡ None) × (b ≡ None)
-none_both None b h = (refl, h)
-none_both (Some event) b h = absurd cc
 
 -- what rules 10 to 15 make of the PASSporTs
 abbrev tells : World → Call → List State → LateRule → Option Event
@@ -281,16 +236,16 @@ open_comes world call states bad h =
     let c = passed_over (tells world call states late.Shape) _ bad (answered late.Shape tt) b.1 in
     let d = passed_over (tells world call states late.Dates) _ bad (answered late.Dates tt) c.1 in
     let e = passed_over (tells world call states late.Authority) _ bad (answered late.Authority tt) d.1 in
-    record { listing = a.0; profile = b.0; shape = c.0; dates = d.0; authority = e.0; asked = sym (alone (tells world call states late.Asked)) ∙ e.1 }
+    record { listing = a.0; profile = b.0; shape = c.0; dates = d.0; authority = e.0; asked = sym (or_none (tells world call states late.Asked)) ∙ e.1 }
 
 none_comes : (world : World) (call : Call) (states : List State) → first_rule rules_before world.table call.moment (in_chain call) states ≡ None → ComesTo world call states None
 none_comes world call states h =
-    let a = none_both (tells world call states late.Listed) _ h in
-    let b = none_both (tells world call states late.Profile) _ a.1 in
-    let c = none_both (tells world call states late.Shape) _ b.1 in
-    let d = none_both (tells world call states late.Dates) _ c.1 in
-    let e = none_both (tells world call states late.Authority) _ d.1 in
-    record { listing = a.0; profile = b.0; shape = c.0; dates = d.0; authority = e.0; asked = sym (alone (tells world call states late.Asked)) ∙ e.1 }
+    let a = both_none (tells world call states late.Listed) _ h in
+    let b = both_none (tells world call states late.Profile) _ a.1 in
+    let c = both_none (tells world call states late.Shape) _ b.1 in
+    let d = both_none (tells world call states late.Dates) _ c.1 in
+    let e = both_none (tells world call states late.Authority) _ d.1 in
+    record { listing = a.0; profile = b.0; shape = c.0; dates = d.0; authority = e.0; asked = sym (or_none (tells world call states late.Asked)) ∙ e.1 }
 
 chains_hold : AnsweredLaw → (world : World) (call : Call) (states : List State) (event : Option Event) → AreRight world (in_chain call) states → ComesTo world call states event
     → HoldAll (certificate_rules world) call

@@ -10,7 +10,7 @@ use Rattle.cert_store.specs.declared.judged.Asked.TheVariants.{NotAsked, Yes, No
 use Rattle.delegation.specs.Coverage.{Table}
 use Rattle.x509_profile.specs.View.{CertView}
 use Rattle.verify_rules.specs.Call.{Call, Reading, in_chain}
-use Rattle.verify_rules.specs.Late.{asking, at_asking, at_rule, by_answer, by_part, event_of, first_event, first_rule, is_signed_by, number, or_broken, rules_after, rules_before, tell, tell_long, tell_missing, told_by, unless_signed}
+use Rattle.verify_rules.specs.Late.{asking, at_asking, at_rule, by_answer, event_of, first_event, first_rule, is_signed_by, number, rules_after, rules_before, tell, told_by, unless_signed}
 use Rattle.verify_rules.specs.Rules.{Rule, each, first, or_later, refusal}
 use Rattle.verify_rules.specs.States.{State, have, no_chain, long, unread}
 use Rattle.verify_rules.specs.World.{World, asking_rule, broken_by, content_of, forged, forged_by, late_rule, late_rules, part_at, truth_by, truth_for, truth_of, truths, unless_good}
@@ -22,6 +22,7 @@ use Rattle.verify_rules.specs.declared.late.Told.{Told}
 use Rattle.verify_rules.specs.declared.late.Told.TheVariants as told
 use Rattle.verify_rules.specs.declared.refusal.Place.{Place}
 use Rattle.verify_rules.specs.declared.refusal.Refusal.{Refusal}
+use Rattle.verify_rules.proofs.ToldLaws.{IsDefinite, judged_definite, unjudged_definite}
 
 -- what the rules on a chain say leaves no question unanswered
 abbrev pub AnsweredLaw : Type 0
@@ -49,57 +50,20 @@ truth_known law world x5u = content_known law world (content_of world x5u)
 
 -- ---- so a rule holds or is broken
 
-abbrev IsDefinite : Told → Type 0
-IsDefinite told.Holds = ⊤
-IsDefinite (told.Broken part) = ⊤
-IsDefinite told.Unknown = ⊥
-IsDefinite (told.Unasked part) = ⊥
-
-part_definite : (part : Option ℕ) → IsDefinite (by_part part)
-part_definite None = tt
-part_definite (Some part) = tt
-
-test_definite : (t : Bool) → IsDefinite (or_broken t)
-test_definite true = tt
-test_definite false = tt
-
 answer_definite : (asked : Asked) → ((part : ℕ) → asked ≢ Failed part) → IsDefinite (by_answer asked)
 answer_definite NotAsked answered = tt
 answer_definite Yes answered = tt
 answer_definite (No part) answered = tt
 answer_definite (Failed part) answered = absurd (answered part refl)
 
-missing_definite : (rule : LateRule) → IsDefinite (tell_missing rule)
-missing_definite late.Listed = tt
-missing_definite late.Profile = tt
-missing_definite late.Shape = tt
-missing_definite late.Dates = tt
-missing_definite late.Authority = tt
-missing_definite late.Asked = tt
-missing_definite late.Covers = tt
-
-long_definite : (rule : LateRule) → IsDefinite (tell_long rule)
-long_definite late.Listed = tt
-long_definite late.Profile = tt
-long_definite late.Shape = tt
-long_definite late.Dates = tt
-long_definite late.Authority = tt
-long_definite late.Asked = tt
-long_definite late.Covers = tt
-
-judged_definite : (rule : LateRule) (table : Table) (moment : ℕ) (one : Reading) (judged : JudgedView) → ((part : ℕ) → judged.asked ≢ Failed part) → IsDefinite (tell rule table moment one (have judged))
-judged_definite late.Listed table moment one judged answered = tt
-judged_definite late.Profile table moment one judged answered = part_definite _
-judged_definite late.Shape table moment one judged answered = part_definite _
-judged_definite late.Dates table moment one judged answered = part_definite _
-judged_definite late.Authority table moment one judged answered = part_definite _
-judged_definite late.Asked table moment one judged answered = answer_definite judged.asked answered
-judged_definite late.Covers table moment one judged answered = test_definite _
+answered_definite : (rule : LateRule) (table : Table) (moment : ℕ) (one : Reading) (judged : JudgedView) → ((part : ℕ) → judged.asked ≢ Failed part) → IsDefinite (tell rule table moment one (have judged))
+answered_definite late.Asked table moment one judged answered = answer_definite judged.asked answered
+answered_definite rule table moment one judged answered = judged_definite rule table moment one judged tt
 
 definite : (rule : LateRule) (table : Table) (moment : ℕ) (one : Reading) (state : State) → IsKnown state → IsDefinite (tell rule table moment one state)
-definite rule table moment one (have judged) known = judged_definite rule table moment one judged known
-definite rule table moment one no_chain known = missing_definite rule
-definite rule table moment one long known = long_definite rule
+definite rule table moment one (have judged) known = answered_definite rule table moment one judged known
+definite rule table moment one no_chain known = (unjudged_definite rule).0
+definite rule table moment one long known = (unjudged_definite rule).1
 definite rule table moment one unread known = absurd known
 
 -- ---- the event of a broken rule

@@ -4,13 +4,12 @@ use Rattle.std.specs.Prelude.{ℕ, suc, ◌+◌, Bool, true, false, List, [], �
 use Rattle.std.specs.List.{filter_map}
 use Rattle.std.specs.Option.{option_or}
 use Rattle.std.specs.Result.{result_ok}
-use Rattle.std.specs.Str.{bytes_eq}
 use Rattle.identity_header.specs.Parts.{Parts}
 use Rattle.identity_header.specs.Read.{read as read_parts}
 use Rattle.identity_header.specs.declared.field.FieldFault.{FieldFault}
 use Rattle.passport_claims.specs.Fault.{fault_number as claim_number}
 use Rattle.passport_claims.specs.OrderReading.{order_of}
-use Rattle.passport_claims.specs.Passport.{ClaimsView}
+use Rattle.passport_claims.specs.Passport.{ClaimsView, is_text}
 use Rattle.passport_claims.specs.Read.{read_claims}
 use Rattle.passport_claims.specs.declared.fault.ClaimFault.{ClaimFault}
 use Rattle.passport_claims.specs.declared.order.ChainFault.{ChainFault}
@@ -68,10 +67,6 @@ numbered number (value ∷ others) = with_field number (read_parts value) (numbe
 
 abbrev pub fields_of : Call → List IdentityField
 fields_of call = numbered 1 (values_of call)
-
-abbrev pub is_text : List ℕ → Option (List ℕ) → Bool
-is_text text None = false
-is_text text (Some value) = bytes_eq value text
 
 abbrev pub is_absent : Option (List ℕ) → Bool
 is_absent None = true

@@ -10,7 +10,8 @@ use Rattle.passport_claims.specs.declared.order.ChainFault.{ChainFault}
 use Rattle.sip_message.specs.Accessors.{is_invite}
 use Rattle.sip_message.specs.Message.{MessageView}
 use Rattle.sip_message.specs.declared.fault.FormFault.{FormFault}
-use Rattle.verify_rules.specs.Call.{Call, IdentityField, Reading, facts, fields_of, in_chain, in_message, is_absent, is_text, judged_fields, originating, read_field, turn_of, values_of}
+use Rattle.passport_claims.specs.Passport.{is_text}
+use Rattle.verify_rules.specs.Call.{Call, IdentityField, Reading, facts, fields_of, in_chain, in_message, is_absent, judged_fields, originating, read_field, turn_of, values_of}
 use Rattle.verify_rules.specs.declared.facts.Facts.{Facts}
 use Rattle.verify_rules.specs.declared.refusal.Place.{Place}
 use Rattle.verify_rules.specs.declared.refusal.Refusal.{Refusal}

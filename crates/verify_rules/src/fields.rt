@@ -5,7 +5,8 @@ ghost use Rattle.std.specs.Option.{option_copied, option_map};
 ghost use Rattle.identity_header.specs.Read.{read};
 ghost use Rattle.passport_claims.specs.Claims.{IsKnown};
 ghost use Rattle.sip_message.specs.Accessors.{identities};
-ghost use Rattle.verify_rules.specs.Call.{has_ppt, is_text, lacks_ppt, links, originating};
+ghost use Rattle.passport_claims.specs.Passport.{is_text};
+ghost use Rattle.verify_rules.specs.Call.{has_ppt, lacks_ppt, links, originating};
 ghost use Rattle.verify_rules.specs.Rules.{each, foreign_alg, is_es256};
 ghost use Rattle.verify_rules.specs.Seen.{AreFields, GivesField, field_seen, is_compact};
 

@@ -1,6 +1,6 @@
 //! Laws: a function here does nothing, and its clauses are the law.
 ghost use Rattle.std.specs.List.{slice_get};
-ghost use Rattle.std.specs.Option.{option_map};
+ghost use Rattle.std.specs.Option.{option_map, option_or};
 ghost use Rattle.std.specs.Prelude.{◌≡◌, ◌↔◌, ◌≤◌, ◌++◌, ◌∷◌, [], ℕ, List, length, IsTrue, Some, None, Ok, Err};
 ghost use Rattle.stir_outside.specs.Files.{IsLonger, file};
 ghost use Rattle.tn_auth_list.specs.declared.entries.Entry.{Entry};
@@ -13,7 +13,7 @@ ghost use Rattle.verify_rules.specs.AllWords.{SaysRules};
 ghost use Rattle.verify_rules.specs.Call.{Call, Reading, call_of, in_chain};
 ghost use Rattle.verify_rules.specs.Late.{covers_kind};
 ghost use Rattle.verify_rules.specs.LateWords.{CoversKind, SaysLateWords};
-ghost use Rattle.verify_rules.specs.Rules.{each, early_rules, first};
+ghost use Rattle.verify_rules.specs.Rules.{HoldAll, Rule, each, early_rules, first};
 ghost use Rattle.verify_rules.specs.Screened.{IsScreenedBy, ScreenedView, digest_in, last_of, last_of_call, ticket_of};
 ghost use Rattle.verify_rules.specs.Signed.{IsKnownAgain};
 ghost use Rattle.verify_rules.specs.States.{State, have, long, no_chain, unread};
@@ -51,6 +51,13 @@ pub fn late_words_law()
     chain_law();
     covers_law();
 }
+
+/// Of some rules and others behind them the first broken is that of the first, or where none of these is broken that of the others; and where
+/// all hold there is none.
+pub fn first_law()
+    ensures none { (rules : List Rule) (call : Call) → HoldAll rules call → first rules call ≡ None }
+    ensures append { (xs ys : List Rule) (call : Call) → first (xs ++ ys) call ≡ option_or (first xs call) (first ys call) }
+{}
 
 /// The test of what an authority list must cover decides it in the words of rule 17.
 pub fn covers_kind_law()

@@ -1,6 +1,6 @@
 //! Rules 7 and 8: the calling number, and the order in which the call went.
 ghost use Rattle.std.specs.Prelude.{◌≡◌, ◌≤◌, length, if◌then◌else◌};
-ghost use Rattle.verify_rules.specs.Call.{is_text};
+ghost use Rattle.passport_claims.specs.Passport.{is_text};
 ghost use Rattle.verify_rules.specs.Rules.{each, field_at, other_calling};
 ghost use Rattle.verify_rules.specs.Seen.{GivesOrder, IsChainable, taken_seen};
 

@@ -2,6 +2,7 @@
 use Rattle.std.proofs.Common.{◌≡◌, ℕ, suc, ◌+◌, ◌≤◌, ◌||◌, inl, inr, Bool, true, false, cond, List, [], ◌∷◌, ◌++◌, length, filter, zero-add, refl, ap, sym, ◌∙◌, subst, arith}
 use Rattle.std.specs.List.{list_any}
 use Rattle.std.specs.Str.{bytes_eq}
+use Rattle.std.proofs.Math.Bool.{or-false}
 use Rattle.std.proofs.lemmas.List.Folds.{list_any-append}
 use Rattle.call_log.specs.Entry.{Entry}
 use Rattle.stir_outside.specs.Count.{AtMost, GoesOn, NotRisen}
@@ -38,12 +39,8 @@ either_cause : (one other : Bool) (before mid now : ℕ) → before ≤ mid → 
 either_cause true other before mid now stayed further first second = λ is. rose_then before mid now stayed (first refl) further
 either_cause false other before mid now stayed further first second = λ is. then_rose before mid now stayed (second is)
 
-or_none : (b : Bool) → (b || false) ≡ b
-or_none true = refl
-or_none false = refl
-
 pub any_more : {A : Type 0} → (p : A → Bool) (xs : List A) (x : A) → list_any p (xs ++ x ∷ []) ≡ (list_any p xs || p x)
-any_more p xs x = list_any-append p xs (x ∷ []) ∙ ap (λ b. list_any p xs || b) (or_none (p x))
+any_more p xs x = list_any-append p xs (x ∷ []) ∙ ap (λ b. list_any p xs || b) (or-false (p x))
 
 -- one more of those that may have a cause
 pub cause_more : {A : Type 0} → (p : A → Bool) (xs : List A) (x : A) (before mid now : ℕ) → before ≤ mid → mid ≤ now
@@ -86,25 +83,20 @@ counted_none p before = record { most = none_at before before (omega arith); cau
 
 -- ---- over a round
 
+-- an outcome sets its call aside as the finding that it comes of does
+aside_same : (finding : Finding) (outcome : Outcome) → ComesOf finding outcome → (is_unread outcome ≡ found_unread finding) × (is_unasked outcome ≡ found_unasked finding)
+aside_same (found.Passes pass) Valid is = (refl, refl)
+aside_same (found.Passes pass) (Refused refused) is = absurd is
+aside_same (found.Passes pass) (Replay winner) is = (refl, refl)
+aside_same (found.Passes pass) (Unread bad) is = absurd is
+aside_same (found.Passes pass) (Unasked bad) is = absurd is
+aside_same finding outcome is = (ap is_unread is, ap is_unasked is)
+
 unread_same : (finding : Finding) (outcome : Outcome) → ComesOf finding outcome → is_unread outcome ≡ found_unread finding
-unread_same (found.Refused refused) outcome is = ap is_unread is
-unread_same (found.Unread bad) outcome is = ap is_unread is
-unread_same (found.Unasked bad) outcome is = ap is_unread is
-unread_same (found.Passes pass) Valid is = refl
-unread_same (found.Passes pass) (Refused refused) is = absurd is
-unread_same (found.Passes pass) (Replay winner) is = refl
-unread_same (found.Passes pass) (Unread bad) is = absurd is
-unread_same (found.Passes pass) (Unasked bad) is = absurd is
+unread_same finding outcome is = (aside_same finding outcome is).0
 
 unasked_same : (finding : Finding) (outcome : Outcome) → ComesOf finding outcome → is_unasked outcome ≡ found_unasked finding
-unasked_same (found.Refused refused) outcome is = ap is_unasked is
-unasked_same (found.Unread bad) outcome is = ap is_unasked is
-unasked_same (found.Unasked bad) outcome is = ap is_unasked is
-unasked_same (found.Passes pass) Valid is = refl
-unasked_same (found.Passes pass) (Refused refused) is = absurd is
-unasked_same (found.Passes pass) (Replay winner) is = refl
-unasked_same (found.Passes pass) (Unread bad) is = absurd is
-unasked_same (found.Passes pass) (Unasked bad) is = absurd is
+unasked_same finding outcome is = (aside_same finding outcome is).1
 
 count_by_test : {A B : Type 0} → (s t : Bool) (a : A) (b : B) (xs : List A) (ys : List B) → s ≡ t → length xs ≡ length ys → length (cond s (a ∷ xs) xs) ≡ length (cond t (b ∷ ys) ys)
 count_by_test true true a b xs ys same lengths = ap suc lengths

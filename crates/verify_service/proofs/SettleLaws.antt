@@ -1,6 +1,7 @@
 -- A call that is settled takes its turn over the past.
 use Rattle.std.proofs.Common.{◌≡◌, ◌≢◌, ℕ, nat_lt, Bool, true, false, cond, List, [], ◌∷◌, ◌++◌, length, Option, Some, None, refl, ap, sym, ◌∙◌, arith}
 use Rattle.std.specs.Option.{option_map}
+use Rattle.std.proofs.lemmas.Option.{same_Some}
 use Rattle.call_log.specs.Entry.{Entry}
 use Rattle.replay_desk.specs.Past.{PastView, found}
 use Rattle.replay_desk.specs.Past.{unless_below as desk_unless_below}
@@ -23,9 +24,6 @@ true_is_not_false e = cc
 some_is_none : {A : Type 0} → (a : A) (o : Option A) → o ≡ Some a → o ≡ None → ⊥
 some_is_none a o some none = cc
 
-same_some : {A : Type 0} → (a b : A) (o : Option A) → o ≡ Some a → o ≡ Some b → a ≡ b
-same_some a b o one other = cc
-
 -- a call that doesn't pass changes nothing
 pub turn_over : (past : PastView) (row : Row) → row.passes ≡ false → row.answer ≡ neither → Turn (held past) row (held past)
 turn_over past row set_aside answer = record {
@@ -45,7 +43,7 @@ turn_replay past settings entry ticket last passed known at =
     let here : held past (ticket_or_none (call_in settings entry)) ≡ Some (kept_of_past passed) = held_at past ticket (ticket_or_none (call_in settings entry)) (Some passed) known.ticket_is at in
     record {
       refused = λ h. absurd (true_is_not_false h);
-      replays = λ kept h e. (ap (λ (k : Kept). replay k.call) (same_some (kept_of_past passed) kept (held past (ticket_or_none (call_in settings entry))) here e), λ t. refl);
+      replays = λ kept h e. (ap (λ (k : Kept). replay k.call) (same_Some (kept_of_past passed) kept (sym here ∙ e)), λ t. refl);
       wins = λ h e. absurd (some_is_none (kept_of_past passed) (held past (ticket_or_none (call_in settings entry))) here e);
     }
 

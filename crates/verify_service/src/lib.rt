@@ -10,6 +10,7 @@
 mod chains;
 mod finding;
 mod judge;
+mod laws;
 mod materials;
 mod outcome;
 mod reading;
@@ -23,6 +24,7 @@ pub use call_log::{Call, LogFault, LogReader};
 pub use chains::{CallChain, CallChains};
 pub use finding::{Finding, Pass};
 pub use judge::judge_call;
+pub use laws::{call_law, chains_law};
 pub use materials::World;
 pub use outcome::Outcome;
 pub use reading::chain_in;

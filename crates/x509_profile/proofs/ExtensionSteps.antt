@@ -1,110 +1,82 @@
 -- Steps of the walk over a certificate's extensions.
-use Rattle.std.proofs.Common.{◌≡◌, ℕ, zero, suc, ◌-◌, ◌<◌, ◌≤◌, true, false, cond, List, length, Result, Ok, Err, refl, sym, ap, subst, arith, length-take}
+use Rattle.std.proofs.Common.{◌≡◌, ℕ, zero, suc, ◌<◌, ◌≤◌, ◌==◌, true, false, List, [], length, Option, Some, None, Result, Ok, Err, refl, sym, ap, subst, ◌∙◌, arith}
+use Rattle.std.proofs.lemmas.Bool.Decides.{nat_tests}
 use Rattle.std.specs.Result.{IsErr, IsErrAnd}
-use Rattle.der_reader.specs.Elem.{Element}
-use Rattle.der_reader.specs.Next.{next_at}
-use Rattle.der_reader.specs.declared.fault.DerFault.{DerFault}
-use Rattle.der_reader.proofs.NextLaws.{next_shorter}
-use Rattle.x509_profile.specs.declared.fault.Fault.{Fault}
-use Rattle.x509_profile.specs.declared.fault.CertFault.{CertFault}
-use Rattle.x509_profile.specs.declared.fault.CertFault.TheVariants.{At, Memory}
-use Rattle.x509_profile.specs.declared.span.Span.{Span}
-use Rattle.x509_profile.specs.declared.part.Part.{Part}
-use Rattle.x509_profile.specs.declared.extensions.Extensions.{Extensions}
-use Rattle.x509_profile.specs.Fault.{Gives}
+use Rattle.lists.specs.Given.{IsFaultOf}
 use Rattle.lists.specs.Steps.{◌>>=◌}
-use Rattle.x509_profile.specs.Span.{behind, bytes_of, is_empty, next_in, part_at, placed}
-use Rattle.x509_profile.specs.Extensions.{extensions_at, extensions_in, with_extension}
-use Rattle.lists.proofs.StepLaws.{inside}
+use Rattle.der_reader.specs.declared.part.Fault.{Fault}
+use Rattle.der_reader.specs.Part.{ItemView, PartView, end_at, item_at}
+use Rattle.x509_profile.specs.declared.fault.CertFault.{CertFault}
+use Rattle.x509_profile.specs.declared.fault.CertFault.TheVariants.{At}
+use Rattle.x509_profile.specs.Extensions.{each_up_to, values_with}
+use Rattle.x509_profile.specs.Fault.{Gives, fault_seen}
+use Rattle.x509_profile.specs.View.{Values}
 
-size_behind : (span : Span) (found : Element × List ℕ) → length found.1 < span.end - span.start
-    → (behind span found).end - (behind span found).start < span.end - span.start
-size_behind span found l = omega arith
+-- what is left, with what was read before, gives what all gives
+pub record Left (all : Result Values Fault) (values : Values) (part : PartView) : Type 0 where
+  pub room : ℕ
+  pub enough : length part.left ≤ room
+  pub gives : each_up_to room values part ≡ all
 
--- What is behind an element is less.
-pub next_smaller : (all : List ℕ) (span : Span) (next : Part × Span) → next_in all span ≡ Ok next
-    → next.1.end - next.1.start < span.end - span.start
-unfolding next_in
-next_smaller all span next e = of (next_at (bytes_of all span)) refl e
+pub at_first : (values : Values) (part : PartView) → Left (each_up_to (length part.left) values part) values part
+at_first values part = record { room = length part.left; enough = omega arith; gives = refl }
+
+end_by : (room : ℕ) (values : Values) (part : PartView) → length part.left == 0 ≡ true → each_up_to room values part ≡ Ok values
+unfolding each_up_to
+end_by zero values part e = rw e refl
+end_by (suc room) values part e = rw e refl
+
+-- where nothing is left, all is read
+pub at_end : (all : Result Values Fault) (values : Values) (part : PartView) → Left all values part → length part.left == 0 ≡ true → all ≡ Ok values
+at_end all values part l e = sym l.gives ∙ end_by l.room values part e
+
+one_by : (room : ℕ) (values : Values) (part : PartView) → length part.left ≤ room → length part.left == 0 ≡ false
+    → (next : ℕ) × (room ≡ suc next)
+    × (each_up_to room values part ≡ (item_at part >>= λ item. values_with values item >>= λ more. each_up_to next more item.behind))
+unfolding each_up_to
+one_by zero values part l e = absurd (grind (arith, nat_tests, l, e))
+one_by (suc room) values part l e = (room, refl, rw e refl)
+
+-- an element that can't be read ends the walk
+pub unread : (all : Result Values Fault) (values : Values) (part : PartView) (fault : Fault) → Left all values part → length part.left == 0 ≡ false
+    → item_at part ≡ Err fault → all ≡ Err fault
+unread all values part fault l e i =
+    let one = one_by l.room values part l.enough e in
+    sym l.gives ∙ one.2 ∙ ap (λ r. r >>= λ item. values_with values item >>= λ more. each_up_to one.0 more item.behind) i
+
+-- what is left behind an extension, with it
+pub one_more : (all : Result Values Fault) (values more : Values) (part : PartView) (item : ItemView) → Left all values part
+    → length part.left == 0 ≡ false → item_at part ≡ Ok item → length item.behind.left < length part.left → values_with values item ≡ Ok more
+    → Left all more item.behind
+one_more all values more part item l e i less w =
+    let one = one_by l.room values part l.enough e in
+    record {
+      room = one.0;
+      enough = omega (arith, less, l.enough, one.1);
+      gives =
+          sym (ap (λ r. r >>= λ more. each_up_to one.0 more item.behind) w)
+          ∙ sym (ap (λ r. r >>= λ item. values_with values item >>= λ more. each_up_to one.0 more item.behind) i) ∙ sym one.2 ∙ l.gives;
+    }
+
+-- an extension that is refused ends the walk, and so does want of memory
+pub refused : (all : Result Values Fault) (values : Values) (part : PartView) (item : ItemView) (fault : CertFault) → Left all values part
+    → length part.left == 0 ≡ false → item_at part ≡ Ok item → IsFaultOf (fault_seen fault) (values_with values item)
+    → IsFaultOf (fault_seen fault) all
+refused all values part item fault l e i f = of (fault_seen fault) f
   where
-    of : (r : Result (Element × List ℕ) DerFault) → next_at (bytes_of all span) ≡ r → placed span r ≡ Ok next
-        → next.1.end - next.1.start < span.end - span.start
-    of (Ok found) is e =
-        let short : length found.1 < length (bytes_of all span) = next_shorter (bytes_of all span) found is in
-        let few : length (bytes_of all span) ≤ span.end - span.start = omega (arith, length-take {A = ℕ}) in
-        let less : length found.1 < span.end - span.start = omega arith in
-        let same : (part_at span found, behind span found) ≡ next = inside _ _ e in
-        let P : Part × Span → Type 0 = λ n. n.1.end - n.1.start < span.end - span.start in
-        subst P same (size_behind span found less)
-    of (Err fault) is e = cc
+    of : (seen : Option Fault) → IsFaultOf seen (values_with values item) → IsFaultOf seen all
+    of None f = tt
+    of (Some seen) f =
+        let one = one_by l.room values part l.enough e in
+        sym l.gives ∙ one.2 ∙ ap (λ r. r >>= λ item. values_with values item >>= λ more. each_up_to one.0 more item.behind) i
+        ∙ ap (λ r. r >>= λ more. each_up_to one.0 more item.behind) f
 
--- one turn with either fuel
-one_turn : (n m : ℕ) (all : List ℕ) (found : Extensions) (span : Span)
-    → ((more : Extensions) (rest : Span) → rest.end - rest.start < n → rest.end - rest.start < m
-    → extensions_at n all more rest ≡ extensions_at m all more rest)
-    → span.end - span.start < suc n → span.end - span.start < suc m
-    → extensions_at (suc n) all found span ≡ extensions_at (suc m) all found span
-unfolding extensions_at
-one_turn n m all found span same p q =
-    ap (λ (x : Result Extensions Fault). cond (is_empty span) (Ok found) x) (of (next_in all span) refl)
-  where
-    with_more : (rest : Span) → rest.end - rest.start < n → rest.end - rest.start < m → (w : Result Extensions Fault)
-        → (w >>= λ more. extensions_at n all more rest) ≡ (w >>= λ more. extensions_at m all more rest)
-    with_more rest p q (Ok more) = same more rest p q
-    with_more rest p q (Err fault) = refl
+-- an error that is handed on as it is, and one that is handed on as a fault of the certificate
+pub handed_on : {X : Type 0} (seen : X → Values) (r : Result X CertFault) (fault : CertFault) (read : Result Values Fault) → IsErr r
+    → IsErrAnd r (λ e. e ≡ fault) → IsFaultOf (fault_seen fault) read → Gives seen r read
+handed_on seen (Ok x) fault read i e g = absurd (let k : false ≡ true = i in cc)
+handed_on seen (Err f) fault read i e g = subst (λ f. Gives seen (Err f) read) (sym e) g
 
-    of : (r : Result (Part × Span) Fault) → next_in all span ≡ r
-        → (r >>= λ next. with_extension all found next.0 >>= λ more. extensions_at n all more next.1)
-        ≡ (r >>= λ next. with_extension all found next.0 >>= λ more. extensions_at m all more next.1)
-    of (Ok next) is =
-        let less : next.1.end - next.1.start < span.end - span.start = next_smaller all span next is in
-        with_more next.1 (omega arith) (omega arith) (with_extension all found next.0)
-    of (Err fault) is = refl
-
--- Fuel past what is left changes nothing.
-same_fuel : (n m : ℕ) (all : List ℕ) (found : Extensions) (span : Span)
-    → span.end - span.start < n → span.end - span.start < m
-    → extensions_at n all found span ≡ extensions_at m all found span
-same_fuel zero m all found span p q = absurd (omega arith)
-same_fuel (suc n) zero all found span p q = absurd (omega arith)
-same_fuel (suc n) (suc m) all found span p q =
-    one_turn n m all found span (λ more rest p q. same_fuel n m all more rest p q) p q
-
--- Where nothing is left, all is read.
-pub all_read : (all : List ℕ) (found : Extensions) (span : Span) → is_empty span ≡ true
-    → extensions_in all found span ≡ Ok found
-unfolding extensions_in extensions_at
-all_read all found span e = rw e refl
-
--- An element that can't be read ends the walk.
-pub unread : (all : List ℕ) (found : Extensions) (span : Span) (fault : Fault) → is_empty span ≡ false
-    → next_in all span ≡ Err fault → extensions_in all found span ≡ Err fault
-unfolding extensions_in extensions_at
-unread all found span fault e n = rw (e, n) refl
-
--- What is left is what is left behind the next extension, with that extension.
-pub one_more : (all : List ℕ) (found more : Extensions) (span : Span) (next : Part × Span) → is_empty span ≡ false
-    → next_in all span ≡ Ok next → with_extension all found next.0 ≡ Ok more
-    → extensions_in all found span ≡ extensions_in all more next.1
-unfolding extensions_in extensions_at
-one_more all found more span next e n w =
-    let less : next.1.end - next.1.start < span.end - span.start = next_smaller all span next n in
-    let same : extensions_at (span.end - span.start) all more next.1 ≡ extensions_at (suc (next.1.end - next.1.start)) all more next.1 =
-    same_fuel (span.end - span.start) (suc (next.1.end - next.1.start)) all more next.1 less (omega arith) in
-    rw (e, n, w) same
-
--- An extension that is refused ends the walk, and so does want of memory.
-pub refused : (all : List ℕ) (found : Extensions) (span : Span) (next : Part × Span) (fault : CertFault) → is_empty span ≡ false
-    → next_in all span ≡ Ok next
-    → Gives {X = Extensions} {Y = Extensions} (λ found. found) (Err fault) (with_extension all found next.0)
-    → Gives {X = Extensions} {Y = Extensions} (λ found. found) (Err fault) (extensions_in all found span)
-unfolding extensions_in extensions_at
-refused all found span next (At kind place) e n w = rw (e, n, w) refl
-refused all found span next Memory e n w = tt
-
--- An error that is handed on unchanged says the same.
-pub handed_on : (r : Result Extensions CertFault) (fault : CertFault) (read : Result Extensions Fault) → IsErr r
-    → IsErrAnd r (λ e. e ≡ fault) → Gives {X = Extensions} {Y = Extensions} (λ found. found) (Err fault) read
-    → Gives {X = Extensions} {Y = Extensions} (λ found. found) r read
-handed_on (Ok x) fault read i e g = absurd (let k : false ≡ true = i in cc)
-handed_on (Err f) fault read i e g = subst (λ f. Gives {X = Extensions} {Y = Extensions} (λ found. found) (Err f) read) (sym e) g
+pub converted : {X : Type 0} (seen : X → Values) (r : Result X CertFault) (fault : Fault) (read : Result Values Fault) → IsErr r
+    → IsErrAnd r (λ e. e ≡ At fault.kind fault.place) → read ≡ Err fault → Gives seen r read
+converted seen r fault read i e g = handed_on seen r (At fault.kind fault.place) read i e g

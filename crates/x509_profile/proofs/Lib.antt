@@ -1,14 +1,6 @@
-pub mod SpanLaws
+pub mod ContentLaws
+pub mod ExtensionLaws
 pub mod ExtensionSteps
-pub mod Steps
-pub mod SpanTexts
-pub mod WithinTexts
-pub mod SignedTexts
-pub mod SignatureTexts
-pub mod ContentTexts
-pub mod Adding
-pub mod ExtensionTexts
-pub mod WalkTexts
 pub mod CertLaws
 pub mod ChainLaws
 pub mod ChainSteps

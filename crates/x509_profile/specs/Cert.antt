@@ -1,16 +1,11 @@
 -- A certificate of the profile (RFC 5280, section 4.1).
-use Rattle.std.specs.Prelude.{◌≡◌, ℕ, ◌≤◌, List, ◌++◌, length, Option, Some, None}
+use Rattle.std.specs.Prelude.{◌≡◌, ℕ, ◌≤◌, List, ◌++◌, length}
 use Rattle.sha2.specs.Sha256.{sha256}
 use Rattle.der_reader.specs.Elem.{Elem}
 use Rattle.x509_profile.specs.Text.{algorithm_text, version_text}
 use Rattle.x509_profile.specs.Parts.{AnyElement, KeyText, SignatureText, ValidityText}
-use Rattle.x509_profile.specs.Extended.{ExtensionsText, Values}
-use Rattle.x509_profile.specs.View.{CertView, path_length_of, says_ca}
-
--- the identifier of the issuer's key, where the extension stands and has one
-abbrev pub identifier_in_values : Option (Option (List ℕ)) → Option (List ℕ)
-identifier_in_values (Some key) = key
-identifier_in_values None = None
+use Rattle.x509_profile.specs.Extended.{ExtensionsText}
+use Rattle.x509_profile.specs.View.{CertView, Values, identifier_in_values, path_length_of, says_ca}
 
 -- the certificate says what its extensions say
 pub record Says (c : CertView) (values : Values) : Type 0 where

@@ -4,12 +4,12 @@ use Rattle.der_reader.specs.BitString.{flags_of}
 use Rattle.der_reader.specs.Boolean.{boolean_text}
 use Rattle.der_reader.specs.Elem.{Elem}
 use Rattle.der_reader.specs.Integer.{IntegerText}
-use Rattle.tn_auth_list.specs.declared.entries.Entry.{Entry}
 use Rattle.tn_auth_list.specs.ListText.{ListText}
-use Rattle.x509_profile.specs.declared.contents.BasicConstraintsValue.{BasicConstraintsValue}
+use Rattle.x509_profile.specs.declared.contents.BasicConstraints.{BasicConstraints}
 use Rattle.x509_profile.specs.declared.extension_id.ExtensionId.{ExtensionId}
-use Rattle.x509_profile.specs.declared.extension_id.ExtensionId.TheVariants.{BasicConstraints, KeyUsage, SubjectKey, AuthorityKey, AuthorityList, ClaimConstraints, Unknown}
+use Rattle.x509_profile.specs.declared.extension_id.ExtensionId.TheVariants.{BasicConstraints as Basic, KeyUsage, SubjectKey, AuthorityKey, AuthorityList, ClaimConstraints, Unknown}
 use Rattle.x509_profile.specs.ExtensionId.{name_of}
+use Rattle.x509_profile.specs.View.{ExtensionView, Values, no_values}
 
 -- a BOOLEAN that says this
 pub record BooleanText (text : List ℕ) (truth : Bool) : Type 0 where
@@ -32,7 +32,7 @@ LimitText text (Some number) = CountText text number
 LimitText text None = text ≡ []
 
 -- basicConstraints: a SEQUENCE of cA and the path length, either of which may be absent (section 4.2.1.9)
-pub record BasicText (value : List ℕ) (basic : BasicConstraintsValue) : Type 0 where
+pub record BasicText (value : List ℕ) (basic : BasicConstraints) : Type 0 where
   pub flag : List ℕ
   pub limit : List ℕ
   pub elem : Elem value 0x30 (flag ++ limit)
@@ -64,11 +64,6 @@ pub record AuthorityText (value : List ℕ) (key : Option (List ℕ)) : Type 0 w
   pub first : ((content ≡ []) × (key ≡ None)) ⊎ FirstIdentifier content key
 
 -- an extension: a SEQUENCE of its OID, whether it is critical, and the OCTET STRING of its content (section 4.1)
-pub record ExtensionView : Type 0 where
-  pub oid : List ℕ
-  pub critical : Bool
-  pub value : List ℕ
-
 pub record ExtensionText (text : List ℕ) (extension : ExtensionView) : Type 0 where
   pub oid : List ℕ
   pub flag : List ℕ
@@ -113,25 +108,13 @@ abbrev pub AreAllowed : List ExtensionView → Type 0
 AreAllowed [] = Unit {0}
 AreAllowed (extension ∷ more) = IsAllowed extension × AreAllowed more
 
--- what the extensions of the profile say, each where it stands
-pub record Values : Type 0 where
-  pub basic : Option BasicConstraintsValue
-  pub usage : Option ℕ
-  pub subject_key : Option (List ℕ)
-  -- the inner option is that of the identifier
-  pub authority : Option (Option (List ℕ))
-  pub list : Option (List Entry)
-
-abbrev pub no_values : Values
-no_values = record { basic = None; usage = None; subject_key = None; authority = None; list = None }
-
 -- subjectKeyIdentifier: an OCTET STRING (section 4.2.1.2)
 pub record SubjectKeyText (value : List ℕ) (key : List ℕ) : Type 0 where
   pub elem : Elem value 0x04 key
 
 -- the extensions say this together
 pub record SayTogether (extensions : List ExtensionView) (values : Values) : Type 0 where
-  pub basic : Once BasicConstraints BasicText extensions values.basic
+  pub basic : Once Basic BasicText extensions values.basic
   pub usage : Once KeyUsage UsageText extensions values.usage
   pub subject_key : Once SubjectKey SubjectKeyText extensions values.subject_key
   pub authority : Once AuthorityKey AuthorityText extensions values.authority

@@ -1,5 +1,5 @@
 -- The extensions that the profile knows, by their OIDs.
-use Rattle.std.specs.Prelude.{ℕ, List, [], ◌∷◌, if◌then◌else◌}
+use Rattle.std.specs.Prelude.{ℕ, ◌==◌, Bool, List, [], ◌∷◌, if◌then◌else◌}
 use Rattle.std.specs.Str.{bytes_eq}
 use Rattle.x509_profile.specs.declared.extension_id.ExtensionId.{ExtensionId}
 use Rattle.x509_profile.specs.declared.extension_id.ExtensionId.TheVariants.{BasicConstraints, KeyUsage, SubjectKey, AuthorityKey, AuthorityList, ClaimConstraints, Unknown}
@@ -43,3 +43,16 @@ name_of oid =
     else (if bytes_eq oid claim_constraints then ClaimConstraints
     else (if bytes_eq oid enhanced_claim_constraints then ClaimConstraints
     else Unknown))))))
+
+-- whether two are one
+abbrev pub number_of : ExtensionId → ℕ
+number_of BasicConstraints = 0
+number_of KeyUsage = 1
+number_of SubjectKey = 2
+number_of AuthorityKey = 3
+number_of AuthorityList = 4
+number_of ClaimConstraints = 5
+number_of Unknown = 6
+
+abbrev pub is_id : ExtensionId → ExtensionId → Bool
+is_id a b = number_of a == number_of b

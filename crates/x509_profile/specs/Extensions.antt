@@ -1,85 +1,70 @@
 -- The extensions of a certificate, as they are read one after another (RFC 5280, section 4.2).
-use Rattle.std.specs.Prelude.{ℕ, zero, suc, ◌-◌, List, Some, None, is_none, Result, Ok, Err, if◌then◌else◌}
-use Rattle.tn_auth_list.specs.declared.entries.Entry.{Entry}
+use Rattle.std.specs.Prelude.{ℕ, zero, suc, ◌+◌, ◌-◌, ◌==◌, Bool, true, false, ◌&&◌, List, length, Option, Some, None, Result, Ok, Err, if◌then◌else◌}
+use Rattle.lists.specs.Steps.{◌>>=◌}
+use Rattle.der_reader.specs.declared.part.Fault.{Fault}
+use Rattle.der_reader.specs.Part.{ItemView, PartView, element_at, end_at, item_at, or_broken}
 use Rattle.tn_auth_list.specs.Read.{read_list}
-use Rattle.x509_profile.specs.declared.fault.Fault.{Fault}
-use Rattle.x509_profile.specs.declared.span.Span.{Span}
-use Rattle.x509_profile.specs.declared.part.Part.{Part}
 use Rattle.x509_profile.specs.declared.extension_id.ExtensionId.{ExtensionId}
 use Rattle.x509_profile.specs.declared.extension_id.ExtensionId.TheVariants.{BasicConstraints, KeyUsage, SubjectKey, AuthorityKey, AuthorityList, ClaimConstraints, Unknown}
-use Rattle.x509_profile.specs.declared.extension.Extension.{Extension}
-use Rattle.x509_profile.specs.declared.extensions.Extensions.{Extensions}
-use Rattle.x509_profile.specs.Fault.{fault_at, or_broken}
-use Rattle.lists.specs.Steps.{◌>>=◌}
-use Rattle.x509_profile.specs.Span.{bytes_of, ended, is_empty, next_in, tagged_in}
-use Rattle.x509_profile.specs.ExtensionId.{name_of}
-use Rattle.x509_profile.specs.Extension.{extension_in}
-use Rattle.x509_profile.specs.Known.{known_with, nothing_known}
+use Rattle.x509_profile.specs.Contents.{ExtensionRead, authority_of, basic_of, extension_of, subject_key_of, usage_of}
+use Rattle.x509_profile.specs.ExtensionId.{is_id, name_of}
+use Rattle.x509_profile.specs.Fault.{fault_at}
+use Rattle.x509_profile.specs.View.{Values, no_values}
 
--- no extension
-abbrev pub no_extensions : Extensions
-no_extensions = record { known = nothing_known; list = None }
+-- What stands in a place for one extension when one more of its name was read: it may not have stood there before.
+abbrev pub filled : {A : Type 0} → Option A → Result A Fault → Fault → Result (Option A) Fault
+filled None said twice = said >>= λ value. Ok (Some value)
+filled (Some before) said twice = Err twice
 
--- the authorization list in an OCTET STRING; another content is LIST there
-unfoldable pub list_in : List ℕ → Part → Result (List Entry) Fault
-list_in all value = or_broken (read_list (bytes_of all value.content)) (fault_at 8 value.whole.start)
+-- the same of any extension: it may have another name
+abbrev pub slot_with : {A : Type 0} → Bool → Option A → Result A Fault → Fault → Result (Option A) Fault
+slot_with true slot said twice = filled slot said twice
+slot_with false slot said twice = Ok slot
 
--- with the authorization list
-abbrev pub with_list : List ℕ → Extensions → Part → Result Extensions Fault
-with_list all found value = do
-  list ← list_in all value
-  Ok (record found { list = Some list })
+-- constraints on claims are refused, and any extension outside the profile that is critical
+abbrev pub allowed : ExtensionId → Bool → ℕ → Result (Unit {0}) Fault
+allowed name critical place =
+    if is_id name ClaimConstraints then Err (fault_at 7 place)
+    else (if is_id name Unknown && critical then Err (fault_at 6 place) else Ok tt)
 
--- with an extension of fixed size
-abbrev pub with_known : List ℕ → Extensions → ExtensionId → Span → Fault → Result Extensions Fault
-with_known all found name value broken = do
-  known ← known_with all found.known name value broken
-  Ok (record found { known = known })
-
--- With one more extension, which begins at this place. One of the profile may not have been read before,
--- constraints on claims are refused, and any other extension is passed over where it isn't critical.
-unfoldable pub with_named : List ℕ → Extensions → ExtensionId → Extension → ℕ → Result Extensions Fault
-with_named all found ClaimConstraints extension place = Err (fault_at 7 place)
-with_named all found Unknown extension place =
-    if extension.critical then Err (fault_at 6 place) else Ok found
-with_named all found AuthorityList extension place =
-    if is_none found.list then with_list all found extension.value else Err (fault_at 1 place)
-with_named all found BasicConstraints extension place =
-    with_known all found BasicConstraints extension.value.content (fault_at 1 place)
-with_named all found KeyUsage extension place =
-    with_known all found KeyUsage extension.value.content (fault_at 1 place)
-with_named all found SubjectKey extension place =
-    with_known all found SubjectKey extension.value.content (fault_at 1 place)
-with_named all found AuthorityKey extension place =
-    with_known all found AuthorityKey extension.value.content (fault_at 1 place)
+-- What the extensions say with one more, which begins at the first place, and the OCTET STRING of its content at the second.
+abbrev pub values_by : ExtensionId → Values → ExtensionRead → ℕ → ℕ → Result Values Fault
+values_by name values read place inner = do
+  _allowed ← allowed name read.critical place
+  basic ← slot_with (is_id name BasicConstraints) values.basic (or_broken (basic_of read.octets.content) (fault_at 1 place)) (fault_at 1 place)
+  usage ← slot_with (is_id name KeyUsage) values.usage (or_broken (usage_of read.octets.content) (fault_at 1 place)) (fault_at 1 place)
+  subject_key ← slot_with (is_id name SubjectKey) values.subject_key (or_broken (subject_key_of read.octets.content) (fault_at 1 place)) (fault_at 1 place)
+  authority ← slot_with (is_id name AuthorityKey) values.authority (or_broken (authority_of read.octets.content) (fault_at 1 place)) (fault_at 1 place)
+  list ← slot_with (is_id name AuthorityList) values.list (or_broken (read_list read.octets.content) (fault_at 8 inner)) (fault_at 1 place)
+  Ok (record { basic = basic; usage = usage; subject_key = subject_key; authority = authority; list = list })
 
 -- with the extension that an element is
-unfoldable pub with_extension : List ℕ → Extensions → Part → Result Extensions Fault
-with_extension all found part = do
-  extension ← extension_in all part (fault_at 1 part.whole.start)
-  with_named all found (name_of (bytes_of all extension.oid)) extension part.whole.start
+unfoldable pub values_with : Values → ItemView → Result Values Fault
+values_with values item = do
+  read ← or_broken (extension_of item.whole) (fault_at 1 item.place)
+  values_by (name_of read.oid) values read item.place (item.place + (length item.whole - length read.octets.whole))
 
--- with each extension that stands there, where they are fewer than so many
-unfoldable pub extensions_at : ℕ → List ℕ → Extensions → Span → Result Extensions Fault
-extensions_at zero all found span = Ok found
-extensions_at (suc fuel) all found span =
-    if is_empty span then Ok found
-    else (next_in all span >>= λ next. with_extension all found next.0 >>= λ more. extensions_at fuel all more next.1)
+-- with each extension that stands there, where they are so many at most
+unfoldable pub each_up_to : ℕ → Values → PartView → Result Values Fault
+each_up_to zero values part = end_at part values
+each_up_to (suc room) values part =
+    if length part.left == 0 then Ok values
+    else (item_at part >>= λ item. values_with values item >>= λ more. each_up_to room more item.behind)
 
--- with each extension that stands there: they are fewer than the bytes and one more
-unfoldable pub extensions_in : List ℕ → Extensions → Span → Result Extensions Fault
-extensions_in all found span = extensions_at (suc (span.end - span.start)) all found span
+-- nothing is left over
+abbrev pub ended_at : PartView → Result (Unit {0}) Fault
+ended_at part = end_at part tt
 
 -- the extensions by the explicit tag [3], one SEQUENCE and nothing behind it
-unfoldable pub marked_in : List ℕ → Span → Result Extensions Fault
-marked_in all span = do
-  marked ← tagged_in all span 0xA3
-  sequence ← tagged_in all marked.0.content 0x30
-  found ← extensions_in all no_extensions sequence.0.content
-  _inner ← ended sequence.1
-  _outer ← ended marked.1
-  Ok found
+unfoldable pub marked_in : PartView → Result Values Fault
+marked_in part = do
+  marked ← element_at 0xA3 part
+  sequence ← element_at 0x30 marked.content
+  values ← each_up_to (length sequence.content.left) no_values sequence.content
+  _inner ← ended_at sequence.behind
+  _outer ← ended_at marked.behind
+  Ok values
 
 -- the extensions, which may be absent
-unfoldable pub optional_in : List ℕ → Span → Result Extensions Fault
-optional_in all span = if is_empty span then Ok no_extensions else marked_in all span
+unfoldable pub optional_in : PartView → Result Values Fault
+optional_in part = if length part.left == 0 then Ok no_values else marked_in part

@@ -1,18 +1,14 @@
 -- Why bytes aren't a certificate of the profile, by kind and place: this project's own rule.
 use Rattle.std.specs.Prelude.{ℕ, ◌≤◌, Option, Some, None, Result, Ok, Err}
-use Rattle.x509_profile.specs.declared.fault.Fault.{Fault}
+use Rattle.lists.specs.Given as given
+use Rattle.der_reader.specs.Part.{at_kind}
+use Rattle.der_reader.specs.declared.part.Fault.{Fault}
 use Rattle.x509_profile.specs.declared.fault.CertFault.{CertFault}
 use Rattle.x509_profile.specs.declared.fault.CertFault.TheVariants.{At, Memory}
-use Rattle.lists.specs.Given as given
 
 -- a fault of this kind at this offset
 abbrev pub fault_at : ℕ → ℕ → Fault
-fault_at kind place = record { kind = kind; place = place }
-
--- what is read, where a fault of another kind is this one
-abbrev pub or_broken : {A E : Type 0} → Result A E → Fault → Result A Fault
-or_broken (Ok x) fault = Ok x
-or_broken (Err e) fault = Err fault
+fault_at kind place = at_kind kind place
 
 -- a fault other than want of memory
 abbrev pub fault_seen : CertFault → Option Fault

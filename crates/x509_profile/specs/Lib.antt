@@ -1,12 +1,8 @@
 pub mod Fault
-pub mod Span
-pub mod Within
 pub mod Text
-pub mod Signed
-pub mod Signature
 pub mod ExtensionId
-pub mod Extension
-pub mod Known
+pub mod Contents
+pub mod Seen
 pub mod Extensions
 pub mod View
 pub mod Read

@@ -1,20 +1,25 @@
 //! A certificate of the profile.
 
-ghost use Rattle.std.specs.Prelude.{◌≡◌, length, IfOk, Ok};
-ghost use Rattle.std.specs.Option.{option_copied, option_map};
+ghost use Rattle.std.specs.Prelude.{◌≡◌, ◌≤◌, length, IfOk, IfErr, Ok};
+ghost use Rattle.std.specs.Option.{option_copied};
+ghost use Rattle.der_reader.specs.Part.{outer_view};
 ghost use Rattle.x509_profile.specs.Fault.{Gives, IsPlacedUpTo};
 ghost use Rattle.x509_profile.specs.Cert.{Cert};
-ghost use Rattle.x509_profile.specs.Read.{read_certificate};
+ghost use Rattle.x509_profile.specs.Read.{outer_in, read_certificate};
 ghost use Rattle.x509_profile.specs.View.{CertView};
 
-use crate::extensions::Extensions;
 use crate::fault::CertFault;
-use crate::fields::Fields;
-use crate::signed::SignedPart;
+use crate::signature::read_signature;
+use crate::tbs::{ALGORITHM, KeptPart, TbsCertificate, behind_text};
+use der_reader::tags::SEQUENCE;
+use der_reader::{Fault, Outer};
 use sha2::{Digest, Sha256};
 use std::alloc::Global;
 use std::marker::Model;
 use tn_auth_list::AuthList;
+
+/// The most bytes of a certificate.
+const LONGEST: usize = 8_192;
 
 /// A certificate of the profile: X.509 version 3, an ECDSA key on P-256 and a signature by ECDSA with
 /// SHA-256 (RFC 5280, RFC 5480, RFC 5758), at most 8,192 bytes.
@@ -23,27 +28,21 @@ use tn_auth_list::AuthList;
 #[derive(Drop)]
 pub struct Certificate {
     bytes: Vec<u8>,
-    signed: SignedPart,
-    extensions: Extensions,
-    key: [u8; 65],
+    kept: KeptPart,
     digest: [u8; 32],
     signature: [u8; 64],
 }
 
 impl Model for Certificate {
     ghost use Rattle.std.specs.Prelude.{◌≡◌, Ok};
-    ghost use Rattle.x509_profile.specs.Span.{IsInside};
-    ghost use Rattle.x509_profile.specs.Known.{AreInside};
     ghost use Rattle.x509_profile.specs.Read.{read_certificate};
-    ghost use Rattle.x509_profile.specs.View.{CertView, view_at};
+    ghost use Rattle.x509_profile.specs.View.{CertView, kept_of, view_of};
 
     ghost Value = { CertView };
 
-    ghost view = { λ c. view_at c.bytes.items c.signed c.extensions c.key c.digest c.signature };
+    ghost view = { λ c. view_of c.bytes.items (kept_of c.kept) c.digest c.signature };
 
-    ghost invariant = { λ c. IsInside c.signed.issuer c.bytes.items × IsInside c.signed.subject c.bytes.items
-        × AreInside c.extensions.known c.bytes.items
-        × (read_certificate c.bytes.items ≡ Ok (view_at c.bytes.items c.signed c.extensions c.key c.digest c.signature)) };
+    ghost invariant = { λ c. read_certificate c.bytes.items ≡ Ok (view_of c.bytes.items (kept_of c.kept) c.digest c.signature) };
 }
 
 impl Certificate {
@@ -66,28 +65,7 @@ impl Certificate {
 
         ensures place { IsPlacedUpTo (length bytes.now) result }
     {
-        Certificate::from_fields(alloc, bytes)
-    }
-
-    /// The certificate by its fields.
-    #[tactic(auto, unfolding(crate::specs::Read::read_certificate))]
-    fn from_fields(alloc: Global, bytes: &[u8]) -> Result<Certificate, CertFault>
-        ensures exact { Gives (λ certificate. certificate) result (read_certificate bytes.now) }
-        ensures place { IsPlacedUpTo (length bytes.now) result }
-    {
-        let fields = Fields::read(alloc, bytes)?;
-        let key = point(fields.signed.key.of(bytes));
-        let digest = Sha256::digest(fields.part.of(bytes));
-        let signature = fields.signature;
-        let bytes = bytes.to_vec(alloc)?;
-        Ok(Certificate {
-            bytes,
-            signed: fields.signed,
-            extensions: fields.extensions,
-            key,
-            digest,
-            signature,
-        })
+        read_exactly(alloc, bytes)
     }
 
     /// All bytes of the certificate.
@@ -105,35 +83,35 @@ impl Certificate {
     pub fn subject(&self) -> &[u8]
         ensures { result.now ≡ self.now.subject }
     {
-        self.signed.subject.of(&self.bytes)
+        &self.kept.subject
     }
 
     /// The issuer's name: its whole element, a SEQUENCE (RFC 5280, section 4.1.2.4).
     pub fn issuer(&self) -> &[u8]
         ensures { result.now ≡ self.now.issuer }
     {
-        self.signed.issuer.of(&self.bytes)
+        &self.kept.issuer
     }
 
     /// The first second at which the certificate is valid, in Unix time (RFC 5280, section 4.1.2.5).
     pub fn not_before(&self) -> i64
         ensures { result ≡ self.now.not_before }
     {
-        self.signed.validity.not_before
+        self.kept.validity.not_before
     }
 
     /// The last second at which the certificate is valid, in Unix time.
     pub fn not_after(&self) -> i64
         ensures { result ≡ self.now.not_after }
     {
-        self.signed.validity.not_after
+        self.kept.validity.not_after
     }
 
     /// The point of the key: the byte 04, and 32 bytes each of x and y (RFC 5480, section 2.2).
     pub fn key(&self) -> &[u8; 65]
         ensures { result.now ≡ self.now.key }
     {
-        &self.key
+        &self.kept.key
     }
 
     /// The SHA-256 of the signed part, which is what the signature signs (RFC 5280, section 4.1.1.3).
@@ -154,7 +132,7 @@ impl Certificate {
     pub fn is_ca(&self) -> bool
         ensures { result ≡ self.now.is_ca }
     {
-        match self.extensions.known.basic {
+        match self.kept.basic {
             Some(basic) => basic.is_ca,
             None => false,
         }
@@ -164,7 +142,7 @@ impl Certificate {
     pub fn path_length(&self) -> Option<u64>
         ensures { result ≡ self.now.path_length }
     {
-        match self.extensions.known.basic {
+        match self.kept.basic {
             Some(basic) => basic.path_length,
             None => None,
         }
@@ -175,15 +153,15 @@ impl Certificate {
     pub fn usage(&self) -> Option<u16>
         ensures { result ≡ self.now.usage }
     {
-        self.extensions.known.usage
+        self.kept.usage
     }
 
     /// The identifier of the key (RFC 5280, section 4.2.1.2).
     pub fn subject_key(&self) -> Option<&[u8]>
         ensures { option_copied result ≡ self.now.subject_key }
     {
-        match self.extensions.known.subject_key {
-            Some(key) => Some(key.of(&self.bytes)),
+        match &self.kept.subject_key {
+            Some(key) => Some(key),
             None => None,
         }
     }
@@ -192,11 +170,8 @@ impl Certificate {
     pub fn authority_key(&self) -> Option<&[u8]>
         ensures { option_copied result ≡ self.now.authority_key }
     {
-        let Some(authority) = self.extensions.known.authority else {
-            return None;
-        };
-        match authority.key {
-            Some(key) => Some(key.of(&self.bytes)),
+        match &self.kept.authority_key {
+            Some(key) => Some(key),
             None => None,
         }
     }
@@ -206,16 +181,44 @@ impl Certificate {
     pub fn list(&self) -> Option<&AuthList>
         ensures { option_copied result ≡ self.now.list }
     {
-        self.extensions.list.as_ref()
+        self.kept.list.as_ref()
     }
 }
 
-/// The bytes of a point.
-fn point(bytes: &[u8]) -> [u8; 65]
-    requires { length bytes.now ≡ 65 }
-    ensures { result ≡ bytes.now }
+/// The certificate that the bytes are.
+#[tactic(auto, unfolding(crate::specs::Read::read_certificate))]
+fn read_exactly(alloc: Global, bytes: &[u8]) -> Result<Certificate, CertFault>
+    ensures exact { Gives (λ certificate. certificate) result (read_certificate bytes.now) }
+    ensures place { IsPlacedUpTo (length bytes.now) result }
 {
-    let mut point = [0; 65];
-    point.copy_from_slice(bytes);
-    point
+    let certificate = read_outer(bytes)?;
+    let signed = certificate.content().element(SEQUENCE)?;
+    let tbs = TbsCertificate::read(alloc, &signed.content())?;
+    let signature_at = behind_text(&signed.behind, &ALGORITHM, CertFault::ALGORITHM)?;
+    let signature = read_signature(&signature_at)?;
+    if !certificate.behind.is_empty() {
+        return Err(certificate.left_over().into());
+    }
+    let kept = tbs.keep(alloc)?;
+    let digest = Sha256::digest(signed.der.whole);
+    let bytes = bytes.to_vec(alloc)?;
+    Ok(Certificate {
+        bytes,
+        kept,
+        digest,
+        signature,
+    })
+}
+
+/// The certificate's SEQUENCE, and what is behind it.
+#[tactic(auto, unfolding(crate::specs::Read::outer_in))]
+fn read_outer(bytes: &[u8]) -> Result<Outer<'_>, Fault>
+    ensures exact { outer_view result ≡ outer_in bytes.now }
+    ensures within { IfOk result (λ outer. length outer.der.whole.now ≤ length bytes.now) }
+    ensures place { IfErr result (λ fault. fault.place ≤ length bytes.now) }
+{
+    if bytes.len() > LONGEST {
+        return Err(Fault::at(Fault::DER, LONGEST as u32));
+    }
+    Outer::read(bytes, SEQUENCE)
 }

@@ -1,7 +1,6 @@
 //! Why some bytes aren't a certificate of the profile.
 
-ghost use Rattle.std.specs.Prelude.{◌≡◌};
-
+use der_reader::Fault;
 use std::alloc::AllocError;
 use std::error::Error;
 use std::fmt;
@@ -39,13 +38,6 @@ impl CertFault {
     pub const LIST: u8 = 8;
     /// The signature isn't two numbers below 2^256 (RFC 5480 appendix A).
     pub const SIGNATURE: u8 = 9;
-}
-
-/// What is broken and where, as in [`CertFault::At`].
-#[derive(Clone, Copy, Debug)]
-pub(crate) struct Fault {
-    pub kind: u8,
-    pub place: u32,
 }
 
 impl From<Fault> for CertFault {

@@ -5,22 +5,14 @@
 mod certificate;
 mod chain;
 mod contents;
-mod extension;
 mod extension_id;
 mod extensions;
 mod fault;
-mod fields;
-mod known;
 mod laws;
-mod part;
 mod signature;
-mod signed;
-mod span;
-mod tags;
-mod validity;
-mod within;
+mod tbs;
 
 pub use certificate::Certificate;
 pub use chain::{ChainFault, read_chain};
 pub use fault::CertFault;
-pub use laws::chain_law;
+pub use laws::{certificate_law, chain_law};

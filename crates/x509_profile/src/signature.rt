@@ -1,41 +1,42 @@
 //! A certificate's signature (RFC 5280, section 4.1.1.3, RFC 5480 appendix A).
 
-ghost use Rattle.std.specs.Prelude.{◌≡◌, ◌≤◌, ◌++◌, length, IfOk, IfErr};
-ghost use Rattle.x509_profile.specs.Span.{IsInside, IsPartInside};
-ghost use Rattle.x509_profile.specs.Signature.{numbers_in, scalar_in, signature_in};
+ghost use Rattle.std.specs.Prelude.{◌≡◌, ◌≤◌, ◌++◌, length, IfErr};
+ghost use Rattle.der_reader.specs.Part.{end_of, part_of};
+ghost use Rattle.x509_profile.specs.Contents.{signature_of};
+ghost use Rattle.x509_profile.specs.Read.{signature_in};
 
-use crate::fault::{CertFault, Fault};
-use crate::part::Part;
-use crate::span::Span;
-use crate::tags::{INTEGER, SEQUENCE};
+use crate::fault::CertFault;
+use der_reader::tags::{BIT_STRING, INTEGER, SEQUENCE};
+use der_reader::{Der, DerFault, Fault, Part};
 
-/// The two numbers of a signature, 32 bytes each, the highest byte first.
-#[tactic(auto, unfolding(crate::specs::Signature::numbers_in))]
-fn read_numbers(all: &[u8], part: Part, broken: Fault) -> Result<[u8; 64], Fault>
-    requires inside { IsPartInside part all.now }
-    ensures exact { result ≡ numbers_in all.now part broken }
-    ensures fault { IfErr result (λ fault. fault ≡ broken) }
+/// The two numbers of the signature, which is the last part. Another element is `SIGNATURE` where it
+/// begins, and bytes behind it are `DER`.
+#[tactic(auto, unfolding(crate::specs::Read::signature_in))]
+pub(crate) fn read_signature(part: &Part) -> Result<[u8; 64], Fault>
+    ensures exact { result ≡ signature_in (part_of part.now) }
+    ensures place { IfErr result (λ fault. fault.place ≤ end_of part.now) }
 {
-    let bits = part.bits(all, broken)?;
-    let sequence = bits.sole(all, SEQUENCE, broken)?;
-    let (first, rest) = sequence.content.first(all, broken)?;
-    let second = rest.sole(all, INTEGER, broken)?;
-    let r = scalar(all, first, broken)?;
-    let s = scalar(all, second, broken)?;
-    let numbers = joined(r, s);
-    Ok(numbers)
+    let item = part.item()?;
+    match numbers(item.der.whole) {
+        Ok(numbers) => item.behind.end(numbers),
+        Err(_) => Err(item.fault(CertFault::SIGNATURE)),
+    }
 }
 
-/// The 32 bytes of an INTEGER that isn't negative.
-fn scalar(all: &[u8], part: Part, broken: Fault) -> Result<[u8; 32], Fault>
-    requires inside { IsPartInside part all.now }
-    ensures exact { result ≡ scalar_in all.now part broken }
-    ensures fault { IfErr result (λ fault. fault ≡ broken) }
+/// The two numbers of a signature, 32 bytes each, the highest byte first.
+#[tactic(auto, unfolding(crate::specs::Contents::signature_of))]
+fn numbers(text: &[u8]) -> Result<[u8; 64], DerFault>
+    ensures { result ≡ signature_of text.now }
 {
-    match part.der(all).scalar() {
-        Ok(bytes) => Ok(bytes),
-        Err(_) => Err(broken),
-    }
+    let string = Der::sole(text, BIT_STRING)?;
+    let bits = string.bits()?;
+    let sequence = Der::sole(bits, SEQUENCE)?;
+    let (first, rest) = Der::next(sequence.content)?;
+    let second = Der::sole(rest, INTEGER)?;
+    let r = first.scalar()?;
+    let s = second.scalar()?;
+    let numbers = joined(r, s);
+    Ok(numbers)
 }
 
 /// The bytes of the first and then those of the second.
@@ -47,18 +48,4 @@ fn joined(r: [u8; 32], s: [u8; 32]) -> [u8; 64]
     front.copy_from_slice(&r);
     back.copy_from_slice(&s);
     bytes
-}
-
-/// The two numbers of the signature, which is the last part. Another element is `SIGNATURE` where it
-/// begins, and bytes behind it are `DER`.
-#[tactic(auto, unfolding(crate::specs::Signature::signature_in))]
-pub(crate) fn read_signature(all: &[u8], span: Span) -> Result<[u8; 64], Fault>
-    requires inside { IsInside span all.now }
-    ensures exact { result ≡ signature_in all.now span }
-    ensures place { IfErr result (λ fault. fault.place ≤ length all.now) }
-{
-    let (part, rest) = span.next(all)?;
-    let numbers = read_numbers(all, part, part.fault(CertFault::SIGNATURE))?;
-    rest.ended()?;
-    Ok(numbers)
 }

@@ -71,7 +71,7 @@ impl Answers {
     }
 
     /// Reads the lines one by one, up to the first bad one.
-    #[tactic(auto, using(crate::proofs::HeldLaws::one_more, crate::proofs::HeldLaws::bad_line, crate::proofs::HeldLaws::none_read, crate::proofs::HeldLaws::all_read))]
+    #[tactic(auto, using(text_file::proofs::ReachedLaws::one_more, text_file::proofs::ReachedLaws::bad_line, crate::proofs::HeldLaws::none_read, crate::proofs::HeldLaws::all_read))]
     fn read_lines(alloc: Global, text: &[u8]) -> Result<Answers, AnswerFault>
         requires { length text.now < 2 ^ 32 - 1 }
         ensures answers { IfOk result (AnswersOf text.now) }

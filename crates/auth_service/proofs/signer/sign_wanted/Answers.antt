@@ -3,12 +3,16 @@ use Rattle.auth_service.specs.Order.{holder_seen, wanted_of}
 use Rattle.auth_service.proofs.CauseLaws.{Laws, answers_caused}
 use Rattle.auth_service.proofs.signer.sign_wanted.Goals as goal
 
-pub returns-clause-causes : goal.returns-clause-causes
-returns-clause-causes g c =
+pub returns-clause-promised : goal.returns-clause-promised
+returns-clause-promised g c =
     let laws : Laws = record {
       head = c.head_law.ensures;
       full = c.token_bytes_law.ensures.full_size;
       compact = c.token_bytes_law.ensures.compact_size;
       covers = c.covers_kind_law.ensures;
     } in
-    answers_caused (λ out. out.items) c.sign_exactly.result laws c.args.bytes.now (wanted_of c.args.wanted.now) (holder_seen c.args.holder) (g.P.Provider.signs c.args.provider.now) c.sign_exactly.ensures.exact
+    record {
+      exact = c.sign_exactly.ensures.exact;
+      is_signed = c.sign_exactly.ensures.signed;
+      causes = answers_caused (λ out. out.items) c.sign_exactly.result laws c.args.bytes.now (wanted_of c.args.wanted.now) (holder_seen c.args.holder) (g.P.Provider.signs c.args.provider.now) c.sign_exactly.ensures.exact;
+    }

@@ -7,7 +7,7 @@ pub returns-clause-answered : goal.returns-clause-answered
 returns-clause-answered c = answered
 
 pub returns-clause-words : goal.returns-clause-words
-returns-clause-words c = in_words
+returns-clause-words c = in_words c.below_law.ensures
 
 pub returns-clause-short : goal.returns-clause-short
 returns-clause-short c = is_short

@@ -1,13 +1,26 @@
 -- The files were read and what is asked was said, or a file stopped it.
-use Rattle.std.proofs.Common.{inr}
+use Rattle.std.proofs.Common.{inr, ap, ◌∙◌}
+use Rattle.single_calls.specs.Asker.{AskedBy, AskerView, StopsAsking}
+use Rattle.stir_files.specs.Grounds.{GroundsOf, grounds_of}
 use Rattle.stir_files.specs.declared.grounds.Grounds.{Grounds}
-use Rattle.stir_cmd.proofs.SinglySteps.{ask_read}
+use Rattle.stir_words.specs.Seen.{asking_view}
+use Rattle.verify_rules.specs.declared.settings.Settings.{Settings}
+use Rattle.stir_cmd.specs.Calls.{settings_by}
+use Rattle.stir_cmd.specs.Ways.{asker_by}
+use Rattle.stir_cmd.proofs.SinglySteps.{behind_none, from_read}
 use Rattle.stir_cmd.proofs.StopSteps.{stopped}
 use Rattle.stir_cmd.proofs.explain.ask.Goals as goal
 
+pub answer_calls-requires : goal.answer_calls-requires
+answer_calls-requires g c = behind_none _ _ c.new-asker.result _ c.new-asker.ensures
+
 pub returns-in-Ok-clause-ran : goal.returns-in-Ok-clause-ran
 returns-in-Ok-clause-ran g c =
-    ask_read _ c.in-Ok.grounds _ _ _ _ _ _ _ _ _ _ c.in-Ok.ensures.read c.in-Ok.ensures.truly c.read_grounds.ensures.same c.read_grounds.ensures.go_on c.ask_by.ensures.ran
+    let words = asking_view c.args.asking.now in
+    let files = g.S.Shelf.files c.args.shelf.now in
+    from_read AskerView Grounds (grounds_of words) (GroundsOf files words) (asker_by (settings_by words.settings)) AskedBy StopsAsking c.in-Ok.grounds c.new-asker.result _ _ _ _ _ _ _ _ _ _
+    (c.new-asker.ensures ∙ ap (λ (s : Settings). asker_by s c.in-Ok.grounds) c.settings_of.ensures.exact)
+    c.in-Ok.ensures.read c.in-Ok.ensures.truly c.read_grounds.ensures.same c.read_grounds.ensures.go_on c.answer_calls.ensures.ran
 
 pub returns-in-Err-clause-ran : goal.returns-in-Err-clause-ran
 returns-in-Err-clause-ran g c =

@@ -7,7 +7,8 @@ use Rattle.stir_cmd.proofs.verify.verify.Goals as goal
 
 pub returns-in-Ok-clause-ran : goal.returns-in-Ok-clause-ran
 returns-in-Ok-clause-ran g c =
-    from_files _ c.in-Ok.materials _ _ _ _ _ _ _ _ _ _ c.in-Ok.ensures.read c.in-Ok.ensures.truly c.read_materials.ensures.same c.read_materials.ensures.go_on c.judge_by.ensures.ran
+    from_files _ c.in-Ok.materials _ _ _ _ _ _ _ _ _ _ _ c.in-Ok.ensures.read c.in-Ok.ensures.truly c.read_materials.ensures.same c.read_materials.ensures.go_on c.settings_of.ensures.exact
+    c.judge_by.ensures.ran
 
 pub returns-in-Err-clause-ran : goal.returns-in-Err-clause-ran
 returns-in-Err-clause-ran g c =

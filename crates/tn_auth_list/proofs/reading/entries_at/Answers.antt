@@ -1,6 +1,6 @@
 -- One entry more is found, and what is left still gives what the whole part gives.
 use Rattle.std.proofs.Common.{rules, ◌∙◌}
-use Rattle.tn_auth_list.specs.Views.{part_of}
+use Rattle.der_reader.specs.Part.{part_of}
 use Rattle.tn_auth_list.proofs.EntriesLaws.{goes_on}
 use Rattle.tn_auth_list.proofs.reading.entries_at.Goals as goal
 

@@ -1,6 +1,6 @@
 use Rattle.std.proofs.Common.{◌≡◌, ◌≤◌, ◌-◌, length}
 use Rattle.tn_auth_list.specs.Read.{entries_at}
-use Rattle.tn_auth_list.specs.Views.{part_of, end_of}
+use Rattle.der_reader.specs.Part.{part_of, end_of}
 use Rattle.tn_auth_list.proofs.EntriesLaws.{continued}
 use Rattle.tn_auth_list.proofs.reading.entries_at.Given as goal
 

@@ -1,4 +1,4 @@
-use Rattle.std.proofs.Common.{◌≡◌, ℕ, Bool, false, true, not, List, filter, length, Contains, nat_cmp, bytes_eq, rules, arith, sym, ap, subst}
+use Rattle.std.proofs.Common.{◌≡◌, ℕ, false, true, List, filter, length, Contains, nat_cmp, bytes_eq, rules, arith, sym, ap, subst}
 use Rattle.std.proofs.lemmas.Cmp.{nat_list_cmp_total, nat_list_eq_equiv}
 use Rattle.std.proofs.lemmas.Fn.{filter_same}
 use Rattle.std.proofs.lemmas.List.Elements.{All-weaker, filter_passes}
@@ -9,7 +9,9 @@ use Rattle.std.specs.Cmp.Lexicographic.{slice_cmp, bytes_decides, texts_ties}
 use Rattle.std.specs.List.{All, dedup}
 use Rattle.std.specs.List.Sorted.{IsStrictlySortedBy}
 use Rattle.tn_values.specs.Digit.{are_digits}
-use Rattle.tn_values.proofs.TextLaws.{dedup_fewer, not_true}
+use Rattle.lists.proofs.Tests.{not_true}
+use Rattle.tn_values.proofs.BuildLaws.{is_other}
+use Rattle.tn_values.proofs.TextLaws.{dedup_fewer}
 use Rattle.tn_values.proofs.merging.others.Goals as goal
 
 abbrev Texts : Type 0
@@ -17,9 +19,6 @@ Texts = List (List ℕ)
 
 abbrev Other : List ℕ → Type 0
 Other number = are_digits number ≡ false
-
-abbrev is_other : List ℕ → Bool
-is_other number = not (are_digits number)
 
 pub returns-clause-others : goal.returns-clause-others
 returns-clause-others c =

@@ -1,6 +1,7 @@
 -- The public clauses are laws of `anchors_in`.
 use Rattle.std.proofs.Common.{rules, arith, Ok}
 use Rattle.delegation.proofs.AnchorLaws.{anchors_found, answer_only, one_list}
+use Rattle.delegation.proofs.EndLaws.{answer_refused, answer_only_refused}
 use Rattle.delegation.proofs.anchors.Anchors.read.Goals as goal
 
 pub returns-in_err-certificates-clause-only : goal.returns-in_err-certificates-clause-only
@@ -17,3 +18,15 @@ returns-clause-only c = λ anchors. answer_only c.args.bytes.now (Ok c.in_ok-cer
 
 pub returns-clause-unique : goal.returns-clause-unique
 returns-clause-unique c = one_list c.args.bytes.now
+
+pub returns-in_err-certificates-clause-refused : goal.returns-in_err-certificates-clause-refused
+returns-in_err-certificates-clause-refused c =
+    answer_refused c.args.bytes.now c.from_residual.result (λ i. omega (arith, c.type_inv.bytes i)) (search rules)
+
+pub returns-in_err-certificates-clause-only_refused : goal.returns-in_err-certificates-clause-only_refused
+returns-in_err-certificates-clause-only_refused c =
+    λ place. answer_only_refused c.args.bytes.now c.from_residual.result place (λ i. omega (arith, c.type_inv.bytes i)) (search rules)
+
+pub returns-clause-only_refused : goal.returns-clause-only_refused
+returns-clause-only_refused c =
+    λ place. answer_only_refused c.args.bytes.now (Ok c.in_ok-certificates.certificates.items) place (λ i. omega (arith, c.type_inv.bytes i)) (search rules)

@@ -1,0 +1,26 @@
+-- What is promised of what is wanted is promised of the order that it comes of.
+use Rattle.std.proofs.Common.{◌≡◌, ℕ, List, Option, Result, IfOk, IsTrue, sym, subst}
+use Rattle.std.specs.Prelude.{IfErr}
+use Rattle.lists.specs.Given.{Gives}
+use Rattle.auth_service.specs.Answer.{told}
+use Rattle.auth_service.specs.Causes.{IsCaused}
+use Rattle.auth_service.specs.Order.{HolderView, OrderView, is_order}
+use Rattle.auth_service.specs.Outcome.{IsSigned}
+use Rattle.auth_service.specs.Promise.{IsPromised}
+use Rattle.auth_service.specs.Signed.{signed}
+use Rattle.auth_service.specs.declared.fault.SignFault.{SignFault}
+
+pub valid_as : (wanted order : OrderView) → wanted ≡ order → IsTrue (is_order order) → IsTrue (is_order wanted)
+valid_as wanted order same h = subst (λ (x : OrderView). IsTrue (is_order x)) (sym same) h
+
+pub exact_as : {X : Type 0} (seen : X → List ℕ) (bytes : List ℕ) (wanted order : OrderView) (holder : Option HolderView) (signs : List ℕ → List ℕ → Option (List ℕ)) (result : Result X SignFault)
+    → IsPromised seen bytes wanted holder signs result → wanted ≡ order → Gives told seen result (signed bytes order holder signs)
+exact_as seen bytes wanted order holder signs result p same = subst (λ (x : OrderView). Gives told seen result (signed bytes x holder signs)) same p.exact
+
+pub signed_as : {X : Type 0} (seen : X → List ℕ) (bytes : List ℕ) (wanted order : OrderView) (holder : Option HolderView) (signs : List ℕ → List ℕ → Option (List ℕ)) (result : Result X SignFault)
+    → IsPromised seen bytes wanted holder signs result → wanted ≡ order → IfOk result (λ out. IsSigned bytes order holder signs (seen out))
+signed_as seen bytes wanted order holder signs result p same = subst (λ (x : OrderView). IfOk result (λ out. IsSigned bytes x holder signs (seen out))) same p.is_signed
+
+pub caused_as : {X : Type 0} (seen : X → List ℕ) (bytes : List ℕ) (wanted order : OrderView) (holder : Option HolderView) (signs : List ℕ → List ℕ → Option (List ℕ)) (result : Result X SignFault)
+    → IsPromised seen bytes wanted holder signs result → wanted ≡ order → IfErr result (λ fault. IsCaused bytes order holder signs fault)
+caused_as seen bytes wanted order holder signs result p same = subst (λ (x : OrderView). IfErr result (λ fault. IsCaused bytes x holder signs fault)) same p.causes

@@ -1,0 +1,9 @@
+-- The laws of lists.
+use Rattle.tn_auth_list.proofs.ListLaws.{list_again, list_found}
+use Rattle.tn_auth_list.proofs.laws.list_law.Goals as goal
+
+pub returns-clause-again : goal.returns-clause-again
+returns-clause-again c = list_again
+
+pub returns-clause-found : goal.returns-clause-found
+returns-clause-found c = list_found

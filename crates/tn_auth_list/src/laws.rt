@@ -1,0 +1,12 @@
+//! Laws: a function here does nothing, and its clauses are the law.
+ghost use Rattle.std.specs.Prelude.{◌≡◌, ℕ, List, Ok};
+ghost use Rattle.der_reader.specs.Elem.{AllBytes};
+ghost use Rattle.tn_auth_list.specs.ListText.{ListText};
+ghost use Rattle.tn_auth_list.specs.Read.{read_list};
+ghost use Rattle.tn_auth_list.specs.declared.entries.Entry.{Entry};
+
+/// Entries are read of bytes just where these are the list of them (RFC 8226, section 9).
+pub fn list_law()
+    ensures again { (bytes : List ℕ) (entries : List Entry) → ListText bytes entries → read_list bytes ≡ Ok entries }
+    ensures found { (bytes : List ℕ) (entries : List Entry) → AllBytes bytes → read_list bytes ≡ Ok entries → ListText bytes entries }
+{}

@@ -1,0 +1,38 @@
+//! Laws: a function here does nothing, and its clauses are the law.
+ghost use Rattle.std.specs.List.{slice_get};
+ghost use Rattle.std.specs.Option.{option_map};
+ghost use Rattle.std.specs.Prelude.{◌≡◌, ◌<◌, ◌+◌, ◌++◌, ◌∷◌, [], ℕ, List, length, take, Option, Some, Result};
+ghost use Rattle.call_log.specs.Entry.{Entry};
+ghost use Rattle.cert_store.specs.Rules.{Says};
+ghost use Rattle.passport_claims.specs.Passport.{ClaimsView};
+ghost use Rattle.stir_outside.specs.Files.{Files};
+ghost use Rattle.verify_rules.specs.Call.{Reading, call_of, passport_in};
+ghost use Rattle.verify_rules.specs.Rules.{early_rules};
+ghost use Rattle.verify_rules.specs.Screened.{IsScreenedBy, ScreenedView};
+ghost use Rattle.verify_rules.specs.States.{State};
+ghost use Rattle.verify_rules.specs.declared.refusal.ScreenFault.{ScreenFault};
+ghost use Rattle.verify_rules.specs.declared.settings.Settings.{Settings};
+ghost use Rattle.verify_service.specs.Chains.{AreRightWhere, IsRightWhere};
+ghost use Rattle.verify_service.specs.Judging.{call_in};
+ghost use Rattle.verify_service.specs.declared.materials.World.{World as Materials};
+
+use verify_rules::right_law;
+
+/// A call of a log is judged as what its message and its moment are.
+pub fn call_law()
+    ensures screened { (settings : Settings) (entry : Entry) (moment : ℕ) (message : List ℕ) (result : Result ScreenedView ScreenFault) → message ≡ entry.message
+        → moment ≡ entry.moment → IsScreenedBy early_rules (call_of settings moment message) result → IsScreenedBy early_rules (call_in settings entry) result }
+    ensures same_moment { (settings : Settings) (entry : Entry) (moment : ℕ) → moment ≡ entry.moment → moment ≡ (call_in settings entry).moment }
+{}
+
+/// What is known of the chains of a call's PASSporTs, one after another, is right: of none yet, and of one PASSporT more where it is right of
+/// the chain of that one's x5u (RFC 7515, section 4.1.5).
+pub fn chains_law()
+    ensures none { (told : Option Files) (materials : Materials) (says : Says) → AreRightWhere told materials says [] [] }
+    ensures next { (told told_now : Option Files) (materials : Materials) (says says_now : Says) (readings : List Reading) (states : List State) (i : ℕ)
+        (passport : ClaimsView) (x5u : List ℕ) (state : State) → told_now ≡ told → says_now ≡ says → AreRightWhere told materials says (take i readings) states
+        → i < length readings → option_map passport_in (slice_get readings i) ≡ Some passport → x5u ≡ passport.x5u → IsRightWhere told_now materials says_now x5u state
+        → AreRightWhere told materials says (take (i + 1) readings) (states ++ state ∷ []) }
+{
+    right_law();
+}
