@@ -10,8 +10,8 @@ Each folder beside this file is a case, with these files:
     files     a folder with the files that lie where the program runs; absent: none
     stdout    what the program must write to the standard output, byte for byte; absent: nothing
     status    its exit status, in digits
-    streams   words of `no-stdin`, `no-stdout` and `full-stdout`: the standard input or output is
-              closed, or is a device without room; absent: none of these
+    streams   words of `no-stdin`, `no-stdout`, `full-stdout` and `unread-stdout`: the standard input or
+              output is closed, or is a device without room, or a pipe that nobody reads; absent: none of these
 
 Each file NAME.rows has a case a line, beside empty lines and comments, which begin with `#`:
 
@@ -20,14 +20,17 @@ Each file NAME.rows has a case a line, beside empty lines and comments, which be
     FILE NAME = PIECE ..                  a file that lies where the program runs, in each case of the file of rows
     NAMED IN NAME                         takes what the file of rows of this name has named, without its cases
     PIECE .. < INPUT .. => STATUS PIECE ..  the program's words, its input, its status and its output
+    (STREAM ..) PIECE .. < ..             the same with such streams
 
 A piece is `[COUNT*]TEXT`, and a text is `$NAME`, `x:HEX`, or plain text in which `\\xHH`, `\\s` (a space), `\\n`, `\\r`,
 `\\t` and `\\\\` are escapes. An input is pieces; the pieces behind a piece `@MOMENT`, up to the next such or the end, are
 one entry of a call log with that message. A line that can't be read fails the run.
 
 The program runs in a folder of its own and must write nothing to standard error. Needs the standard
-library alone. The last line counts the cases. One case more stands here: a log of 100,000 calls.
+library alone. The last line counts the cases. More cases stand elsewhere: the words of
+tests/vectors/words.py, and a log of 100,000 calls, which is made here.
 """
+import contextlib
 import os
 import pathlib
 import re
@@ -35,7 +38,9 @@ import subprocess
 import sys
 import tempfile
 
-HERE = pathlib.Path(__file__).parent
+HERE = pathlib.Path(__file__).resolve().parent
+sys.path.insert(0, str(HERE.parent / 'vectors'))
+from words import program_cases  # noqa: E402
 
 
 def content(path):
@@ -52,13 +57,23 @@ def closing(streams):
     return close
 
 
+def output(streams):
+    """The file that the program's standard output is, or None."""
+    if 'full-stdout' in streams:
+        return open('/dev/full', 'wb')
+    if 'unread-stdout' in streams:
+        reader, writer = os.pipe()
+        os.close(reader)
+        return open(writer, 'wb')
+    return contextlib.nullcontext()
+
+
 def run(program, words, given, files, streams=()):
     """Status, standard output and standard error of one run in a folder of its own with these files."""
-    out = open('/dev/full', 'wb') if 'full-stdout' in streams else subprocess.PIPE
-    with tempfile.TemporaryDirectory() as folder:
+    with tempfile.TemporaryDirectory() as folder, output(streams) as out:
         for name, data in files.items():
             pathlib.Path(folder, name).write_bytes(data)
-        done = subprocess.run([os.fsencode(program)] + words, input=given, stdout=out, stderr=subprocess.PIPE,
+        done = subprocess.run([os.fsencode(program)] + words, input=given, stdout=out or subprocess.PIPE, stderr=subprocess.PIPE,
                               cwd=folder, timeout=60, preexec_fn=closing(streams))
     return done.returncode, done.stdout or b'', done.stderr
 
@@ -126,10 +141,10 @@ class Rows:
         return found is not None
 
     def case(self, program, line):
-        given, wanted = line.split(' => ')
+        streams, given, wanted = re.fullmatch(r'(?:\(([a-z -]+)\) )?(.*) => (.*)', line).groups(default='')
         words, data = f' {given} '.split(' < ')
         status, *said = wanted.split(' ')
-        got = run(program, self.line_of_words(words.split()), self.log(data.split()), self.files)
+        got = run(program, self.line_of_words(words.split()), self.log(data.split()), self.files, streams.split())
         return (int(status), self.text(said), b''), got
 
 
@@ -139,6 +154,12 @@ def rows(program, path):
     for number, line in enumerate(path.read_text().splitlines(), 1):
         if line and not line.startswith('#') and not file.named(line):
             yield f'{path.name}:{number}', *file.case(program, line)
+
+
+def word_cases(program):
+    """What the program does with the words of tests/vectors/words.py, where no file is."""
+    for number, (words, status, output) in enumerate(program_cases(), 1):
+        yield f'words.py:{number} {words}', (status, output, b''), run(program, words, b'', {})
 
 
 LONG_LOG = 100_000
@@ -157,6 +178,7 @@ def cases(program):
         yield case.name, *folder_case(program, case)
     for path in sorted(HERE.glob('*.rows')):
         yield from rows(program, path)
+    yield from word_cases(program)
     yield 'long log', *long_log_case(program)
 
 
