@@ -1,5 +1,8 @@
 pub mod NextLaws
 pub mod PartLaws
+pub mod BrokenLaws
+pub mod ReadLaws
+pub mod EachLaws
 pub mod IntegerLaws
 pub mod IntegerTexts
 pub mod PutLaws
@@ -7,3 +10,4 @@ pub mod FlagLaws
 pub mod MomentLaws
 pub mod TimeLaws
 pub mod ElementLaws
+pub mod OptionalLaws

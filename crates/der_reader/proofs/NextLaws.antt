@@ -1,5 +1,5 @@
 -- Laws of `next_at`: it gives the element that the bytes begin with, and only that one.
-use Rattle.std.proofs.Common.{◌≡◌, ◌≢◌, ℕ, zero, suc, ◌+◌, ◌*◌, ◌/◌, ◌%◌, ◌<◌, ◌≤◌, List, [], ◌∷◌, ◌++◌, length, take, drop, bit_and, Result, Ok, Err, IfOk, IsOkAnd, refl, sym, ap, subst, inl, inr, ◌⊎◌, ◌∙◌, append_assoc, arith, length-append, length-take, length-drop}
+use Rattle.std.proofs.Common.{true, ◌≡◌, ◌≢◌, ℕ, zero, suc, ◌+◌, ◌*◌, ◌/◌, ◌%◌, ◌<◌, ◌≤◌, List, [], ◌∷◌, ◌++◌, length, take, drop, nat_lt, bit_and, Result, Ok, Err, IfOk, IsOkAnd, refl, sym, ap, subst, inl, inr, ◌⊎◌, ◌∙◌, append_assoc, arith, length-append, length-take, length-drop}
 use Rattle.std.proofs.lemmas.List.{take-append-drop}
 use Rattle.std.proofs.Math.Seq.{take-add, take-append_seam, drop-append_seam}
 use Rattle.std.specs.Borrow.{Bor}
@@ -9,6 +9,7 @@ use Rattle.der_reader.specs.declared.element.Der.{Der}
 use Rattle.der_reader.specs.declared.element.Header.{Header}
 use Rattle.der_reader.specs.declared.fault.DerFault.{DerFault}
 use Rattle.der_reader.specs.Elem.{AllBytes, Elem, Element, BeginsWith, element_of, length_text}
+use Rattle.der_reader.specs.Fault.{short_at}
 use Rattle.der_reader.specs.Next.{header_at, content_at, next_behind, next_at, next_view}
 use Rattle.lists.proofs.StepLaws.{inside}
 
@@ -317,7 +318,7 @@ answer_shorter bytes (Err f) e = tt
 
 -- ---- bytes of bytes
 
-all_behind : (xs ys : List ℕ) → AllBytes (xs ++ ys) → AllBytes ys
+pub all_behind : (xs ys : List ℕ) → AllBytes (xs ++ ys) → AllBytes ys
 all_behind [] ys b = b
 all_behind (x ∷ xs) ys b = all_behind xs ys (λ i. b (suc i))
 
@@ -340,3 +341,86 @@ parts_are_bytes bytes element rest b s =
     let whole : AllBytes element.whole = all_front element.whole rest all in
     let text : AllBytes ((element.tag ∷ length_text (length element.content)) ++ element.content) = subst AllBytes s.elem.text whole in
     (all_behind (element.tag ∷ length_text (length element.content)) element.content text, all_behind element.whole rest all)
+
+-- ---- an element that is cut short
+
+too_short : (bytes : List ℕ) (h : Header) → header_at bytes ≡ Ok h → length bytes < h.size + h.content_size → next_at bytes ≡ Err (short_at (length bytes))
+unfolding next_at
+too_short bytes h e l = let test : nat_lt (length bytes) (h.size + h.content_size) ≡ true = grind (arith, nat_tests, l) in rw (e, test) refl
+
+nothing : next_at [] ≡ Err (short_at 0)
+unfolding next_at header_at
+nothing = refl
+
+no_length : (t : ℕ) → bit_and t 31 ≢ 31 → next_at (t ∷ []) ≡ Err (short_at 1)
+unfolding next_at header_at
+no_length t low = grind (arith, nat_tests, common_steps)
+
+one_wanting : (t : ℕ) → bit_and t 31 ≢ 31 → next_at (t ∷ 129 ∷ []) ≡ Err (short_at 2)
+unfolding next_at header_at
+one_wanting t low = grind (arith, nat_tests, common_steps)
+
+two_wanting : (t : ℕ) → bit_and t 31 ≢ 31 → next_at (t ∷ 130 ∷ []) ≡ Err (short_at 2)
+unfolding next_at header_at
+two_wanting t low = grind (arith, nat_tests, common_steps)
+
+half_wanting : (t a : ℕ) → bit_and t 31 ≢ 31 → next_at (t ∷ 130 ∷ a ∷ []) ≡ Err (short_at 3)
+unfolding next_at header_at
+half_wanting t a low = grind (arith, nat_tests, common_steps)
+
+-- what reading a front of tag, length and content gives, by the bytes of the length
+abbrev Short : List ℕ → Type 0
+Short front = next_at front ≡ Err (short_at (length front))
+
+front_one : (t n : ℕ) (content front more : List ℕ) → bit_and t 31 ≢ 31 → n < 128 → length content ≡ n → n ∷ content ≡ front ++ more → 1 ≤ length more → Short (t ∷ front)
+front_one t n content [] more low l size e some = no_length t low
+front_one t n content (b ∷ rest) more low l size e some =
+    let is : n ≡ b = cc in
+    let left : content ≡ rest ++ more = cc in
+    subst (λ b. Short (t ∷ b ∷ rest)) is
+    (too_short (t ∷ n ∷ rest) _ (header_again_short t n rest low l) (omega (arith, size, some, ap length left, length-append rest more)))
+
+front_two : (t n : ℕ) (content front more : List ℕ) → bit_and t 31 ≢ 31 → 128 ≤ n → length content ≡ n → 129 ∷ n ∷ content ≡ front ++ more → 1 ≤ length more → Short (t ∷ front)
+front_two t n content [] more low l size e some = no_length t low
+front_two t n content (b ∷ []) more low l size e some = let is : 129 ≡ b = cc in subst (λ b. Short (t ∷ b ∷ [])) is (one_wanting t low)
+front_two t n content (b ∷ c ∷ rest) more low l size e some =
+    let is : 129 ≡ b = cc in
+    let then : n ≡ c = cc in
+    let left : content ≡ rest ++ more = cc in
+    subst (λ b. Short (t ∷ b ∷ c ∷ rest)) is (subst (λ c. Short (t ∷ 129 ∷ c ∷ rest)) then
+    (too_short (t ∷ 129 ∷ n ∷ rest) _ (header_again_one t n rest low l) (omega (arith, size, some, ap length left, length-append rest more))))
+
+front_three : (t a b : ℕ) (content front more : List ℕ) → bit_and t 31 ≢ 31 → 0 < a → length content ≡ a * 256 + b → 130 ∷ a ∷ b ∷ content ≡ front ++ more → 1 ≤ length more
+    → Short (t ∷ front)
+front_three t a b content [] more low l size e some = no_length t low
+front_three t a b content (c ∷ []) more low l size e some = let is : 130 ≡ c = cc in subst (λ c. Short (t ∷ c ∷ [])) is (two_wanting t low)
+front_three t a b content (c ∷ d ∷ []) more low l size e some = let is : 130 ≡ c = cc in subst (λ c. Short (t ∷ c ∷ d ∷ [])) is (half_wanting t d low)
+front_three t a b content (c ∷ d ∷ f ∷ rest) more low l size e some =
+    let is : 130 ≡ c = cc in
+    let then : a ≡ d = cc in
+    let last : b ≡ f = cc in
+    let left : content ≡ rest ++ more = cc in
+    subst (λ c. Short (t ∷ c ∷ d ∷ f ∷ rest)) is (subst (λ d. Short (t ∷ 130 ∷ d ∷ f ∷ rest)) then (subst (λ f. Short (t ∷ 130 ∷ a ∷ f ∷ rest)) last
+    (too_short (t ∷ 130 ∷ a ∷ b ∷ rest) _ (header_again_two t a b rest low l) (omega (arith, size, some, ap length left, length-append rest more)))))
+
+-- a front of an element ends before the element does
+pub front_short : (tag : ℕ) (whole content front more : List ℕ) → Elem whole tag content → whole ≡ front ++ more → 1 ≤ length more
+    → next_at front ≡ Err (short_at (length front))
+front_short tag whole content [] more elem split some = nothing
+front_short tag whole content (t ∷ front) more elem split some =
+    let both : tag ∷ (length_text (length content) ++ content) ≡ t ∷ (front ++ more) = sym elem.text ∙ split in
+    let is : tag ≡ t = cc in
+    let left : length_text (length content) ++ content ≡ front ++ more = cc in
+    subst (λ t. Short (t ∷ front)) is (by_size (sizes (length content)) left)
+  where
+    sizes : (n : ℕ) → (n < 128) ⊎ (((128 ≤ n) × (n < 256)) ⊎ (256 ≤ n))
+    sizes n = grind arith
+
+    by_size : (length content < 128) ⊎ (((128 ≤ length content) × (length content < 256)) ⊎ (256 ≤ length content))
+        → length_text (length content) ++ content ≡ front ++ more → Short (tag ∷ front)
+    by_size (inl l) e = front_one tag (length content) content front more elem.low_tag l refl (sym (ap (λ l. l ++ content) (short_text (length content) l)) ∙ e) some
+    by_size (inr (inl m)) e =
+        front_two tag (length content) content front more elem.low_tag m.0 refl (sym (ap (λ l. l ++ content) (one_byte_text (length content) m.0 m.1)) ∙ e) some
+    by_size (inr (inr m)) e =
+        front_three tag (length content / 256) (length content % 256) content front more elem.low_tag (omega (arith, m)) (omega arith)
+        (sym (ap (λ l. l ++ content) (two_byte_text (length content) m)) ∙ e) some

@@ -1,15 +1,16 @@
 -- Laws of elements one after another: each is what stands there, and what stands there is read.
-use Rattle.std.proofs.Common.{◌≡◌, ◌≢◌, ℕ, ◌+◌, ◌-◌, ◌<◌, ◌≤◌, ◌^◌, ◌==◌, Bool, ◌&&◌, true, false, cond, List, [], ◌++◌, length, bit_and, Option, Some, None, Result, Ok, Err, refl, sym, ap, subst, ◌∙◌, length-append, append-nil, arith}
+use Rattle.std.proofs.Common.{◌≡◌, ◌≢◌, ℕ, ◌+◌, ◌<◌, ◌≤◌, ◌^◌, ◌==◌, ◌&&◌, true, false, List, [], ◌++◌, length, bit_and, Option, Some, None, Result, Ok, Err, refl, sym, ap, subst, ◌∙◌, length-append, append-nil, arith}
 use Rattle.std.proofs.lemmas.Bool.Decides.{nat_tests}
 use Rattle.lists.proofs.Bytes.{no_byte}
 use Rattle.lists.proofs.StepLaws.{after, came, inside, taken}
 use Rattle.der_reader.specs.declared.fault.DerFault.{DerFault}
 use Rattle.der_reader.specs.declared.part.Fault.{Fault}
 use Rattle.der_reader.specs.Fault.{bad_value}
-use Rattle.der_reader.specs.Elem.{AllBytes, BeginsWith, Elem, Element, element_text, length_text}
-use Rattle.der_reader.specs.Next.{next_at, sole_at}
+use Rattle.der_reader.specs.Elem.{AllBytes, BeginsWith, Elem, Element, IsPair, element_text, length_text}
+use Rattle.der_reader.specs.Next.{next_at, pair_at, sole_at}
 use Rattle.der_reader.specs.Part.{ItemView, PartView, at_kind, element_at, end_at, item_at, item_from, item_in, or_broken, or_fault}
-use Rattle.der_reader.proofs.NextLaws.{all_front, next_again, next_found, parts_are_bytes}
+use Rattle.der_reader.proofs.NextLaws.{all_front, next_again, next_found, parts_are_bytes, short_text}
+use Rattle.lists.specs.Steps.{◌>>=◌}
 
 -- ---- sizes
 
@@ -46,6 +47,14 @@ pub unbroken : {A E : Type 0} (r : Result A E) (broken : Fault) (x : A) → or_b
 unbroken (Ok y) broken x e = let k : y ≡ x = cc in ap (λ y. let r : Result _ _ = Ok y in r) k
 unbroken (Err f) broken x e = cc
 
+-- what was read, where another fault would be this one
+pub kept : {A E : Type 0} (r : Result A E) (broken : Fault) (x : A) → r ≡ Ok x → or_broken r broken ≡ Ok x
+kept r broken x e = ap (λ r. or_broken r broken) e
+
+-- answers that hold one thing are one
+pub ok_is : {A E : Type 0} (x y : A) → x ≡ y → ◌≡◌ {A = Result A E} (Ok x) (Ok y)
+ok_is x y e = ap (λ x. let r : Result _ _ = Ok x in r) e
+
 -- nothing is left over
 pub ended : {A : Type 0} (part : PartView) (v w : A) → end_at part v ≡ Ok w → (part.left ≡ []) × (v ≡ w)
 ended part v w e = let t = taken (length part.left == 0) v w (at_kind 1 part.place) e in (no_byte part.left t.0, t.1)
@@ -63,22 +72,25 @@ pub record Begins (part : PartView) (item : ItemView) : Type 0 where
   pub content_bytes : AllBytes item.content.left
   pub behind_bytes : AllBytes item.behind.left
 
+pub begins_with : (part : PartView) (element : Element) (rest : List ℕ) → AllBytes part.left → BeginsWith part.left element rest
+    → Begins part (item_in part.place element rest)
+begins_with part element rest b begins =
+    let bytes = parts_are_bytes part.left element rest b begins in
+    record {
+      elem = begins.elem;
+      split = begins.split;
+      whole_bytes = all_front element.whole rest (subst AllBytes begins.split b);
+      content_bytes = bytes.0;
+      behind_bytes = bytes.1;
+    }
+
 pub item_found : (part : PartView) (item : ItemView) → AllBytes part.left → item_at part ≡ Ok item → Begins part item
 unfolding item_at
 item_found part item b e = by_next (next_at part.left) refl e
   where
     by_next : (r : Result (Element × List ℕ) DerFault) → next_at part.left ≡ r → item_from part.place r ≡ Ok item → Begins part item
     by_next (Ok found) k e =
-        let begins : BeginsWith part.left found.0 found.1 = next_found part.left found b k in
-        let bytes = parts_are_bytes part.left found.0 found.1 b begins in
-        subst (Begins part) (inside (item_in part.place found.0 found.1) item e)
-        (record {
-          elem = begins.elem;
-          split = begins.split;
-          whole_bytes = all_front found.0.whole found.1 (subst AllBytes begins.split b);
-          content_bytes = bytes.0;
-          behind_bytes = bytes.1;
-        })
+        subst (Begins part) (inside (item_in part.place found.0 found.1) item e) (begins_with part found.0 found.1 b (next_found part.left found b k))
     by_next (Err fault) k e = cc
 
 pub element_found : (tag : ℕ) (part : PartView) (item : ItemView) → AllBytes part.left → element_at tag part ≡ Ok item
@@ -89,6 +101,18 @@ element_found tag part item b e =
     let t = taken (a.0.tag == tag) a.0 item (at_kind 1 a.0.place) a.2 in
     let is : a.0.tag ≡ tag = grind (arith, nat_tests, t.0) in
     (subst (Begins part) t.1 (item_found part a.0 b a.1), sym (ap (λ (i : ItemView). i.tag) t.1) ∙ is)
+
+-- a reading that gives something, by its first step: what follows from what this gave follows from it
+pub came_by : {A B E C : Type 0} (r : Result A E) (next : A → Result B E) (x : B) → r >>= next ≡ Ok x → ((a : A) → r ≡ Ok a → next a ≡ Ok x → C) → C
+came_by r next x e follows = let a = came r next x e in follows a.0 a.1 a.2
+
+pub item_came : {A C : Type 0} (part : PartView) (next : ItemView → Result A Fault) (x : A) → AllBytes part.left → item_at part >>= next ≡ Ok x
+    → ((item : ItemView) → Begins part item → next item ≡ Ok x → C) → C
+item_came part next x b e follows = came_by (item_at part) next x e (λ item r. follows item (item_found part item b r))
+
+pub element_came : {A C : Type 0} (tag : ℕ) (part : PartView) (next : ItemView → Result A Fault) (x : A) → AllBytes part.left → element_at tag part >>= next ≡ Ok x
+    → ((item : ItemView) → Begins part item × (item.tag ≡ tag) → next item ≡ Ok x → C) → C
+element_came tag part next x b e follows = came_by (element_at tag part) next x e (λ item r. follows item (element_found tag part item b r))
 
 -- its text, and what stands behind it
 pub begins_text : (tag : ℕ) (part : PartView) (item : ItemView) → Begins part item × (item.tag ≡ tag)
@@ -206,3 +230,42 @@ sole_again tag text content elem =
     let test : tag == tag ≡ true = grind (arith, nat_tests) in
     after (next_at text) (record { tag = tag; whole = text; content = content }, []) _ _
     (next_alone tag text content elem) (rw test refl)
+
+-- ---- two of a SEQUENCE
+
+-- the two, and that their contents are bytes
+pub record Pair (text : List ℕ) (found : Element × Element) : Type 0 where
+  pub is : IsPair text found.0 found.1
+  pub first_bytes : AllBytes found.0.content
+  pub second_bytes : AllBytes found.1.content
+
+pub pair_found : (text : List ℕ) (found : Element × Element) → AllBytes text → pair_at text ≡ Ok found → Pair text found
+unfolding pair_at
+pair_found text found b e =
+    let a = came (sole_at 0x30 text) _ found e in
+    let sequence = sole_found 0x30 text a.0 b a.1 in
+    let f = came (next_at a.0.content) _ found a.2 in
+    let first : BeginsWith a.0.content f.0.0 f.0.1 = next_found a.0.content f.0 sequence.content_bytes f.1 in
+    let bytes = parts_are_bytes a.0.content f.0.0 f.0.1 sequence.content_bytes first in
+    let s = came (next_at f.0.1) _ found f.2 in
+    let second : BeginsWith f.0.1 s.0.0 s.0.1 = next_found f.0.1 s.0 bytes.1 s.1 in
+    let t = taken (length s.0.1 == 0) (f.0.0, s.0.0) found bad_value s.2 in
+    let last : f.0.1 ≡ s.0.0.whole = second.split ∙ ap (λ r. s.0.0.whole ++ r) (no_byte s.0.1 t.0) ∙ append-nil s.0.0.whole in
+    subst (Pair text) t.1 (record {
+      is = record { elem = subst (Elem text 0x30) (first.split ∙ ap (λ r. f.0.0.whole ++ r) last) sequence.elem; is_first = first.elem; is_second = second.elem };
+      first_bytes = bytes.0;
+      second_bytes = (parts_are_bytes f.0.1 s.0.0 s.0.1 bytes.1 second).0;
+    })
+
+pub pair_again : (text : List ℕ) (first second : Element) → IsPair text first second → pair_at text ≡ Ok (first, second)
+unfolding pair_at
+pair_again text first second t =
+    after (sole_at 0x30 text) _ _ _ (sole_again 0x30 text (first.whole ++ second.whole) t.elem)
+    (after (next_at (first.whole ++ second.whole)) _ _ _ (next_stands first.tag first.whole first.content second.whole t.is_first)
+    (after (next_at second.whole) _ _ _ (next_alone second.tag second.whole second.content t.is_second) refl))
+
+-- ---- how long an element is
+
+-- an element of few bytes has two more
+pub element_length : (tag : ℕ) (content : List ℕ) → length content < 128 → length (element_text tag content) ≡ 2 + length content
+element_length tag content l = omega (arith, ap length (short_text (length content) l), length-append (length_text (length content)) content)

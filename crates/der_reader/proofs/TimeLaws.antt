@@ -5,10 +5,8 @@ use Rattle.std.proofs.lemmas.Int.{ints}
 use Rattle.jiff_core.specs.Calendar.{days_in_month}
 use Rattle.der_reader.specs.declared.moment.Moment.{Moment}
 use Rattle.der_reader.specs.declared.fault.DerFault.{DerFault}
-use Rattle.der_reader.specs.Fault.{bad_value}
 use Rattle.der_reader.specs.Moment.{IsMoment, seconds_of}
 use Rattle.der_reader.specs.Time.{TimeText, UtcTimeText, GeneralizedTimeText, is_digit, two, text_after_year, two_front, moment_at, utc_moment, generalized_moment, moment_of, time_of}
-use Rattle.lists.specs.Steps.{◌>>=◌}
 use Rattle.der_reader.proofs.MomentLaws.{seconds_again, seconds_found}
 use Rattle.lists.proofs.StepLaws.{after, came, taken}
 

@@ -1,5 +1,5 @@
 -- A DER element, in the profile of this project: X.690, sections 8.1.2, 8.1.3 and 10.1.
-use Rattle.std.specs.Prelude.{◌≡◌, ◌≢◌, ℕ, ◌/◌, ◌%◌, ◌<◌, List, [], ◌∷◌, ◌++◌, length, slice_index, nat_lt, bit_and, if◌then◌else◌}
+use Rattle.std.specs.Prelude.{◌≡◌, ◌≢◌, ◌⊎◌, ℕ, ◌/◌, ◌%◌, ◌<◌, List, [], ◌∷◌, ◌++◌, length, slice_index, nat_lt, bit_and, Option, Some, None, if◌then◌else◌}
 use Rattle.der_reader.specs.declared.element.Der.{Der}
 
 -- each of them is a byte
@@ -39,3 +39,21 @@ element_of der = record { tag = der.tag; whole = der.whole.now; content = der.co
 pub record BeginsWith (bytes : List ℕ) (element : Element) (rest : List ℕ) : Type 0 where
   pub elem : Elem element.whole element.tag element.content
   pub split : bytes ≡ element.whole ++ rest
+
+-- the bytes begin with an element of another tag
+pub record BeginsWithOther (tag : ℕ) (bytes : List ℕ) : Type 0 where
+  pub element : Element
+  pub rest : List ℕ
+  pub begins : BeginsWith bytes element rest
+  pub other : element.tag ≢ tag
+
+-- an element of this tag that may be absent, and what stands behind it; absent, all bytes stand there: none, or an element of another tag first
+abbrev pub MayBeginWith : ℕ → List ℕ → Option Element → List ℕ → Type 0
+MayBeginWith tag bytes (Some element) rest = BeginsWith bytes element rest × (element.tag ≡ tag)
+MayBeginWith tag bytes None rest = (rest ≡ bytes) × ((bytes ≡ []) ⊎ BeginsWithOther tag bytes)
+
+-- the bytes are a SEQUENCE of these two elements
+pub record IsPair (bytes : List ℕ) (first second : Element) : Type 0 where
+  pub elem : Elem bytes 0x30 (first.whole ++ second.whole)
+  pub is_first : Elem first.whole first.tag first.content
+  pub is_second : Elem second.whole second.tag second.content

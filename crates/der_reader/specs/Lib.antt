@@ -2,7 +2,10 @@ pub mod Fault
 pub mod Elem
 pub mod Next
 pub mod Part
+pub mod Broken
+pub mod Each
 pub mod Integer
+pub mod Optional
 pub mod BitString
 pub mod Boolean
 pub mod Moment

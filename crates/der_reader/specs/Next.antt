@@ -1,6 +1,7 @@
 -- What reading one element off the front of some bytes gives, with the ordered table of its faults.
-use Rattle.std.specs.Prelude.{ℕ, ◌+◌, ◌*◌, ◌&&◌, ◌==◌, List, length, take, drop, nat_lt, slice_index, bit_and, Result, Ok, Err, if◌then◌else◌}
+use Rattle.std.specs.Prelude.{ℕ, ◌+◌, ◌*◌, ◌&&◌, ◌==◌, List, length, take, drop, nat_lt, slice_index, bit_and, Option, Some, None, Result, Ok, Err, if◌then◌else◌}
 use Rattle.std.specs.Borrow.{Bor}
+use Rattle.std.specs.Option.{option_map}
 use Rattle.der_reader.specs.declared.element.Der.{Der}
 use Rattle.der_reader.specs.declared.element.Header.{Header}
 use Rattle.der_reader.specs.declared.fault.DerFault.{DerFault}
@@ -80,3 +81,29 @@ sole_at tag bytes = do
 abbrev pub sole_view : Result Der DerFault → Result Element DerFault
 sole_view (Ok der) = Ok (element_of der)
 sole_view (Err fault) = Err fault
+
+-- the first element, where it has this tag, and what is behind it; else the bytes as they are
+abbrev pub tagged_or : ℕ → List ℕ → Element × List ℕ → Option Element × List ℕ
+tagged_or tag bytes found = if found.0.tag == tag then (Some found.0, found.1) else (None, bytes)
+
+-- an element of this tag that may be absent, and what is behind it
+unfoldable pub optional_at : ℕ → List ℕ → Result (Option Element × List ℕ) DerFault
+optional_at tag bytes = if length bytes == 0 then Ok (None, bytes) else (next_at bytes >>= λ found. Ok (tagged_or tag bytes found))
+
+-- an answer of `Der::optional` as plain data
+abbrev pub optional_view : Result (Option Der × Bor (List ℕ)) DerFault → Result (Option Element × List ℕ) DerFault
+optional_view (Ok found) = Ok (option_map element_of found.0, found.1.now)
+optional_view (Err fault) = Err fault
+
+-- the two elements that are the content of a SEQUENCE
+unfoldable pub pair_at : List ℕ → Result (Element × Element) DerFault
+pair_at bytes = do
+  sequence ← sole_at 0x30 bytes
+  first ← next_at sequence.content
+  second ← next_at first.1
+  if length second.1 == 0 then Ok (first.0, second.0) else Err bad_value
+
+-- an answer of `Der::pair` as plain data
+abbrev pub pair_view : Result (Der × Der) DerFault → Result (Element × Element) DerFault
+pair_view (Ok found) = Ok (element_of found.0, element_of found.1)
+pair_view (Err fault) = Err fault

@@ -2,9 +2,10 @@
 
 ghost use Rattle.std.specs.Prelude.{◌≡◌, ◌+◌, ◌<◌, ◌≤◌, length, IfOk, IfErr, IsOkAnd, List, ℕ};
 ghost use Rattle.der_reader.specs.Elem.{BeginsWith, Element, element_of};
-ghost use Rattle.der_reader.specs.Next.{content_at, header_at, next_at, next_view, sole_at, sole_view};
+ghost use Rattle.der_reader.specs.Next.{content_at, header_at, next_at, next_view, pair_at, pair_view, sole_at, sole_view};
 
 use crate::fault::DerFault;
+use crate::tags::SEQUENCE;
 
 /// The low five bits of a tag byte; all set, they announce a tag number in further bytes.
 const TAG_NUMBER_BITS: u8 = 0x1F;
@@ -67,6 +68,21 @@ impl<'a> Der<'a> {
         let (der, rest) = Der::next(bytes)?;
         if der.tag == tag && rest.is_empty() {
             Ok(der)
+        } else {
+            Err(DerFault::value())
+        }
+    }
+
+    /// The two elements of the one SEQUENCE that `bytes` are; another tag, more elements or bytes left over are `VALUE` at 0.
+    #[tactic(auto, unfolding(crate::specs::Next::pair_at))]
+    pub fn pair(bytes: &'a [u8]) -> Result<(Der<'a>, Der<'a>), DerFault>
+        ensures exact { pair_view result ≡ pair_at bytes.now }
+    {
+        let sequence = Der::sole(bytes, SEQUENCE)?;
+        let (first, rest) = Der::next(sequence.content)?;
+        let (second, behind) = Der::next(rest)?;
+        if behind.is_empty() {
+            Ok((first, second))
         } else {
             Err(DerFault::value())
         }

@@ -1,8 +1,9 @@
 //! Laws: a function here does nothing, and its clauses are the law.
-ghost use Rattle.std.specs.Prelude.{◌≡◌, ◌<◌, ◌^◌, ◌++◌, ℕ, ℤ, Bool, List, length, take, Ok};
+ghost use Rattle.std.specs.Prelude.{◌≡◌, ◌<◌, ◌≤◌, ◌^◌, ◌++◌, ℕ, ℤ, Bool, List, length, take, Ok, Err};
 ghost use Rattle.der_reader.specs.BitString.{BitText, bits_of};
 ghost use Rattle.der_reader.specs.Boolean.{boolean_of, boolean_text};
-ghost use Rattle.der_reader.specs.Elem.{AllBytes, BeginsWith, Element};
+ghost use Rattle.der_reader.specs.Elem.{AllBytes, BeginsWith, Elem, Element};
+ghost use Rattle.der_reader.specs.Fault.{short_at};
 ghost use Rattle.der_reader.specs.Integer.{IntegerText, big_endian, scalar_of, unsigned_of};
 ghost use Rattle.der_reader.specs.Next.{next_at};
 ghost use Rattle.der_reader.specs.Time.{TimeText, time_of};
@@ -14,11 +15,13 @@ pub fn bytes_law()
 {}
 
 /// An element and the rest are read of bytes just where these begin with this element and go on with this rest (X.690, sections 8.1.2, 8.1.3
-/// and 10.1). The rest is shorter, and it and the content are bytes where all are.
+/// and 10.1); a front of an element is cut short at its end. The rest is shorter, and it and the content are bytes where all are.
 pub fn element_law()
     ensures again { (bytes : List ℕ) (element : Element) (rest : List ℕ) → BeginsWith bytes element rest → next_at bytes ≡ Ok (element, rest) }
     ensures found { (bytes : List ℕ) (found : Element × List ℕ) → AllBytes bytes → next_at bytes ≡ Ok found → BeginsWith bytes found.0 found.1 }
     ensures shorter { (bytes : List ℕ) (found : Element × List ℕ) → next_at bytes ≡ Ok found → length found.1 < length bytes }
+    ensures cut_short { (tag : ℕ) (whole content front more : List ℕ) → Elem whole tag content → whole ≡ front ++ more → 1 ≤ length more
+        → next_at front ≡ Err (short_at (length front)) }
     ensures parts { (bytes : List ℕ) (element : Element) (rest : List ℕ) → AllBytes bytes → BeginsWith bytes element rest
         → AllBytes element.content × AllBytes rest }
 {}

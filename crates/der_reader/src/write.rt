@@ -1,12 +1,13 @@
 //! One DER element behind what was written before (X.690, sections 8.1.2, 8.1.3 and 10.1).
 
-ghost use Rattle.std.specs.Prelude.{◌≡◌, ◌≢◌, ◌+◌, ◌≤◌, ◌<◌, ◌++◌, ◌∷◌, [], length, vec_len, vec_capacity, bit_and, OnOk, OnErr, IsOk};
+ghost use Rattle.std.specs.Prelude.{◌≡◌, ◌≢◌, ◌+◌, ◌≤◌, ◌<◌, ◌++◌, ◌∷◌, [], length, vec_len, vec_capacity, bit_and, OnOk, OnErr, IfOk, IsOk};
 ghost use Rattle.std.specs.Vec.{VecUnchanged};
-ghost use Rattle.der_reader.specs.Elem.{length_text};
+ghost use Rattle.der_reader.specs.Elem.{element_text, length_text};
 ghost use Rattle.der_reader.specs.Integer.{integer_content};
 ghost use Rattle.der_reader.specs.Put.{AddsElement, ReadsBack};
 
 pub use std::alloc::AllocError as Memory;
+use std::alloc::Global;
 
 /// Appends one element to `out`: tag, length and content, in DER's one form.
 ///
@@ -17,6 +18,8 @@ pub fn put(out: &mut Vec<u8>, tag: u8, content: &[u8]) -> Result<(), Memory>
     requires size { length content.now ≤ 65535 }
     ensures ok { OnOk result (AddsElement out.old.items out.new.items tag content.now) }
     ensures reads_back { OnOk result (ReadsBack out.old.items out.new.items tag content.now) }
+    ensures text { OnOk result (out.new.items ≡ out.old.items ++ element_text tag content.now) }
+    ensures short { OnOk result (length content.now < 128 → length out.new.items ≡ length out.old.items + (2 + length content.now)) }
     ensures err { OnErr result (VecUnchanged out.old out.new) }
     ensures err_capacity { OnErr result (vec_capacity out.new ≡ vec_capacity out.old) }
 {
@@ -24,6 +27,18 @@ pub fn put(out: &mut Vec<u8>, tag: u8, content: &[u8]) -> Result<(), Memory>
     out.push(tag)?;
     put_length(out, content.len())?;
     out.extend_from_slice(content)
+}
+
+/// One element: tag, length and content, as `put` writes it.
+pub fn encode(alloc: Global, tag: u8, content: &[u8]) -> Result<Vec<u8>, Memory>
+    requires low_tag { bit_and tag 0x1F ≢ 0x1F }
+    requires size { length content.now ≤ 65535 }
+    ensures text { IfOk result (λ text. text.items ≡ element_text tag content.now) }
+    ensures short { IfOk result (λ text. length content.now < 128 → length text.items ≡ 2 + length content.now) }
+{
+    let mut text = Vec::new(alloc);
+    put(&mut text, tag, content)?;
+    Ok(text)
 }
 
 /// Appends the length of some content, for which there is room.
