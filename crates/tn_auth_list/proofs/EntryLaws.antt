@@ -1,124 +1,139 @@
--- Laws of reading one entry: it gives the entry whose text stands there, and no other.
-use Rattle.std.proofs.Common.{◌≡◌, ℕ, ◌<◌, ◌≤◌, ◌^◌, ◌&&◌, nat_le, nat_lt, Bool, true, false, cond, List, [], ◌++◌, Option, Some, None, Result, Ok, Err, refl, sym, ap, subst, ◌∙◌, inl, inr, ◌⊎◌, append-nil, arith}
+-- Laws of reading one entry: it gives the entry whose text stands there, and no other; and a fault is what is wrong there.
+use Rattle.std.proofs.Common.{◌≡◌, ◌≢◌, ℕ, ◌==◌, ◌<◌, ◌≤◌, ◌^◌, nat_le, nat_lt, Bool, true, false, cond, List, [], ◌++◌, length, bit_and, Some, None, Result, Ok, Err, refl, sym, ap, subst, ◌∙◌, inl, inr, ◌⊎◌, append-nil, length-append, arith}
 use Rattle.std.proofs.lemmas.Bool.Decides.{nat_tests}
 use Rattle.std.proofs.lemmas.Option.{cond_some}
-use Rattle.der_reader.specs.declared.fault.DerFault.{DerFault}
+use Rattle.lists.proofs.StepLaws.{after, came}
+use Rattle.der_reader.specs.Broken.{Behind, LeftOver}
 use Rattle.der_reader.specs.Elem.{AllBytes, element_text}
-use Rattle.der_reader.specs.Integer.{unsigned_of}
-use Rattle.der_reader.proofs.IntegerLaws.{unsigned_found}
+use Rattle.der_reader.specs.Integer.{IntegerText, integer_content, unsigned_of}
+use Rattle.der_reader.specs.Part.{ItemView, PartView, at_kind, element_at, end_at, or_fault}
+use Rattle.der_reader.specs.declared.fault.DerFault.{DerFault}
+use Rattle.der_reader.specs.declared.part.Fault.{Fault}
+use Rattle.der_reader.proofs.BrokenLaws.{Tells, element_tells, end_tells, same_fault, through_tells, value_tells}
+use Rattle.der_reader.proofs.IntegerLaws.{unsigned_again, unsigned_found}
+use Rattle.der_reader.proofs.IntegerTexts.{integer_is_text, integer_short, integer_text_is}
+use Rattle.der_reader.proofs.PartLaws.{begins_text, element_again, element_found, element_length, ended, ends, known, standing, there}
 use Rattle.tn_values.specs.Digit.{are_digits}
-use Rattle.tn_values.specs.Number.{exact, is_number}
-use Rattle.tn_values.specs.Span.{SpanView, span_of}
+use Rattle.tn_values.specs.Number.{is_number}
+use Rattle.tn_values.specs.Span.{SpanView}
 use Rattle.tn_auth_list.specs.declared.entries.Entry.{Entry}
 use Rattle.tn_auth_list.specs.declared.entries.Entry.TheVariants.{Code, Range, Single}
-use Rattle.tn_auth_list.specs.Code.{code_of, is_code}
+use Rattle.tn_auth_list.specs.Code.{is_code}
 use Rattle.tn_auth_list.specs.Entry.{is_entry}
-use Rattle.lists.specs.Steps.{◌>>=◌}
-use Rattle.der_reader.specs.declared.part.Fault.{Fault}
-use Rattle.tn_auth_list.specs.Fault.{no_code_at, no_number_at, no_count_at}
-use Rattle.der_reader.specs.Integer.{integer_content}
-use Rattle.tn_auth_list.specs.ListText.{string_text, integer_text, entry_text}
-use Rattle.der_reader.specs.Part.{PartView, ItemView, item_at, element_at, end_at, or_fault}
-use Rattle.tn_auth_list.specs.Read.{EntryView, code_in, single_in, start_of, counted, span_in, range_in, entry_in, entry_at}
-use Rattle.der_reader.proofs.IntegerTexts.{integer_text_is}
-use Rattle.lists.proofs.StepLaws.{came, inside}
-use Rattle.der_reader.proofs.PartLaws.{there, ended, item_found, element_found, known, begins_text}
+use Rattle.tn_auth_list.specs.Fault.{no_code_at, no_count_at, no_number_at}
+use Rattle.tn_auth_list.specs.ListText.{entry_content, integer_text, span_text, string_text}
+use Rattle.tn_auth_list.specs.Read.{code_in, counted, entry_in, range_in, single_in, span_in, start_of, string_in}
+use Rattle.tn_auth_list.specs.Refused.{IsCount, IsItemOf, IsSpanOf, IsStart, WrongCount, WrongEntry, WrongRange, WrongSpan, WrongString}
+use Rattle.tn_auth_list.proofs.CodeFacts.{code_parts}
 
--- ---- an entry's tag and what is in it
+-- ---- how long texts are
 
-abbrev pub entry_tag : Entry → ℕ
-entry_tag (Code text) = 160
-entry_tag (Range span) = 161
-entry_tag (Single number) = 162
+number_short : (text : List ℕ) → is_number text ≡ true → length text ≤ 32
+unfolding is_number
+number_short text e = grind (arith, nat_tests)
 
-abbrev pub inner_text : Entry → List ℕ
-inner_text (Code text) = string_text text
-inner_text (Range span) = element_text 48 (string_text span.start ++ integer_text span.size)
-inner_text (Single number) = string_text number
+string_length : (text : List ℕ) → length text ≤ 32 → length (string_text text) ≤ 34
+string_length text l = omega (arith, element_length 22 text (omega (arith, l)), l)
 
-pub entry_text_is : (entry : Entry) → entry_text entry ≡ element_text (entry_tag entry) (inner_text entry)
-entry_text_is (Code text) = refl
-entry_text_is (Range span) = refl
-entry_text_is (Single number) = refl
+-- what a range is
+is_range : (span : SpanView) → is_entry (Range span) ≡ true
+    → (is_number span.start ≡ true) × (are_digits span.start ≡ true) × (2 ≤ span.size) × (span.size < 2 ^ 64)
+is_range span e = (grind (arith, nat_tests), grind (arith, nat_tests), grind (arith, nat_tests), grind (arith, nat_tests))
 
--- ---- a text at a test
+span_length : (span : SpanView) → is_entry (Range span) ≡ true → length (span_text span) ≤ 28
+unfolding is_number
+span_length span e =
+    let is = is_range span e in
+    let start : length span.start ≤ 15 = grind (arith, nat_tests, is.0) in
+    let count = integer_short span.size is.3 in
+    omega (
+      arith,
+      start,
+      count,
+      element_length 22 span.start (omega (arith, start)),
+      element_length 2 (integer_content span.size) (omega (arith, count)),
+      length-append (string_text span.start) (integer_text span.size),
+    )
 
-code_found : (text code : List ℕ) → code_of text ≡ Some code → (text ≡ code) × (is_code code ≡ true)
-code_found text code e =
-    let t = cond_some (is_code text) text code e in
-    (t.1, sym (ap is_code t.1) ∙ t.0)
+pub content_length : (entry : Entry) → is_entry entry ≡ true → length (entry_content entry) ≤ 34
+content_length (Code text) e = string_length text (code_parts text e).short
+content_length (Single number) e = string_length number (number_short number e)
+content_length (Range span) e =
+    let short = span_length span e in
+    omega (arith, short, element_length 48 (span_text span) (omega (arith, short)))
 
-number_found : (text number : List ℕ) → exact text ≡ Some number → (text ≡ number) × (is_number number ≡ true)
-number_found text number e =
-    let t = cond_some (is_number text) text number e in
-    (t.1, sym (ap is_number t.1) ∙ t.0)
+-- ---- the IA5String of a text
 
-start_found : (text start : List ℕ) → start_of text ≡ Some start → (text ≡ start) × (is_number start ≡ true) × (are_digits start ≡ true)
-start_found text start e = by_test (are_digits text) refl e
-  where
-    by_test : (t : Bool) → are_digits text ≡ t → cond t (exact text) None ≡ Some start
-        → (text ≡ start) × (is_number start ≡ true) × (are_digits start ≡ true)
-    by_test true k e = let f = number_found text start e in (f.0, f.1, sym (ap are_digits f.0) ∙ k)
-    by_test false k e = cc
+-- the element of a part that begins with its text
+stands : (tag : ℕ) (part : PartView) (content rest : List ℕ) → part.left ≡ element_text tag content ++ rest → bit_and tag 31 ≢ 31
+    → length content ≤ 34 → element_at tag part ≡ Ok (standing tag content rest part.place)
+stands tag part content rest e t l =
+    ap (λ (left : List ℕ). element_at tag (record { left = left; place = part.place })) e
+    ∙ element_again tag content rest part.place t (omega (arith, l))
 
--- the range of a start and a count
-counted_found : (start : List ℕ) (r : Result ℕ DerFault) (span : SpanView) → counted start r ≡ Some span
-    → (r ≡ Ok span.size) × (2 ≤ span.size) × (span.start ≡ start)
-counted_found start (Ok count) span e = by_test (nat_lt count 2) refl e
-  where
-    span_is : (t : Bool) → cond t (Some (record { start = start; size = count })) None ≡ Some span → record { start = start; size = count } ≡ span
-    span_is true e = cc
-    span_is false e = cc
+alone : (tag : ℕ) (part : PartView) (content : List ℕ) → part.left ≡ element_text tag content → bit_and tag 31 ≢ 31
+    → length content ≤ 34 → element_at tag part ≡ Ok (standing tag content [] part.place)
+alone tag part content e t l = stands tag part content [] (e ∙ sym (append-nil (element_text tag content))) t l
 
-    by_test : (t : Bool) → nat_lt count 2 ≡ t → cond t None (span_of start count) ≡ Some span
-        → (◌≡◌ {A = Result ℕ DerFault} (Ok count) (Ok span.size)) × (2 ≤ span.size) × (span.start ≡ start)
-    by_test true k e = cc
-    by_test false k e =
-        let is : record { start = start; size = count } ≡ span = span_is (are_digits start && nat_le 1 count) e in
-        let size : count ≡ span.size = ap (λ (s : SpanView). s.size) is in
-        (ap (λ n. let r : Result ℕ DerFault = Ok n in r) size, grind (arith, nat_tests, size), sym (ap (λ (s : SpanView). s.start) is))
-counted_found start (Err fault) span e = cc
-
--- ---- what is found
-
--- the text of the one element in a part, where a test says what it is
-text_in_found : (read : List ℕ → Option (List ℕ)) (test : List ℕ → Bool) (fault_at : ℕ → Fault) (make : List ℕ → Entry) (part : PartView) (entry : Entry)
-    → ((text found : List ℕ) → read text ≡ Some found → (text ≡ found) × (test found ≡ true)) → AllBytes part.left
-    → element_at 22 part >>= (λ string. or_fault (read string.content.left) (fault_at string.place) >>= (λ found. end_at string.behind (make found))) ≡ Ok entry
-    → (found : List ℕ) × (make found ≡ entry) × (part.left ≡ string_text found) × (test found ≡ true)
-text_in_found read test fault_at make part entry is b e =
+string_found : (passes : List ℕ → Bool) (fault_at : ℕ → Fault) (make : List ℕ → Entry) (part : PartView) (entry : Entry) → AllBytes part.left
+    → string_in passes fault_at make part ≡ Ok entry
+    → (text : List ℕ) × (make text ≡ entry) × (part.left ≡ string_text text) × (passes text ≡ true)
+unfolding string_in
+string_found passes fault_at make part entry b e =
     let a = came (element_at 22 part) _ entry e in
-    let c = came (or_fault (read a.0.content.left) (fault_at a.0.place)) _ entry a.2 in
+    let c = came (or_fault (cond (passes a.0.content.left) (Some a.0.content.left) None) (fault_at a.0.place)) _ entry a.2 in
     let end = ended a.0.behind (make c.0) entry c.2 in
-    let text = is a.0.content.left c.0 (there _ _ c.0 c.1) in
-    (c.0, end.1, known 22 part a.0 c.0 (element_found 22 part a.0 b a.1) end.0 text.0, text.1)
+    let is = cond_some _ a.0.content.left c.0 (there _ _ c.0 c.1) in
+    (c.0, end.1, known 22 part a.0 c.0 (element_found 22 part a.0 b a.1) end.0 is.1, sym (ap passes is.1) ∙ is.0)
 
--- what is found of an entry with this tag
-abbrev IsFound : ℕ → PartView → Entry → Type 0
-IsFound tag part entry = (entry_tag entry ≡ tag) × (part.left ≡ inner_text entry) × (is_entry entry ≡ true)
+string_again : (passes : List ℕ → Bool) (fault_at : ℕ → Fault) (make : List ℕ → Entry) (part : PartView) (text : List ℕ)
+    → part.left ≡ string_text text → passes text ≡ true → length text ≤ 32 → string_in passes fault_at make part ≡ Ok (make text)
+unfolding string_in
+string_again passes fault_at make part text e p l =
+    after (element_at 22 part) (standing 22 text [] part.place) _ _ (alone 22 part text e (λ e. omega (arith, e)) (omega (arith, l)))
+    (rw p (ends (standing 22 text [] part.place).behind (make text) refl))
 
-code_in_found : (part : PartView) (entry : Entry) → AllBytes part.left → code_in part ≡ Ok entry → IsFound 160 part entry
-unfolding code_in
-code_in_found part entry b e = let t = text_in_found code_of is_code no_code_at Code part entry code_found b e in subst (IsFound 160 part) t.1 (refl, t.2, t.3)
+string_tells : (passes : List ℕ → Bool) (kind : ℕ) (make : List ℕ → Entry) (part : PartView) → AllBytes part.left
+    → Tells (string_in passes (at_kind kind) make part) (WrongString (λ string. passes string.content.left ≡ true) kind part)
+unfolding string_in
+string_tells passes kind make part b =
+    element_tells 22 part _ _ b (λ string begins tag.
+    value_tells (cond (passes string.content.left) (Some string.content.left) None) string kind (λ text. end_at string.behind (make text))
+    (λ string. passes string.content.left ≡ true) (Behind LeftOver)
+    (λ text e. ((cond_some _ string.content.left text e).0, end_tells string.behind (make text))) (λ good. (string.content.left, rw good refl)))
 
-single_in_found : (part : PartView) (entry : Entry) → AllBytes part.left → single_in part ≡ Ok entry → IsFound 162 part entry
-unfolding single_in
-single_in_found part entry b e = let t = text_in_found exact is_number no_number_at Single part entry number_found b e in subst (IsFound 162 part) t.1 (refl, t.2, t.3)
+-- ---- the start and the count of a range
 
--- two elements, one behind the other
-two_elements : (left a start rest end : List ℕ) → left ≡ string_text a ++ rest → a ≡ start → rest ≡ end → left ≡ string_text start ++ end
-two_elements left a start rest end e p q = e ∙ ap (λ t. string_text t ++ rest) p ∙ ap (λ r. string_text start ++ r) q
+start_found : (text start : List ℕ) → start_of text ≡ Some start → (text ≡ start) × (is_number text ≡ true) × (are_digits text ≡ true)
+start_found text start e = (grind (arith, nat_tests), grind (arith, nat_tests), grind (arith, nat_tests))
 
-passes : (test : List ℕ → Bool) (a b : List ℕ) → a ≡ b → test b ≡ true → test a ≡ true
-passes test a b e t = ap test e ∙ t
+-- the start and the count of this range
+abbrev IsCounted : List ℕ → List ℕ → SpanView → Type 0
+IsCounted start content span = (start ≡ span.start) × IntegerText content span.size × (2 ≤ span.size) × (span.size < 2 ^ 64)
 
-both_are : (a b c : List ℕ) → a ≡ b → c ≡ b → a ≡ c
-both_are a b c p q = p ∙ sym q
+counted_found : (start : List ℕ) (tag : ℕ) (content : List ℕ) (span : SpanView) → counted start (unsigned_of tag content) ≡ Some span
+    → IsCounted start content span
+counted_found start tag content span e = of (unsigned_of tag content) refl e
+  where
+    of : (r : Result ℕ DerFault) → unsigned_of tag content ≡ r → counted start r ≡ Some span → IsCounted start content span
+    of (Ok count) k e =
+        let number = unsigned_found tag content count k in
+        let is : record { start = start; size = count } ≡ span = grind (arith, nat_tests) in
+        subst (IsCounted start content) is (refl, number.1, grind (arith, nat_tests), number.2)
+    of (Err fault) k e = cc
 
-span_in_found : (part : PartView) (span : SpanView) → AllBytes part.left → span_in part ≡ Ok span
-    → (part.left ≡ string_text span.start ++ integer_text span.size) × (is_entry (Range span) ≡ true)
+counted_again : (start : List ℕ) (tag : ℕ) (content : List ℕ) (count : ℕ) → tag ≡ 2 → are_digits start ≡ true → IntegerText content count
+    → 2 ≤ count → count < 2 ^ 64 → counted start (unsigned_of tag content) ≡ Some (record { start = start; size = count })
+counted_again start tag content count t digits text l u =
+    let least : nat_lt count 2 ≡ false = grind (arith, nat_tests, l) in
+    let some : nat_le 1 count ≡ true = grind (arith, nat_tests, l) in
+    rw (unsigned_again tag content count t text u, least, digits, some) refl
+
+-- ---- a range
+
+span_found : (part : PartView) (span : SpanView) → AllBytes part.left → span_in part ≡ Ok span → IsSpanOf part.left span
 unfolding span_in
-span_in_found part span b e =
+span_found part span b e =
     let a = came (element_at 22 part) _ span e in
     let s = came (or_fault (start_of a.0.content.left) (no_number_at a.0.place)) _ span a.2 in
     let i = came (element_at 2 a.0.behind) _ span s.2 in
@@ -127,70 +142,120 @@ span_in_found part span b e =
     let string = element_found 22 part a.0 b a.1 in
     let integer = element_found 2 a.0.behind i.0 string.0.behind_bytes i.1 in
     let start = start_found a.0.content.left s.0 (there _ _ s.0 s.1) in
-    let count = counted_found s.0 (unsigned_of i.0.tag i.0.content.left) c.0 (there _ _ c.0 c.1) in
-    let number = unsigned_found i.0.tag i.0.content.left c.0.size count.0 in
-    let content : i.0.content.left ≡ integer_content c.0.size = integer_text_is i.0.content.left c.0.size integer.0.content_bytes number.1 in
-    let first : a.0.content.left ≡ c.0.start = both_are a.0.content.left s.0 c.0.start start.0 count.2 in
-    let second : a.0.behind.left ≡ integer_text c.0.size = known 2 a.0.behind i.0 (integer_content c.0.size) integer end.0 content in
-    let digits : are_digits c.0.start ≡ true = passes are_digits c.0.start s.0 count.2 start.2 in
-    let is : is_number c.0.start ≡ true = passes is_number c.0.start s.0 count.2 start.1 in
-    let large : 2 ≤ c.0.size = count.1 in
-    let small : c.0.size < 2 ^ 64 = number.2 in
-    let P : SpanView → Type 0 = λ span. (part.left ≡ string_text span.start ++ integer_text span.size) × (is_entry (Range span) ≡ true) in
-    subst P end.1 (
-      two_elements part.left a.0.content.left c.0.start a.0.behind.left (integer_text c.0.size) (begins_text 22 part a.0 string) first second,
-      grind (arith, nat_tests, digits, is, large, small),
+    let count = counted_found s.0 i.0.tag i.0.content.left c.0 (there _ _ c.0 c.1) in
+    let text : a.0.content.left ≡ c.0.start = start.0 ∙ count.0 in
+    let content : i.0.content.left ≡ integer_content c.0.size = integer_text_is i.0.content.left c.0.size integer.0.content_bytes count.1 in
+    let is : is_entry (Range c.0) ≡ true =
+    grind (arith, nat_tests, sym (ap are_digits text) ∙ start.2, sym (ap is_number text) ∙ start.1, count.2, count.3) in
+    subst (IsSpanOf part.left) end.1 (
+      begins_text 22 part a.0 string ∙ ap (λ r. string_text a.0.content.left ++ r) (known 2 a.0.behind i.0 (integer_content c.0.size) integer end.0 content)
+          ∙ ap (λ t. string_text t ++ integer_text c.0.size) text,
+      is,
     )
 
-range_in_found : (part : PartView) (entry : Entry) → AllBytes part.left → range_in part ≡ Ok entry → IsFound 161 part entry
+span_again : (part : PartView) (span : SpanView) → part.left ≡ span_text span → is_entry (Range span) ≡ true → span_in part ≡ Ok span
+unfolding span_in
+span_again part span e is =
+    let r = is_range span is in
+    let string : ItemView = standing 22 span.start (integer_text span.size) part.place in
+    let integer : ItemView = standing 2 (integer_content span.size) [] string.behind.place in
+    after (element_at 22 part) string _ _
+    (stands 22 part span.start (integer_text span.size) e (λ e. omega (arith, e)) (omega (arith, number_short span.start r.0)))
+    (rw (r.1, r.0)
+    (after (element_at 2 string.behind) integer _ _
+    (alone 2 string.behind (integer_content span.size) refl (λ e. omega (arith, e)) (omega (arith, integer_short span.size r.3)))
+    (rw (counted_again span.start 2 (integer_content span.size) span.size refl r.1 (integer_is_text span.size) r.2 r.3)
+    (ends integer.behind span refl))))
+
+span_tells : (part : PartView) → AllBytes part.left → Tells (span_in part) (WrongSpan part)
+unfolding span_in
+span_tells part b =
+    element_tells 22 part _ _ b (λ string begins tag.
+    value_tells (start_of string.content.left) string 4 _ IsStart (Behind WrongCount) (λ start e.
+    let s = start_found string.content.left start e in (
+      (s.1, s.2),
+      element_tells 2 string.behind _ _ begins.behind_bytes (λ integer begins tag.
+          value_tells (counted start (unsigned_of integer.tag integer.content.left)) integer 5 (λ span. end_at integer.behind span) IsCount (Behind LeftOver)
+          (λ span e. let c = counted_found start integer.tag integer.content.left span e in ((span.size, c.1, c.2, c.3), end_tells integer.behind span))
+          (λ good. (_, counted_again start integer.tag integer.content.left good.0 tag (sym (ap are_digits s.0) ∙ s.2) good.1 good.2 good.3))),
+    ))
+    (λ good. (string.content.left, rw (good.1, good.0) refl)))
+
+range_found : (part : PartView) (entry : Entry) → AllBytes part.left → range_in part ≡ Ok entry
+    → (span : SpanView) × (Range span ≡ entry) × (part.left ≡ element_text 48 (span_text span)) × (is_entry (Range span) ≡ true)
 unfolding range_in
-range_in_found part entry b e =
+range_found part entry b e =
     let a = came (element_at 48 part) _ entry e in
     let s = came (span_in a.0.content) _ entry a.2 in
     let end = ended a.0.behind (Range s.0) entry s.2 in
     let sequence = element_found 48 part a.0 b a.1 in
-    let span = span_in_found a.0.content s.0 sequence.0.content_bytes s.1 in
-    subst (IsFound 161 part) end.1 (refl, known 48 part a.0 (string_text s.0.start ++ integer_text s.0.size) sequence end.0 span.0, span.1)
+    let span = span_found a.0.content s.0 sequence.0.content_bytes s.1 in
+    (s.0, end.1, known 48 part a.0 (span_text s.0) sequence end.0 span.0, span.1)
+
+range_again : (part : PartView) (span : SpanView) → part.left ≡ element_text 48 (span_text span) → is_entry (Range span) ≡ true
+    → range_in part ≡ Ok (Range span)
+unfolding range_in
+range_again part span e is =
+    let sequence : ItemView = standing 48 (span_text span) [] part.place in
+    after (element_at 48 part) sequence _ _ (alone 48 part (span_text span) e (λ e. omega (arith, e)) (omega (arith, span_length span is)))
+    (after (span_in sequence.content) span _ _ (span_again sequence.content span refl is) (ends sequence.behind (Range span) refl))
+
+range_tells : (part : PartView) → AllBytes part.left → Tells (range_in part) (WrongRange part)
+unfolding range_in
+range_tells part b =
+    element_tells 48 part _ _ b (λ sequence begins tag.
+    through_tells (span_in sequence.content) sequence.content (λ span. end_at sequence.behind (Range span)) WrongSpan (λ text. (span : SpanView) × IsSpanOf text span) (LeftOver sequence.behind)
+    (span_tells sequence.content begins.content_bytes)
+    (λ span e. ((span, span_found sequence.content span begins.content_bytes e), end_tells sequence.behind (Range span)))
+    (λ good. (good.0, span_again sequence.content good.0 good.1.0 good.1.1)))
+
+-- ---- an entry
 
 -- which entry a tag announces
-tagged : (item : ItemView) (entry : Entry) → entry_in item ≡ Ok entry
+by_tag : (item : ItemView) (entry : Entry) → entry_in item ≡ Ok entry
     → ((item.tag ≡ 160) × (code_in item.content ≡ Ok entry)) ⊎ (((item.tag ≡ 161) × (range_in item.content ≡ Ok entry))
     ⊎ ((item.tag ≡ 162) × (single_in item.content ≡ Ok entry)))
 unfolding entry_in
-tagged item entry e = grind (arith, nat_tests)
+by_tag item entry e = grind (arith, nat_tests)
 
-pub entry_in_found : (item : ItemView) (entry : Entry) → AllBytes item.content.left → entry_in item ≡ Ok entry
-    → (item.tag ≡ entry_tag entry) × (item.content.left ≡ inner_text entry) × (is_entry entry ≡ true)
-entry_in_found item entry b e = elim (tagged item entry e) [
-  | inl code ↦ let f = code_in_found item.content entry b code.1 in (code.0 ∙ sym f.0, f.1, f.2)
+pub entry_found : (item : ItemView) (entry : Entry) → AllBytes item.content.left → entry_in item ≡ Ok entry → IsItemOf item entry
+entry_found item entry b e = elim (by_tag item entry e) [
+  | inl code ↦ let f = string_found is_code no_code_at Code item.content entry b code.1 in subst (IsItemOf item) f.1 (code.0, f.2, f.3)
   | inr other ↦ elim other [
-    | inl range ↦ let f = range_in_found item.content entry b range.1 in (range.0 ∙ sym f.0, f.1, f.2)
-    | inr single ↦ let f = single_in_found item.content entry b single.1 in (single.0 ∙ sym f.0, f.1, f.2)
+    | inl range ↦ let f = range_found item.content entry b range.1 in subst (IsItemOf item) f.1 (range.0, f.2, f.3)
+    | inr single ↦ let f = string_found is_number no_number_at Single item.content entry b single.1 in subst (IsItemOf item) f.1 (single.0, f.2, f.3)
   ]
 ]
 
--- the text of an entry stands at the front of the part, and what is behind it follows
-pub record Starts (left : List ℕ) (found : EntryView) : Type 0 where
-  pub text : left ≡ entry_text found.entry ++ found.behind.left
-  pub is : is_entry found.entry ≡ true
-  pub behind_bytes : AllBytes found.behind.left
+pub entry_again : (item : ItemView) (entry : Entry) → IsItemOf item entry → entry_in item ≡ Ok entry
+unfolding entry_in
+entry_again item (Code text) is = rw is.0 (string_again is_code no_code_at Code item.content text is.1 is.2 (code_parts text is.2).short)
+entry_again item (Range span) is = rw is.0 (range_again item.content span is.1 is.2)
+entry_again item (Single number) is = rw is.0 (string_again is_number no_number_at Single item.content number is.1 is.2 (number_short number is.2))
 
-stands : (left : List ℕ) (tag : ℕ) (content behind : List ℕ) (entry : Entry) → left ≡ element_text tag content ++ behind
-    → tag ≡ entry_tag entry → content ≡ inner_text entry → left ≡ entry_text entry ++ behind
-stands left tag content behind entry e p q =
-    e ∙ ap (λ tag. element_text tag content ++ behind) p ∙ ap (λ t. element_text (entry_tag entry) t ++ behind) q
-    ∙ ap (λ t. t ++ behind) (sym (entry_text_is entry))
+-- a reading that is a fault
+pub fault_tells : {A : Type 0} (at : Fault) → Tells {A = A} (Err at) (λ fault. fault ≡ at)
+fault_tells at fault = (λ e. sym (same_fault _ _ e), λ w. ap (λ f. let r : Result _ Fault = Err f in r) (sym w))
 
-pub entry_at_found : (part : PartView) (found : EntryView) → AllBytes part.left → entry_at part ≡ Ok found → Starts part.left found
-unfolding entry_at
-entry_at_found part found b e =
-    let a = came (item_at part) _ found e in
-    let c = came (entry_in a.0) _ found a.2 in
-    let begins = item_found part a.0 b a.1 in
-    let entry = entry_in_found a.0 c.0 begins.content_bytes c.1 in
-    let is : record { entry = c.0; behind = a.0.behind } ≡ found = inside _ _ c.2 in
-    subst (Starts part.left) is (record {
-      text = stands part.left a.0.tag a.0.content.left a.0.behind.left c.0 (begins_text a.0.tag part a.0 (begins, refl)) entry.0 entry.1;
-      is = entry.2;
-      behind_bytes = begins.behind_bytes;
-    })
+-- a test that tells two cases apart
+pub either_tells : {A : Type 0} (t : Bool) (Yes No : Type 0) (r s : Result A Fault) (Wrong Other : Fault → Type 0) → (t ≡ true → Yes × (No → ⊥))
+    → (t ≡ false → No × (Yes → ⊥)) → Tells r Wrong → Tells s Other → Tells (cond t r s) (λ fault. (Yes × Wrong fault) ⊎ (No × Other fault))
+either_tells true Yes No r s Wrong Other passes fails told other fault =
+    let k = passes refl in
+    (λ e. inl (k.0, (told fault).0 e), λ w. elim w [ inl so ↦ (told fault).1 so.1 | inr so ↦ absurd (k.1 so.0) ])
+either_tells false Yes No r s Wrong Other passes fails told other fault =
+    let k = fails refl in
+    (λ e. inr (k.0, (other fault).0 e), λ w. elim w [ inl so ↦ absurd (k.1 so.0) | inr so ↦ (other fault).1 so.1 ])
+
+pub entry_tells : (item : ItemView) → AllBytes item.content.left → Tells (entry_in item) (WrongEntry item)
+unfolding entry_in
+entry_tells item b =
+    by 160 _ _ _ _ (string_tells is_code 3 Code item.content b) (by 161 _ _ _ _ (range_tells item.content b)
+    (by 162 _ _ _ _ (string_tells is_number 4 Single item.content b) (fault_tells (at_kind 1 item.place))))
+  where
+    by : (tag : ℕ) (r s : Result Entry Fault) (Wrong Other : Fault → Type 0) → Tells r Wrong → Tells s Other
+        → Tells (cond (item.tag == tag) r s) (λ fault. ((item.tag ≡ tag) × Wrong fault) ⊎ ((item.tag ≢ tag) × Other fault))
+    by tag r s Wrong Other =
+        either_tells (item.tag == tag) (item.tag ≡ tag) (item.tag ≢ tag) r s Wrong Other
+        (λ k. let is : item.tag ≡ tag = grind (arith, nat_tests, k) in (is, λ other. other is))
+        (λ k. let is : item.tag ≢ tag = λ e. absurd (grind (arith, nat_tests, k, e)) in (is, is))

@@ -1,78 +1,122 @@
--- What one row more gives its code, and leaves to the others.
-use Rattle.std.proofs.Common.{◌≡◌, ℕ, Bool, true, false, ◌&&◌, ◌||◌, cond, List, [], ◌∷◌, ◌++◌, Option, Some, None, unwrap_or, refl, ap, ◌∙◌, append-nil}
-use Rattle.std.specs.List.{cons_option}
-use Rattle.std.specs.Str.{bytes_eq}
-use Rattle.std.proofs.Math.Bool.{or-false, or-true}
-use Rattle.std.proofs.lemmas.List.Folds.{list_any-append}
-use Rattle.std.proofs.lemmas.List.Elements.{filter_map-append}
-use Rattle.tn_values.specs.Span.{SpanView}
-use Rattle.tn_auth_list.specs.CodeTable.{is_all}
-use Rattle.tn_auth_list.specs.CodeGroups.{no_group, with_gives, is_named, says_all, range_in, single_in, spans_of, singles_of, group_of}
+-- What one row more gives its code and leaves to the others, and whether there is room for it.
+use Rattle.std.proofs.Common.{rules, ◌≡◌, ℕ, ◌+◌, ◌⊎◌, ◌↔◌, inl, inr, Bool, true, false, not, cond, List, [], ◌∷◌, ◌++◌, length, is_some, Option, Some, unwrap_or, Any, Contains, Decides, refl, sym, ap, subst, ◌∙◌, arith}
+use Rattle.std.specs.Ordering.{nat_cmp}
+use Rattle.std.specs.Cmp.Lexicographic.{slice_cmp, texts_ties}
+use Rattle.std.specs.Map.{lookup}
+use Rattle.std.specs.BTreeMap.{BTreeMap, get, is_at, btree_map_len}
+use Rattle.std.proofs.lemmas.Bool.Decides.{Decides-at, not_from_Decides, same_from_decides}
+use Rattle.std.proofs.lemmas.List.Elements.{Contains-append_left, Contains-push, Contains-push_cases}
+use Rattle.std.proofs.lemmas.List.Quantifiers.{Any-push}
+use Rattle.std.proofs.lemmas.Slice.Eq.{bytes_eq-Decides}
+use Rattle.tn_values.specs.Span.{SpanHolds}
+use Rattle.tn_auth_list.specs.CodeTable.{SomeOf, HoldsNumber, code_count, is_all, is_past, is_within}
+use Rattle.tn_auth_list.specs.CodeGroups.{no_group, with_gives, GroupHolds, IsGroupOf, IsGroups, PutsRow, has_room}
 use Rattle.tn_auth_list.specs.GroupView.{GroupView}
 use Rattle.tn_auth_list.specs.declared.table_rows.Gives.{Gives}
 use Rattle.tn_auth_list.specs.declared.table_rows.Gives.TheVariants.{All, Range, Single}
 use Rattle.tn_auth_list.specs.declared.table_rows.Row.{Row}
+use Rattle.tn_auth_list.specs.declared.table_groups.Groups.{Groups}
+use Rattle.tn_auth_list.proofs.CountLaws.{named, codes_push, given_push, limits, fits}
+use Rattle.std.specs.declared.alloc.Global.{Global}
 
-abbrev group : Bool → List SpanView → List (List ℕ) → GroupView
-group a s g = record { all = a; spans = s; singles = g }
+-- ---- a list with one more
 
--- a row added to a group
-add_to : (a : Bool) (s : List SpanView) (g : List (List ℕ)) (gives : Gives)
-    → group (a || (is_all gives || false)) (s ++ cons_option (range_in gives) []) (g ++ cons_option (single_in gives) []) ≡ with_gives (group a s g) gives
-add_to a s g All = rw (or-true a, append-nil s, append-nil g) refl
-add_to a s g (Range span) = rw (or-false a, append-nil g) refl
-add_to a s g (Single number) = rw (or-false a, append-nil s) refl
+some_push : {X : Type 0} (P : X → Type 0) (xs : List X) (x : X) → SomeOf P (xs ++ x ∷ []) ↔ (SomeOf P xs ⊎ P x)
+some_push P [] x = search rules
+some_push P (y ∷ xs) x = let more = some_push P xs x in search (rules, more.0, more.1)
 
--- a code that no row names is given nothing
-record Nothing (rows : List Row) (code : List ℕ) : Type 0 where
-  all : says_all rows code ≡ false
-  spans : spans_of rows code ≡ []
-  singles : singles_of rows code ≡ []
+any_push : {X : Type 0} (P : X → Type 0) (xs : List X) (x : X) → Any P (xs ++ x ∷ []) ↔ (Any P xs ⊎ P x)
+any_push P xs x = (
+  λ a. elim (Contains-push_cases xs x a.1 (a.0, a.2, a.3)) [ inl c ↦ inl (c.0, a.1, c.1, c.2, a.4) | inr e ↦ inr (subst P (sym e) a.4) ],
+  λ s. elim s [ inl a ↦ let c = Contains-append_left xs (x ∷ []) a.1 (a.0, a.2, a.3) in (c.0, a.1, c.1, c.2, a.4) | inr p ↦ Any-push P xs x p ],
+)
 
-unnamed_by : (row : Row) (rows : List Row) (code : List ℕ) (t : Bool) → bytes_eq code row.code ≡ t → (is_named rows code ≡ false → Nothing rows code)
-    → is_named (row ∷ rows) code ≡ false → Nothing (row ∷ rows) code
-unnamed_by row rows code true e below h = let k = rw e at h in absurd (cc)
-unnamed_by row rows code false e below h =
-    let k = rw e at h in
-    let rest = below k in
-    record { all = rw (e, rest.all) refl; spans = rw (e, rest.spans) refl; singles = rw (e, rest.singles) refl }
+contains_push : {X : Type 0} (xs : List X) (x y : X) → Contains (xs ++ x ∷ []) y ↔ (Contains xs y ⊎ (x ≡ y))
+contains_push xs x y = (
+  Contains-push_cases xs x y,
+  λ s. elim s [ inl c ↦ Contains-append_left xs (x ∷ []) y c | inr e ↦ subst (Contains (xs ++ x ∷ [])) e (Contains-push xs x) ],
+)
 
-unnamed : (rows : List Row) (code : List ℕ) → is_named rows code ≡ false → Nothing rows code
-unnamed [] code h = record { all = refl; spans = refl; singles = refl }
-unnamed (row ∷ rows) code h = unnamed_by row rows code (bytes_eq code row.code) refl (unnamed rows code) h
+-- ---- a group with one row more
 
--- what is given to the code with one row more
-record More (rows : List Row) (row : Row) (code : List ℕ) (t : Bool) : Type 0 where
-  named : is_named (rows ++ row ∷ []) code ≡ (is_named rows code || (t || false))
-  all : says_all (rows ++ row ∷ []) code ≡ (says_all rows code || ((t && is_all row.gives) || false))
-  spans : spans_of (rows ++ row ∷ []) code ≡ spans_of rows code ++ cons_option (cond t (range_in row.gives) None) []
-  singles : singles_of (rows ++ row ∷ []) code ≡ singles_of rows code ++ cons_option (cond t (single_in row.gives) None) []
+all_more : (group : GroupView) (gives : Gives) → ((with_gives group gives).all ≡ true) ↔ ((group.all ≡ true) ⊎ (gives ≡ All))
+all_more group All = search rules
+all_more group (Range span) = search rules
+all_more group (Single number) = search rules
 
-more : (rows : List Row) (row : Row) (code : List ℕ) (t : Bool) → bytes_eq code row.code ≡ t → More rows row code t
-more rows row code t e = record {
-  named = list_any-append (λ (r : Row). bytes_eq code r.code) rows (row ∷ []) ∙ ap (λ b. is_named rows code || (b || false)) e;
-  all = list_any-append (λ (r : Row). bytes_eq code r.code && is_all r.gives) rows (row ∷ []) ∙ ap (λ b. says_all rows code || ((b && is_all row.gives) || false)) e;
-  spans = filter_map-append (λ (r : Row). cond (bytes_eq code r.code) (range_in r.gives) None) rows (row ∷ []) ∙ ap (λ b. spans_of rows code ++ cons_option (cond b (range_in row.gives) None) []) e;
-  singles = filter_map-append (λ (r : Row). cond (bytes_eq code r.code) (single_in r.gives) None) rows (row ∷ []) ∙ ap (λ b. singles_of rows code ++ cons_option (cond b (single_in row.gives) None) []) e;
+holds_more : (group : GroupView) (gives : Gives) (number : List ℕ) → GroupHolds (with_gives group gives) number ↔ (GroupHolds group number ⊎ HoldsNumber gives number)
+holds_more group All number = search rules
+holds_more group (Range span) number = let more = any_push (λ span. SpanHolds span number) group.spans span in search (rules, more.0, more.1)
+holds_more group (Single single) number = let more = contains_push group.singles single number in search (rules, more.0, more.1)
+
+-- two facts that mean the same still do when each has one case more
+grows : {A B C D E F : Type 0} → (A ↔ B) → (C ↔ (A ⊎ E)) → (D ↔ (B ⊎ F)) → (E ↔ F) → (C ↔ D)
+grows s a b e = search (rules, s.0, s.1, a.0, a.1, b.0, b.1, e.0, e.1)
+
+-- the same when the one has a case more that never holds
+stays : {A B D F : Type 0} → (A ↔ B) → (D ↔ (B ⊎ F)) → (F → ⊥) → (A ↔ D)
+stays s b never = search (rules, s.0, s.1, b.0, b.1)
+
+-- a code's group with one row more, by whether the row names the code
+code_push : (rows : List Row) (row : Row) (code : List ℕ) (own group : Option GroupView) (t : Bool)
+    → Decides t (row.code ≡ code) → IsGroupOf rows row.code own → IsGroupOf rows code group
+    → IsGroupOf (rows ++ row ∷ []) code (cond t (Some (with_gives (unwrap_or own no_group) row.gives)) group)
+code_push rows row code own group true d own_is is =
+    subst (λ c. IsGroupOf (rows ++ row ∷ []) c (Some (with_gives (unwrap_or own no_group) row.gives))) (d.0 refl) (record {
+      names = (λ e. (some_push _ rows row).1 (inr refl), λ n. refl);
+      all = grows own_is.all (all_more (unwrap_or own no_group) row.gives) (some_push _ rows row) (λ e. (refl, e), λ e. e.1);
+      holds = λ number. grows (own_is.holds number) (holds_more (unwrap_or own no_group) row.gives number) (some_push _ rows row) (λ h. (refl, h), λ h. h.1);
+    })
+code_push rows row code own group false d own_is is =
+    let apart = not_from_Decides false d refl in record {
+      names = stays is.names (some_push _ rows row) apart;
+      all = stays is.all (some_push _ rows row) (λ s. apart s.0);
+      holds = λ number. stays (is.holds number) (some_push _ rows row) (λ g. apart g.0);
+    }
+
+-- ---- the groups of all rows
+
+none_held : (number : List ℕ) → GroupHolds no_group number → ⊥
+none_held number (inl e) = cc
+none_held number (inr (inl a)) = omega (arith, a.2)
+none_held number (inr (inr c)) = omega (arith, c.1)
+
+-- no rows, and no groups
+pub no_rows : (alloc : Global) (by_code : BTreeMap (List ℕ) GroupView) → by_code.entries ≡ [] → IsGroups [] (record { alloc = alloc; by_code = by_code; given = 0 })
+unfolding is_within
+no_rows alloc by_code empty = record {
+  held = λ code. subst (λ (es : List (List ℕ × GroupView)). IsGroupOf [] code (lookup (is_at (slice_cmp nat_cmp code)) es)) (sym empty) (search (rules, none_held));
+  codes = ap (λ (es : List (List ℕ × GroupView)). length es) empty;
+  given = refl;
+  within = refl;
 }
 
-abbrev grouped : Bool → Bool → List SpanView → List (List ℕ) → Option GroupView
-grouped n a s g = cond n (Some (group a s g)) None
+-- how many codes are held with one row more
+codes_held : (rows : List Row) (row : Row) (groups : Groups) → IsGroups rows groups
+    → code_count (rows ++ row ∷ []) ≡ btree_map_len groups.by_code + cond (is_some (get (slice_cmp nat_cmp) groups.by_code row.code)) 0 1
+codes_held rows row groups is =
+    let known = same_from_decides _ _ (is.held row.code).names (named rows row.code) in
+    let codes = is.codes in
+    codes_push rows row ∙ cc
 
-push_by : (rows : List Row) (row : Row) (code : List ℕ) (t n : Bool) → bytes_eq code row.code ≡ t → is_named rows code ≡ n
-    → group_of (rows ++ row ∷ []) code ≡ cond t (Some (with_gives (unwrap_or (group_of rows code) no_group) row.gives)) (group_of rows code)
-push_by rows row code false n e m =
-    let k = more rows row code false e in
-    rw (k.named, k.all, k.spans, k.singles, or-false (is_named rows code), or-false (says_all rows code), append-nil (spans_of rows code), append-nil (singles_of rows code)) refl
-push_by rows row code true true e m =
-    let k = more rows row code true e in
-    rw (k.named, k.all, k.spans, k.singles, m) (ap (λ (g : GroupView). Some g) (add_to (says_all rows code) (spans_of rows code) (singles_of rows code) row.gives))
-push_by rows row code true false e m =
-    let k = more rows row code true e in
-    let none = unnamed rows code m in
-    rw (k.named, k.all, k.spans, k.singles, m, none.all, none.spans, none.singles) (ap (λ (g : GroupView). Some g) (add_to false [] [] row.gives))
+-- there is room for a row exactly where the rows with it are within the limits
+pub room_is : (rows : List Row) (row : Row) (groups : Groups) → IsGroups rows groups → has_room groups row ≡ is_within (rows ++ row ∷ [])
+unfolding is_within
+room_is rows row groups is =
+    let within = (limits rows).0 is.within in
+    let codes = fits (btree_map_len groups.by_code) _ 20000 _ (codes_held rows row groups is) (omega (arith, within.0, is.codes)) in
+    let given = fits groups.given _ 200000 (is_all row.gives) (omega (arith, given_push rows row, is.given)) (omega (arith, within.1, is.given)) in
+    rw (codes, given) refl
 
--- what the rows and one more give a code
-pub group_push : (rows : List Row) (row : Row) (code : List ℕ)
-    → group_of (rows ++ row ∷ []) code ≡ cond (bytes_eq code row.code) (Some (with_gives (unwrap_or (group_of rows code) no_group) row.gives)) (group_of rows code)
-group_push rows row code = push_by rows row code (bytes_eq code row.code) (is_named rows code) refl refl
+-- the row was added, and counted where it gives a range or a number
+pub groups_push : (rows : List Row) (row : Row) (old new : Groups) → IsGroups rows old → has_room old row ≡ true
+    → PutsRow old.by_code new.by_code row → new.given ≡ old.given + cond (is_all row.gives) 0 1 → (is_past rows row ≡ false) × IsGroups (rows ++ row ∷ []) new
+groups_push rows row old new is room put count =
+    let more : IsGroups (rows ++ row ∷ []) new = record {
+      held = λ code. subst (IsGroupOf (rows ++ row ∷ []) code) (sym (put.groups.0 code))
+          (code_push rows row code _ _ _ (Decides-at _ _ (sym (texts_ties row.code code)) (bytes_eq-Decides row.code code)) (is.held row.code) (is.held code));
+      codes = put.count ∙ sym (codes_held rows row old is);
+      given = omega (arith, count, is.given, given_push rows row);
+      within = sym (room_is rows row old is) ∙ room;
+    } in
+    (ap not more.within, more)

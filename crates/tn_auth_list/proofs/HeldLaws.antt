@@ -1,18 +1,27 @@
--- What is held for the codes of a map's entries, one entry more and at the end.
-use Rattle.std.proofs.Common.{◌≡◌, ℕ, Bool, true, false, cond, List, [], ◌∷◌, ◌++◌, Option, Some, None, refl, sym, ap, subst}
+-- What is held of a group, and of the groups of a map's entries.
+use Rattle.std.proofs.Common.{rules, ◌≡◌, ℕ, ◌↔◌, Bool, true, false, cond, List, [], ◌∷◌, ◌++◌, Option, Some, None, refl, sym, ap, subst, ◌∙◌}
 use Rattle.std.specs.Map.{lookup, update_all, keys_of}
 use Rattle.std.specs.Ordering.{nat_cmp, eq_by_cmp}
 use Rattle.std.specs.Cmp.{eq_by_cmp_equiv}
-use Rattle.std.specs.Cmp.Lexicographic.{slice_cmp, nat_list_cmp_total}
+use Rattle.std.specs.Cmp.Lexicographic.{slice_cmp, nat_list_cmp_total, texts_ties}
 use Rattle.std.specs.BTreeMap.{BTreeMap, get, IsOrdered}
+use Rattle.std.specs.Str.{bytes_eq}
 use Rattle.std.proofs.lemmas.Map.{update_all_push}
 use Rattle.std.proofs.lemmas.Map.Keys.{IsDistinct-from_sorted}
 use Rattle.std.proofs.lemmas.Map.Made.{update_all_none}
-use Rattle.std.specs.Str.{bytes_eq}
-use Rattle.tn_auth_list.proofs.CountLaws.{same_test}
-use Rattle.tn_auth_list.specs.CodeGroups.{HeldFor, HeldFrom, PutsHeld}
+use Rattle.tn_values.specs.NumberSet.{SetView, SetHolds, set_of}
+use Rattle.tn_auth_list.specs.CodeGroups.{HeldFrom}
 use Rattle.tn_auth_list.specs.GroupView.{GroupView}
 use Rattle.tn_auth_list.specs.declared.table_groups.Held.{Held}
+use Rattle.tn_auth_list.specs.declared.table_groups.Held.TheVariants.{These}
+
+pub set_for : (group : GroupView) (set : SetView) → group.all ≡ false
+    → ((number : List ℕ) → SetHolds set number ↔ SetHolds (set_of group.spans group.singles) number) → HeldFrom (Some group) (Some (These set))
+set_for group set e same rows code is = record {
+  names = is.names;
+  all = search (rules, is.all.1);
+  holds = λ number. let group_holds = is.holds number in let set_holds = same number in search (rules, group_holds.0, group_holds.1, set_holds.0, set_holds.1);
+}
 
 abbrev same : List ℕ → List ℕ → Bool
 same = eq_by_cmp (slice_cmp nat_cmp)
@@ -21,27 +30,25 @@ same = eq_by_cmp (slice_cmp nat_cmp)
 abbrev pub group_among : List (List ℕ × GroupView) → List ℕ → Option GroupView
 group_among entries code = update_all same (λ _. None) entries code
 
-step_by : (group : GroupView) (held : Held) (before : Option GroupView) (was : Option Held) (t : Bool) → HeldFor group held → HeldFrom before was
-    → HeldFrom (cond t (Some group) before) (cond t (Some held) was)
-step_by group held before was true h b = h
-step_by group held before was false h b = b
-
 -- one entry more
 pub held_push : (entries : List (List ℕ × GroupView)) (code : List ℕ) (group : GroupView) (held : Held) (old new : BTreeMap (List ℕ) Held)
-    → ((q : List ℕ) → HeldFrom (group_among entries q) (get (slice_cmp nat_cmp) old q)) → HeldFor group held → PutsHeld old new code held
+    → ((q : List ℕ) → HeldFrom (group_among entries q) (get (slice_cmp nat_cmp) old q)) → HeldFrom (Some group) (Some held)
+    → ((q : List ℕ) → get (slice_cmp nat_cmp) new q ≡ cond (same code q) (Some held) (get (slice_cmp nat_cmp) old q))
     → (q : List ℕ) → HeldFrom (group_among (entries ++ (code, group) ∷ []) q) (get (slice_cmp nat_cmp) new q)
 held_push entries code group held old new before h put q =
-    let groups : group_among (entries ++ (code, group) ∷ []) q ≡ cond (same code q) (Some group) (group_among entries q) =
-    sym (update_all_push same (λ _. None) (group_among entries) entries (code, group) q refl) in
-    let P : Option GroupView → Type 0 = λ o. HeldFrom o (get (slice_cmp nat_cmp) new q) in
-    let Q : Option Held → Type 0 = λ o. HeldFrom (cond (same code q) (Some group) (group_among entries q)) o in
-    subst P (sym groups) (subst Q (sym (put q)) (step_by group held (group_among entries q) (get (slice_cmp nat_cmp) old q) (same code q) h (before q)))
+    subst (λ o. HeldFrom o (get (slice_cmp nat_cmp) new q)) (update_all_push same (λ _. None) (group_among entries) entries (code, group) q refl)
+    (subst (λ o. HeldFrom (cond (same code q) (Some group) (group_among entries q)) o) (sym (put q)) (by (same code q)))
+  where
+    by : (t : Bool) → HeldFrom (cond t (Some group) (group_among entries q)) (cond t (Some held) (get (slice_cmp nat_cmp) old q))
+    by true = h
+    by false = before q
 
 -- a map's entries name each code once
-pub group_among_all : (groups : BTreeMap (List ℕ) GroupView) → IsOrdered (slice_cmp nat_cmp) groups → (code : List ℕ) → group_among groups.entries code ≡ get (slice_cmp nat_cmp) groups code
-group_among_all groups o code =
-    update_all_none (eq_by_cmp_equiv nat_list_cmp_total) same (λ x y. refl) groups.entries code (IsDistinct-from_sorted (slice_cmp nat_cmp) (keys_of groups.entries) o)
+pub group_among_all : (groups : BTreeMap (List ℕ) GroupView) (entries : List (List ℕ × GroupView)) → entries ≡ groups.entries → IsOrdered (slice_cmp nat_cmp) groups
+    → (code : List ℕ) → group_among entries code ≡ get (slice_cmp nat_cmp) groups code
+group_among_all groups entries all o code = ap (λ (es : List (List ℕ × GroupView)). group_among es code) all
+    ∙ update_all_none (eq_by_cmp_equiv nat_list_cmp_total) same (λ x y. refl) groups.entries code (IsDistinct-from_sorted (slice_cmp nat_cmp) (keys_of groups.entries) o)
 
 -- a code is found by its bytes
 pub get_by_bytes : (held : BTreeMap (List ℕ) Held) (code : List ℕ) → get (slice_cmp nat_cmp) held code ≡ lookup (bytes_eq code) held.entries
-get_by_bytes held code = ap (λ (eq : List ℕ → List ℕ → Bool). lookup (eq code) held.entries) same_test
+get_by_bytes held code = ap (λ (eq : List ℕ → Bool). lookup eq held.entries) (sym (λ i. λ key. texts_ties code key i))

@@ -1,12 +1,8 @@
 pub mod CodeFacts
 pub mod CountLaws
-pub mod GrantLaws
 pub mod GroupLaws
 pub mod HeldLaws
 pub mod TableLaws
-pub mod EntriesLaws
 pub mod EntryLaws
-pub mod EntryTexts
 pub mod ListLaws
 pub mod WriteLaws
-pub mod RefusedLaws

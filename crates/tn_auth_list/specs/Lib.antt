@@ -3,7 +3,6 @@ pub mod CodeTable
 pub mod CodeGroups
 pub mod GroupView
 pub mod Grant
-pub mod TableReading
 pub mod Fault
 pub mod Entry
 pub mod ListText

@@ -1,32 +1,30 @@
 -- What reading an authority list gives: its entries, or the first fault in the order in which its elements are read.
-use Rattle.std.specs.Prelude.{ℕ, zero, suc, ◌==◌, nat_lt, List, [], ◌∷◌, length, Option, Some, None, Result, Ok, Err, if◌then◌else◌}
+use Rattle.std.specs.Prelude.{ℕ, zero, suc, ◌==◌, nat_lt, Bool, List, [], ◌∷◌, ◌++◌, length, Option, Some, None, Result, Ok, Err, if◌then◌else◌}
 use Rattle.der_reader.specs.declared.fault.DerFault.{DerFault}
 use Rattle.der_reader.specs.Integer.{unsigned_of}
 use Rattle.tn_values.specs.Digit.{are_digits}
-use Rattle.tn_values.specs.Number.{exact}
+use Rattle.tn_values.specs.Number.{exact, is_number}
 use Rattle.tn_values.specs.Span.{SpanView, span_of}
 use Rattle.der_reader.specs.declared.part.Fault.{Fault}
-use Rattle.der_reader.specs.Part.{ItemView, PartView, element_at, end_at, item_at, or_fault, part_of, whole_text}
-use Rattle.tn_auth_list.specs.declared.reading.Found.{Found}
+use Rattle.der_reader.specs.Part.{ItemView, PartView, element_at, end_at, item_at, or_fault, whole_text}
 use Rattle.tn_auth_list.specs.declared.entries.Entry.{Entry}
 use Rattle.tn_auth_list.specs.declared.entries.Entry.TheVariants.{Code, Range, Single}
-use Rattle.tn_auth_list.specs.Code.{code_of}
+use Rattle.tn_auth_list.specs.Code.{is_code}
 use Rattle.lists.specs.Steps.{◌>>=◌}
 use Rattle.tn_auth_list.specs.Fault.{der_at, no_entry, no_code_at, no_number_at, no_count_at, past_limit_at}
 
--- the IA5String of a code, and nothing more
-unfoldable pub code_in : PartView → Result Entry Fault
-code_in part = do
+-- the IA5String of a text that passes this test, and nothing more
+unfoldable pub string_in : (List ℕ → Bool) → (ℕ → Fault) → (List ℕ → Entry) → PartView → Result Entry Fault
+string_in passes fault_at entry part = do
   string ← element_at 0x16 part
-  code ← or_fault (code_of string.content.left) (no_code_at string.place)
-  end_at string.behind (Code code)
+  text ← or_fault (if passes string.content.left then Some string.content.left else None) (fault_at string.place)
+  end_at string.behind (entry text)
 
--- the IA5String of a number, and nothing more
-unfoldable pub single_in : PartView → Result Entry Fault
-single_in part = do
-  string ← element_at 0x16 part
-  number ← or_fault (exact string.content.left) (no_number_at string.place)
-  end_at string.behind (Single number)
+abbrev pub code_in : PartView → Result Entry Fault
+code_in part = string_in is_code no_code_at Code part
+
+abbrev pub single_in : PartView → Result Entry Fault
+single_in part = string_in is_number no_number_at Single part
 
 -- the start of a range: a number of digits alone
 abbrev pub start_of : List ℕ → Option (List ℕ)
@@ -61,27 +59,16 @@ entry_in item =
     else (if item.tag == 0xA2 then single_in item.content
     else Err (der_at item.place)))
 
--- an entry, and what stands behind it in the list
-pub record EntryView : Type 0 where
-  pub entry : Entry
-  pub behind : PartView
-
-unfoldable pub entry_at : PartView → Result EntryView Fault
-entry_at part = do
-  item ← item_at part
-  entry ← entry_in item
-  Ok (record { entry = entry; behind = item.behind })
-
--- as many entries as there is room for, up to the end of the part; one more is past the limit where it begins
-unfoldable pub entries_at : ℕ → PartView → Result (List Entry) Fault
-entries_at zero part = if length part.left == 0 then Ok [] else Err (past_limit_at part.place)
-entries_at (suc room) part =
-    if length part.left == 0 then Ok []
-    else (entry_at part >>= λ first. entries_at room first.behind >>= λ more. Ok (first.entry ∷ more))
+-- behind these entries as many as there is room for, up to the end of the part; one more is past the limit where it begins
+unfoldable pub entries_from : ℕ → List Entry → PartView → Result (List Entry) Fault
+entries_from zero before part = if length part.left == 0 then Ok before else Err (past_limit_at part.place)
+entries_from (suc room) before part =
+    if length part.left == 0 then Ok before
+    else (item_at part >>= λ item. entry_in item >>= λ entry. entries_from room (before ++ entry ∷ []) item.behind)
 
 -- the entries of a list's SEQUENCE, of which there is one at least
 unfoldable pub content_entries : PartView → Result (List Entry) Fault
-content_entries part = if length part.left == 0 then Err no_entry else entries_at 1000 part
+content_entries part = if length part.left == 0 then Err no_entry else entries_from 1000 [] part
 
 -- the entries of the list that the bytes are, or its first fault
 unfoldable pub read_list : List ℕ → Result (List Entry) Fault
@@ -89,8 +76,3 @@ read_list bytes = do
   list ← element_at 0x30 (whole_text bytes)
   entries ← content_entries list.content
   end_at list.behind entries
-
--- an answer of the code that reads one entry
-abbrev pub entry_view : Result Found Fault → Result EntryView Fault
-entry_view (Ok found) = Ok (record { entry = found.entry; behind = part_of found.behind })
-entry_view (Err fault) = Err fault

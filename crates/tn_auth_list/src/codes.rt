@@ -40,12 +40,12 @@ impl Code {
     pub fn new(text: &[u8]) -> Option<Code>
         ensures { result ≡ code_of text.now }
     {
-        if !is_code(text) {
-            return None;
+        match text.len() {
+            1..=32 if are_code_bytes(text) => Some(Code {
+                text: ShortText::new(text),
+            }),
+            _ => None,
         }
-        Some(Code {
-            text: ShortText::new(text),
-        })
     }
 
     /// The bytes of the code, 1 to 32 from 0x21 to 0x7E.
@@ -109,17 +109,6 @@ impl fmt::Display for Code {
 impl fmt::Debug for Code {
     fn fmt<W: fmt::Write>(&self, f: &mut fmt::Formatter<W>) -> fmt::Result {
         f.debug_tuple("Code").field(&self.as_str()).finish()
-    }
-}
-
-/// Whether a text is a code.
-#[tactic(auto, unfolding(crate::specs::Code::is_code))]
-fn is_code(text: &[u8]) -> bool
-    ensures { result ≡ is_code text.now }
-{
-    match text.len() {
-        1..=32 => are_code_bytes(text),
-        _ => false,
     }
 }
 

@@ -1,7 +1,7 @@
 //! The entries of an authority list.
-ghost use Rattle.std.specs.Prelude.{◌≡◌, ◌&&◌, not, nat_le, length};
+ghost use Rattle.std.specs.Prelude.{◌≡◌, not};
 ghost use Rattle.std.specs.List.{list_all};
-ghost use Rattle.tn_auth_list.specs.Entry.{is_list, is_range_of_one};
+ghost use Rattle.tn_auth_list.specs.Entry.{is_range_of_one};
 
 use crate::codes::Code;
 use tn_values::{Number, Span};
@@ -21,6 +21,13 @@ pub enum Entry {
 }
 
 impl Entry {
+    /// The tags of a code, a range and a number: `[0]`, `[1]` and `[2]` (X.690, section 8.1.2).
+    pub(crate) const CODE_TAG: u8 = 0xA0;
+
+    pub(crate) const RANGE_TAG: u8 = 0xA1;
+
+    pub(crate) const SINGLE_TAG: u8 = 0xA2;
+
     /// Whether the entry is a range of a single number.
     fn is_range_of_one(&self) -> bool
         ensures { result ≡ is_range_of_one self.now }
@@ -32,19 +39,8 @@ impl Entry {
     }
 }
 
-/// Whether the entries are those of a list: 1 to 1,000, and no range of a single number.
-#[tactic(auto, unfolding(crate::specs::Entry::is_list))]
-pub(crate) fn is_list(entries: &[Entry]) -> bool
-    ensures { result ≡ is_list entries.now }
-{
-    match entries.len() {
-        1..=MOST => have_no_range_of_one(entries),
-        _ => false,
-    }
-}
-
 /// Whether none of the entries is a range of a single number.
-fn have_no_range_of_one(entries: &[Entry]) -> bool
+pub(crate) fn have_no_range_of_one(entries: &[Entry]) -> bool
     ensures { result ≡ list_all (λ entry. not (is_range_of_one entry)) entries.now }
 {
     entries.iter().all(|entry| !entry.is_range_of_one())

@@ -13,7 +13,6 @@ mod reading;
 mod table;
 mod table_groups;
 mod table_rows;
-mod tags;
 mod writing;
 
 pub use auth_list::AuthList;

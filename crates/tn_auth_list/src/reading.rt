@@ -1,7 +1,8 @@
 //! From the bytes of a list to its entries.
 ghost use Rattle.std.specs.Prelude.{◌≡◌, ◌≤◌, length, ◌⊎◌, IfOk, IfErr};
 ghost use Rattle.tn_auth_list.specs.Fault.{GivesSeen, IsPlaceBelow};
-ghost use Rattle.tn_auth_list.specs.Read.{code_in, single_in, start_of, counted, span_in, range_in, entry_in, entry_at, entries_at, content_entries, read_list, entry_view};
+ghost use Rattle.tn_auth_list.specs.Read.{code_in, single_in, start_of, counted, span_in, range_in, entry_in, content_entries, read_list};
+ghost use Rattle.der_reader.specs.Elem.{AllBytes};
 ghost use Rattle.der_reader.specs.Part.{part_of, item_of, end_of, content_end};
 ghost use Rattle.tn_values.specs.Digit.{are_digits};
 ghost use Rattle.der_reader.specs.Integer.{unsigned_of};
@@ -9,23 +10,16 @@ ghost use Rattle.der_reader.specs.Integer.{unsigned_of};
 use crate::codes::Code;
 use crate::entries::{Entry, MOST};
 use crate::faults::ListFault;
-use crate::tags;
 use der_reader::tags::{IA5_STRING, INTEGER, SEQUENCE};
 use der_reader::{Der, Fault, Item, Outer, Part};
 use std::alloc::Global;
 use tn_values::{Number, Span};
 
-/// An entry and what stands behind it in the list.
-#[derive(Clone, Copy)]
-pub(crate) struct Found<'a> {
-    pub(crate) entry: Entry,
-    pub(crate) behind: Part<'a>,
-}
-
 /// The entries of the list that the bytes are.
 #[tactic(auto, unfolding(crate::specs::Read::read_list))]
 pub(crate) fn read_list(alloc: Global, bytes: &[u8]) -> Result<Vec<Entry>, ListFault>
     ensures exact { GivesSeen (λ entries. entries.items) result (read_list bytes.now) }
+    ensures bytes { AllBytes bytes.now }
     ensures place { IsPlaceBelow (length bytes.now) result }
 {
     let list = Outer::read(bytes, SEQUENCE)?;
@@ -37,8 +31,8 @@ pub(crate) fn read_list(alloc: Global, bytes: &[u8]) -> Result<Vec<Entry>, ListF
     }
 }
 
-/// The entries of the list's SEQUENCE, of which there is one at least.
-#[tactic(auto, unfolding(crate::specs::Read::content_entries))]
+/// The entries of the list's SEQUENCE, of which there are 1 to 1,000.
+#[tactic(auto, unfolding(crate::specs::Read::content_entries), using(crate::proofs::ListLaws::none_left, crate::proofs::ListLaws::one_too_many, crate::proofs::ListLaws::next))]
 fn content_entries(alloc: Global, content: &Part) -> Result<Vec<Entry>, ListFault>
     ensures exact { GivesSeen (λ entries. entries.items) result (content_entries (part_of content.now)) }
     ensures place { IsPlaceBelow (end_of content.now) result }
@@ -46,44 +40,19 @@ fn content_entries(alloc: Global, content: &Part) -> Result<Vec<Entry>, ListFaul
     if content.left.is_empty() {
         return Err(Fault::at(ListFault::EMPTY, 0).into());
     }
-    entries_at(alloc, content)
-}
-
-/// The entries up to the end of the part, at most 1,000.
-#[tactic(auto, using(crate::proofs::EntriesLaws::all_found, crate::proofs::EntriesLaws::one_too_many, crate::proofs::EntriesLaws::entry_refused, crate::proofs::EntriesLaws::entry_found))]
-fn entries_at(alloc: Global, part: &Part) -> Result<Vec<Entry>, ListFault>
-    ensures exact { GivesSeen (λ entries. entries.items) result (entries_at 1000 (part_of part.now)) }
-    ensures place { IsPlaceBelow (end_of part.now) result }
-{
     let mut entries = Vec::new(alloc);
-    let mut rest = *part;
+    let mut rest = *content;
+    let mut room = MOST;
     while !rest.left.is_empty() {
-        if entries.len() == MOST {
+        if room == 0 {
             return Err(Fault::at(ListFault::LIMIT, rest.place).into());
         }
-        let found = match entry_at(&rest) {
-            Ok(found) => found,
-            Err(fault) => return Err(fault.into()),
-        };
-        entries.push(found.entry)?;
-        rest = found.behind;
+        let item = rest.item()?;
+        entries.push(entry_in(&item)?)?;
+        rest = item.behind;
+        room -= 1;
     }
     Ok(entries)
-}
-
-/// The entry that the part begins with.
-#[tactic(auto, unfolding(crate::specs::Read::entry_at))]
-fn entry_at<'a>(part: &Part<'a>) -> Result<Found<'a>, Fault>
-    ensures exact { entry_view result ≡ entry_at (part_of part.now) }
-    ensures behind { IfOk result (λ found. end_of found.behind ≡ end_of part.now) }
-    ensures place { IfErr result (λ fault. fault.place ≤ end_of part.now) }
-{
-    let item = part.item()?;
-    let entry = entry_in(&item)?;
-    Ok(Found {
-        entry,
-        behind: item.behind,
-    })
 }
 
 /// The entry that an element is, by its tag.
@@ -93,15 +62,15 @@ fn entry_in(item: &Item) -> Result<Entry, Fault>
     ensures place { IfErr result (λ fault. (fault.place ≤ item.now.place) ⊎ (fault.place ≤ content_end item.now)) }
 {
     match item.der.tag {
-        tags::CODE => code_in(&item.content()),
-        tags::RANGE => range_in(&item.content()),
-        tags::SINGLE => single_in(&item.content()),
+        Entry::CODE_TAG => code_in(&item.content()),
+        Entry::RANGE_TAG => range_in(&item.content()),
+        Entry::SINGLE_TAG => single_in(&item.content()),
         _ => Err(item.fault(ListFault::DER)),
     }
 }
 
 /// The code in the content of an element.
-#[tactic(auto, unfolding(crate::specs::Read::code_in))]
+#[tactic(auto, unfolding(crate::specs::Read::string_in))]
 fn code_in(part: &Part) -> Result<Entry, Fault>
     ensures exact { result ≡ code_in (part_of part.now) }
     ensures place { IfErr result (λ fault. fault.place ≤ end_of part.now) }
@@ -114,7 +83,7 @@ fn code_in(part: &Part) -> Result<Entry, Fault>
 }
 
 /// The single number in the content of an element.
-#[tactic(auto, unfolding(crate::specs::Read::single_in))]
+#[tactic(auto, unfolding(crate::specs::Read::string_in))]
 fn single_in(part: &Part) -> Result<Entry, Fault>
     ensures exact { result ≡ single_in (part_of part.now) }
     ensures place { IfErr result (λ fault. fault.place ≤ end_of part.now) }

@@ -3,7 +3,6 @@ ghost use Rattle.std.specs.Prelude.{◌≡◌, ◌<◌, ◌↔◌, ℕ, List, le
 ghost use Rattle.tn_auth_list.specs.CodeTable.{FirstBad, TableText, table_rows};
 ghost use Rattle.tn_auth_list.specs.declared.table_rows.Row.{Row};
 ghost use Rattle.tn_auth_list.specs.Grant.{FaultOf, GrantOf, TableOf, grant_in, grant_view};
-ghost use Rattle.std.specs.Option.{option_copied};
 
 use crate::codes::Code;
 use crate::table_groups::{Groups, Held};
@@ -101,27 +100,20 @@ impl CodeTable {
     }
 
     /// What is held for the code, as a grant.
+    #[tactic(auto, using(crate::proofs::HeldLaws::get_by_bytes))]
     fn grant(&self, code: &Code) -> Grant<'_>
         ensures { grant_view result ≡ grant_in self.now code.now }
     {
-        match self.held_for(code) {
+        match self.held.get(code) {
             None => Grant::Nothing,
             Some(Held::All) => Grant::All,
             Some(Held::These(set)) => Grant::These(set),
         }
     }
-
-    /// What is held for the code.
-    #[tactic(auto, using(crate::proofs::HeldLaws::get_by_bytes))]
-    fn held_for(&self, code: &Code) -> Option<&Held>
-        ensures { option_copied result ≡ grant_in self.now code.now }
-    {
-        self.held.get(code)
-    }
 }
 
 /// Reads the lines one by one, up to the first bad one.
-#[tactic(auto, using(text_file::proofs::ReachedLaws::one_more, text_file::proofs::ReachedLaws::bad_line))]
+#[tactic(auto, using(text_file::proofs::ReachedLaws::one_more, text_file::proofs::ReachedLaws::bad_line), unfolding(crate::specs::CodeTable::table_rows))]
 fn read_table(alloc: Global, text: &[u8]) -> Result<CodeTable, TableFault>
     requires { length text.now < 4294967295 }
     ensures table { IfOk result (TableOf text.now) }

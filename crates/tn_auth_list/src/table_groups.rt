@@ -1,10 +1,8 @@
 //! What each code is given, as it is kept while the table is read.
-ghost use Rattle.std.specs.Prelude.{◌≡◌, ◌∷◌, ◌++◌, [], List, true, false, length, IsTrue, IfOk, OnOk, ◌↔◌, ◌≤◌};
-ghost use Rattle.std.specs.BTreeMap.{IsOrdered};
-ghost use Rattle.std.specs.Ordering.{nat_cmp};
-ghost use Rattle.std.specs.Cmp.Lexicographic.{slice_cmp};
-ghost use Rattle.tn_auth_list.specs.CodeGroups.{HeldByCode, HeldFor, IsGroups, PutsHeld, PutsRow, has_room, has_room_for, has_room_for_code, no_group, with_gives};
-ghost use Rattle.tn_auth_list.specs.TableReading.{Adds, AddsLine};
+ghost use Rattle.std.specs.Prelude.{◌≡◌, [], Some, IfOk, OnOk};
+ghost use Rattle.tn_auth_list.specs.CodeGroups.{HeldByCode, HeldFrom, IsGroups, PutsRow, has_room, no_group, with_gives};
+ghost use Rattle.tn_auth_list.specs.CodeTable.{add_row, is_past};
+ghost use Rattle.text_file.specs.Rows.{Adds, AddsLine};
 
 use crate::Memory;
 use crate::codes::Code;
@@ -62,7 +60,7 @@ impl Group {
 
     /// What the lines give together: all numbers, or a set of them.
     fn held(self) -> Result<Held, Memory>
-        ensures { IfOk result (HeldFor self) }
+        ensures { IfOk result (λ held. HeldFrom (Some self) (Some held)) }
     {
         if self.all {
             return Ok(Held::All);
@@ -100,7 +98,7 @@ impl Groups {
 
     /// Adds what a line says; false where the line is bad.
     pub(crate) fn add_line(&mut self, line: &[u8]) -> Result<bool, Memory>
-        ensures { IfOk result (AddsLine self.old self.new line.now) }
+        ensures { IfOk result (AddsLine add_row IsGroups self.old self.new line.now) }
     {
         match row_of(line) {
             Some(row) => self.add(row),
@@ -110,39 +108,22 @@ impl Groups {
 
     /// Adds what a row gives; false where it passes a limit of the table.
     fn add(&mut self, row: Row) -> Result<bool, Memory>
-        ensures { IfOk result (Adds self.old self.new row) }
+        ensures { IfOk result (Adds is_past IsGroups self.old self.new row) }
     {
         if !self.has_room(&row) {
             return Ok(false);
         }
         put(self.alloc, &mut self.by_code, row)?;
-        if !row.gives.is_all() {
-            self.given += 1;
-        }
+        self.given += u32::from(!row.gives.is_all());
         Ok(true)
     }
 
     /// Whether a line with this row is within the limits of the table.
     fn has_room(&self, row: &Row) -> bool
-        ensures room { result ≡ has_room self.now row.now }
-        ensures ordered { IsOrdered (slice_cmp nat_cmp) self.now.by_code }
+        ensures { result ≡ has_room self.now row.now }
     {
-        self.has_room_for_code(&row.code) && self.has_room_for(&row.gives)
-    }
-
-    /// Whether the code is named already, or the table may name one more.
-    fn has_room_for_code(&self, code: &Code) -> bool
-        ensures room { result ≡ has_room_for_code self.now code.now }
-        ensures ordered { IsOrdered (slice_cmp nat_cmp) self.now.by_code }
-    {
-        self.by_code.len() < MOST_CODES || self.by_code.contains_key(code)
-    }
-
-    /// Whether the line gives all numbers, or the table may have one more that gives a number or a range.
-    fn has_room_for(&self, gives: &Gives) -> bool
-        ensures { result ≡ has_room_for self.now gives.now }
-    {
-        gives.is_all() || self.given < MOST_GIVEN
+        (self.by_code.len() < MOST_CODES || self.by_code.contains_key(&row.code))
+            && (self.given < MOST_GIVEN || row.gives.is_all())
     }
 
     /// What the lines give each code together, as sets of numbers.
@@ -151,7 +132,7 @@ impl Groups {
     {
         let mut held_by_code = BTreeMap::new(self.alloc);
         for (code, group) in self.by_code {
-            put_held(&mut held_by_code, code, group.held()?)?;
+            drop(held_by_code.insert(code, group.held()?)?);
         }
         Ok(held_by_code)
     }
@@ -163,12 +144,4 @@ fn put(alloc: Global, by_code: &mut BTreeMap<Code, Group>, row: Row) -> Result<(
 {
     let group = by_code.entry(row.code)?.or_insert(Group::new(alloc));
     group.add(row.gives)
-}
-
-/// Keeps what the code is given.
-fn put_held(held_by_code: &mut BTreeMap<Code, Held>, code: Code, held: Held) -> Result<(), Memory>
-    ensures { OnOk result (PutsHeld held_by_code.old held_by_code.new code held) }
-{
-    held_by_code.insert(code, held)?;
-    Ok(())
 }

@@ -47,10 +47,10 @@ pub(crate) fn row_of(line: &[u8]) -> Option<Row>
 fn with_code(code: &[u8], gives: Option<Gives>) -> Option<Row>
     ensures { result ≡ with_code code.now gives }
 {
-    match (Code::new(code), gives) {
-        (Some(code), Some(gives)) => Some(Row { code, gives }),
-        _ => None,
-    }
+    Some(Row {
+        code: Code::new(code)?,
+        gives: gives?,
+    })
 }
 
 /// The second of two words: `*` is all numbers, and any other is a number.
@@ -60,27 +60,17 @@ fn given_of(word: &[u8]) -> Option<Gives>
     if word == b"*".as_slice() {
         return Some(Gives::All);
     }
-    match Number::exact(word) {
-        Some(number) => Some(Gives::Single(number)),
-        None => None,
-    }
+    Some(Gives::Single(Number::exact(word)?))
 }
 
 /// The numbers of the range that the words START and COUNT write.
 fn range_of(start: &[u8], count: &[u8]) -> Option<Gives>
     ensures { result ≡ range_of start.now count.now }
 {
-    let Some(start) = Number::exact(start) else {
-        return None;
-    };
-    let Some(size) = read_number(count, u64::MAX) else {
-        return None;
-    };
+    let start = Number::exact(start)?;
+    let size = read_number(count, u64::MAX)?;
     if size < 2 {
         return None;
     }
-    match Span::new(start, size) {
-        Some(span) => Some(Gives::Range(span)),
-        None => None,
-    }
+    Some(Gives::Range(Span::new(start, size)?))
 }

@@ -1,8 +1,7 @@
 -- The table's rows say what it grants.
-use Rattle.std.proofs.Common.{Option, sym, subst}
+use Rattle.std.proofs.Common.{sym, subst}
 use Rattle.tn_auth_list.specs.Grant.{GrantOf}
-use Rattle.tn_auth_list.specs.declared.table_groups.Held.{Held}
 use Rattle.tn_auth_list.proofs.table.CodeTable.numbers.Goals as goal
 
 pub returns-clause-rows : goal.returns-clause-rows
-returns-clause-rows c = λ text table. subst (λ (o : Option Held). GrantOf table.rows c.args.code.now o) (sym c.grant.ensures) (table.grants c.args.code.now)
+returns-clause-rows c = λ text table. subst (GrantOf table.rows c.args.code.now) (sym c.grant.ensures) (table.grants c.args.code.now)
