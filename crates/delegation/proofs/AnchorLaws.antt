@@ -41,8 +41,8 @@ anchor_found place bytes next b e = of (next_at bytes) refl e
         → Standing bytes next.0 next.1 × AllBytes next.1
     read found (Ok c) begins cert e =
         let is : Cert found.0.whole c = cert c refl in
-        certified (may_certify c) c found.1 refl (begins.split ∙ ap (λ w. w ++ found.1) (sym is.whole))
-        (subst (λ w. Cert w c) (sym is.whole) is) (parts_are_bytes bytes found.0 found.1 b begins).1 e
+        let whole : c.whole ≡ found.0.whole = ap (λ (c : CertView). c.whole) is.says in
+        certified (may_certify c) c found.1 refl (begins.split ∙ ap (λ w. w ++ found.1) (sym whole)) (subst (λ w. Cert w c) (sym whole) is) (parts_are_bytes bytes found.0 found.1 b begins).1 e
     read found (Err x) begins cert e = cc
 
     of : (r : Result (Element × List ℕ) DerFault) → next_at bytes ≡ r → anchor_of place r ≡ Ok next

@@ -1,12 +1,15 @@
 -- Certificates one after another, the leaf's first, as a chain file has them: this project's own format.
-use Rattle.std.specs.Prelude.{◌≡◌, ℕ, ◌+◌, zero, suc, ◌≤◌, ◌⊎◌, List, [], ◌∷◌, ◌++◌, length, Option, Some, None, Result, Ok, Err}
+use Rattle.std.specs.Prelude.{⊤, ◌≡◌, ℕ, ◌+◌, ◌-◌, ◌==◌, zero, suc, ◌≤◌, ◌⊎◌, List, [], ◌∷◌, ◌++◌, length, Option, Some, None, Result, Ok, Err, if◌then◌else◌}
 use Rattle.std.specs.List.{flat_map}
-use Rattle.der_reader.specs.Elem.{Element}
-use Rattle.der_reader.specs.Next.{next_at}
-use Rattle.der_reader.specs.declared.fault.DerFault.{DerFault}
+use Rattle.lists.specs.Given as given
+use Rattle.lists.specs.Steps.{◌>>=◌}
+use Rattle.der_reader.specs.Part.{item_at, whole_text}
+use Rattle.der_reader.specs.declared.part.Fault.{Fault}
 use Rattle.x509_profile.specs.Cert.{Cert}
 use Rattle.x509_profile.specs.Read.{read_certificate}
 use Rattle.x509_profile.specs.View.{CertView}
+use Rattle.x509_profile.specs.declared.chain.ChainFault.{ChainFault}
+use Rattle.x509_profile.specs.declared.chain.ChainFault.TheVariants.{At, Memory}
 
 -- each is the certificate that its own bytes are
 abbrev pub AreCerts : List CertView → Type 0
@@ -63,39 +66,42 @@ pub record EndsAt (bytes : List ℕ) (refused : RefusedCertificate) : Type 0 whe
   pub bad : (length before ≡ 6) ⊎ HasNoFront behind
   pub most : length before ≤ 6
 
--- what was read, where something was
-abbrev pub read_or_none : {X E : Type 0} → Result X E → Option X
-read_or_none (Ok x) = Some x
-read_or_none (Err fault) = None
-
--- a certificate, with what stands behind it
-abbrev pub with_rest : List ℕ → Option CertView → Option (CertView × List ℕ)
-with_rest rest (Some certificate) = Some (certificate, rest)
-with_rest rest None = None
-
-abbrev pub read_element : Result (Element × List ℕ) DerFault → Option (CertView × List ℕ)
-read_element (Ok found) = with_rest found.1 (read_or_none (read_certificate found.0.whole))
-read_element (Err fault) = None
-
 -- the certificate that the first element is, and what stands behind it
-unfoldable pub front : List ℕ → Option (CertView × List ℕ)
-front bytes = read_element (next_at bytes)
+unfoldable pub front : List ℕ → Result (CertView × List ℕ) Fault
+front bytes = do
+  item ← item_at (whole_text bytes)
+  certificate ← read_certificate item.whole
+  Ok (certificate, item.behind.left)
 
--- the certificates behind this one, with it before them; what is refused there, counted from this one on
-abbrev pub behind : CertView → Result (List CertView) RefusedCertificate → Result (List CertView) RefusedCertificate
-behind certificate (Ok others) = Ok (certificate ∷ others)
-behind certificate (Err refused) = Err (refused_at (suc refused.number) (length certificate.whole + refused.place))
+-- the certificates so far, where none of the bytes is left; else the next one is refused, at the first that is left
+abbrev pub ended : List ℕ → List CertView → List ℕ → Result (List CertView) RefusedCertificate
+ended bytes before left = if length left == 0 then Ok before else Err (refused_at (length before + 1) (length bytes - length left))
 
-abbrev pub behind_front : (List ℕ → Result (List CertView) RefusedCertificate) → Option (CertView × List ℕ) → Result (List CertView) RefusedCertificate
-behind_front others None = Err (refused_at 1 0)
-behind_front others (Some found) = behind found.0 (others found.1)
-
--- the certificates that the bytes are, where there are at most so many, or the first that is refused
-abbrev pub certificates_up_to : ℕ → List ℕ → Result (List CertView) RefusedCertificate
-certificates_up_to room [] = Ok []
-certificates_up_to zero (byte ∷ rest) = Err (refused_at 1 0)
-certificates_up_to (suc room) (byte ∷ rest) = behind_front (certificates_up_to room) (front (byte ∷ rest))
+-- the certificates so far, and those with which what is left of the bytes begins, at most so many more
+abbrev pub certificates_from : List ℕ → ℕ → List CertView → List ℕ → Result (List CertView) RefusedCertificate
+certificates_from bytes zero before left = ended bytes before left
+certificates_from bytes (suc room) before left = elim (front left) [
+  | Ok found ↦ certificates_from bytes room (before ++ found.0 ∷ []) found.1
+  | Err fault ↦ ended bytes before left
+]
 
 -- All certificates, or the first that is refused or is a seventh one.
 unfoldable pub certificates_in : List ℕ → Result (List CertView) RefusedCertificate
-certificates_in bytes = certificates_up_to 6 bytes
+certificates_in bytes = certificates_from bytes 6 [] bytes
+
+-- ---- how clauses see an answer
+
+-- a fault other than want of memory
+abbrev pub refused_seen : ChainFault → Option RefusedCertificate
+refused_seen (At number place) = Some (refused_at number place)
+refused_seen Memory = None
+
+-- the certificates, or the first that is refused; want of memory is free
+abbrev pub GivesChain : {X : Type 0} → (X → List CertView) → Result X ChainFault → Result (List CertView) RefusedCertificate → Type 0
+GivesChain seen result read = given.Gives refused_seen seen result read
+
+-- what is refused stands where the whole certificates end, and is one more than they
+abbrev pub EndsWhereRefused : {X : Type 0} → List ℕ → Result X ChainFault → Type 0
+EndsWhereRefused bytes (Ok certificates) = ⊤
+EndsWhereRefused bytes (Err (At number place)) = EndsAt bytes (refused_at number place) × Whole bytes (number - 1) × (number ≤ 7)
+EndsWhereRefused bytes (Err Memory) = ⊤

@@ -1,58 +1,58 @@
 -- The extensions that the profile knows, by their OIDs.
-use Rattle.std.specs.Prelude.{ℕ, ◌==◌, Bool, List, [], ◌∷◌, if◌then◌else◌}
+use Rattle.std.specs.Prelude.{◌≡◌, ◌≢◌, ◌⊎◌, ℕ, List, [], ◌∷◌, if◌then◌else◌}
 use Rattle.std.specs.Str.{bytes_eq}
 use Rattle.x509_profile.specs.declared.extension_id.ExtensionId.{ExtensionId}
-use Rattle.x509_profile.specs.declared.extension_id.ExtensionId.TheVariants.{BasicConstraints, KeyUsage, SubjectKey, AuthorityKey, AuthorityList, ClaimConstraints, Unknown}
+use Rattle.x509_profile.specs.declared.extension_id.ExtensionId.TheVariants as code
 
--- 2.5.29.19 (RFC 5280, section 4.2.1.9)
-abbrev pub basic_constraints : List ℕ
-basic_constraints = 0x55 ∷ 0x1D ∷ 0x13 ∷ []
+-- the extensions that the profile knows, of which two constrain claims, and all others
+pub data ExtensionName : Type 0 where
+  BasicConstraints : ExtensionName
+  KeyUsage : ExtensionName
+  SubjectKey : ExtensionName
+  AuthorityKey : ExtensionName
+  AuthorityList : ExtensionName
+  ClaimConstraints : ExtensionName
+  Unknown : ExtensionName
 
--- 2.5.29.15 (RFC 5280, section 4.2.1.3)
-abbrev pub key_usage : List ℕ
-key_usage = 0x55 ∷ 0x1D ∷ 0x0F ∷ []
+-- 2.5.29.n (RFC 5280, section 4.2.1)
+abbrev pub certificate_extension : ℕ → List ℕ
+certificate_extension n = 0x55 ∷ 0x1D ∷ n ∷ []
 
--- 2.5.29.14 (RFC 5280, section 4.2.1.2)
-abbrev pub subject_key_identifier : List ℕ
-subject_key_identifier = 0x55 ∷ 0x1D ∷ 0x0E ∷ []
+-- 1.3.6.1.5.5.7.1.n (RFC 5280, section 4.2.2)
+abbrev pub private_extension : ℕ → List ℕ
+private_extension n = 0x2B ∷ 0x06 ∷ 0x01 ∷ 0x05 ∷ 0x05 ∷ 0x07 ∷ 0x01 ∷ n ∷ []
 
--- 2.5.29.35 (RFC 5280, section 4.2.1.1)
-abbrev pub authority_key_identifier : List ℕ
-authority_key_identifier = 0x55 ∷ 0x1D ∷ 0x23 ∷ []
+-- the OID is that of an extension of this name (RFC 5280, sections 4.2.1.9, 4.2.1.3, 4.2.1.2 and 4.2.1.1; RFC 8226, sections 9 and 8, and RFC 9118,
+-- section 4), or of none that has one
+abbrev pub IsNamed : List ℕ → ExtensionName → Type 0
+IsNamed oid BasicConstraints = oid ≡ certificate_extension 19
+IsNamed oid KeyUsage = oid ≡ certificate_extension 15
+IsNamed oid SubjectKey = oid ≡ certificate_extension 14
+IsNamed oid AuthorityKey = oid ≡ certificate_extension 35
+IsNamed oid AuthorityList = oid ≡ private_extension 26
+IsNamed oid ClaimConstraints = (oid ≡ private_extension 27) ⊎ (oid ≡ private_extension 33)
+IsNamed oid Unknown =
+    (oid ≢ certificate_extension 19) × (oid ≢ certificate_extension 15) × (oid ≢ certificate_extension 14) × (oid ≢ certificate_extension 35)
+    × (oid ≢ private_extension 26) × (oid ≢ private_extension 27) × (oid ≢ private_extension 33)
 
--- 1.3.6.1.5.5.7.1.26 (RFC 8226, section 9)
-abbrev pub authority_list : List ℕ
-authority_list = 0x2B ∷ 0x06 ∷ 0x01 ∷ 0x05 ∷ 0x05 ∷ 0x07 ∷ 0x01 ∷ 0x1A ∷ []
-
--- 1.3.6.1.5.5.7.1.27 (RFC 8226, section 8)
-abbrev pub claim_constraints : List ℕ
-claim_constraints = 0x2B ∷ 0x06 ∷ 0x01 ∷ 0x05 ∷ 0x05 ∷ 0x07 ∷ 0x01 ∷ 0x1B ∷ []
-
--- 1.3.6.1.5.5.7.1.33 (RFC 9118, section 4)
-abbrev pub enhanced_claim_constraints : List ℕ
-enhanced_claim_constraints = 0x2B ∷ 0x06 ∷ 0x01 ∷ 0x05 ∷ 0x05 ∷ 0x07 ∷ 0x01 ∷ 0x21 ∷ []
-
--- the extension of an OID
-unfoldable pub name_of : List ℕ → ExtensionId
+-- the name of the extension that has this OID
+unfoldable pub name_of : List ℕ → ExtensionName
 name_of oid =
-    if bytes_eq oid basic_constraints then BasicConstraints
-    else (if bytes_eq oid key_usage then KeyUsage
-    else (if bytes_eq oid subject_key_identifier then SubjectKey
-    else (if bytes_eq oid authority_key_identifier then AuthorityKey
-    else (if bytes_eq oid authority_list then AuthorityList
-    else (if bytes_eq oid claim_constraints then ClaimConstraints
-    else (if bytes_eq oid enhanced_claim_constraints then ClaimConstraints
+    if bytes_eq oid (certificate_extension 19) then BasicConstraints
+    else (if bytes_eq oid (certificate_extension 15) then KeyUsage
+    else (if bytes_eq oid (certificate_extension 14) then SubjectKey
+    else (if bytes_eq oid (certificate_extension 35) then AuthorityKey
+    else (if bytes_eq oid (private_extension 26) then AuthorityList
+    else (if bytes_eq oid (private_extension 27) then ClaimConstraints
+    else (if bytes_eq oid (private_extension 33) then ClaimConstraints
     else Unknown))))))
 
--- whether two are one
-abbrev pub number_of : ExtensionId → ℕ
-number_of BasicConstraints = 0
-number_of KeyUsage = 1
-number_of SubjectKey = 2
-number_of AuthorityKey = 3
-number_of AuthorityList = 4
-number_of ClaimConstraints = 5
-number_of Unknown = 6
-
-abbrev pub is_id : ExtensionId → ExtensionId → Bool
-is_id a b = number_of a == number_of b
+-- what the code's own name of an extension is
+abbrev pub named : ExtensionId → ExtensionName
+named code.BasicConstraints = BasicConstraints
+named code.KeyUsage = KeyUsage
+named code.SubjectKey = SubjectKey
+named code.AuthorityKey = AuthorityKey
+named code.AuthorityList = AuthorityList
+named code.ClaimConstraints = ClaimConstraints
+named code.Unknown = Unknown

@@ -2,12 +2,12 @@ pub mod Fault
 pub mod Text
 pub mod ExtensionId
 pub mod Contents
-pub mod Seen
 pub mod Extensions
 pub mod View
 pub mod Read
 pub mod Parts
 pub mod Extended
+pub mod WrongExtensions
 pub mod Cert
+pub mod Refused
 pub mod Chain
-pub mod ChainSeen

@@ -1,12 +1,11 @@
 -- How contracts see a certificate and its parts.
-use Rattle.std.specs.Prelude.{ℕ, ℤ, Bool, false, List, Option, Some, None}
-use Rattle.std.specs.Option.{option_map}
+use Rattle.std.specs.Prelude.{ℕ, ℤ, Bool, false, List, Option, Some, None, Result, Ok, Err}
 use Rattle.tn_auth_list.specs.declared.entries.Entry.{Entry}
-use Rattle.x509_profile.specs.declared.contents.BasicConstraints.{BasicConstraints}
-use Rattle.x509_profile.specs.declared.contents.Validity.{Validity}
-use Rattle.x509_profile.specs.declared.extensions.KnownExtensions.{KnownExtensions}
-use Rattle.x509_profile.specs.declared.tbs.KeptPart.{KeptPart}
-use Rattle.x509_profile.specs.declared.tbs.TbsCertificate.{TbsCertificate}
+
+-- an answer whose value is seen so
+abbrev pub seen : {X Y E : Type 0} → (X → Y) → Result X E → Result Y E
+seen view (Ok value) = Ok (view value)
+seen view (Err fault) = Err fault
 
 -- an extension: its OID, whether it is critical, and its content
 pub record ExtensionView : Type 0 where
@@ -14,9 +13,14 @@ pub record ExtensionView : Type 0 where
   pub critical : Bool
   pub value : List ℕ
 
+-- basic constraints (RFC 5280, section 4.2.1.9)
+pub record BasicView : Type 0 where
+  pub is_ca : Bool
+  pub path_length : Option ℕ
+
 -- what the extensions of the profile say, each where it stands
 pub record Values : Type 0 where
-  pub basic : Option BasicConstraints
+  pub basic : Option BasicView
   pub usage : Option ℕ
   pub subject_key : Option (List ℕ)
   -- the inner option is that of the identifier
@@ -26,61 +30,23 @@ pub record Values : Type 0 where
 abbrev pub no_values : Values
 no_values = record { basic = None; usage = None; subject_key = None; authority = None; list = None }
 
-abbrev pub values_of : KnownExtensions → Values
-values_of known = record {
-  basic = known.basic;
-  usage = known.usage;
-  subject_key = known.subject_key;
-  authority = known.authority;
-  list = known.list;
-}
+-- the first and the last second at which a certificate is valid, in Unix time
+pub record ValidityView : Type 0 where
+  pub not_before : ℤ
+  pub not_after : ℤ
 
--- what is kept of the signed part
+-- a signed part
 pub record TbsView : Type 0 where
   pub issuer : List ℕ
-  pub validity : Validity
+  pub validity : ValidityView
   pub subject : List ℕ
   pub key : List ℕ
-  pub basic : Option BasicConstraints
-  pub usage : Option ℕ
-  pub subject_key : Option (List ℕ)
-  pub authority_key : Option (List ℕ)
-  pub list : Option (List Entry)
-
--- the identifier of the issuer's key, where the extension stands and has one
-abbrev pub identifier_in_values : Option (Option (List ℕ)) → Option (List ℕ)
-identifier_in_values (Some key) = key
-identifier_in_values None = None
+  pub extensions : Values
 
 -- the signed part of these names, this validity and key, with what its extensions say
-abbrev pub tbs_with : List ℕ → Validity → List ℕ → List ℕ → Values → TbsView
-tbs_with issuer validity subject key values = record {
-  issuer = issuer;
-  validity = validity;
-  subject = subject;
-  key = key;
-  basic = values.basic;
-  usage = values.usage;
-  subject_key = values.subject_key;
-  authority_key = identifier_in_values values.authority;
-  list = values.list;
-}
-
-abbrev pub tbs_of : TbsCertificate → TbsView
-tbs_of tbs = tbs_with tbs.issuer.now tbs.validity tbs.subject.now tbs.key.now (values_of tbs.extensions)
-
-abbrev pub kept_of : KeptPart → TbsView
-kept_of kept = record {
-  issuer = kept.issuer.items;
-  validity = kept.validity;
-  subject = kept.subject.items;
-  key = kept.key;
-  basic = kept.basic;
-  usage = kept.usage;
-  subject_key = option_map (λ key. key.items) kept.subject_key;
-  authority_key = option_map (λ key. key.items) kept.authority_key;
-  list = kept.list;
-}
+abbrev pub tbs_with : List ℕ → ValidityView → List ℕ → List ℕ → Values → TbsView
+tbs_with issuer validity subject key values =
+    record { issuer = issuer; validity = validity; subject = subject; key = key; extensions = values }
 
 -- a certificate
 pub record CertView : Type 0 where
@@ -107,14 +73,19 @@ pub record CertView : Type 0 where
   pub list : Option (List Entry)
 
 -- whether basic constraints say that the key may sign certificates
-abbrev pub says_ca : Option BasicConstraints → Bool
+abbrev pub says_ca : Option BasicView → Bool
 says_ca (Some basic) = basic.is_ca
 says_ca None = false
 
 -- the path length in basic constraints
-abbrev pub path_length_of : Option BasicConstraints → Option ℕ
+abbrev pub path_length_of : Option BasicView → Option ℕ
 path_length_of (Some basic) = basic.path_length
 path_length_of None = None
+
+-- the identifier of the issuer's key, where the extension stands and has one
+abbrev pub identifier_in_values : Option (Option (List ℕ)) → Option (List ℕ)
+identifier_in_values (Some key) = key
+identifier_in_values None = None
 
 -- the certificate of these bytes, of which these are the signed part, its SHA-256, and the signature
 abbrev pub view_of : List ℕ → TbsView → List ℕ → List ℕ → CertView
@@ -127,10 +98,10 @@ view_of all tbs digest signature = record {
   key = tbs.key;
   digest = digest;
   signature = signature;
-  is_ca = says_ca tbs.basic;
-  path_length = path_length_of tbs.basic;
-  usage = tbs.usage;
-  subject_key = tbs.subject_key;
-  authority_key = tbs.authority_key;
-  list = tbs.list;
+  is_ca = says_ca tbs.extensions.basic;
+  path_length = path_length_of tbs.extensions.basic;
+  usage = tbs.extensions.usage;
+  subject_key = tbs.extensions.subject_key;
+  authority_key = identifier_in_values tbs.extensions.authority;
+  list = tbs.extensions.list;
 }

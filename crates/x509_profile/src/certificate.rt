@@ -1,16 +1,17 @@
 //! A certificate of the profile.
 
-ghost use Rattle.std.specs.Prelude.{◌≡◌, ◌≤◌, length, IfOk, IfErr, Ok};
+ghost use Rattle.std.specs.Prelude.{◌≡◌, ◌≤◌, ℕ, List, ◌++◌, length, IfOk, Ok, Err};
 ghost use Rattle.std.specs.Option.{option_copied};
-ghost use Rattle.der_reader.specs.Part.{outer_view};
-ghost use Rattle.x509_profile.specs.Fault.{Gives, IsPlacedUpTo};
+ghost use Rattle.der_reader.specs.declared.part.Fault.{Fault};
+ghost use Rattle.x509_profile.specs.Fault.{Gives, IsPlacedUpTo, fault_at};
 ghost use Rattle.x509_profile.specs.Cert.{Cert};
-ghost use Rattle.x509_profile.specs.Read.{outer_in, read_certificate};
+ghost use Rattle.x509_profile.specs.Read.{read_certificate};
+ghost use Rattle.x509_profile.specs.Refused.{IsRefused, Refused};
 ghost use Rattle.x509_profile.specs.View.{CertView};
 
 use crate::fault::CertFault;
 use crate::signature::read_signature;
-use crate::tbs::{ALGORITHM, KeptPart, TbsCertificate, behind_text};
+use crate::tbs::{ALGORITHM, TbsCertificate, behind_text};
 use der_reader::tags::SEQUENCE;
 use der_reader::{Fault, Outer};
 use sha2::{Digest, Sha256};
@@ -28,7 +29,7 @@ const LONGEST: usize = 8_192;
 #[derive(Drop)]
 pub struct Certificate {
     bytes: Vec<u8>,
-    kept: KeptPart,
+    tbs: TbsCertificate,
     digest: [u8; 32],
     signature: [u8; 64],
 }
@@ -36,13 +37,13 @@ pub struct Certificate {
 impl Model for Certificate {
     ghost use Rattle.std.specs.Prelude.{◌≡◌, Ok};
     ghost use Rattle.x509_profile.specs.Read.{read_certificate};
-    ghost use Rattle.x509_profile.specs.View.{CertView, kept_of, view_of};
+    ghost use Rattle.x509_profile.specs.View.{CertView, view_of};
 
     ghost Value = { CertView };
 
-    ghost view = { λ c. view_of c.bytes.items (kept_of c.kept) c.digest c.signature };
+    ghost view = { λ c. view_of c.bytes.items c.tbs c.digest c.signature };
 
-    ghost invariant = { λ c. read_certificate c.bytes.items ≡ Ok (view_of c.bytes.items (kept_of c.kept) c.digest c.signature) };
+    ghost invariant = { λ c. read_certificate c.bytes.items ≡ Ok (view_of c.bytes.items c.tbs c.digest c.signature) };
 }
 
 impl Certificate {
@@ -62,6 +63,16 @@ impl Certificate {
 
         // The bytes are one certificate at most.
         ensures unique { (a b : CertView) → Cert bytes.now a → Cert bytes.now b → a ≡ b }
+
+        // Each other answer is the first fault of the bytes, and their first fault is the answer.
+        ensures refused { (fault : Fault) → Refused bytes.now fault → Gives (λ certificate. certificate) result (Err fault) }
+        ensures only_refused { IsRefused bytes.now result }
+
+        // A front of a certificate ends too early, and bytes behind one are left over.
+        ensures cut_short { (whole more : List ℕ) (c : CertView) → Cert whole c → whole ≡ bytes.now ++ more → 1 ≤ length more
+            → Gives (λ certificate. certificate) result (Err (fault_at 1 (length bytes.now))) }
+        ensures left_over { (whole more : List ℕ) (c : CertView) → Cert whole c → bytes.now ≡ whole ++ more → 1 ≤ length more → length bytes.now ≤ 8192
+            → Gives (λ certificate. certificate) result (Err (fault_at 1 (length whole))) }
 
         ensures place { IsPlacedUpTo (length bytes.now) result }
     {
@@ -83,35 +94,35 @@ impl Certificate {
     pub fn subject(&self) -> &[u8]
         ensures { result.now ≡ self.now.subject }
     {
-        &self.kept.subject
+        self.tbs.subject.bytes()
     }
 
     /// The issuer's name: its whole element, a SEQUENCE (RFC 5280, section 4.1.2.4).
     pub fn issuer(&self) -> &[u8]
         ensures { result.now ≡ self.now.issuer }
     {
-        &self.kept.issuer
+        self.tbs.issuer.bytes()
     }
 
     /// The first second at which the certificate is valid, in Unix time (RFC 5280, section 4.1.2.5).
     pub fn not_before(&self) -> i64
         ensures { result ≡ self.now.not_before }
     {
-        self.kept.validity.not_before
+        self.tbs.validity.not_before
     }
 
     /// The last second at which the certificate is valid, in Unix time.
     pub fn not_after(&self) -> i64
         ensures { result ≡ self.now.not_after }
     {
-        self.kept.validity.not_after
+        self.tbs.validity.not_after
     }
 
     /// The point of the key: the byte 04, and 32 bytes each of x and y (RFC 5480, section 2.2).
     pub fn key(&self) -> &[u8; 65]
         ensures { result.now ≡ self.now.key }
     {
-        &self.kept.key
+        &self.tbs.key
     }
 
     /// The SHA-256 of the signed part, which is what the signature signs (RFC 5280, section 4.1.1.3).
@@ -132,20 +143,17 @@ impl Certificate {
     pub fn is_ca(&self) -> bool
         ensures { result ≡ self.now.is_ca }
     {
-        match self.kept.basic {
-            Some(basic) => basic.is_ca,
-            None => false,
-        }
+        self.tbs.extensions.basic.is_some_and(|basic| basic.is_ca)
     }
 
     /// How many certificates may stand between this one and the leaf, where that is limited.
     pub fn path_length(&self) -> Option<u64>
         ensures { result ≡ self.now.path_length }
     {
-        match self.kept.basic {
-            Some(basic) => basic.path_length,
-            None => None,
-        }
+        self.tbs
+            .extensions
+            .basic
+            .and_then(|basic| basic.path_length)
     }
 
     /// What the key may be used for, where that is said: bit 0 is digitalSignature and bit 5 keyCertSign
@@ -153,27 +161,23 @@ impl Certificate {
     pub fn usage(&self) -> Option<u16>
         ensures { result ≡ self.now.usage }
     {
-        self.kept.usage
+        self.tbs.extensions.usage
     }
 
     /// The identifier of the key (RFC 5280, section 4.2.1.2).
     pub fn subject_key(&self) -> Option<&[u8]>
         ensures { option_copied result ≡ self.now.subject_key }
     {
-        match &self.kept.subject_key {
-            Some(key) => Some(key),
-            None => None,
-        }
+        let key = self.tbs.extensions.subject_key.as_ref()?;
+        Some(key.bytes())
     }
 
     /// The identifier of the issuer's key (RFC 5280, section 4.2.1.1).
     pub fn authority_key(&self) -> Option<&[u8]>
         ensures { option_copied result ≡ self.now.authority_key }
     {
-        match &self.kept.authority_key {
-            Some(key) => Some(key),
-            None => None,
-        }
+        let key = self.tbs.extensions.authority.as_ref()?.as_ref()?;
+        Some(key.bytes())
     }
 
     /// The telephone numbers that the holder may speak for (RFC 8226, section 9). A certificate without a
@@ -181,17 +185,20 @@ impl Certificate {
     pub fn list(&self) -> Option<&AuthList>
         ensures { option_copied result ≡ self.now.list }
     {
-        self.kept.list.as_ref()
+        self.tbs.extensions.list.as_ref()
     }
 }
 
 /// The certificate that the bytes are.
-#[tactic(auto, unfolding(crate::specs::Read::read_certificate))]
+#[tactic(auto, unfolding(crate::specs::Read::read_certificate, crate::specs::Read::outer_in))]
 fn read_exactly(alloc: Global, bytes: &[u8]) -> Result<Certificate, CertFault>
     ensures exact { Gives (λ certificate. certificate) result (read_certificate bytes.now) }
     ensures place { IsPlacedUpTo (length bytes.now) result }
 {
-    let certificate = read_outer(bytes)?;
+    if bytes.len() > LONGEST {
+        return Err(Fault::at(Fault::DER, LONGEST as u32).into());
+    }
+    let certificate = Outer::read(bytes, SEQUENCE)?;
     let signed = certificate.content().element(SEQUENCE)?;
     let tbs = TbsCertificate::read(alloc, &signed.content())?;
     let signature_at = behind_text(&signed.behind, &ALGORITHM, CertFault::ALGORITHM)?;
@@ -199,26 +206,12 @@ fn read_exactly(alloc: Global, bytes: &[u8]) -> Result<Certificate, CertFault>
     if !certificate.behind.is_empty() {
         return Err(certificate.left_over().into());
     }
-    let kept = tbs.keep(alloc)?;
     let digest = Sha256::digest(signed.der.whole);
     let bytes = bytes.to_vec(alloc)?;
     Ok(Certificate {
         bytes,
-        kept,
+        tbs,
         digest,
         signature,
     })
-}
-
-/// The certificate's SEQUENCE, and what is behind it.
-#[tactic(auto, unfolding(crate::specs::Read::outer_in))]
-fn read_outer(bytes: &[u8]) -> Result<Outer<'_>, Fault>
-    ensures exact { outer_view result ≡ outer_in bytes.now }
-    ensures within { IfOk result (λ outer. length outer.der.whole.now ≤ length bytes.now) }
-    ensures place { IfErr result (λ fault. fault.place ≤ length bytes.now) }
-{
-    if bytes.len() > LONGEST {
-        return Err(Fault::at(Fault::DER, LONGEST as u32));
-    }
-    Outer::read(bytes, SEQUENCE)
 }

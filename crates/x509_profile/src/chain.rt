@@ -1,7 +1,7 @@
 //! Certificates one after another, as a chain file has them.
-ghost use Rattle.std.specs.Prelude.{◌≡◌, ℕ, List, IfOk, Ok};
-ghost use Rattle.x509_profile.specs.Chain.{Chain, certificates_in, front};
-ghost use Rattle.x509_profile.specs.ChainSeen.{EndsWhereRefused, GivesChain, front_seen};
+ghost use Rattle.std.specs.Prelude.{◌≡◌, ◌≤◌, ℕ, List, length, IfOk, Ok};
+ghost use Rattle.x509_profile.specs.Chain.{Chain, EndsWhereRefused, GivesChain, certificates_in, front};
+ghost use Rattle.x509_profile.specs.Fault.{Gives};
 ghost use Rattle.x509_profile.specs.View.{CertView};
 
 use crate::certificate::Certificate;
@@ -70,6 +70,7 @@ impl Error for ChainFault {}
 ///
 /// That a chain is so written, and that it has at most six certificates, is this project's own rule. The fault is the first
 /// certificate that isn't one of the profile, or a seventh. No bytes are no certificates.
+#[tactic(auto, using(crate::proofs::ChainLaws::chain_again, crate::proofs::ChainLaws::chain_found, crate::proofs::ChainLaws::answer_ends))]
 pub fn read_chain(alloc: Global, bytes: &[u8]) -> Result<Vec<Certificate>, ChainFault>
     // The certificates, or which is refused and where.
     ensures exact { GivesChain (λ certificates. certificates.items) result (certificates_in bytes.now) }
@@ -88,38 +89,42 @@ pub fn read_chain(alloc: Global, bytes: &[u8]) -> Result<Vec<Certificate>, Chain
 }
 
 /// The certificates that the bytes are, or the first that is refused.
-#[tactic(auto, using(crate::proofs::ChainSteps::left_all, crate::proofs::ChainSteps::left_done, crate::proofs::ChainSteps::left_many, crate::proofs::ChainSteps::left_refused, crate::proofs::ChainSteps::left_few))]
+#[tactic(auto, using(crate::proofs::ChainLaws::one_more, crate::proofs::ChainLaws::none_more), unfolding(crate::specs::Chain::certificates_in))]
 fn certificates_of(alloc: Global, bytes: &[u8]) -> Result<Vec<Certificate>, ChainFault>
     ensures { GivesChain (λ certificates. certificates.items) result (certificates_in bytes.now) }
 {
     let mut certificates = Vec::new(alloc);
-    let mut rest = bytes;
-    'certificates: while !rest.is_empty() {
-        let number = certificates.len() as u8 + 1;
-        let place = bytes.len() - rest.len();
-        if certificates.len() == MOST_CERTIFICATES {
-            return Err(ChainFault::At { number, place });
+    let mut left = bytes;
+    for _ in 0..MOST_CERTIFICATES {
+        match read_front(alloc, left) {
+            Ok((certificate, behind)) => {
+                certificates.push(certificate)?;
+                left = behind;
+            }
+            Err(CertFault::At { .. }) => break,
+            Err(CertFault::Memory) => return Err(ChainFault::Memory),
         }
-        let Some((certificate, behind)) = read_front(alloc, rest)? else {
-            return Err(ChainFault::At { number, place });
-        };
-        certificates.push(certificate)?;
-        rest = behind;
     }
-    Ok(certificates)
+    if left.is_empty() {
+        return Ok(certificates);
+    }
+    Err(ChainFault::At {
+        number: certificates.len() as u8 + 1,
+        place: bytes.len() - left.len(),
+    })
 }
 
 /// The certificate that the first element is, and the bytes behind it.
-#[tactic(auto, unfolding(crate::specs::Chain::front))]
-fn read_front(alloc: Global, bytes: &[u8]) -> Result<Option<(Certificate, &[u8])>, AllocError>
-    ensures { IfOk result (λ found. front_seen found ≡ front bytes.now) }
+#[tactic(auto, unfolding(crate::specs::Chain::front, der_reader::specs::Part::item_at))]
+fn read_front(alloc: Global, bytes: &[u8]) -> Result<(Certificate, &[u8]), CertFault>
+    ensures exact { Gives (λ found. (found.0, found.1.now)) result (front bytes.now) }
+    ensures shorter { IfOk result (λ found. length found.1.now ≤ length bytes.now) }
 {
-    let Ok((element, rest)) = Der::next(bytes) else {
-        return Ok(None);
-    };
-    match Certificate::read(alloc, element.whole) {
-        Ok(certificate) => Ok(Some((certificate, rest))),
-        Err(CertFault::At { .. }) => Ok(None),
-        Err(CertFault::Memory) => Err(AllocError),
+    match Der::next(bytes) {
+        Ok((element, behind)) => Ok((Certificate::read(alloc, element.whole)?, behind)),
+        Err(fault) => Err(CertFault::At {
+            kind: CertFault::DER,
+            place: fault.place,
+        }),
     }
 }

@@ -1,17 +1,34 @@
 //! What stands within a part of a certificate (RFC 5280, sections 4.1 and 4.2.1). Whoever calls a reader says which fault
 //! it is that a content isn't of its form, and where.
 
-ghost use Rattle.std.specs.Prelude.{◌≡◌, ◌≤◌, length, IfOk};
-ghost use Rattle.std.specs.Option.{option_copied};
-ghost use Rattle.x509_profile.specs.Contents.{authority_of, basic_of, extension_of, flag_of, limit_of, subject_key_of, usage_of, validity_of};
-ghost use Rattle.x509_profile.specs.Seen.{extension_seen, flag_seen};
+ghost use Rattle.std.specs.Prelude.{◌≡◌, ◌≤◌, length, IfOk, IfErr};
+ghost use Rattle.std.specs.Option.{option_map};
+ghost use Rattle.der_reader.specs.Elem.{element_of};
+ghost use Rattle.der_reader.specs.Part.{or_broken};
+ghost use Rattle.x509_profile.specs.Contents.{authority_of, basic_of, extension_of, extension_read, subject_key_of, usage_of, validity_of};
+ghost use Rattle.x509_profile.specs.Fault.{Gives, IsPlacedUpTo};
+ghost use Rattle.x509_profile.specs.View.{seen};
 
+use crate::fault::CertFault;
+use crate::octets::Octets;
 use der_reader::tags::{BIT_STRING, BOOLEAN, INTEGER, OBJECT_IDENTIFIER, OCTET_STRING, SEQUENCE};
-use der_reader::{Der, DerFault};
+use der_reader::{Der, DerFault, Fault};
+use std::alloc::Global;
 use std::marker::Model;
 
 /// The tag of the key identifier in an authority key identifier, [0].
 const KEY_IDENTIFIER: u8 = 0x80;
+
+/// What is read, where any fault in it is this one.
+pub(crate) fn or_broken<T: Drop>(said: Result<T, DerFault>, broken: Fault) -> Result<T, Fault>
+    ensures exact { result ≡ or_broken said broken }
+    ensures fault { IfErr result (λ fault. fault ≡ broken) }
+{
+    match said {
+        Ok(value) => Ok(value),
+        Err(_) => Err(broken),
+    }
+}
 
 /// The first and the last second at which a certificate is valid, in Unix time.
 #[derive(Clone, Copy, Debug)]
@@ -20,26 +37,28 @@ pub(crate) struct Validity {
     pub not_after: i64,
 }
 
-impl Validity {
-    /// The validity that an element is: a SEQUENCE of two times (RFC 5280, section 4.1.2.5).
-    #[tactic(auto, unfolding(crate::specs::Contents::validity_of))]
-    pub fn read(text: &[u8]) -> Result<Validity, DerFault>
-        ensures { result ≡ validity_of text.now }
-    {
-        let sequence = Der::sole(text, SEQUENCE)?;
-        let (first, rest) = Der::next(sequence.content)?;
-        let (second, behind) = Der::next(rest)?;
-        let not_before = first.time()?;
-        let not_after = second.time()?;
-        if behind.is_empty() {
-            Ok(Validity {
-                not_before,
-                not_after,
-            })
-        } else {
-            Err(DerFault::value())
-        }
-    }
+impl Model for Validity {
+    ghost use Rattle.x509_profile.specs.View.{ValidityView};
+
+    ghost Value = { ValidityView };
+
+    ghost view = { λ v. record { not_before = v.not_before; not_after = v.not_after } };
+
+    ghost inverse = { λ v. record { not_before = v.not_before; not_after = v.not_after } };
+}
+
+/// The validity that an element is: a SEQUENCE of two times (RFC 5280, section 4.1.2.5).
+#[tactic(auto, unfolding(crate::specs::Contents::validity_of))]
+pub(crate) fn read_validity(text: &[u8]) -> Result<Validity, DerFault>
+    ensures { result ≡ validity_of text.now }
+{
+    let (first, second) = Der::pair(text)?;
+    let not_before = first.time()?;
+    let not_after = second.time()?;
+    Ok(Validity {
+        not_before,
+        not_after,
+    })
 }
 
 /// The basic constraints (RFC 5280, section 4.2.1.9).
@@ -51,47 +70,31 @@ pub(crate) struct BasicConstraints {
     pub path_length: Option<u64>,
 }
 
-impl BasicConstraints {
-    /// The content: a SEQUENCE of a BOOLEAN and an INTEGER, either of which may be absent.
-    #[tactic(auto, unfolding(crate::specs::Contents::basic_of))]
-    pub fn read(value: &[u8]) -> Result<BasicConstraints, DerFault>
-        ensures { result ≡ basic_of value.now }
-    {
-        let sequence = Der::sole(value, SEQUENCE)?;
-        let (is_ca, rest) = read_flag(sequence.content)?;
-        let path_length = read_limit(rest)?;
+impl Model for BasicConstraints {
+    ghost use Rattle.x509_profile.specs.View.{BasicView};
+
+    ghost Value = { BasicView };
+
+    ghost view = { λ b. record { is_ca = b.is_ca; path_length = b.path_length } };
+
+    ghost inverse = { λ b. record { is_ca = b.is_ca; path_length = b.path_length } };
+}
+
+/// The basic constraints that a content is: a SEQUENCE of a BOOLEAN and an INTEGER, either of which may be absent.
+#[tactic(auto, unfolding(crate::specs::Contents::basic_of))]
+pub(crate) fn read_basic(value: &[u8]) -> Result<BasicConstraints, DerFault>
+    ensures { result ≡ basic_of value.now }
+{
+    let sequence = Der::sole(value, SEQUENCE)?;
+    let (flag, rest) = Der::optional(sequence.content, BOOLEAN)?;
+    let (limit, behind) = Der::optional(rest, INTEGER)?;
+    let is_ca = Der::flag(flag)?;
+    let path_length = Der::limit(limit)?;
+    if behind.is_empty() {
         Ok(BasicConstraints { is_ca, path_length })
+    } else {
+        Err(DerFault::value())
     }
-}
-
-/// A BOOLEAN that may be absent, and what is behind it; absent it is false.
-#[tactic(auto, unfolding(crate::specs::Contents::flag_of))]
-fn read_flag(text: &[u8]) -> Result<(bool, &[u8]), DerFault>
-    ensures exact { flag_seen result ≡ flag_of text.now }
-    ensures within { IfOk result (λ r. length r.1.now ≤ length text.now) }
-{
-    if text.is_empty() {
-        return Ok((false, text));
-    }
-    let (first, rest) = Der::next(text)?;
-    if first.tag != BOOLEAN {
-        return Ok((false, text));
-    }
-    let truth = first.boolean()?;
-    Ok((truth, rest))
-}
-
-/// An INTEGER below 2^64 that may be absent, with nothing behind it.
-#[tactic(auto, unfolding(crate::specs::Contents::limit_of))]
-fn read_limit(text: &[u8]) -> Result<Option<u64>, DerFault>
-    ensures { result ≡ limit_of text.now }
-{
-    if text.is_empty() {
-        return Ok(None);
-    }
-    let integer = Der::sole(text, INTEGER)?;
-    let number = integer.unsigned()?;
-    Ok(Some(number))
 }
 
 /// The key usages: a BIT STRING of at most 16 bits, whose bit 0 is digitalSignature and whose bit 5 is
@@ -104,80 +107,36 @@ pub(crate) fn read_usage(value: &[u8]) -> Result<u16, DerFault>
     string.flags()
 }
 
-/// The identifier of a key. A contract sees its bytes.
-#[derive(Drop)]
-pub(crate) struct KeyIdentifier<'a> {
-    bytes: &'a [u8],
+/// The subject key identifier: the content of an OCTET STRING (RFC 5280, section 4.2.1.2).
+#[tactic(auto, unfolding(crate::specs::Contents::subject_key_of))]
+pub(crate) fn read_subject_key(
+    alloc: Global,
+    value: &[u8],
+    broken: Fault,
+) -> Result<Octets, CertFault>
+    ensures exact { Gives (λ key. key) result (or_broken (subject_key_of value.now) broken) }
+    ensures place { IsPlacedUpTo broken.place result }
+{
+    let string = or_broken(Der::sole(value, OCTET_STRING), broken)?;
+    Ok(Octets::copy(alloc, string.content)?)
 }
 
-impl<'a> Model for KeyIdentifier<'a> {
-    ghost use Rattle.std.specs.Prelude.{ℕ, List};
-
-    ghost Value = { List ℕ };
-
-    ghost view = { λ k. k.bytes.now };
-}
-
-impl<'a> KeyIdentifier<'a> {
-    /// The subject key identifier: the content of an OCTET STRING (RFC 5280, section 4.2.1.2).
-    #[tactic(auto, unfolding(crate::specs::Contents::subject_key_of))]
-    pub fn read(value: &'a [u8]) -> Result<KeyIdentifier<'a>, DerFault>
-        ensures { result ≡ subject_key_of value.now }
-    {
-        let string = Der::sole(value, OCTET_STRING)?;
-        Ok(KeyIdentifier {
-            bytes: string.content,
-        })
-    }
-
-    /// Its bytes.
-    pub fn bytes(&self) -> &[u8]
-        ensures { result.now ≡ self.now }
-    {
-        self.bytes
-    }
-}
-
-/// The authority key identifier (RFC 5280, section 4.2.1.1). A contract sees the identifier of the issuer's key.
-#[derive(Drop)]
-pub(crate) struct AuthorityKeyIdentifier<'a> {
-    key: Option<&'a [u8]>,
-}
-
-impl<'a> Model for AuthorityKeyIdentifier<'a> {
-    ghost use Rattle.std.specs.Prelude.{ℕ, List, Option};
-    ghost use Rattle.std.specs.Option.{option_copied};
-
-    ghost Value = { Option (List ℕ) };
-
-    ghost view = { λ a. option_copied a.key };
-}
-
-impl<'a> AuthorityKeyIdentifier<'a> {
-    /// The content: a SEQUENCE; what follows its first element is passed over.
-    #[tactic(auto, unfolding(crate::specs::Contents::authority_of))]
-    pub fn read(value: &'a [u8]) -> Result<AuthorityKeyIdentifier<'a>, DerFault>
-        ensures { result ≡ authority_of value.now }
-    {
-        let sequence = Der::sole(value, SEQUENCE)?;
-        if sequence.content.is_empty() {
-            return Ok(AuthorityKeyIdentifier { key: None });
-        }
-        let (first, _passed_over) = Der::next(sequence.content)?;
-        if first.tag == KEY_IDENTIFIER {
-            Ok(AuthorityKeyIdentifier {
-                key: Some(first.content),
-            })
-        } else {
-            Ok(AuthorityKeyIdentifier { key: None })
-        }
-    }
-
-    /// The identifier of the issuer's key, where it has one.
-    pub fn key(&self) -> Option<&[u8]>
-        ensures { option_copied result ≡ self.now }
-    {
-        self.key
+/// The identifier of the issuer's key in an authority key identifier, where it has one: a SEQUENCE, of which what follows its
+/// first element is passed over (RFC 5280, section 4.2.1.1).
+#[tactic(auto, unfolding(crate::specs::Contents::authority_of))]
+pub(crate) fn read_authority(
+    alloc: Global,
+    value: &[u8],
+    broken: Fault,
+) -> Result<Option<Octets>, CertFault>
+    ensures exact { Gives (λ key. key) result (or_broken (authority_of value.now) broken) }
+    ensures place { IsPlacedUpTo broken.place result }
+{
+    let sequence = or_broken(Der::sole(value, SEQUENCE), broken)?;
+    let (first, _passed_over) = or_broken(Der::optional(sequence.content, KEY_IDENTIFIER), broken)?;
+    match first {
+        Some(first) => Ok(Some(Octets::copy(alloc, first.content)?)),
+        None => Ok(None),
     }
 }
 
@@ -192,26 +151,25 @@ pub(crate) struct Extension<'a> {
     pub octets: Der<'a>,
 }
 
-impl<'a> Extension<'a> {
-    /// The extension that an element is: a SEQUENCE of an OID, a BOOLEAN that may be absent, and an
-    /// OCTET STRING (RFC 5280, section 4.1).
-    #[tactic(auto, unfolding(crate::specs::Contents::extension_of))]
-    pub fn read(text: &'a [u8]) -> Result<Extension<'a>, DerFault>
-        ensures exact { extension_seen result ≡ extension_of text.now }
-        ensures within { IfOk result (λ extension. length extension.octets.whole.now ≤ length text.now) }
-    {
-        let sequence = Der::sole(text, SEQUENCE)?;
-        let (oid, rest) = Der::next(sequence.content)?;
-        let (critical, rest) = read_flag(rest)?;
-        let octets = Der::sole(rest, OCTET_STRING)?;
-        if oid.tag == OBJECT_IDENTIFIER {
-            Ok(Extension {
-                oid: oid.content,
-                critical,
-                octets,
-            })
-        } else {
-            Err(DerFault::value())
-        }
+/// The extension that an element is: a SEQUENCE of an OID, a BOOLEAN that may be absent, and an
+/// OCTET STRING (RFC 5280, section 4.1).
+#[tactic(auto, unfolding(crate::specs::Contents::extension_of))]
+pub(crate) fn read_extension(text: &[u8]) -> Result<Extension<'_>, DerFault>
+    ensures exact { seen extension_read result ≡ extension_of text.now }
+    ensures within { IfOk result (λ extension. length extension.octets.whole.now ≤ length text.now) }
+{
+    let sequence = Der::sole(text, SEQUENCE)?;
+    let (oid, rest) = Der::next(sequence.content)?;
+    let (flag, rest) = Der::optional(rest, BOOLEAN)?;
+    let critical = Der::flag(flag)?;
+    let octets = Der::sole(rest, OCTET_STRING)?;
+    if oid.tag == OBJECT_IDENTIFIER {
+        Ok(Extension {
+            oid: oid.content,
+            critical,
+            octets,
+        })
+    } else {
+        Err(DerFault::value())
     }
 }

@@ -1,19 +1,24 @@
 //! Laws: a function here does nothing, and its clauses are the law.
-ghost use Rattle.std.specs.Prelude.{◌≡◌, ◌-◌, ℕ, List, Ok, Err};
+ghost use Rattle.std.specs.Prelude.{◌≡◌, ◌↔◌, ◌-◌, ℕ, List, Ok, Err};
 ghost use Rattle.der_reader.specs.Elem.{AllBytes};
+ghost use Rattle.der_reader.specs.declared.part.Fault.{Fault};
 ghost use Rattle.x509_profile.specs.Cert.{Cert};
 ghost use Rattle.x509_profile.specs.Chain.{Chain, EndsAt, RefusedCertificate, Whole, certificates_in};
 ghost use Rattle.x509_profile.specs.Read.{read_certificate};
+ghost use Rattle.x509_profile.specs.Refused.{Refused};
 ghost use Rattle.x509_profile.specs.View.{CertView};
 
-/// A certificate is read of bytes just where these are one of the profile that says so (RFC 5280, section 4.1; RFC 8226).
+/// A certificate is read of bytes just where these are one of the profile that says so, and a fault just where it is the first of theirs (RFC 5280,
+/// section 4.1; RFC 8226).
 pub fn certificate_law()
     ensures again { (bytes : List ℕ) (certificate : CertView) → Cert bytes certificate → read_certificate bytes ≡ Ok certificate }
     ensures found { (bytes : List ℕ) (certificate : CertView) → AllBytes bytes → read_certificate bytes ≡ Ok certificate → Cert bytes certificate }
+    ensures refused { (bytes : List ℕ) (fault : Fault) → AllBytes bytes → (read_certificate bytes ≡ Err fault) ↔ Refused bytes fault }
 {}
 
 /// Certificates are read of bytes just where these are their chain; else reading ends behind as many whole certificates as
 /// the bytes begin with, of at most six.
+#[tactic(auto, using(crate::proofs::ChainLaws::chain_again, crate::proofs::ChainLaws::chain_ends, crate::proofs::ChainLaws::ends_whole))]
 pub fn chain_law()
     ensures again { (bytes : List ℕ) (certificates : List CertView) → Chain bytes certificates → certificates_in bytes ≡ Ok certificates }
     ensures found { (bytes : List ℕ) (certificates : List CertView) → AllBytes bytes → certificates_in bytes ≡ Ok certificates → Chain bytes certificates }

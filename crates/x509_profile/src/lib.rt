@@ -9,6 +9,7 @@ mod extension_id;
 mod extensions;
 mod fault;
 mod laws;
+mod octets;
 mod signature;
 mod tbs;
 

@@ -1,12 +1,13 @@
 //! A certificate's signature (RFC 5280, section 4.1.1.3, RFC 5480 appendix A).
 
-ghost use Rattle.std.specs.Prelude.{◌≡◌, ◌≤◌, ◌++◌, length, IfErr};
+ghost use Rattle.std.specs.Prelude.{◌≡◌, ◌≤◌, ◌++◌, IfErr};
 ghost use Rattle.der_reader.specs.Part.{end_of, part_of};
 ghost use Rattle.x509_profile.specs.Contents.{signature_of};
 ghost use Rattle.x509_profile.specs.Read.{signature_in};
 
+use crate::contents::or_broken;
 use crate::fault::CertFault;
-use der_reader::tags::{BIT_STRING, INTEGER, SEQUENCE};
+use der_reader::tags::BIT_STRING;
 use der_reader::{Der, DerFault, Fault, Part};
 
 /// The two numbers of the signature, which is the last part. Another element is `SIGNATURE` where it
@@ -17,10 +18,8 @@ pub(crate) fn read_signature(part: &Part) -> Result<[u8; 64], Fault>
     ensures place { IfErr result (λ fault. fault.place ≤ end_of part.now) }
 {
     let item = part.item()?;
-    match numbers(item.der.whole) {
-        Ok(numbers) => item.behind.end(numbers),
-        Err(_) => Err(item.fault(CertFault::SIGNATURE)),
-    }
+    let numbers = or_broken(numbers(item.der.whole), item.fault(CertFault::SIGNATURE))?;
+    item.behind.end(numbers)
 }
 
 /// The two numbers of a signature, 32 bytes each, the highest byte first.
@@ -30,13 +29,10 @@ fn numbers(text: &[u8]) -> Result<[u8; 64], DerFault>
 {
     let string = Der::sole(text, BIT_STRING)?;
     let bits = string.bits()?;
-    let sequence = Der::sole(bits, SEQUENCE)?;
-    let (first, rest) = Der::next(sequence.content)?;
-    let second = Der::sole(rest, INTEGER)?;
+    let (first, second) = Der::pair(bits)?;
     let r = first.scalar()?;
     let s = second.scalar()?;
-    let numbers = joined(r, s);
-    Ok(numbers)
+    Ok(joined(r, s))
 }
 
 /// The bytes of the first and then those of the second.
