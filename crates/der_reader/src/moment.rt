@@ -2,14 +2,10 @@
 
 ghost use Rattle.std.specs.Prelude.{◌≡◌, ◌+◌, ◌*◌, ◌<◌, ◌≤◌, pos, ◌+ℤ◌, ◌*ℤ◌, ◌≤ℤ◌, neg_ℤ, IfOk};
 ghost use Rattle.jiff_core.specs.Calendar.{IsBetween};
-ghost use Rattle.jiff_core.specs.Date.{epoch_day};
 ghost use Rattle.der_reader.specs.Moment.{day_of, seconds_of};
 
 use crate::fault::DerFault;
-use jiff::civil::Date;
-
-/// The day number of 1970-01-01, counted from `Date::MIN`, -9999-01-01.
-const UNIX_EPOCH_DAY: i32 = 4_371_587;
+use jiff_core::civil::Date;
 
 /// A date of the Gregorian calendar and a time of day, as read from decimal digits: either may not
 /// exist.
@@ -50,17 +46,9 @@ fn day_number(year: u16, month: u8, day: u8) -> Result<i32, DerFault>
     ensures bound { IfOk result (IsBetween (neg_ℤ (pos 4371587)) (pos 2932896)) }
 {
     match Date::new(year as i16, month as i8, day as i8) {
-        Ok(date) => Ok(unix_day(date)),
+        Ok(date) => Ok(date.to_unix_epoch_day()),
         Err(_) => Err(DerFault::value()),
     }
-}
-
-/// The day number of a date, counted from 1970-01-01.
-fn unix_day(date: Date) -> i32
-    ensures value { result ≡ epoch_day date }
-    ensures bound { IsBetween (neg_ℤ (pos 4371587)) (pos 2932896) result }
-{
-    date.to_plain().days_since_min() as i32 - UNIX_EPOCH_DAY
 }
 
 /// The seconds from 1970 to the second `clock` of day number `days`.

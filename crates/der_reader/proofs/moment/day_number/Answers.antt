@@ -9,6 +9,6 @@ returns-in-Ok-clause-value c =
     let year : to_z w16 c.args.year ≡ pos c.args.year = omega (arith, ints) in
     let month : to_z w8 c.args.month ≡ pos c.args.month = omega (arith, ints) in
     let day : to_z w8 c.args.day ≡ pos c.args.day = omega (arith, ints) in
-    let number : to_z w32 (of_z w32 c.unix_day.result) ≡ c.unix_day.result = omega (arith, ints) in
+    let number : to_z w32 (of_z w32 c.to_unix_epoch_day.result) ≡ c.to_unix_epoch_day.result = omega (arith, ints) in
     day_made c.args.year c.args.month c.args.day _ _ _ c.in-Ok.date _ year month day
-    (c.in-Ok.ensures.succeeds.0 refl) c.in-Ok.ensures.value (number ∙ c.unix_day.ensures.value)
+    (c.in-Ok.ensures.succeeds.0 refl) c.in-Ok.ensures.value (number ∙ c.to_unix_epoch_day.ensures.value)
