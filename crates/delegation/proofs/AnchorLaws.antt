@@ -7,6 +7,7 @@ use Rattle.lists.proofs.StepLaws.{came, inside}
 use Rattle.der_reader.specs.declared.fault.DerFault.{DerFault}
 use Rattle.der_reader.specs.Elem.{AllBytes, BeginsWith, Element}
 use Rattle.der_reader.specs.Next.{next_at}
+use Rattle.der_reader.specs.Tags.{sequence_tag}
 use Rattle.der_reader.proofs.NextLaws.{all_front, next_found, next_again, parts_are_bytes}
 use Rattle.x509_profile.specs.View.{CertView}
 use Rattle.x509_profile.specs.Cert.{Cert}
@@ -57,7 +58,7 @@ pub anchor_again : (place : ℕ) (c : CertView) (behind : List ℕ) → Cert c.w
     → anchor_at place (c.whole ++ behind) ≡ Ok (c, behind)
 unfolding anchor_at
 anchor_again place c behind cert t =
-    let element : Element = record { tag = 0x30; whole = c.whole; content = _ } in
+    let element : Element = record { tag = sequence_tag; whole = c.whole; content = _ } in
     let next : next_at (c.whole ++ behind) ≡ Ok (element, behind) = next_again (c.whole ++ behind) element behind (record { elem = cert.elem; split = refl }) in
     rw (next, cert_again c.whole c cert, t) refl
 

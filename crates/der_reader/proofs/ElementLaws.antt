@@ -4,8 +4,9 @@ use Rattle.std.proofs.lemmas.Bool.Decides.{nat_tests}
 use Rattle.std.proofs.Math.Nat.{mod-one}
 use Rattle.der_reader.specs.BitString.{BitText, bits_of}
 use Rattle.der_reader.specs.Boolean.{boolean_of, boolean_text}
+use Rattle.der_reader.specs.Tags.{boolean_tag, bit_string_tag}
 
-reads : (bytes : List ℕ) → bits_of 3 (0 ∷ bytes) ≡ Ok bytes
+reads : (bytes : List ℕ) → bits_of bit_string_tag (0 ∷ bytes) ≡ Ok bytes
 unfolding bits_of
 reads bytes = grind (arith, nat_tests)
 
@@ -15,7 +16,7 @@ truths true = refl
 truths false = refl
 
 -- what `bits_of` gives are the bytes of the string
-pub bits_found : (tag : ℕ) (content bytes : List ℕ) → bits_of tag content ≡ Ok bytes → (tag ≡ 3) × BitText content 0 bytes
+pub bits_found : (tag : ℕ) (content bytes : List ℕ) → bits_of tag content ≡ Ok bytes → (tag ≡ bit_string_tag) × BitText content 0 bytes
 unfolding bits_of
 bits_found tag [] bytes e = absurd (grind (arith, nat_tests))
 bits_found tag (unused ∷ rest) bytes e =
@@ -31,11 +32,11 @@ bits_found tag (unused ∷ rest) bytes e =
     )
 
 -- the bytes of the string are what `bits_of` gives
-pub bits_again : (tag : ℕ) (content bytes : List ℕ) → tag ≡ 3 → BitText content 0 bytes → bits_of tag content ≡ Ok bytes
-bits_again tag content bytes t text = ap (λ tag. bits_of tag content) t ∙ ap (bits_of 3) text.text ∙ reads bytes
+pub bits_again : (tag : ℕ) (content bytes : List ℕ) → tag ≡ bit_string_tag → BitText content 0 bytes → bits_of tag content ≡ Ok bytes
+bits_again tag content bytes t text = ap (λ tag. bits_of tag content) t ∙ ap (bits_of bit_string_tag) text.text ∙ reads bytes
 
 -- what `boolean_of` gives is the truth value whose text the content is
-pub boolean_found : (tag : ℕ) (content : List ℕ) (truth : Bool) → boolean_of tag content ≡ Ok truth → (tag ≡ 1) × (content ≡ boolean_text truth)
+pub boolean_found : (tag : ℕ) (content : List ℕ) (truth : Bool) → boolean_of tag content ≡ Ok truth → (tag ≡ boolean_tag) × (content ≡ boolean_text truth)
 unfolding boolean_of
 boolean_found tag [] truth e = absurd (grind (arith, nat_tests))
 boolean_found tag (byte ∷ []) true e =
@@ -47,5 +48,5 @@ boolean_found tag (byte ∷ []) false e =
 boolean_found tag (byte ∷ more ∷ rest) truth e = absurd (grind (arith, nat_tests))
 
 -- the truth value whose text the content is is what `boolean_of` gives
-pub boolean_again : (tag : ℕ) (content : List ℕ) (truth : Bool) → tag ≡ 1 → content ≡ boolean_text truth → boolean_of tag content ≡ Ok truth
+pub boolean_again : (tag : ℕ) (content : List ℕ) (truth : Bool) → tag ≡ boolean_tag → content ≡ boolean_text truth → boolean_of tag content ≡ Ok truth
 boolean_again tag content truth t text = ap (λ tag. boolean_of tag content) t ∙ ap (boolean_of 1) text ∙ truths truth

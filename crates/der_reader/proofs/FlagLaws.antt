@@ -8,6 +8,7 @@ use Rattle.der_reader.specs.declared.fault.DerFault.{DerFault}
 use Rattle.der_reader.specs.Fault.{bad_value}
 use Rattle.der_reader.specs.BitString.{BitText, FlagsText, string_bit, is_bit_text, flags_in}
 use Rattle.der_reader.specs.Elem.{AllBytes}
+use Rattle.der_reader.specs.Tags.{bit_string_tag}
 use Rattle.lists.proofs.StepLaws.{taken}
 
 -- ---- `reverse_bits_onto`, bit for bit
@@ -163,8 +164,8 @@ flags_again content flags b t l =
     ∙ ap (λ n. let r : Result ℕ DerFault = Ok n in r) is
 
 -- the same of an answer
-pub flags_answer_found : (tag : ℕ) (content : List ℕ) (r : Result ℕ DerFault) → AllBytes content → tag ≡ 3 → r ≡ flags_in content
-    → IfOk r (λ flags. (tag ≡ 3) × FlagsText content flags)
+pub flags_answer_found : (tag : ℕ) (content : List ℕ) (r : Result ℕ DerFault) → AllBytes content → tag ≡ bit_string_tag → r ≡ flags_in content
+    → IfOk r (λ flags. (tag ≡ bit_string_tag) × FlagsText content flags)
 flags_answer_found tag content (Ok flags) b t e = (t, flags_found content flags b (sym e))
 flags_answer_found tag content (Err f) b t e = tt
 

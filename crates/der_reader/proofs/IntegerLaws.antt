@@ -6,6 +6,7 @@ use Rattle.std.proofs.lemmas.List.{length-replicate, take-replicate, drop-replic
 use Rattle.std.proofs.Math.Nat.{pow-le-pow_right, pow-succ', mul-le-mul_right, le_trans}
 use Rattle.std.proofs.lemmas.Bool.Decides.{nat_tests}
 use Rattle.der_reader.specs.Integer.{big_endian, scalar_of, unsigned_of, IntegerText, is_integer_text, magnitude}
+use Rattle.der_reader.specs.Tags.{integer_tag}
 
 -- the number that the bytes continue
 abbrev from : ℕ → List ℕ → ℕ
@@ -117,7 +118,7 @@ integer_is content e = record {
 
 -- what `unsigned_of` gives is the number of the content
 pub unsigned_found : (tag : ℕ) (content : List ℕ) (number : ℕ) → unsigned_of tag content ≡ Ok number
-    → (tag ≡ 2) × IntegerText content number × (number < 2 ^ 64)
+    → (tag ≡ integer_tag) × IntegerText content number × (number < 2 ^ 64)
 unfolding unsigned_of
 unsigned_found tag content number e =
     let test : is_integer_text content ≡ true = grind (arith, nat_tests) in
@@ -125,7 +126,7 @@ unsigned_found tag content number e =
     (grind (arith, nat_tests), subst (IntegerText content) is (integer_is content test), grind (arith, nat_tests))
 
 -- the number of the content is what `unsigned_of` gives
-pub unsigned_again : (tag : ℕ) (content : List ℕ) (number : ℕ) → tag ≡ 2 → IntegerText content number → number < 2 ^ 64
+pub unsigned_again : (tag : ℕ) (content : List ℕ) (number : ℕ) → tag ≡ integer_tag → IntegerText content number → number < 2 ^ 64
     → unsigned_of tag content ≡ Ok number
 unfolding unsigned_of
 unsigned_again tag content number t text l = grind (arith, nat_tests)
@@ -158,7 +159,7 @@ scalar_value content = zeros_in_front (32 - length (magnitude content)) (magnitu
 
 -- what `scalar_of` gives is the number of the content in 32 bytes
 pub scalar_found : (tag : ℕ) (content bytes : List ℕ) → scalar_of tag content ≡ Ok bytes
-    → (tag ≡ 2) × (length bytes ≡ 32) × IntegerText content (big_endian bytes)
+    → (tag ≡ integer_tag) × (length bytes ≡ 32) × IntegerText content (big_endian bytes)
 unfolding scalar_of
 scalar_found tag content bytes e =
     let test : is_integer_text content ≡ true = grind (arith, nat_tests) in
@@ -171,7 +172,7 @@ scalar_found tag content bytes e =
     (grind (arith, nat_tests), sym (ap length is) ∙ all, subst (IntegerText content) same (integer_is content test))
 
 -- the number of the content is what `scalar_of` gives
-pub scalar_again : (tag : ℕ) (content : List ℕ) (number : ℕ) → tag ≡ 2 → IntegerText content number → number < 2 ^ 256
+pub scalar_again : (tag : ℕ) (content : List ℕ) (number : ℕ) → tag ≡ integer_tag → IntegerText content number → number < 2 ^ 256
     → (scalar_of tag content ≡ Ok (scalar_bytes content)) × (big_endian (scalar_bytes content) ≡ number)
 unfolding scalar_of
 scalar_again tag content number t text l =

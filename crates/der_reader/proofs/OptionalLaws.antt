@@ -8,6 +8,7 @@ use Rattle.der_reader.specs.Elem.{AllBytes, BeginsWith, Element, MayBeginWith}
 use Rattle.der_reader.specs.Integer.{unsigned_of}
 use Rattle.der_reader.specs.Next.{next_at, optional_at, tagged_or}
 use Rattle.der_reader.specs.Optional.{IsFlag, IsLimit, flag_of, limit_of}
+use Rattle.der_reader.specs.Tags.{boolean_tag, integer_tag}
 use Rattle.der_reader.proofs.ElementLaws.{boolean_again, boolean_found}
 use Rattle.der_reader.proofs.IntegerLaws.{unsigned_again, unsigned_found}
 use Rattle.der_reader.proofs.NextLaws.{next_again, next_found, parts_are_bytes}
@@ -58,7 +59,7 @@ pub flag_found : (boolean : Option Element) (truth : Bool) → flag_of boolean �
 flag_found (Some e) truth r = (boolean_found e.tag e.content truth r).1
 flag_found None truth r = sym (inside _ _ r)
 
-pub flag_again : (text rest : List ℕ) (boolean : Option Element) (truth : Bool) → MayBeginWith 0x01 text boolean rest → IsFlag boolean truth → flag_of boolean ≡ Ok truth
+pub flag_again : (text rest : List ℕ) (boolean : Option Element) (truth : Bool) → MayBeginWith boolean_tag text boolean rest → IsFlag boolean truth → flag_of boolean ≡ Ok truth
 flag_again text rest (Some e) truth m is = boolean_again e.tag e.content truth m.1 is
 flag_again text rest None truth m is = ok_is false truth (sym is)
 
@@ -69,7 +70,7 @@ limit_found (Some e) limit r =
     subst (IsLimit (Some e)) (inside (Some n.0) limit n.2) (is.1, is.2)
 limit_found None limit r = subst (IsLimit None) (inside None limit r) tt
 
-pub limit_again : (text rest : List ℕ) (integer : Option Element) (limit : Option ℕ) → MayBeginWith 0x02 text integer rest → IsLimit integer limit → limit_of integer ≡ Ok limit
+pub limit_again : (text rest : List ℕ) (integer : Option Element) (limit : Option ℕ) → MayBeginWith integer_tag text integer rest → IsLimit integer limit → limit_of integer ≡ Ok limit
 limit_again text rest (Some e) (Some number) m is = after (unsigned_of e.tag e.content) number _ _ (unsigned_again e.tag e.content number m.1 is.0 is.1) refl
 limit_again text rest (Some e) None m is = absurd is
 limit_again text rest None (Some number) m is = absurd is

@@ -9,6 +9,7 @@ use Rattle.der_reader.specs.Fault.{bad_value}
 use Rattle.der_reader.specs.Elem.{AllBytes, BeginsWith, Elem, Element, IsPair, element_text, length_text}
 use Rattle.der_reader.specs.Next.{next_at, pair_at, sole_at}
 use Rattle.der_reader.specs.Part.{ItemView, PartView, at_kind, element_at, end_at, item_at, item_from, item_in, or_broken, or_fault}
+use Rattle.der_reader.specs.Tags.{sequence_tag}
 use Rattle.der_reader.proofs.NextLaws.{all_front, next_again, next_found, parts_are_bytes, short_text}
 use Rattle.lists.specs.Steps.{◌>>=◌}
 
@@ -242,8 +243,8 @@ pub record Pair (text : List ℕ) (found : Element × Element) : Type 0 where
 pub pair_found : (text : List ℕ) (found : Element × Element) → AllBytes text → pair_at text ≡ Ok found → Pair text found
 unfolding pair_at
 pair_found text found b e =
-    let a = came (sole_at 0x30 text) _ found e in
-    let sequence = sole_found 0x30 text a.0 b a.1 in
+    let a = came (sole_at sequence_tag text) _ found e in
+    let sequence = sole_found sequence_tag text a.0 b a.1 in
     let f = came (next_at a.0.content) _ found a.2 in
     let first : BeginsWith a.0.content f.0.0 f.0.1 = next_found a.0.content f.0 sequence.content_bytes f.1 in
     let bytes = parts_are_bytes a.0.content f.0.0 f.0.1 sequence.content_bytes first in
@@ -252,7 +253,7 @@ pair_found text found b e =
     let t = taken (length s.0.1 == 0) (f.0.0, s.0.0) found bad_value s.2 in
     let last : f.0.1 ≡ s.0.0.whole = second.split ∙ ap (λ r. s.0.0.whole ++ r) (no_byte s.0.1 t.0) ∙ append-nil s.0.0.whole in
     subst (Pair text) t.1 (record {
-      is = record { elem = subst (Elem text 0x30) (first.split ∙ ap (λ r. f.0.0.whole ++ r) last) sequence.elem; is_first = first.elem; is_second = second.elem };
+      is = record { elem = subst (Elem text sequence_tag) (first.split ∙ ap (λ r. f.0.0.whole ++ r) last) sequence.elem; is_first = first.elem; is_second = second.elem };
       first_bytes = bytes.0;
       second_bytes = (parts_are_bytes f.0.1 s.0.0 s.0.1 bytes.1 second).0;
     })
@@ -260,7 +261,7 @@ pair_found text found b e =
 pub pair_again : (text : List ℕ) (first second : Element) → IsPair text first second → pair_at text ≡ Ok (first, second)
 unfolding pair_at
 pair_again text first second t =
-    after (sole_at 0x30 text) _ _ _ (sole_again 0x30 text (first.whole ++ second.whole) t.elem)
+    after (sole_at sequence_tag text) _ _ _ (sole_again sequence_tag text (first.whole ++ second.whole) t.elem)
     (after (next_at (first.whole ++ second.whole)) _ _ _ (next_stands first.tag first.whole first.content second.whole t.is_first)
     (after (next_at second.whole) _ _ _ (next_alone second.tag second.whole second.content t.is_second) refl))
 

@@ -7,6 +7,7 @@ use Rattle.der_reader.specs.declared.moment.Moment.{Moment}
 use Rattle.der_reader.specs.declared.fault.DerFault.{DerFault}
 use Rattle.der_reader.specs.Moment.{IsMoment, seconds_of}
 use Rattle.der_reader.specs.Time.{TimeText, UtcTimeText, GeneralizedTimeText, is_digit, two, text_after_year, two_front, moment_at, utc_moment, generalized_moment, moment_of, time_of}
+use Rattle.der_reader.specs.Tags.{utc_time_tag, generalized_time_tag}
 use Rattle.der_reader.proofs.MomentLaws.{seconds_again, seconds_found}
 use Rattle.lists.proofs.StepLaws.{after, came, taken}
 
@@ -167,7 +168,7 @@ moment_digits m h =
 
 -- the two forms, by their tags
 forms : (tag : ℕ) (content : List ℕ) (m : Moment) → moment_of tag content ≡ Ok m
-    → ((tag ≡ 0x17) × (utc_moment content ≡ Ok m)) ⊎ ((tag ≡ 0x18) × (generalized_moment content ≡ Ok m))
+    → ((tag ≡ utc_time_tag) × (utc_moment content ≡ Ok m)) ⊎ ((tag ≡ generalized_time_tag) × (generalized_moment content ≡ Ok m))
 unfolding moment_of
 forms tag content m e = grind (arith, nat_tests)
 

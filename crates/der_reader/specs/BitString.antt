@@ -4,6 +4,7 @@ use Rattle.std.specs.Int.{w16, bit_at, reverse_bits}
 use Rattle.std.specs.Borrow.{Bor}
 use Rattle.der_reader.specs.declared.fault.DerFault.{DerFault}
 use Rattle.der_reader.specs.Fault.{bad_value}
+use Rattle.der_reader.specs.Tags.{bit_string_tag}
 
 -- The content is the string of these bytes without the last unused bits: the first byte counts the
 -- unused bits, 0 to 7 and 0 for an empty string, and they are zero.
@@ -20,7 +21,7 @@ string_bit bytes i = bit_at (slice_index bytes (i / 8)) (7 - i % 8)
 -- what `Der::bits` reads: a BIT STRING (tag 03) with no unused bits
 unfoldable pub bits_of : ℕ → List ℕ → Result (List ℕ) DerFault
 bits_of tag content =
-    if (tag == 3) && nat_lt 0 (length content) && (slice_index content 0 == 0)
+    if (tag == bit_string_tag) && nat_lt 0 (length content) && (slice_index content 0 == 0)
     then Ok (drop 1 content)
     else Err bad_value
 
@@ -50,7 +51,7 @@ flags_in content =
 
 -- what `Der::flags` reads: a BIT STRING (tag 03) of at most 16 bits
 abbrev pub flags_of : ℕ → List ℕ → Result ℕ DerFault
-flags_of tag content = if tag == 3 then flags_in content else Err bad_value
+flags_of tag content = if tag == bit_string_tag then flags_in content else Err bad_value
 
 -- an answer of `Der::bits` as plain data
 abbrev pub bits_view : Result (Bor (List ℕ)) DerFault → Result (List ℕ) DerFault

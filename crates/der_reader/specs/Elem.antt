@@ -1,6 +1,7 @@
 -- A DER element, in the profile of this project: X.690, sections 8.1.2, 8.1.3 and 10.1.
 use Rattle.std.specs.Prelude.{◌≡◌, ◌≢◌, ◌⊎◌, ℕ, ◌/◌, ◌%◌, ◌<◌, List, [], ◌∷◌, ◌++◌, length, slice_index, nat_lt, bit_and, Option, Some, None, if◌then◌else◌}
 use Rattle.der_reader.specs.declared.element.Der.{Der}
+use Rattle.der_reader.specs.Tags.{sequence_tag}
 
 -- each of them is a byte
 abbrev pub AllBytes : List ℕ → Type 0
@@ -54,6 +55,6 @@ MayBeginWith tag bytes None rest = (rest ≡ bytes) × ((bytes ≡ []) ⊎ Begin
 
 -- the bytes are a SEQUENCE of these two elements
 pub record IsPair (bytes : List ℕ) (first second : Element) : Type 0 where
-  pub elem : Elem bytes 0x30 (first.whole ++ second.whole)
+  pub elem : Elem bytes sequence_tag (first.whole ++ second.whole)
   pub is_first : Elem first.whole first.tag first.content
   pub is_second : Elem second.whole second.tag second.content

@@ -2,6 +2,7 @@
 use Rattle.std.specs.Prelude.{◌≡◌, ℕ, zero, suc, ◌+◌, ◌-◌, ◌*◌, ◌/◌, ◌%◌, ◌^◌, ◌<◌, ◌≤◌, Bool, ◌&&◌, ◌||◌, ◌==◌, List, [], ◌∷◌, ◌++◌, length, drop, replicate, nat_lt, nat_le, slice_index, fold, Result, Ok, Err, if◌then◌else◌}
 use Rattle.der_reader.specs.declared.fault.DerFault.{DerFault}
 use Rattle.der_reader.specs.Fault.{bad_value}
+use Rattle.der_reader.specs.Tags.{integer_tag}
 
 -- the number that the bytes are, the highest first
 abbrev pub big_endian : List ℕ → ℕ
@@ -24,7 +25,7 @@ is_integer_text content =
 -- what `Der::unsigned` reads: an INTEGER (tag 02) below 2 ^ 64
 unfoldable pub unsigned_of : ℕ → List ℕ → Result ℕ DerFault
 unsigned_of tag content =
-    if (tag == 2) && is_integer_text content && nat_lt (big_endian content) (2 ^ 64)
+    if (tag == integer_tag) && is_integer_text content && nat_lt (big_endian content) (2 ^ 64)
     then Ok (big_endian content)
     else Err bad_value
 
@@ -36,7 +37,7 @@ magnitude content =
 -- what `Der::scalar` reads: an INTEGER (tag 02) of at most 32 bytes, behind zeros
 unfoldable pub scalar_of : ℕ → List ℕ → Result (List ℕ) DerFault
 scalar_of tag content =
-    if (tag == 2) && is_integer_text content && nat_le (length (magnitude content)) 32
+    if (tag == integer_tag) && is_integer_text content && nat_le (length (magnitude content)) 32
     then Ok (replicate (32 - length (magnitude content)) 0 ++ magnitude content)
     else Err bad_value
 

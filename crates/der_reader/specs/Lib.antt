@@ -1,4 +1,5 @@
 pub mod Fault
+pub mod Tags
 pub mod Elem
 pub mod Next
 pub mod Part

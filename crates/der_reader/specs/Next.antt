@@ -8,6 +8,7 @@ use Rattle.der_reader.specs.declared.fault.DerFault.{DerFault}
 use Rattle.lists.specs.Steps.{◌>>=◌}
 use Rattle.der_reader.specs.Fault.{short_at, high_tag_at, bad_length_at, bad_value}
 use Rattle.der_reader.specs.Elem.{Element, element_of}
+use Rattle.der_reader.specs.Tags.{sequence_tag}
 
 -- The length of one byte, below 0x80.
 abbrev short_header : List ℕ → Result Header DerFault
@@ -98,7 +99,7 @@ optional_view (Err fault) = Err fault
 -- the two elements that are the content of a SEQUENCE
 unfoldable pub pair_at : List ℕ → Result (Element × Element) DerFault
 pair_at bytes = do
-  sequence ← sole_at 0x30 bytes
+  sequence ← sole_at sequence_tag bytes
   first ← next_at sequence.content
   second ← next_at first.1
   if length second.1 == 0 then Ok (first.0, second.0) else Err bad_value

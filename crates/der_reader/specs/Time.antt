@@ -6,6 +6,7 @@ use Rattle.der_reader.specs.declared.moment.Moment.{Moment}
 use Rattle.der_reader.specs.declared.fault.DerFault.{DerFault}
 use Rattle.der_reader.specs.Fault.{bad_value}
 use Rattle.der_reader.specs.Moment.{IsMoment, unix_seconds, seconds_of}
+use Rattle.der_reader.specs.Tags.{utc_time_tag, generalized_time_tag}
 use Rattle.lists.specs.Steps.{◌>>=◌}
 
 -- a number below 100 as two decimal digits
@@ -31,8 +32,8 @@ pub record GeneralizedTimeText (content : List ℕ) (m : Moment) : Type 0 where
 pub record TimeText (tag : ℕ) (content : List ℕ) (seconds : ℤ) : Type 0 where
   pub moment : Moment
   pub exists : IsMoment moment
-  pub form : ((tag ≡ 0x17) × UtcTimeText content moment)
-      ⊎ ((tag ≡ 0x18) × GeneralizedTimeText content moment)
+  pub form : ((tag ≡ utc_time_tag) × UtcTimeText content moment)
+      ⊎ ((tag ≡ generalized_time_tag) × GeneralizedTimeText content moment)
   pub value : seconds ≡ unix_seconds moment
 
 -- ---- what the readers compute
@@ -83,8 +84,8 @@ generalized_moment text = do
 -- the moment of a time of either form
 unfoldable pub moment_of : ℕ → List ℕ → Result Moment DerFault
 moment_of tag content =
-    if tag == 0x17 then utc_moment content
-    else (if tag == 0x18 then generalized_moment content else Err bad_value)
+    if tag == utc_time_tag then utc_moment content
+    else (if tag == generalized_time_tag then generalized_moment content else Err bad_value)
 
 -- what `Der::time` reads
 unfoldable pub time_of : ℕ → List ℕ → Result ℤ DerFault

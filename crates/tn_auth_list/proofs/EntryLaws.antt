@@ -9,6 +9,7 @@ use Rattle.der_reader.specs.Integer.{IntegerText, integer_content, unsigned_of}
 use Rattle.der_reader.specs.Part.{ItemView, PartView, at_kind, element_at, end_at, or_fault}
 use Rattle.der_reader.specs.declared.fault.DerFault.{DerFault}
 use Rattle.der_reader.specs.declared.part.Fault.{Fault}
+use Rattle.der_reader.specs.Tags.{integer_tag, sequence_tag}
 use Rattle.der_reader.proofs.BrokenLaws.{Tells, element_tells, end_tells, same_fault, through_tells, value_tells}
 use Rattle.der_reader.proofs.IntegerLaws.{unsigned_again, unsigned_found}
 use Rattle.der_reader.proofs.IntegerTexts.{integer_is_text, integer_short, integer_text_is}
@@ -21,7 +22,7 @@ use Rattle.tn_auth_list.specs.declared.entries.Entry.TheVariants.{Code, Range, S
 use Rattle.tn_auth_list.specs.Code.{is_code}
 use Rattle.tn_auth_list.specs.Entry.{is_entry}
 use Rattle.tn_auth_list.specs.Fault.{no_code_at, no_count_at, no_number_at}
-use Rattle.tn_auth_list.specs.ListText.{entry_content, integer_text, span_text, string_text}
+use Rattle.tn_auth_list.specs.ListText.{code_tag, entry_content, integer_text, range_tag, single_tag, span_text, string_text}
 use Rattle.tn_auth_list.specs.Read.{code_in, counted, entry_in, range_in, single_in, span_in, start_of, string_in}
 use Rattle.tn_auth_list.specs.Refused.{IsCount, IsItemOf, IsSpanOf, IsStart, WrongCount, WrongEntry, WrongRange, WrongSpan, WrongString}
 use Rattle.tn_auth_list.proofs.CodeFacts.{code_parts}
@@ -122,7 +123,7 @@ counted_found start tag content span e = of (unsigned_of tag content) refl e
         subst (IsCounted start content) is (refl, number.1, grind (arith, nat_tests), number.2)
     of (Err fault) k e = cc
 
-counted_again : (start : List ℕ) (tag : ℕ) (content : List ℕ) (count : ℕ) → tag ≡ 2 → are_digits start ≡ true → IntegerText content count
+counted_again : (start : List ℕ) (tag : ℕ) (content : List ℕ) (count : ℕ) → tag ≡ integer_tag → are_digits start ≡ true → IntegerText content count
     → 2 ≤ count → count < 2 ^ 64 → counted start (unsigned_of tag content) ≡ Some (record { start = start; size = count })
 counted_again start tag content count t digits text l u =
     let least : nat_lt count 2 ≡ false = grind (arith, nat_tests, l) in
@@ -136,7 +137,7 @@ unfolding span_in
 span_found part span b e =
     let a = came (element_at 22 part) _ span e in
     let s = came (or_fault (start_of a.0.content.left) (no_number_at a.0.place)) _ span a.2 in
-    let i = came (element_at 2 a.0.behind) _ span s.2 in
+    let i = came (element_at integer_tag a.0.behind) _ span s.2 in
     let c = came (or_fault (counted s.0 (unsigned_of i.0.tag i.0.content.left)) (no_count_at i.0.place)) _ span i.2 in
     let end = ended i.0.behind c.0 span c.2 in
     let string = element_found 22 part a.0 b a.1 in
@@ -162,8 +163,8 @@ span_again part span e is =
     after (element_at 22 part) string _ _
     (stands 22 part span.start (integer_text span.size) e (λ e. omega (arith, e)) (omega (arith, number_short span.start r.0)))
     (rw (r.1, r.0)
-    (after (element_at 2 string.behind) integer _ _
-    (alone 2 string.behind (integer_content span.size) refl (λ e. omega (arith, e)) (omega (arith, integer_short span.size r.3)))
+    (after (element_at integer_tag string.behind) integer _ _
+    (alone integer_tag string.behind (integer_content span.size) refl (λ e. omega (arith, e)) (omega (arith, integer_short span.size r.3)))
     (rw (counted_again span.start 2 (integer_content span.size) span.size refl r.1 (integer_is_text span.size) r.2 r.3)
     (ends integer.behind span refl))))
 
@@ -182,22 +183,22 @@ span_tells part b =
     (λ good. (string.content.left, rw (good.1, good.0) refl)))
 
 range_found : (part : PartView) (entry : Entry) → AllBytes part.left → range_in part ≡ Ok entry
-    → (span : SpanView) × (Range span ≡ entry) × (part.left ≡ element_text 48 (span_text span)) × (is_entry (Range span) ≡ true)
+    → (span : SpanView) × (Range span ≡ entry) × (part.left ≡ element_text sequence_tag (span_text span)) × (is_entry (Range span) ≡ true)
 unfolding range_in
 range_found part entry b e =
-    let a = came (element_at 48 part) _ entry e in
+    let a = came (element_at sequence_tag part) _ entry e in
     let s = came (span_in a.0.content) _ entry a.2 in
     let end = ended a.0.behind (Range s.0) entry s.2 in
     let sequence = element_found 48 part a.0 b a.1 in
     let span = span_found a.0.content s.0 sequence.0.content_bytes s.1 in
     (s.0, end.1, known 48 part a.0 (span_text s.0) sequence end.0 span.0, span.1)
 
-range_again : (part : PartView) (span : SpanView) → part.left ≡ element_text 48 (span_text span) → is_entry (Range span) ≡ true
+range_again : (part : PartView) (span : SpanView) → part.left ≡ element_text sequence_tag (span_text span) → is_entry (Range span) ≡ true
     → range_in part ≡ Ok (Range span)
 unfolding range_in
 range_again part span e is =
     let sequence : ItemView = standing 48 (span_text span) [] part.place in
-    after (element_at 48 part) sequence _ _ (alone 48 part (span_text span) e (λ e. omega (arith, e)) (omega (arith, span_length span is)))
+    after (element_at sequence_tag part) sequence _ _ (alone sequence_tag part (span_text span) e (λ e. omega (arith, e)) (omega (arith, span_length span is)))
     (after (span_in sequence.content) span _ _ (span_again sequence.content span refl is) (ends sequence.behind (Range span) refl))
 
 range_tells : (part : PartView) → AllBytes part.left → Tells (range_in part) (WrongRange part)
@@ -213,8 +214,8 @@ range_tells part b =
 
 -- which entry a tag announces
 by_tag : (item : ItemView) (entry : Entry) → entry_in item ≡ Ok entry
-    → ((item.tag ≡ 160) × (code_in item.content ≡ Ok entry)) ⊎ (((item.tag ≡ 161) × (range_in item.content ≡ Ok entry))
-    ⊎ ((item.tag ≡ 162) × (single_in item.content ≡ Ok entry)))
+    → ((item.tag ≡ code_tag) × (code_in item.content ≡ Ok entry)) ⊎ (((item.tag ≡ range_tag) × (range_in item.content ≡ Ok entry))
+    ⊎ ((item.tag ≡ single_tag) × (single_in item.content ≡ Ok entry)))
 unfolding entry_in
 by_tag item entry e = grind (arith, nat_tests)
 

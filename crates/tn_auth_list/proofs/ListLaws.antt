@@ -11,6 +11,7 @@ use Rattle.der_reader.specs.Broken.{LeftOver, Within, Behind}
 use Rattle.der_reader.specs.Elem.{AllBytes, Elem, element_text, length_text}
 use Rattle.der_reader.specs.Part.{ItemView, PartView, at_kind, element_at, end_at, item_at, whole_text}
 use Rattle.der_reader.specs.declared.part.Fault.{Fault}
+use Rattle.der_reader.specs.Tags.{sequence_tag}
 use Rattle.der_reader.proofs.BrokenLaws.{Tells, element_tells, end_tells, first_tells, right, through_tells}
 use Rattle.der_reader.proofs.PartLaws.{begins_text, element_again, element_found, element_length, ended, ends, item_found, item_stands, known, some_front, standing}
 use Rattle.tn_auth_list.specs.declared.entries.Entry.{Entry}
@@ -194,7 +195,7 @@ content_tells part b =
 pub list_found : (bytes : List ℕ) (entries : List Entry) → AllBytes bytes → read_list bytes ≡ Ok entries → ListText bytes entries
 unfolding read_list
 list_found bytes entries b e =
-    let a = came (element_at 48 (whole_text bytes)) _ entries e in
+    let a = came (element_at sequence_tag (whole_text bytes)) _ entries e in
     let c = came (content_entries a.0.content) _ entries a.2 in
     let end = ended a.0.behind c.0 entries c.2 in
     let list = element_found 48 (whole_text bytes) a.0 b a.1 in
@@ -213,8 +214,8 @@ list_again bytes entries t =
     let content : List ℕ = flat_map entry_text entries in
     let list : ItemView = standing 48 content [] 0 in
     let size : length content < 65536 = omega (arith, entries_length entries t.each, t.most) in
-    rw (t.text ∙ sym (append-nil (element_text 48 content)))
-    (after (element_at 48 (whole_text (element_text 48 content ++ []))) list _ _ (element_again 48 content [] 0 (λ e. omega (arith, e)) size)
+    rw (t.text ∙ sym (append-nil (element_text sequence_tag content)))
+    (after (element_at sequence_tag (whole_text (element_text sequence_tag content ++ []))) list _ _ (element_again 48 content [] 0 (λ e. omega (arith, e)) size)
     (after (content_entries list.content) entries _ _ (content_again list.content entries (refl, t.some, t.most, t.each))
     (ends list.behind entries refl)))
 
@@ -239,10 +240,10 @@ one_list bytes a b s t = inside a b (sym (list_again bytes a s) ∙ list_again b
 -- ---- faults of a list as a whole
 
 -- what is wrong with the SEQUENCE that the bytes begin with, or behind it
-wrong_list : (bytes content rest : List ℕ) (fault : Fault) → bytes ≡ element_text 48 content ++ rest → length content < 65536
+wrong_list : (bytes content rest : List ℕ) (fault : Fault) → bytes ≡ element_text sequence_tag content ++ rest → length content < 65536
     → Within WrongContent (λ text. (entries : List Entry) × IsContentOf text entries) (Behind LeftOver) (standing 48 content rest 0) fault → Refused bytes fault
 wrong_list bytes content rest fault text size wrong = inr (record {
-  element = record { tag = 48; whole = element_text 48 content; content = content };
+  element = record { tag = sequence_tag; whole = element_text sequence_tag content; content = content };
   rest = rest;
   begins = record { elem = record { low_tag = λ e. omega (arith, e); size = size; text = refl }; split = text };
   wrong = inr (refl, wrong);
@@ -255,7 +256,7 @@ pub left_over_refused : (bytes : List ℕ) (place : ℕ) → IsLeftOver bytes pl
 left_over_refused bytes place o =
     let content : List ℕ = flat_map entry_text o.entries in
     let size : length content < 65536 = omega (arith, entries_length o.entries o.is.each, o.is.most) in
-    let at : place ≡ 0 + length (element_text 48 content) = omega (arith, o.at, ap length o.is.text) in
+    let at : place ≡ 0 + length (element_text sequence_tag content) = omega (arith, o.at, ap length o.is.text) in
     wrong_list bytes content o.rest (der_at place) (o.text ∙ ap (λ l. l ++ o.rest) o.is.text) size
     (inr ((o.entries, (refl, o.is.some, o.is.most, o.is.each)), (o.some, ap der_at at)))
 
@@ -281,13 +282,13 @@ pub past_limit_refused : (bytes : List ℕ) (place : ℕ) → IsPastLimit bytes 
 past_limit_refused bytes place o =
     let entries : List ℕ = flat_map entry_text o.entries in
     let content : List ℕ = entries ++ o.more in
-    let first : ℕ = 0 + (length (element_text 48 content) - length content) in
+    let first : ℕ = 0 + (length (element_text sequence_tag content) - length content) in
     let at : place ≡ first + length entries = omega (
       arith,
       o.at,
       length-append entries o.more,
       ap length o.text,
-      length-append (element_text 48 content) o.rest,
+      length-append (element_text sequence_tag content) o.rest,
       length-append (length_text (length content)) content,
     ) in
     wrong_list bytes content o.rest (past_limit_at place) o.text o.size

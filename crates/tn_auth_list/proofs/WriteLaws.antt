@@ -6,6 +6,7 @@ use Rattle.std.proofs.lemmas.Grind.{common_steps}
 use Rattle.std.specs.Cmp.Derive.{both_true}
 use Rattle.std.specs.List.{list_all, flat_map}
 use Rattle.der_reader.specs.Elem.{element_text}
+use Rattle.der_reader.specs.Tags.{sequence_tag}
 use Rattle.tn_auth_list.specs.declared.entries.Entry.{Entry}
 use Rattle.tn_auth_list.specs.Entry.{is_typed, is_list}
 use Rattle.tn_auth_list.specs.ListText.{ListText, entry_text}
@@ -24,13 +25,13 @@ one_written content after entries index entry w l e a is =
 
 -- all are
 pub text_written : (text content now : List ℕ) (entries : List Entry) (index : ℕ) → Written content entries index → length entries ≤ index
-    → text ≡ element_text 48 now → now ≡ content → is_list entries ≡ true → ListText text entries
+    → text ≡ element_text sequence_tag now → now ≡ content → is_list entries ≡ true → ListText text entries
 unfolding is_list
 text_written text content now entries index w end e n l =
     let all : take index entries ≡ entries = take_all index entries end in
     let tests = and_parts (nat_le 1 (length entries) && nat_le (length entries) 1000) _ l in
     record {
-      text = e ∙ ap (element_text 48) (n ∙ w.text ∙ ap (flat_map entry_text) all);
+      text = e ∙ ap (element_text sequence_tag) (n ∙ w.text ∙ ap (flat_map entry_text) all);
       some = grind (arith, nat_tests, tests.0);
       most = grind (arith, nat_tests, tests.0);
       each = entries_are entries ∙ both_true tests.1 (sym (ap (list_all is_typed) all) ∙ w.each);

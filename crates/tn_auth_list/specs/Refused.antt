@@ -7,6 +7,7 @@ use Rattle.der_reader.specs.Elem.{element_text}
 use Rattle.der_reader.specs.Integer.{IntegerText}
 use Rattle.der_reader.specs.Part.{ItemView, PartView, at_kind, whole_text}
 use Rattle.der_reader.specs.declared.part.Fault.{Fault}
+use Rattle.der_reader.specs.Tags.{integer_tag, ia5_string_tag, sequence_tag}
 use Rattle.tn_values.specs.Digit.{are_digits}
 use Rattle.tn_values.specs.Number.{is_number}
 use Rattle.tn_values.specs.Span.{SpanView}
@@ -16,7 +17,7 @@ use Rattle.tn_auth_list.specs.declared.faults.ListFault.{ListFault}
 use Rattle.tn_auth_list.specs.declared.faults.ListFault.TheVariants.{At, Memory}
 use Rattle.tn_auth_list.specs.Code.{is_code}
 use Rattle.tn_auth_list.specs.Entry.{is_entry}
-use Rattle.tn_auth_list.specs.ListText.{ListText, entry_content, entry_tag, entry_text, span_text}
+use Rattle.tn_auth_list.specs.ListText.{ListText, code_tag, entry_content, entry_tag, entry_text, range_tag, single_tag, span_text}
 
 -- ---- what elements have to be
 
@@ -50,18 +51,18 @@ IsContentOf text entries = (text ≡ flat_map entry_text entries) × (1 ≤ leng
 
 -- in an entry [0] and [2]: an IA5String, and nothing more
 abbrev pub WrongString : (ItemView → Type 0) → ℕ → PartView → Fault → Type 0
-WrongString Good kind = First (Unless (IsTagged 0x16) 1 (Unless Good kind (Behind LeftOver)))
+WrongString Good kind = First (Unless (IsTagged ia5_string_tag) 1 (Unless Good kind (Behind LeftOver)))
 
 -- in the SEQUENCE of a range: an IA5String and an INTEGER, and nothing more
 abbrev pub WrongCount : PartView → Fault → Type 0
-WrongCount = First (Unless (IsTagged 0x02) 1 (Unless IsCount 5 (Behind LeftOver)))
+WrongCount = First (Unless (IsTagged integer_tag) 1 (Unless IsCount 5 (Behind LeftOver)))
 
 abbrev pub WrongSpan : PartView → Fault → Type 0
-WrongSpan = First (Unless (IsTagged 0x16) 1 (Unless IsStart 4 (Behind WrongCount)))
+WrongSpan = First (Unless (IsTagged ia5_string_tag) 1 (Unless IsStart 4 (Behind WrongCount)))
 
 -- in an entry [1]: a SEQUENCE, and nothing more
 abbrev pub WrongRange : PartView → Fault → Type 0
-WrongRange = First (Unless (IsTagged 0x30) 1 (Within WrongSpan (λ text. (span : SpanView) × IsSpanOf text span) (Behind LeftOver)))
+WrongRange = First (Unless (IsTagged sequence_tag) 1 (Within WrongSpan (λ text. (span : SpanView) × IsSpanOf text span) (Behind LeftOver)))
 
 -- an element of this tag, by its content; or of another
 abbrev pub ByTag : ℕ → (PartView → Fault → Type 0) → (ItemView → Fault → Type 0) → ItemView → Fault → Type 0
@@ -70,7 +71,7 @@ ByTag tag Wrong Other item fault = ((item.tag ≡ tag) × Wrong item.content fau
 -- an entry, by its tag; any tag but [0], [1] and [2] is a fault
 abbrev pub WrongEntry : ItemView → Fault → Type 0
 WrongEntry =
-    ByTag 0xA0 (WrongString IsCode 3) (ByTag 0xA1 WrongRange (ByTag 0xA2 (WrongString IsNumber 4)
+    ByTag code_tag (WrongString IsCode 3) (ByTag range_tag WrongRange (ByTag single_tag (WrongString IsNumber 4)
     (λ item fault. fault ≡ at_kind 1 item.place)))
 
 -- entries in order, where there is room for so many: bytes are left and there is room for none; or the first entry is wrong, or it is an
@@ -86,7 +87,7 @@ WrongContent part fault = ((part.left ≡ []) × (fault ≡ at_kind 2 0)) ⊎ ((
 
 -- the bytes are no list, which is one SEQUENCE and nothing behind it, and this is their first fault
 abbrev pub Refused : List ℕ → Fault → Type 0
-Refused bytes = First (Unless (IsTagged 0x30) 1 (Within WrongContent (λ text. (entries : List Entry) × IsContentOf text entries) (Behind LeftOver))) (whole_text bytes)
+Refused bytes = First (Unless (IsTagged sequence_tag) 1 (Within WrongContent (λ text. (entries : List Entry) × IsContentOf text entries) (Behind LeftOver))) (whole_text bytes)
 
 -- an answer other than a list and want of memory is the first fault of the bytes
 abbrev pub IsRefused : {A : Type 0} → List ℕ → Result A ListFault → Type 0
@@ -111,7 +112,7 @@ pub record IsPastLimit (bytes : List ℕ) (place : ℕ) : Type 0 where
   pub entries : List Entry
   pub more : List ℕ
   pub rest : List ℕ
-  pub text : bytes ≡ element_text 0x30 (flat_map entry_text entries ++ more) ++ rest
+  pub text : bytes ≡ element_text sequence_tag (flat_map entry_text entries ++ more) ++ rest
   pub size : length (flat_map entry_text entries ++ more) < 0x10000
   pub all : length entries ≡ 1000
   pub each : list_all is_entry entries ≡ true

@@ -26,6 +26,7 @@ use Rattle.x509_profile.specs.View.{CertView, TbsView, tbs_with, view_of}
 use Rattle.x509_profile.proofs.ContentLaws.{signature_again, signature_found, validity_again, validity_found}
 use Rattle.x509_profile.proofs.ExtensionLaws.{extensions_again, extensions_read}
 use Rattle.der_reader.specs.Broken.{Behind, First, Followed, IsTagged, LeftOver, Unless}
+use Rattle.der_reader.specs.Tags.{integer_tag, bit_string_tag, sequence_tag}
 use Rattle.der_reader.proofs.ReadLaws.{Reads, broken_reads, element_reads, end_reads, in_order, item_reads, last_reads, reads_as, test_reads, through_reads}
 use Rattle.der_reader.proofs.BrokenLaws.{Tells, end_tells, same_fault}
 use Rattle.der_reader.proofs.NextLaws.{front_short}
@@ -53,8 +54,8 @@ text_again text kind tag content rest place elem =
     (rw (same_bytes text) refl)
 
 -- the tag of a SEQUENCE has no number in further bytes, and that of a version neither
-sequence_tag : bit_and 0x30 0x1F ≢ 0x1F
-sequence_tag e = let k : ◌≡◌ {A = ℕ} 16 31 = e in omega arith
+sequence_low : bit_and sequence_tag 0x1F ≢ 0x1F
+sequence_low e = let k : ◌≡◌ {A = ℕ} 16 31 = e in omega arith
 
 version_tag : bit_and 0xA0 0x1F ≢ 0x1F
 version_tag e = let k : ◌≡◌ {A = ℕ} 0 31 = e in omega arith
@@ -63,9 +64,9 @@ version_elem : Elem version_text 0xA0 (0x02 ∷ 0x01 ∷ 0x02 ∷ [])
 unfolding length_text
 version_elem = record { low_tag = version_tag; size = lit< tt; text = refl }
 
-pub algorithm_elem : Elem algorithm_text 0x30 (drop 2 algorithm_text)
+pub algorithm_elem : Elem algorithm_text sequence_tag (drop 2 algorithm_text)
 unfolding length_text
-algorithm_elem = record { low_tag = sequence_tag; size = lit< tt; text = refl }
+algorithm_elem = record { low_tag = sequence_low; size = lit< tt; text = refl }
 
 -- ---- the key
 
@@ -91,11 +92,11 @@ short_length : length_text 89 ≡ 0x59 ∷ []
 unfolding length_text
 short_length = refl
 
-key_elem : (text point : List ℕ) → (k : KeyText text point) → Elem text 0x30 (drop 2 key_front ++ k.coordinates)
+key_elem : (text point : List ℕ) → (k : KeyText text point) → Elem text sequence_tag (drop 2 key_front ++ k.coordinates)
 key_elem text point k =
     let size : length (drop 2 key_front ++ k.coordinates) ≡ 89 = length-append (drop 2 key_front) k.coordinates ∙ ap (λ n. 25 + n) k.size in
     record {
-      low_tag = sequence_tag;
+      low_tag = sequence_low;
       size = omega (arith, size);
       text = k.form ∙ ap (λ l. 0x30 ∷ (l ++ (drop 2 key_front ++ k.coordinates))) (sym (ap length_text size ∙ short_length));
     }
@@ -116,14 +117,14 @@ pub signed_reads : (part : PartView) → AllBytes part.left → Reads (tbs_in pa
 unfolding tbs_in
 signed_reads part b =
     text_reads version_text 2 part _ _ _ b (λ after_version version.
-    element_reads 0x02 after_version _ _ _ version.1 (λ serial is_serial.
+    element_reads integer_tag after_version _ _ _ version.1 (λ serial is_serial.
     text_reads algorithm_text 3 serial.behind _ _ _ is_serial.0.behind_bytes (λ after_algorithm algorithm.
-    element_reads 0x30 after_algorithm _ _ _ algorithm.1 (λ issuer is_issuer.
+    element_reads sequence_tag after_algorithm _ _ _ algorithm.1 (λ issuer is_issuer.
     item_reads issuer.behind _ _ _ is_issuer.0.behind_bytes (λ validity is_validity.
-    broken_reads (validity_of validity.whole) validity 5 _ _ IsValidity (Behind (Followed (IsTagged 0x30) 1 (Followed IsKey 4 WrongExtensions)))
+    broken_reads (validity_of validity.whole) validity 5 _ _ IsValidity (Behind (Followed (IsTagged sequence_tag) 1 (Followed IsKey 4 WrongExtensions)))
     (λ times w. (
       (times.not_before, times.not_after, validity_found validity.whole times is_validity.whole_bytes w),
-      element_reads 0x30 validity.behind _ _ (Behind (Followed IsKey 4 WrongExtensions)) is_validity.behind_bytes (λ subject is_subject.
+      element_reads sequence_tag validity.behind _ _ (Behind (Followed IsKey 4 WrongExtensions)) is_validity.behind_bytes (λ subject is_subject.
           item_reads subject.behind _ _ (Unless IsKey 4 (Behind WrongExtensions)) is_subject.0.behind_bytes (λ key has_key.
           test_reads (is_key key.whole) (drop 26 key.whole) key 4 _ _ IsKey (Behind WrongExtensions)
           (λ t. (drop 26 key.whole, is_key_text key.whole t), λ k. key_test key.whole k.0 k.1) (λ t.
@@ -141,10 +142,10 @@ signed_reads part b =
                 version.0 ∙ ap (λ r. version_text ++ r) (is_serial.0.split ∙ ap (λ r. serial.whole ++ r) (algorithm.0 ∙ ap (λ r. algorithm_text ++ r)
                 (is_issuer.0.split ∙ ap (λ r. issuer.whole ++ r) (is_validity.split ∙ ap (λ r. validity.whole ++ r)
                 (is_subject.0.split ∙ ap (λ r. subject.whole ++ r) has_key.split)))));
-            is_serial = any 0x02 after_version serial is_serial;
-            is_issuer = any 0x30 after_algorithm issuer is_issuer;
+            is_serial = any integer_tag after_version serial is_serial;
+            is_issuer = any sequence_tag after_algorithm issuer is_issuer;
             is_validity = validity_found validity.whole times is_validity.whole_bytes w;
-            is_subject = any 0x30 validity.behind subject is_subject;
+            is_subject = any sequence_tag validity.behind subject is_subject;
             is_key = is_key_text key.whole t;
             is_extensions = (extensions_read key.behind has_key.behind_bytes).found values x;
             says = refl;
@@ -157,17 +158,17 @@ unfolding tbs_in
 signed_again content tbs t place =
     let key_place : ℕ =
     place + length version_text + length t.serial + length algorithm_text + length t.issuer + length t.validity + length t.subject in
-    let key : ItemView = item_in key_place (record { tag = 0x30; whole = t.key; content = drop 2 key_front ++ t.is_key.coordinates }) t.extensions in
+    let key : ItemView = item_in key_place (record { tag = sequence_tag; whole = t.key; content = drop 2 key_front ++ t.is_key.coordinates }) t.extensions in
     let point_is : point_in key ≡ Ok t.point = rw (key_test t.key t.point t.is_key) (ok_is _ _ (key_point t.key t.point t.is_key)) in
     ap (λ (l : List ℕ). tbs_in (record { left = l; place = place })) t.form
     ∙ after (behind_text version_text 2 _) _ _ _ (text_again version_text 2 0xA0 _ _ place version_elem)
-    (after (element_at 0x02 _) _ _ _ (element_stands 0x02 t.serial _ _ _ t.is_serial.elem)
-    (after (behind_text algorithm_text 3 _) _ _ _ (text_again algorithm_text 3 0x30 _ _ _ algorithm_elem)
-    (after (element_at 0x30 _) _ _ _ (element_stands 0x30 t.issuer _ _ _ t.is_issuer.elem)
-    (after (item_at _) _ _ _ (item_stands 0x30 t.validity _ _ _ t.is_validity.both.elem)
+    (after (element_at integer_tag _) _ _ _ (element_stands integer_tag t.serial _ _ _ t.is_serial.elem)
+    (after (behind_text algorithm_text 3 _) _ _ _ (text_again algorithm_text 3 sequence_tag _ _ _ algorithm_elem)
+    (after (element_at sequence_tag _) _ _ _ (element_stands sequence_tag t.issuer _ _ _ t.is_issuer.elem)
+    (after (item_at _) _ _ _ (item_stands sequence_tag t.validity _ _ _ t.is_validity.both.elem)
     (after (or_broken (validity_of t.validity) _) t.times _ _ (kept (validity_of t.validity) _ t.times (validity_again t.validity t.times t.is_validity))
-    (after (element_at 0x30 _) _ _ _ (element_stands 0x30 t.subject _ _ _ t.is_subject.elem)
-    (after (item_at _) _ _ _ (item_stands 0x30 t.key _ _ _ (key_elem t.key t.point t.is_key))
+    (after (element_at sequence_tag _) _ _ _ (element_stands sequence_tag t.subject _ _ _ t.is_subject.elem)
+    (after (item_at _) _ _ _ (item_stands sequence_tag t.key _ _ _ (key_elem t.key t.point t.is_key))
     (after (point_in key) t.point (λ point. optional_in key.behind >>= λ values. Ok (tbs_with t.issuer t.times t.subject point values)) _ point_is
     (after (optional_in key.behind) t.values (λ values. Ok (tbs_with t.issuer t.times t.subject t.point values)) _
     (extensions_again t.extensions key.behind.place t.values t.is_extensions) (ok_is _ _ (sym t.says)))))))))))
@@ -191,7 +192,7 @@ signature_reads part b =
 pub signature_read : (text signature : List ℕ) (place : ℕ) → SignatureText text signature → signature_in (record { left = text; place = place }) ≡ Ok signature
 unfolding signature_in
 signature_read text signature place t =
-    after (item_at (record { left = text; place = place })) _ _ _ (item_alone 0x03 text t.content place t.elem)
+    after (item_at (record { left = text; place = place })) _ _ _ (item_alone bit_string_tag text t.content place t.elem)
     (after (or_broken (signature_of text) (fault_at 9 place)) signature _ (Ok signature)
     (kept (signature_of text) (fault_at 9 place) signature (signature_again text signature t)) refl)
 
@@ -200,17 +201,17 @@ signature_read text signature place t =
 -- what is read behind the certificate's tag and length
 abbrev parts_in : List ℕ → ItemView → Result CertView Fault
 parts_in all certificate = do
-  signed ← element_at 0x30 certificate.content
+  signed ← element_at sequence_tag certificate.content
   tbs ← tbs_in signed.content
   signature_at ← behind_text algorithm_text 3 signed.behind
   signature ← signature_in signature_at
   _ended ← ended_at certificate.behind
   Ok (view_of all tbs (sha256 signed.whole) signature)
 
-parts_read : (all : List ℕ) (outer : ItemView) → length all ≤ 8192 → Begins (whole_text all) outer × (outer.tag ≡ 0x30)
+parts_read : (all : List ℕ) (outer : ItemView) → length all ≤ 8192 → Begins (whole_text all) outer × (outer.tag ≡ sequence_tag)
     → Reads (parts_in all outer) (Cert all) (WrongCertificate outer)
 parts_read all outer size is_outer =
-    element_reads 0x30 outer.content _ _ _ is_outer.0.content_bytes (λ signed is_signed.
+    element_reads sequence_tag outer.content _ _ _ is_outer.0.content_bytes (λ signed is_signed.
     let parts = signed_reads signed.content is_signed.0.content_bytes in
     through_reads (tbs_in signed.content) signed.content _ _ WrongSigned IsSigned _ parts.tells
     (λ tbs t. (
@@ -227,9 +228,9 @@ parts_read all outer size is_outer =
               tbs = tbs;
               last = last.left;
               signature = signature;
-              elem = subst (Elem all 0x30) (is_signed.0.split ∙ ap (λ r. signed.whole ++ r) is_last.0)
-                  (alone 0x30 (whole_text all) outer is_outer (ended outer.behind (tt {0}) done d).0);
-              signed_elem = any_elem 0x30 outer.content signed is_signed;
+              elem = subst (Elem all sequence_tag) (is_signed.0.split ∙ ap (λ r. signed.whole ++ r) is_last.0)
+                  (alone sequence_tag (whole_text all) outer is_outer (ended outer.behind (tt {0}) done d).0);
+              signed_elem = any_elem sequence_tag outer.content signed is_signed;
               parts = parts.found tbs t;
               is_signature = numbers.found signature s;
               says = refl;
@@ -244,11 +245,11 @@ certificate_reads : (all : List ℕ) → AllBytes all → Reads (read_certificat
 unfolding read_certificate outer_in
 certificate_reads all b = by_size (nat_lt 8192 (length all)) refl
   where
-    within : length all ≤ 8192 → Reads (element_at 0x30 (whole_text all) >>= parts_in all) (Cert all) (First (Unless (IsTagged 0x30) 1 WrongCertificate) (whole_text all))
-    within few = element_reads 0x30 (whole_text all) _ _ _ b (λ outer is. parts_read all outer few is)
+    within : length all ≤ 8192 → Reads (element_at sequence_tag (whole_text all) >>= parts_in all) (Cert all) (First (Unless (IsTagged sequence_tag) 1 WrongCertificate) (whole_text all))
+    within few = element_reads sequence_tag (whole_text all) _ _ _ b (λ outer is. parts_read all outer few is)
 
     by_size : (t : Bool) → nat_lt 8192 (length all) ≡ t
-        → Reads (cond t (Err (at_kind 1 8192)) (element_at 0x30 (whole_text all)) >>= parts_in all) (Cert all) (Refused all)
+        → Reads (cond t (Err (at_kind 1 8192)) (element_at sequence_tag (whole_text all)) >>= parts_in all) (Cert all) (Refused all)
     by_size true t = record {
       found = λ c e. absurd cc;
       tells = λ fault. (
@@ -281,11 +282,11 @@ pub cert_again : (all : List ℕ) (c : CertView) → Cert all c → read_certifi
 unfolding read_certificate outer_in
 cert_again all c t =
     let few : nat_lt 8192 (length all) ≡ false = grind (arith, nat_tests, t.size) in
-    let outer : ItemView = item_in 0 (record { tag = 0x30; whole = all; content = t.signed ++ (algorithm_text ++ t.last) }) [] in
-    after (outer_in all) outer _ _ (rw few (element_alone 0x30 all (t.signed ++ (algorithm_text ++ t.last)) 0 t.elem))
-    (after (element_at 0x30 _) _ _ _ (element_stands 0x30 t.signed t.content (algorithm_text ++ t.last) _ t.signed_elem)
+    let outer : ItemView = item_in 0 (record { tag = sequence_tag; whole = all; content = t.signed ++ (algorithm_text ++ t.last) }) [] in
+    after (outer_in all) outer _ _ (rw few (element_alone sequence_tag all (t.signed ++ (algorithm_text ++ t.last)) 0 t.elem))
+    (after (element_at sequence_tag _) _ _ _ (element_stands sequence_tag t.signed t.content (algorithm_text ++ t.last) _ t.signed_elem)
     (after (tbs_in _) _ _ _ (signed_again t.content t.tbs t.parts _)
-    (after (behind_text algorithm_text 3 _) _ _ _ (text_again algorithm_text 3 0x30 (drop 2 algorithm_text) t.last _ algorithm_elem)
+    (after (behind_text algorithm_text 3 _) _ _ _ (text_again algorithm_text 3 sequence_tag (drop 2 algorithm_text) t.last _ algorithm_elem)
     (after (signature_in _) t.signature _ _ (signature_read t.last t.signature _ t.is_signature) (ok_is _ _ (sym t.says))))))
 
 -- it has all bytes
@@ -329,14 +330,14 @@ pub cut_short : (all more : List ℕ) (whole : List ℕ) (c : CertView) → Cert
 unfolding read_certificate outer_in element_at item_at
 cut_short all more whole c t split some =
     let few : nat_lt 8192 (length all) ≡ false = grind (arith, nat_tests, t.size, ap length split, length-append all more) in
-    rw (few, front_short 0x30 whole _ all more t.elem split some) (ap (λ n. let r : Result CertView Fault = Err (at_kind 1 n) in r) (zero_add (length all)))
+    rw (few, front_short sequence_tag whole _ all more t.elem split some) (ap (λ n. let r : Result CertView Fault = Err (at_kind 1 n) in r) (zero_add (length all)))
 
 pub left_over : (all whole more : List ℕ) (c : CertView) → AllBytes all → Cert whole c → all ≡ whole ++ more → 1 ≤ length more → length all ≤ 8192
     → read_certificate all ≡ Err (at_kind 1 (length whole))
 left_over all whole more c b t split some few =
-    let element : Element = record { tag = 0x30; whole = whole; content = t.signed ++ (algorithm_text ++ t.last) } in
-    let signed : Element = record { tag = 0x30; whole = t.signed; content = t.content } in
-    let algorithm : Element = record { tag = 0x30; whole = algorithm_text; content = drop 2 algorithm_text } in
+    let element : Element = record { tag = sequence_tag; whole = whole; content = t.signed ++ (algorithm_text ++ t.last) } in
+    let signed : Element = record { tag = sequence_tag; whole = t.signed; content = t.content } in
+    let algorithm : Element = record { tag = sequence_tag; whole = algorithm_text; content = drop 2 algorithm_text } in
     (certificate_tells all b (at_kind 1 (length whole))).1 (inr (
       few,
       inr (record {

@@ -8,6 +8,7 @@ use Rattle.der_reader.specs.Elem.{AllBytes}
 use Rattle.der_reader.specs.Next.{header_at, next_at}
 use Rattle.der_reader.specs.Part.{item_at, whole_text}
 use Rattle.der_reader.specs.declared.part.Fault.{Fault}
+use Rattle.der_reader.specs.Tags.{sequence_tag}
 use Rattle.der_reader.proofs.PartLaws.{item_found, item_stands}
 use Rattle.x509_profile.specs.Cert.{Cert}
 use Rattle.x509_profile.specs.Read.{read_certificate}
@@ -36,7 +37,7 @@ front_found bytes found typed e =
 front_again : (certificate : CertView) (rest : List ℕ) → Cert certificate.whole certificate → front (certificate.whole ++ rest) ≡ Ok (certificate, rest)
 unfolding front
 front_again certificate rest cert =
-    after (item_at (whole_text (certificate.whole ++ rest))) _ _ _ (item_stands 0x30 certificate.whole _ rest 0 cert.elem)
+    after (item_at (whole_text (certificate.whole ++ rest))) _ _ _ (item_stands sequence_tag certificate.whole _ rest 0 cert.elem)
     (after (read_certificate certificate.whole) certificate _ _ (cert_again certificate.whole certificate cert) refl)
 
 -- where none is read, none stands

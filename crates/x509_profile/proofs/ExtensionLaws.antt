@@ -17,8 +17,9 @@ use Rattle.tn_auth_list.specs.Read.{read_list}
 use Rattle.tn_auth_list.proofs.ListLaws.{list_again, list_found}
 use Rattle.der_reader.proofs.EachLaws.{Takes, at, each_again, each_reads}
 use Rattle.der_reader.specs.Each.{WrongBehind, each_in}
+use Rattle.der_reader.specs.Tags.{sequence_tag}
 use Rattle.x509_profile.specs.Contents.{ExtensionRead, authority_of, basic_of, extension_of, extension_view, subject_key_of, usage_of}
-use Rattle.x509_profile.specs.Extended.{Adds, AddsAs, AuthorityText, BasicText, ExtensionText, ExtensionTexts, ExtensionsText, MarkedText, SubjectKeyText, UsageText}
+use Rattle.x509_profile.specs.Extended.{Adds, AddsAs, AuthorityText, BasicText, ExtensionText, ExtensionTexts, ExtensionsText, MarkedText, SubjectKeyText, UsageText, extensions_tag}
 use Rattle.x509_profile.specs.ExtensionId.{ExtensionName, BasicConstraints, KeyUsage, SubjectKey, AuthorityKey, AuthorityList, ClaimConstraints, Unknown, IsNamed, name_of}
 use Rattle.x509_profile.specs.Extensions.{ended_at, filled, marked_in, optional_in, values_by, values_with}
 use Rattle.x509_profile.specs.Fault.{fault_at}
@@ -199,7 +200,7 @@ with_reads values part item is =
         }
 
 with_again : (values next : Values) (text : List ℕ) (view : ExtensionView) (t : ExtensionText text view) (rest : List ℕ) (place : ℕ) → Adds values view next
-    → values_with values (item_in place (record { tag = 0x30; whole = text; content = t.oid ++ t.behind }) rest) ≡ Ok next
+    → values_with values (item_in place (record { tag = sequence_tag; whole = text; content = t.oid ++ t.behind }) rest) ≡ Ok next
 unfolding values_with
 with_again values next text view t rest place a =
     after (or_broken (extension_of text) (fault_at 1 place)) (opened text view t) _ _ (kept (extension_of text) _ _ (extension_again text view t))
@@ -209,7 +210,7 @@ with_again values next text view t rest place a =
 takes : Takes values_with ExtensionText Adds WrongExtension
 takes = record {
   reads = with_reads;
-  tag = λ text view t. 0x30;
+  tag = λ text view t. sequence_tag;
   content = λ text view t. t.oid ++ t.behind;
   elem = λ text view t. t.elem;
   again = λ values next text view t rest place a. with_again values next text view t rest place a;
@@ -217,13 +218,13 @@ takes = record {
 
 -- ---- all extensions
 
-marked_reads : (part : PartView) → AllBytes part.left → Reads (marked_in part) (MarkedText part.left) (First (Unless (IsTagged 0xA3) 1 (λ marked.
-    First (Unless (IsTagged 0x30) 1 (λ sequence. Through (WrongBehind ExtensionText Adds WrongExtension no_values) AreExtensions
+marked_reads : (part : PartView) → AllBytes part.left → Reads (marked_in part) (MarkedText part.left) (First (Unless (IsTagged extensions_tag) 1 (λ marked.
+    First (Unless (IsTagged sequence_tag) 1 (λ sequence. Through (WrongBehind ExtensionText Adds WrongExtension no_values) AreExtensions
     (AtEnd (LeftOver marked.behind) sequence.behind) sequence.content)) marked.content)) part)
 unfolding marked_in
 marked_reads part b =
-    element_reads 0xA3 part _ _ _ b (λ marked is_marked.
-    element_reads 0x30 marked.content _ _ _ is_marked.0.content_bytes (λ sequence is_sequence.
+    element_reads extensions_tag part _ _ _ b (λ marked is_marked.
+    element_reads sequence_tag marked.content _ _ _ is_marked.0.content_bytes (λ sequence is_sequence.
     let each = each_reads values_with ExtensionText Adds WrongExtension takes no_values sequence.content is_sequence.0.content_bytes in
     through_reads (each_in values_with no_values sequence.content) sequence.content _ _ (WrongBehind ExtensionText Adds WrongExtension no_values) AreExtensions _ each.tells
     (λ values e.
@@ -234,8 +235,8 @@ marked_reads part b =
           (λ none out k. came_by (ended_at marked.behind) _ out k (λ done d m. subst (MarkedText part.left) (inside _ _ m) (record {
             inner = marked.content.left;
             content = sequence.content.left;
-            marked = alone 0xA3 part marked is_marked (ended marked.behind (tt {0}) done d).0;
-            sequence = alone 0x30 marked.content sequence is_sequence none;
+            marked = alone extensions_tag part marked is_marked (ended marked.behind (tt {0}) done d).0;
+            sequence = alone sequence_tag marked.content sequence is_sequence none;
             each = are;
           }))),
     ))
@@ -244,10 +245,10 @@ marked_reads part b =
 marked_again : (text : List ℕ) (place : ℕ) (values : Values) → MarkedText text values → marked_in (at text place) ≡ Ok values
 unfolding marked_in
 marked_again text place values t =
-    let marked : ItemView = item_in place (record { tag = 0xA3; whole = text; content = t.inner }) [] in
-    let sequence : ItemView = item_in marked.content.place (record { tag = 0x30; whole = t.inner; content = t.content }) [] in
-    after (element_at 0xA3 (at text place)) marked _ _ (element_alone 0xA3 text t.inner place t.marked)
-    (after (element_at 0x30 marked.content) sequence _ _ (element_alone 0x30 t.inner t.content marked.content.place t.sequence)
+    let marked : ItemView = item_in place (record { tag = extensions_tag; whole = text; content = t.inner }) [] in
+    let sequence : ItemView = item_in marked.content.place (record { tag = sequence_tag; whole = t.inner; content = t.content }) [] in
+    after (element_at extensions_tag (at text place)) marked _ _ (element_alone extensions_tag text t.inner place t.marked)
+    (after (element_at sequence_tag marked.content) sequence _ _ (element_alone sequence_tag t.inner t.content marked.content.place t.sequence)
     (after (each_in values_with no_values sequence.content) values _ _
     (each_again values_with ExtensionText Adds WrongExtension takes t.each.extensions no_values sequence.content values t.each.each t.each.say) refl))
 
@@ -271,5 +272,5 @@ pub extensions_again : (text : List ℕ) (place : ℕ) (values : Values) → Ext
 unfolding optional_in
 extensions_again text place values is = elim is [
   | inl none ↦ let test : length text == 0 ≡ true = ap (λ l. length l == 0) none.0 in rw test (ok_is _ _ (sym none.1))
-  | inr marked ↦ rw (some_bytes 0xA3 text marked.inner marked.marked) (marked_again text place values marked)
+  | inr marked ↦ rw (some_bytes extensions_tag text marked.inner marked.marked) (marked_again text place values marked)
 ]

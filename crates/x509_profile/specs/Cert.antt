@@ -2,6 +2,7 @@
 use Rattle.std.specs.Prelude.{◌≡◌, ℕ, ◌≤◌, List, ◌++◌, length}
 use Rattle.sha2.specs.Sha256.{sha256}
 use Rattle.der_reader.specs.Elem.{Elem}
+use Rattle.der_reader.specs.Tags.{integer_tag, sequence_tag}
 use Rattle.x509_profile.specs.Text.{algorithm_text, version_text}
 use Rattle.x509_profile.specs.Parts.{AnyElement, KeyText, SignatureText, ValidityText}
 use Rattle.x509_profile.specs.Extended.{ExtensionsText}
@@ -19,10 +20,10 @@ pub record SignedText (content : List ℕ) (tbs : TbsView) : Type 0 where
   pub extensions : List ℕ
   pub values : Values
   pub form : content ≡ version_text ++ (serial ++ (algorithm_text ++ (issuer ++ (validity ++ (subject ++ (key ++ extensions))))))
-  pub is_serial : AnyElement serial 0x02
-  pub is_issuer : AnyElement issuer 0x30
+  pub is_serial : AnyElement serial integer_tag
+  pub is_issuer : AnyElement issuer sequence_tag
   pub is_validity : ValidityText validity times.not_before times.not_after
-  pub is_subject : AnyElement subject 0x30
+  pub is_subject : AnyElement subject sequence_tag
   pub is_key : KeyText key point
   pub is_extensions : ExtensionsText extensions values
   pub says : tbs ≡ tbs_with issuer times subject point values
@@ -36,8 +37,8 @@ pub record Cert (bytes : List ℕ) (c : CertView) : Type 0 where
   pub tbs : TbsView
   pub last : List ℕ
   pub signature : List ℕ
-  pub elem : Elem bytes 0x30 (signed ++ (algorithm_text ++ last))
-  pub signed_elem : Elem signed 0x30 content
+  pub elem : Elem bytes sequence_tag (signed ++ (algorithm_text ++ last))
+  pub signed_elem : Elem signed sequence_tag content
   pub parts : SignedText content tbs
   pub is_signature : SignatureText last signature
   pub says : c ≡ view_of bytes tbs (sha256 signed) signature

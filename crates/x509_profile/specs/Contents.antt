@@ -11,15 +11,17 @@ use Rattle.der_reader.specs.Integer.{scalar_of}
 use Rattle.der_reader.specs.Optional.{flag_of, limit_of}
 use Rattle.der_reader.specs.Next.{next_at, optional_at, pair_at, sole_at}
 use Rattle.der_reader.specs.Time.{time_of}
+use Rattle.der_reader.specs.Tags.{boolean_tag, integer_tag, bit_string_tag, octet_string_tag, object_identifier_tag, sequence_tag}
 use Rattle.x509_profile.specs.declared.contents.Extension.{Extension}
 use Rattle.x509_profile.specs.View.{BasicView, ExtensionView, ValidityView}
+use Rattle.x509_profile.specs.Extended.{key_identifier_tag}
 
 -- basicConstraints: a SEQUENCE of cA and the path length, either of which may be absent (RFC 5280, section 4.2.1.9)
 unfoldable pub basic_of : List ℕ → Result BasicView DerFault
 basic_of value = do
-  sequence ← sole_at 0x30 value
-  flag ← optional_at 0x01 sequence.content
-  limit ← optional_at 0x02 flag.1
+  sequence ← sole_at sequence_tag value
+  flag ← optional_at boolean_tag sequence.content
+  limit ← optional_at integer_tag flag.1
   is_ca ← flag_of flag.0
   path_length ← limit_of limit.0
   if length limit.1 == 0 then Ok (record { is_ca = is_ca; path_length = path_length }) else Err bad_value
@@ -27,21 +29,21 @@ basic_of value = do
 -- keyUsage: a BIT STRING of at most 16 bits (section 4.2.1.3)
 unfoldable pub usage_of : List ℕ → Result ℕ DerFault
 usage_of value = do
-  string ← sole_at 0x03 value
+  string ← sole_at bit_string_tag value
   flags_of string.tag string.content
 
 -- subjectKeyIdentifier: an OCTET STRING (section 4.2.1.2)
 unfoldable pub subject_key_of : List ℕ → Result (List ℕ) DerFault
 subject_key_of value = do
-  string ← sole_at 0x04 value
+  string ← sole_at octet_string_tag value
   Ok string.content
 
 -- authorityKeyIdentifier: a SEQUENCE, whose first element is the key identifier where it has the tag [0]; what follows is
 -- passed over (section 4.2.1.1)
 unfoldable pub authority_of : List ℕ → Result (Option (List ℕ)) DerFault
 authority_of value = do
-  sequence ← sole_at 0x30 value
-  first ← optional_at 0x80 sequence.content
+  sequence ← sole_at sequence_tag value
+  first ← optional_at key_identifier_tag sequence.content
   Ok (option_map (λ identifier. identifier.content) first.0)
 
 -- an extension: a SEQUENCE of its OID, whether it is critical, and the OCTET STRING of its content (section 4.1)
@@ -52,12 +54,12 @@ pub record ExtensionRead : Type 0 where
 
 unfoldable pub extension_of : List ℕ → Result ExtensionRead DerFault
 extension_of text = do
-  sequence ← sole_at 0x30 text
+  sequence ← sole_at sequence_tag text
   oid ← next_at sequence.content
-  flag ← optional_at 0x01 oid.1
+  flag ← optional_at boolean_tag oid.1
   critical ← flag_of flag.0
-  octets ← sole_at 0x04 flag.1
-  if oid.0.tag == 0x06 then Ok (record { oid = oid.0.content; critical = critical; octets = octets }) else Err bad_value
+  octets ← sole_at octet_string_tag flag.1
+  if oid.0.tag == object_identifier_tag then Ok (record { oid = oid.0.content; critical = critical; octets = octets }) else Err bad_value
 
 -- without the place of its content
 abbrev pub extension_view : ExtensionRead → ExtensionView
@@ -79,7 +81,7 @@ validity_of text = do
 -- appendix A)
 unfoldable pub signature_of : List ℕ → Result (List ℕ) DerFault
 signature_of text = do
-  string ← sole_at 0x03 text
+  string ← sole_at bit_string_tag text
   bits ← bits_of string.tag string.content
   numbers ← pair_at bits
   r ← scalar_of numbers.0.tag numbers.0.content

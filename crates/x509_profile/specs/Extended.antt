@@ -5,6 +5,7 @@ use Rattle.der_reader.specs.BitString.{flags_of}
 use Rattle.der_reader.specs.Each.{ComeTo, OneAfterAnother}
 use Rattle.der_reader.specs.Elem.{Elem, Element, MayBeginWith}
 use Rattle.der_reader.specs.Optional.{IsFlag, IsLimit}
+use Rattle.der_reader.specs.Tags.{boolean_tag, integer_tag, bit_string_tag, octet_string_tag, object_identifier_tag, sequence_tag}
 use Rattle.tn_auth_list.specs.declared.entries.Entry.{Entry}
 use Rattle.tn_auth_list.specs.ListText.{ListText}
 use Rattle.x509_profile.specs.ExtensionId.{ExtensionName, BasicConstraints, KeyUsage, SubjectKey, AuthorityKey, AuthorityList, ClaimConstraints, Unknown, IsNamed}
@@ -16,25 +17,29 @@ pub record BasicText (value : List ℕ) (basic : BasicView) : Type 0 where
   pub flag : Option Element
   pub behind : List ℕ
   pub limit : Option Element
-  pub elem : Elem value 0x30 content
-  pub first : MayBeginWith 0x01 content flag behind
-  pub second : MayBeginWith 0x02 behind limit []
+  pub elem : Elem value sequence_tag content
+  pub first : MayBeginWith boolean_tag content flag behind
+  pub second : MayBeginWith integer_tag behind limit []
   pub is_ca : IsFlag flag basic.is_ca
   pub path_length : IsLimit limit basic.path_length
 
 -- keyUsage: a BIT STRING of at most 16 bits (section 4.2.1.3)
 pub record UsageText (value : List ℕ) (usage : ℕ) : Type 0 where
   pub content : List ℕ
-  pub elem : Elem value 0x03 content
-  pub flags : flags_of 0x03 content ≡ Ok usage
+  pub elem : Elem value bit_string_tag content
+  pub flags : flags_of bit_string_tag content ≡ Ok usage
 
--- authorityKeyIdentifier: a SEQUENCE, which may begin with the key identifier, with the tag [0]; what follows is passed over (section 4.2.1.1)
+-- the tag [0] of the key identifier in an authority key identifier
+abbrev pub key_identifier_tag : ℕ
+key_identifier_tag = 0x80
+
+-- authorityKeyIdentifier: a SEQUENCE, which may begin with the key identifier; what follows is passed over (section 4.2.1.1)
 pub record AuthorityText (value : List ℕ) (key : Option (List ℕ)) : Type 0 where
   pub content : List ℕ
   pub identifier : Option Element
   pub passed_over : List ℕ
-  pub elem : Elem value 0x30 content
-  pub first : MayBeginWith 0x80 content identifier passed_over
+  pub elem : Elem value sequence_tag content
+  pub first : MayBeginWith key_identifier_tag content identifier passed_over
   pub says : key ≡ option_map (λ identifier. identifier.content) identifier
 
 -- an extension: a SEQUENCE of its OID, whether it is critical, and the OCTET STRING of its content (section 4.1)
@@ -43,15 +48,15 @@ pub record ExtensionText (text : List ℕ) (extension : ExtensionView) : Type 0 
   pub behind : List ℕ
   pub flag : Option Element
   pub value : List ℕ
-  pub elem : Elem text 0x30 (oid ++ behind)
-  pub named : Elem oid 0x06 extension.oid
-  pub second : MayBeginWith 0x01 behind flag value
+  pub elem : Elem text sequence_tag (oid ++ behind)
+  pub named : Elem oid object_identifier_tag extension.oid
+  pub second : MayBeginWith boolean_tag behind flag value
   pub critical : IsFlag flag extension.critical
-  pub content : Elem value 0x04 extension.value
+  pub content : Elem value octet_string_tag extension.value
 
 -- subjectKeyIdentifier: an OCTET STRING (section 4.2.1.2)
 pub record SubjectKeyText (value : List ℕ) (key : List ℕ) : Type 0 where
-  pub elem : Elem value 0x04 key
+  pub elem : Elem value octet_string_tag key
 
 -- What one extension more adds to what those before it say, by its name: an extension of the profile stands once, and its content says something;
 -- constraints on claims may not stand (RFC 8226, section 8; RFC 9118, section 4), and another extension is passed over, if it isn't critical.
@@ -78,12 +83,16 @@ pub record ExtensionTexts (text : List ℕ) (values : Values) : Type 0 where
   pub each : OneAfterAnother ExtensionText extensions text
   pub say : ComeTo Adds no_values extensions values
 
--- the extensions by their explicit tag [3]: a SEQUENCE of extensions
+-- the explicit tag [3] of the extensions
+abbrev pub extensions_tag : ℕ
+extensions_tag = 0xA3
+
+-- the extensions by their tag: a SEQUENCE of extensions
 pub record MarkedText (text : List ℕ) (values : Values) : Type 0 where
   pub inner : List ℕ
   pub content : List ℕ
-  pub marked : Elem text 0xA3 inner
-  pub sequence : Elem inner 0x30 content
+  pub marked : Elem text extensions_tag inner
+  pub sequence : Elem inner sequence_tag content
   pub each : ExtensionTexts content values
 
 -- the extensions, which may be absent

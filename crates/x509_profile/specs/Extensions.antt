@@ -4,11 +4,13 @@ use Rattle.lists.specs.Steps.{◌>>=◌}
 use Rattle.der_reader.specs.declared.part.Fault.{Fault}
 use Rattle.der_reader.specs.Each.{each_in}
 use Rattle.der_reader.specs.Part.{ItemView, PartView, element_at, end_at, or_broken}
+use Rattle.der_reader.specs.Tags.{sequence_tag}
 use Rattle.tn_auth_list.specs.Read.{read_list}
 use Rattle.x509_profile.specs.Contents.{ExtensionRead, authority_of, basic_of, extension_of, subject_key_of, usage_of}
 use Rattle.x509_profile.specs.ExtensionId.{ExtensionName, BasicConstraints, KeyUsage, SubjectKey, AuthorityKey, AuthorityList, ClaimConstraints, Unknown, name_of}
 use Rattle.x509_profile.specs.Fault.{fault_at}
 use Rattle.x509_profile.specs.View.{Values, no_values}
+use Rattle.x509_profile.specs.Extended.{extensions_tag}
 
 -- What stands in a place for one extension when one more of its name was read: it may not have stood there before.
 abbrev pub filled : {A : Type 0} → Option A → Result A Fault → Fault → Result (Option A) Fault
@@ -43,8 +45,8 @@ ended_at part = end_at part tt
 -- the extensions by the explicit tag [3], one SEQUENCE and nothing behind it
 unfoldable pub marked_in : PartView → Result Values Fault
 marked_in part = do
-  marked ← element_at 0xA3 part
-  sequence ← element_at 0x30 marked.content
+  marked ← element_at extensions_tag part
+  sequence ← element_at sequence_tag marked.content
   values ← each_in values_with no_values sequence.content
   _inner ← ended_at sequence.behind
   _outer ← ended_at marked.behind

@@ -4,6 +4,7 @@ use Rattle.der_reader.specs.BitString.{BitText}
 use Rattle.der_reader.specs.Elem.{Elem, Element, IsPair}
 use Rattle.der_reader.specs.Integer.{scalar_of}
 use Rattle.der_reader.specs.Time.{TimeText}
+use Rattle.der_reader.specs.Tags.{bit_string_tag}
 use Rattle.x509_profile.specs.Text.{key_front}
 
 -- any element of this tag
@@ -35,7 +36,7 @@ pub record SignatureText (text : List ℕ) (signature : List ℕ) : Type 0 where
   pub second : Element
   pub r : List ℕ
   pub s : List ℕ
-  pub elem : Elem text 0x03 content
+  pub elem : Elem text bit_string_tag content
   pub string : BitText content 0 bits
   pub both : IsPair bits first second
   pub is_r : scalar_of first.tag first.content ≡ Ok r

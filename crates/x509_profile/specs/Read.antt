@@ -6,6 +6,7 @@ use Rattle.sha2.specs.Sha256.{sha256}
 use Rattle.lists.specs.Steps.{◌>>=◌}
 use Rattle.der_reader.specs.declared.part.Fault.{Fault}
 use Rattle.der_reader.specs.Part.{ItemView, PartView, element_at, end_at, item_at, or_broken, whole_text}
+use Rattle.der_reader.specs.Tags.{integer_tag, sequence_tag}
 use Rattle.x509_profile.specs.Contents.{signature_of, validity_of}
 use Rattle.x509_profile.specs.Extensions.{ended_at, optional_in}
 use Rattle.x509_profile.specs.Fault.{fault_at}
@@ -26,12 +27,12 @@ point_in key = if is_key key.whole then Ok (drop 26 key.whole) else Err (fault_a
 unfoldable pub tbs_in : PartView → Result TbsView Fault
 tbs_in part = do
   serial_at ← behind_text version_text 2 part
-  serial ← element_at 0x02 serial_at
+  serial ← element_at integer_tag serial_at
   issuer_at ← behind_text algorithm_text 3 serial.behind
-  issuer ← element_at 0x30 issuer_at
+  issuer ← element_at sequence_tag issuer_at
   validity ← item_at issuer.behind
   times ← or_broken (validity_of validity.whole) (fault_at 5 validity.place)
-  subject ← element_at 0x30 validity.behind
+  subject ← element_at sequence_tag validity.behind
   key ← item_at subject.behind
   point ← point_in key
   values ← optional_in key.behind
@@ -46,14 +47,14 @@ signature_in part = do
 
 -- the certificate's SEQUENCE and what is behind it; bytes past the 8,192nd are DER there
 unfoldable pub outer_in : List ℕ → Result ItemView Fault
-outer_in all = if nat_lt 8192 (length all) then Err (fault_at 1 8192) else element_at 0x30 (whole_text all)
+outer_in all = if nat_lt 8192 (length all) then Err (fault_at 1 8192) else element_at sequence_tag (whole_text all)
 
 -- The values of the certificate that the bytes are: the signed part, the algorithm and the signature, and nothing behind
 -- them; or the first fault.
 unfoldable pub read_certificate : List ℕ → Result CertView Fault
 read_certificate all = do
   certificate ← outer_in all
-  signed ← element_at 0x30 certificate.content
+  signed ← element_at sequence_tag certificate.content
   tbs ← tbs_in signed.content
   signature_at ← behind_text algorithm_text 3 signed.behind
   signature ← signature_in signature_at

@@ -1,9 +1,11 @@
 -- Why bytes are no certificate of the profile, by kind and place: the first of its parts, in the order in which they stand, that isn't as the
--- profile has it (RFC 5280, section 4.1). The kinds are this project's own.
+-- profile has it (RFC 5280, section 4.1). The kinds are this project's own: 1 an element, 2 the version, 3 an algorithm, 4 the key, 5 the validity,
+-- 6 to 8 an extension, 9 the signature.
 use Rattle.std.specs.Prelude.{◌≡◌, ◌⊎◌, ℕ, ℤ, ◌<◌, ◌≤◌, List, length, Result, Ok, Err}
 use Rattle.der_reader.specs.declared.part.Fault.{Fault}
 use Rattle.der_reader.specs.Broken.{Behind, First, Followed, IsTagged, LeftOver, Through, Unless, Within}
 use Rattle.der_reader.specs.Part.{ItemView, PartView, at_kind, whole_text}
+use Rattle.der_reader.specs.Tags.{integer_tag, sequence_tag}
 use Rattle.x509_profile.specs.declared.fault.CertFault.{CertFault}
 use Rattle.x509_profile.specs.declared.fault.CertFault.TheVariants.{At, Memory}
 use Rattle.x509_profile.specs.Cert.{SignedText}
@@ -41,11 +43,11 @@ IsSigned content = (tbs : TbsView) × SignedText content tbs
 abbrev pub WrongSigned : PartView → Fault → Type 0
 WrongSigned =
     Followed (IsText version_text) 2
-    (Followed (IsTagged 0x02) 1
+    (Followed (IsTagged integer_tag) 1
     (Followed (IsText algorithm_text) 3
-    (Followed (IsTagged 0x30) 1
+    (Followed (IsTagged sequence_tag) 1
     (Followed IsValidity 5
-    (Followed (IsTagged 0x30) 1
+    (Followed (IsTagged sequence_tag) 1
     (Followed IsKey 4 WrongExtensions))))))
 
 -- The signature is the last part of the certificate.
@@ -55,7 +57,7 @@ WrongSignature = Followed (λ item. IsSignature item.whole) 9 LeftOver
 -- In the certificate: the signed part, the algorithm, and the signature up to the end; and nothing may stand behind the certificate.
 abbrev pub WrongCertificate : ItemView → Fault → Type 0
 WrongCertificate certificate =
-    First (Unless (IsTagged 0x30) 1 (Within WrongSigned IsSigned
+    First (Unless (IsTagged sequence_tag) 1 (Within WrongSigned IsSigned
     (Behind (Followed (IsText algorithm_text) 3
     (Through WrongSignature IsSignature (LeftOver certificate.behind))))))
     certificate.content
@@ -64,7 +66,7 @@ WrongCertificate certificate =
 abbrev pub Refused : List ℕ → Fault → Type 0
 Refused bytes fault =
     ((8192 < length bytes) × (fault ≡ at_kind 1 8192))
-    ⊎ ((length bytes ≤ 8192) × First (Unless (IsTagged 0x30) 1 WrongCertificate) (whole_text bytes) fault)
+    ⊎ ((length bytes ≤ 8192) × First (Unless (IsTagged sequence_tag) 1 WrongCertificate) (whole_text bytes) fault)
 
 -- an answer other than Ok, and other than want of memory, is the first fault of the bytes
 abbrev pub IsRefused : {A : Type 0} → List ℕ → Result A CertFault → Type 0

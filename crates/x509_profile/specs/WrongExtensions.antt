@@ -5,8 +5,9 @@ use Rattle.der_reader.specs.declared.part.Fault.{Fault}
 use Rattle.der_reader.specs.Broken.{AtEnd, First, IsTagged, LeftOver, Through, Unless}
 use Rattle.der_reader.specs.Each.{WrongBehind}
 use Rattle.der_reader.specs.Part.{ItemView, PartView, at_kind}
+use Rattle.der_reader.specs.Tags.{sequence_tag}
 use Rattle.tn_auth_list.specs.ListText.{ListText}
-use Rattle.x509_profile.specs.Extended.{Adds, AuthorityText, BasicText, ExtensionText, ExtensionTexts, SubjectKeyText, UsageText}
+use Rattle.x509_profile.specs.Extended.{Adds, AuthorityText, BasicText, ExtensionText, ExtensionTexts, SubjectKeyText, UsageText, extensions_tag}
 use Rattle.x509_profile.specs.ExtensionId.{ExtensionName, BasicConstraints, KeyUsage, SubjectKey, AuthorityKey, AuthorityList, ClaimConstraints, Unknown, IsNamed}
 use Rattle.x509_profile.specs.View.{ExtensionView, Values, no_values}
 
@@ -52,5 +53,5 @@ AreExtensions content = (values : Values) × ExtensionTexts content values
 abbrev pub WrongExtensions : PartView → Fault → Type 0
 WrongExtensions part fault =
     (1 ≤ length part.left)
-    × First (Unless (IsTagged 0xA3) 1 (λ marked. First (Unless (IsTagged 0x30) 1 (λ sequence.
+    × First (Unless (IsTagged extensions_tag) 1 (λ marked. First (Unless (IsTagged sequence_tag) 1 (λ sequence.
     Through (WrongBehind ExtensionText Adds WrongExtension no_values) AreExtensions (AtEnd (LeftOver marked.behind) sequence.behind) sequence.content)) marked.content)) part fault
