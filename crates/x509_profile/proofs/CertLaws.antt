@@ -5,7 +5,6 @@ use Rattle.std.proofs.lemmas.Slice.Eq.{starts_is}
 use Rattle.std.specs.Cmp.{unsigned_Decides}
 use Rattle.std.specs.List.{starts_with}
 use Rattle.std.specs.Str.{bytes_eq}
-use Rattle.sha2.specs.Sha256.{sha256}
 use Rattle.lists.specs.Steps.{◌>>=◌}
 use Rattle.lists.proofs.Bytes.{bytes_same, same_bytes}
 use Rattle.lists.proofs.StepLaws.{after, inside}
@@ -20,9 +19,9 @@ use Rattle.x509_profile.specs.Contents.{signature_of, validity_of}
 use Rattle.x509_profile.specs.Extensions.{ended_at, optional_in}
 use Rattle.x509_profile.specs.Fault.{Gives, fault_at}
 use Rattle.x509_profile.specs.Parts.{AnyElement, KeyText, SignatureText}
-use Rattle.x509_profile.specs.Read.{behind_text, outer_in, point_in, read_certificate, signature_in, tbs_in}
+use Rattle.x509_profile.specs.Read.{behind_text, outer_in, parts_in, point_in, read_certificate, signature_in, tbs_in}
 use Rattle.x509_profile.specs.Text.{algorithm_text, is_key, key_front, version_text}
-use Rattle.x509_profile.specs.View.{CertView, TbsView, tbs_with, view_of}
+use Rattle.x509_profile.specs.View.{CertView, TbsView, tbs_with}
 use Rattle.x509_profile.proofs.ContentLaws.{signature_again, signature_found, validity_again, validity_found}
 use Rattle.x509_profile.proofs.ExtensionLaws.{extensions_again, extensions_read}
 use Rattle.der_reader.specs.Broken.{Behind, First, Followed, IsTagged, LeftOver, Unless}
@@ -197,16 +196,6 @@ signature_read text signature place t =
     (kept (signature_of text) (fault_at 9 place) signature (signature_again text signature t)) refl)
 
 -- ---- the whole
-
--- what is read behind the certificate's tag and length
-abbrev parts_in : List ℕ → ItemView → Result CertView Fault
-parts_in all certificate = do
-  signed ← element_at sequence_tag certificate.content
-  tbs ← tbs_in signed.content
-  signature_at ← behind_text algorithm_text 3 signed.behind
-  signature ← signature_in signature_at
-  _ended ← ended_at certificate.behind
-  Ok (view_of all tbs (sha256 signed.whole) signature)
 
 parts_read : (all : List ℕ) (outer : ItemView) → length all ≤ 8192 → Begins (whole_text all) outer × (outer.tag ≡ sequence_tag)
     → Reads (parts_in all outer) (Cert all) (WrongCertificate outer)

@@ -49,14 +49,16 @@ signature_in part = do
 unfoldable pub outer_in : List ℕ → Result ItemView Fault
 outer_in all = if nat_lt 8192 (length all) then Err (fault_at 1 8192) else element_at sequence_tag (whole_text all)
 
--- The values of the certificate that the bytes are: the signed part, the algorithm and the signature, and nothing behind
--- them; or the first fault.
-unfoldable pub read_certificate : List ℕ → Result CertView Fault
-read_certificate all = do
-  certificate ← outer_in all
+-- the values of a certificate's parts: the signed part, the algorithm and the signature, and nothing behind them
+abbrev pub parts_in : List ℕ → ItemView → Result CertView Fault
+parts_in all certificate = do
   signed ← element_at sequence_tag certificate.content
   tbs ← tbs_in signed.content
   signature_at ← behind_text algorithm_text 3 signed.behind
   signature ← signature_in signature_at
   _ended ← ended_at certificate.behind
   Ok (view_of all tbs (sha256 signed.whole) signature)
+
+-- The values of the certificate that the bytes are, or the first fault.
+unfoldable pub read_certificate : List ℕ → Result CertView Fault
+read_certificate all = outer_in all >>= parts_in all
