@@ -13,7 +13,7 @@ use Rattle.delegation.specs.Path.{IsAnchor, Issues, Path, fault_at, find_anchor,
 use Rattle.delegation.specs.PathFaults.{Breaks, BreaksLink, IsFirstFault, IsUnanchored, empty, leaf_use, link, no_anchor, no_issuer, other_name, rank, too_short}
 use Rattle.delegation.specs.Seen.{shape_view}
 use Rattle.std.proofs.lemmas.Slice.Eq.{bytes_eq-Decides}
-use Rattle.delegation.proofs.FaultTests.{clash, find_refused, fits_means, listed_found, not_enough, too_far}
+use Rattle.delegation.proofs.FaultTests.{certifies_not, clash, find_refused, fits_means, listed_found, no_certifier, no_signer, not_enough, signs_not, too_far}
 use Rattle.delegation.proofs.PathLaws.{Linked, last_found, link_found, path_found}
 
 -- ---- places
@@ -46,7 +46,7 @@ within (x ∷ cs) (suc i) c e = let l = within cs i c e in omega (arith, l)
 -- with an issuer nothing is wrong
 pub issues_not : (i : ℕ) (c b : CertView) (kind : ℕ) → Issues (2 + i) c b → BreaksLink i c b kind → ⊥
 issues_not i c b kind s (other_name n e) = n s.names
-issues_not i c b kind s (no_issuer n e) = clash (may_certify c) s.issuer n
+issues_not i c b kind s (no_issuer n e) = clash (may_certify c) s.issuer (certifies_not c n)
 issues_not i c b kind s (too_short most is far e) =
     let same : 2 + i - 2 ≡ i = omega arith in
     let long : is_long_enough c.path_length i ≡ true = subst (λ n. is_long_enough c.path_length n ≡ true) same s.length in
@@ -75,7 +75,7 @@ least_issuer i c b names k (too_short most is far e) = of_kind 3 4 k e (omega ar
 
 least_length : (i : ℕ) (c b : CertView) → c.subject ≡ b.issuer → may_certify c ≡ true → (k : ℕ) → BreaksLink i c b k → rank 4 ≤ rank k
 least_length i c b names may k (other_name n e) = absurd (n names)
-least_length i c b names may k (no_issuer n e) = clash (may_certify c) may n
+least_length i c b names may k (no_issuer n e) = clash (may_certify c) may (certifies_not c n)
 least_length i c b names may k (too_short most is far e) = of_kind 4 4 k e (omega arith)
 
 link_refused : (i : ℕ) (c b : CertView) (fault : PathFault) → link_at (2 + i) b c ≡ Err fault → LinkStops i c b fault
@@ -95,7 +95,7 @@ link_refused i c b fault e = of (bytes_eq c.subject b.issuer) (may_certify c) (i
     of true false z n m l e =
         let made : fault_at 3 (2 + i) ≡ fault = cc in
         let names : c.subject ≡ b.issuer = (bytes_eq-Decides c.subject b.issuer).0 n in
-        record { kind = 3; is = made; breaks = no_issuer m refl; early = omega arith; least = least_issuer i c b names }
+        record { kind = 3; is = made; breaks = no_issuer (no_certifier c m) refl; early = omega arith; least = least_issuer i c b names }
     of false y z n m l e =
         let made : fault_at 2 (2 + i) ≡ fault = cc in
         record {
@@ -219,7 +219,7 @@ links_least : (leaf : CertView) (above anchors : List CertView) (fault : PathFau
     (l : LinkStops s.passed s.upper s.lower fault) → IsLeast (leaf ∷ above) anchors l.kind (2 + s.passed)
 links_least leaf above anchors fault signs s l k p (empty e f g) = absurd cc
 links_least leaf above anchors fault signs s l k p (leaf_use one is n f g) =
-    clash (may_sign leaf) signs (ap may_sign (same_Some leaf one is) ∙ n)
+    clash (may_sign leaf) signs (ap may_sign (same_Some leaf one is) ∙ signs_not one n)
 links_least leaf above anchors fault signs s l k p (link i c b up low x g) = link_or_link leaf above fault s l i c b k p up low x g (order i s.passed)
 links_least leaf above anchors fault signs s l k p (no_anchor n last count is none f g) =
     let inside : suc s.passed < suc n = omega (arith, count, within (leaf ∷ above) (suc s.passed) s.upper s.is_upper) in
@@ -229,7 +229,7 @@ anchor_least : (leaf : CertView) (above anchors : List CertView) → may_sign le
     → IsLeast (leaf ∷ above) anchors 5 (suc (length above))
 anchor_least leaf above anchors signs linked k p (empty e f g) = absurd cc
 anchor_least leaf above anchors signs linked k p (leaf_use one is n f g) =
-    clash (may_sign leaf) signs (ap may_sign (same_Some leaf one is) ∙ n)
+    clash (may_sign leaf) signs (ap may_sign (same_Some leaf one is) ∙ signs_not one n)
 anchor_least leaf above anchors signs linked k p (link i c b up low x g) = absurd (issues_not i c b k (linked i c b up low) x)
 anchor_least leaf above anchors signs linked k p (no_anchor n last count is none f g) =
     inr (omega (arith, count, g), of_kind 5 5 k f (omega arith))
@@ -277,7 +277,7 @@ fault_found (leaf ∷ above) anchors fault e = of (may_sign leaf) refl e
     of true t e = walked (last_of 2 leaf above) refl t e
     of false t e =
         let same : fault_at 6 1 ≡ fault = cc in
-        subst (IsFirst (leaf ∷ above) anchors) same (record { breaks = leaf_use leaf refl t refl refl; least = leaf_least leaf above anchors })
+        subst (IsFirst (leaf ∷ above) anchors) same (record { breaks = leaf_use leaf refl (no_signer leaf t) refl refl; least = leaf_least leaf above anchors })
 
 -- ---- a path has no fault
 
@@ -291,7 +291,7 @@ path_sound chain anchors a path kind place (empty e f g) =
     absurd cc
 path_sound chain anchors a path kind place (leaf_use leaf is n f g) =
     let same : leaf ≡ path.leaf = same_Some leaf path.leaf (sym is ∙ path.is_leaf) in
-    clash (may_sign leaf) (ap may_sign same ∙ path.leaf_use) n
+    clash (may_sign leaf) (ap may_sign same ∙ path.leaf_use) (signs_not leaf n)
 path_sound chain anchors a path kind place (link i c b up low x g) = issues_not i c b kind (path.issued i c b up low) x
 path_sound chain anchors a path kind place (no_anchor n last count is none f g) =
     let other = path.count in

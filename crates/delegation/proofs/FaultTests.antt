@@ -1,20 +1,71 @@
 -- What the tests of a path mean: of path lengths, of key identifiers, of anchors.
-use Rattle.std.proofs.Common.{◌≡◌, ℕ, zero, suc, ◌-◌, ◌<◌, ◌≤◌, ◌⊎◌, inl, inr, Bool, true, false, cond, nat_lt, List, [], ◌∷◌, Option, Some, None, Ok, Err, refl, sym, ap, subst, ◌∙◌, arith, lt-ltb, ltb-true}
+use Rattle.std.proofs.Common.{◌≡◌, ℕ, zero, suc, ◌-◌, ◌*◌, ◌^◌, ◌<◌, ◌≤◌, ◌==◌, ◌⊎◌, inl, inr, Bool, true, false, cond, nat_lt, bit_and, List, [], ◌∷◌, Option, Some, None, Ok, Err, refl, sym, ap, subst, ◌∙◌, arith, lt-ltb, ltb-true}
+use Rattle.std.specs.Int.{bit_at}
 use Rattle.std.specs.List.{slice_get}
 use Rattle.std.specs.Str.{bytes_eq}
 use Rattle.std.proofs.lemmas.Bool.{or_cases, or_left, or_right}
 use Rattle.std.proofs.lemmas.Bool.Decides.{nat_tests}
+use Rattle.std.proofs.lemmas.Nat.Bits.{and_pow, bit_at-lt}
 use Rattle.std.proofs.lemmas.Option.{same_Some}
 use Rattle.std.proofs.lemmas.Slice.Eq.{bytes_eq-Decides}
 use Rattle.x509_profile.specs.View.{CertView}
 use Rattle.delegation.specs.declared.fault.PathFault.{PathFault}
 use Rattle.delegation.specs.Path.{agree, fault_at, find_anchor, first_from, fits, is_listed, is_long_enough, some_anchor}
 use Rattle.delegation.specs.PathFaults.{Fits, IsUnanchored}
+use Rattle.delegation.specs.Usage.{CannotCertify, Lacks, allows, digital_signature, key_cert_sign, may_certify, may_sign}
 
 -- no test passes and fails
 pub clash : {P : Type 0} (t : Bool) → t ≡ true → t ≡ false → P
 clash true e f = absurd cc
 clash false e f = absurd cc
+
+-- ---- key usages
+
+-- a usage isn't among others just where its bit isn't set in them
+unset : (usages bit mask : ℕ) → bit_and usages mask ≡ bit_at usages bit * mask → (bit_and usages mask == mask) ≡ false → bit_at usages bit ≡ 0
+unset usages bit mask e f = of (bit_at usages bit) (bit_at-lt usages bit) e
+  where
+    of : (x : ℕ) → x < 2 → bit_and usages mask ≡ x * mask → x ≡ 0
+    of zero l e = refl
+    of (suc zero) l e =
+        let all : bit_and usages mask ≡ mask = omega (arith, e) in
+        grind (arith, nat_tests, f, all)
+    of (suc (suc x)) l e = absurd (omega (arith, l))
+
+unset_again : (usages bit mask : ℕ) → bit_and usages mask ≡ bit_at usages bit * mask → 0 < mask → bit_at usages bit ≡ 0
+    → (bit_and usages mask == mask) ≡ false
+unset_again usages bit mask e some is =
+    let same : bit_and usages mask ≡ 0 * mask = e ∙ ap (λ x. x * mask) is in
+    let none : bit_and usages mask ≡ 0 = omega (arith, same) in
+    grind (arith, nat_tests, none, some)
+
+lacks : (bit : ℕ) (c : CertView) (given : Option ℕ) → c.usage ≡ given → allows given (2 ^ bit) ≡ false → Lacks bit c
+lacks bit c None is e = absurd cc
+lacks bit c (Some usages) is e = (usages, is, unset usages bit (2 ^ bit) (and_pow usages bit) e)
+
+lacks_again : (bit : ℕ) (c : CertView) → 0 < 2 ^ bit → Lacks bit c → allows c.usage (2 ^ bit) ≡ false
+lacks_again bit c some (usages, is, none) = rw is (unset_again usages bit (2 ^ bit) (and_pow usages bit) some none)
+
+pub no_signer : (leaf : CertView) → may_sign leaf ≡ false → Lacks digital_signature leaf
+no_signer leaf e = lacks digital_signature leaf leaf.usage refl e
+
+pub signs_not : (leaf : CertView) → Lacks digital_signature leaf → may_sign leaf ≡ false
+signs_not leaf n = lacks_again digital_signature leaf (omega arith) n
+
+pub no_certifier : (c : CertView) → may_certify c ≡ false → CannotCertify c
+no_certifier c e = of c.is_ca refl e
+  where
+    of : (t : Bool) → c.is_ca ≡ t → cond t (allows c.usage 0x0020) false ≡ false → CannotCertify c
+    of true is e = inr (lacks key_cert_sign c c.usage refl e)
+    of false is e = inl is
+
+pub certifies_not : (c : CertView) → CannotCertify c → may_certify c ≡ false
+certifies_not c (inl other) = rw other refl
+certifies_not c (inr n) = of c.is_ca
+  where
+    of : (t : Bool) → cond t (allows c.usage 0x0020) false ≡ false
+    of true = lacks_again key_cert_sign c (omega arith) n
+    of false = refl
 
 -- ---- path lengths
 

@@ -1,9 +1,9 @@
 -- Why certificates are no path up to a trust anchor: what may be wrong at one of them, and which of all that is wrong comes first (RFC 5280,
 -- section 6.1; the numbers of the kinds and their order are this project's own). Certificates count from 1, the leaf first.
-use Rattle.std.specs.Prelude.{◌≡◌, ◌≢◌, ◌⊎◌, ℕ, suc, ◌+◌, ◌<◌, ◌≤◌, ◌==◌, false, List, [], length, Some, if◌then◌else◌}
+use Rattle.std.specs.Prelude.{◌≡◌, ◌≢◌, ◌⊎◌, ℕ, suc, ◌+◌, ◌<◌, ◌≤◌, ◌==◌, List, [], length, Some, if◌then◌else◌}
 use Rattle.std.specs.List.{slice_get}
 use Rattle.x509_profile.specs.View.{CertView}
-use Rattle.delegation.specs.Usage.{may_certify, may_sign}
+use Rattle.delegation.specs.Usage.{CannotCertify, Lacks, digital_signature}
 
 -- ---- what may be wrong
 
@@ -11,7 +11,7 @@ use Rattle.delegation.specs.Usage.{may_certify, may_sign}
 -- byte (section 6.1.3 (a)(4)); it may not certify others (section 6.1.4 (k) and (n)); its path length is below their number (section 4.2.1.9).
 pub data BreaksLink (between : ℕ) (c below : CertView) (kind : ℕ) : Type 0 where
   other_name : c.subject ≢ below.issuer → kind ≡ 2 → BreaksLink between c below kind
-  no_issuer : may_certify c ≡ false → kind ≡ 3 → BreaksLink between c below kind
+  no_issuer : CannotCertify c → kind ≡ 3 → BreaksLink between c below kind
   too_short : (most : ℕ) → c.path_length ≡ Some most → most < between → kind ≡ 4 → BreaksLink between c below kind
 
 -- An anchor may be the issuer of the last certificate, below which so many stand: its subject is that one's issuer, its path length is at
@@ -29,7 +29,7 @@ IsUnanchored below last anchors =
 -- What is wrong at a certificate, by the kind's number. Places in the list count from 0, so certificate 2 + i stands above i + 1 others.
 pub data Breaks (chain anchors : List CertView) (kind place : ℕ) : Type 0 where
   empty : chain ≡ [] → kind ≡ 1 → place ≡ 0 → Breaks chain anchors kind place
-  leaf_use : (leaf : CertView) → slice_get chain 0 ≡ Some leaf → may_sign leaf ≡ false → kind ≡ 6 → place ≡ 1 → Breaks chain anchors kind place
+  leaf_use : (leaf : CertView) → slice_get chain 0 ≡ Some leaf → Lacks digital_signature leaf → kind ≡ 6 → place ≡ 1 → Breaks chain anchors kind place
   link : (i : ℕ) (c below : CertView) → slice_get chain (suc i) ≡ Some c → slice_get chain i ≡ Some below → BreaksLink i c below kind
       → place ≡ 2 + i → Breaks chain anchors kind place
   no_anchor : (below : ℕ) (last : CertView) → length chain ≡ suc below → slice_get chain below ≡ Some last → IsUnanchored below last anchors
