@@ -9,7 +9,7 @@ use Rattle.der_reader.specs.Integer.{IntegerText, integer_content, unsigned_of}
 use Rattle.der_reader.specs.Part.{ItemView, PartView, at_kind, element_at, end_at, or_fault}
 use Rattle.der_reader.specs.declared.fault.DerFault.{DerFault}
 use Rattle.der_reader.specs.declared.part.Fault.{Fault}
-use Rattle.der_reader.specs.Tags.{integer_tag, sequence_tag}
+use Rattle.der_reader.specs.Tags.{ia5_string_tag, integer_tag, sequence_tag}
 use Rattle.der_reader.proofs.BrokenLaws.{Tells, element_tells, end_tells, same_fault, through_tells, value_tells}
 use Rattle.der_reader.proofs.IntegerLaws.{unsigned_again, unsigned_found}
 use Rattle.der_reader.proofs.IntegerTexts.{integer_is_text, integer_short, integer_text_is}
@@ -34,7 +34,7 @@ unfolding is_number
 number_short text e = grind (arith, nat_tests)
 
 string_length : (text : List ℕ) → length text ≤ 32 → length (string_text text) ≤ 34
-string_length text l = omega (arith, element_length 22 text (omega (arith, l)), l)
+string_length text l = omega (arith, element_length ia5_string_tag text (omega (arith, l)), l)
 
 -- what a range is
 is_range : (span : SpanView) → is_entry (Range span) ≡ true
@@ -51,8 +51,8 @@ span_length span e =
       arith,
       start,
       count,
-      element_length 22 span.start (omega (arith, start)),
-      element_length 2 (integer_content span.size) (omega (arith, count)),
+      element_length ia5_string_tag span.start (omega (arith, start)),
+      element_length integer_tag (integer_content span.size) (omega (arith, count)),
       length-append (string_text span.start) (integer_text span.size),
     )
 
@@ -61,7 +61,7 @@ content_length (Code text) e = string_length text (code_parts text e).short
 content_length (Single number) e = string_length number (number_short number e)
 content_length (Range span) e =
     let short = span_length span e in
-    omega (arith, short, element_length 48 (span_text span) (omega (arith, short)))
+    omega (arith, short, element_length sequence_tag (span_text span) (omega (arith, short)))
 
 -- ---- the IA5String of a text
 
@@ -81,24 +81,24 @@ string_found : (passes : List ℕ → Bool) (fault_at : ℕ → Fault) (make : L
     → (text : List ℕ) × (make text ≡ entry) × (part.left ≡ string_text text) × (passes text ≡ true)
 unfolding string_in
 string_found passes fault_at make part entry b e =
-    let a = came (element_at 22 part) _ entry e in
+    let a = came (element_at ia5_string_tag part) _ entry e in
     let c = came (or_fault (cond (passes a.0.content.left) (Some a.0.content.left) None) (fault_at a.0.place)) _ entry a.2 in
     let end = ended a.0.behind (make c.0) entry c.2 in
     let is = cond_some _ a.0.content.left c.0 (there _ _ c.0 c.1) in
-    (c.0, end.1, known 22 part a.0 c.0 (element_found 22 part a.0 b a.1) end.0 is.1, sym (ap passes is.1) ∙ is.0)
+    (c.0, end.1, known ia5_string_tag part a.0 c.0 (element_found ia5_string_tag part a.0 b a.1) end.0 is.1, sym (ap passes is.1) ∙ is.0)
 
 string_again : (passes : List ℕ → Bool) (fault_at : ℕ → Fault) (make : List ℕ → Entry) (part : PartView) (text : List ℕ)
     → part.left ≡ string_text text → passes text ≡ true → length text ≤ 32 → string_in passes fault_at make part ≡ Ok (make text)
 unfolding string_in
 string_again passes fault_at make part text e p l =
-    after (element_at 22 part) (standing 22 text [] part.place) _ _ (alone 22 part text e (λ e. omega (arith, e)) (omega (arith, l)))
-    (rw p (ends (standing 22 text [] part.place).behind (make text) refl))
+    after (element_at ia5_string_tag part) (standing ia5_string_tag text [] part.place) _ _ (alone ia5_string_tag part text e (λ e. omega (arith, e)) (omega (arith, l)))
+    (rw p (ends (standing ia5_string_tag text [] part.place).behind (make text) refl))
 
 string_tells : (passes : List ℕ → Bool) (kind : ℕ) (make : List ℕ → Entry) (part : PartView) → AllBytes part.left
     → Tells (string_in passes (at_kind kind) make part) (WrongString (λ string. passes string.content.left ≡ true) kind part)
 unfolding string_in
 string_tells passes kind make part b =
-    element_tells 22 part _ _ b (λ string begins tag.
+    element_tells ia5_string_tag part _ _ b (λ string begins tag.
     value_tells (cond (passes string.content.left) (Some string.content.left) None) string kind (λ text. end_at string.behind (make text))
     (λ string. passes string.content.left ≡ true) (Behind LeftOver)
     (λ text e. ((cond_some _ string.content.left text e).0, end_tells string.behind (make text))) (λ good. (string.content.left, rw good refl)))
@@ -135,13 +135,13 @@ counted_again start tag content count t digits text l u =
 span_found : (part : PartView) (span : SpanView) → AllBytes part.left → span_in part ≡ Ok span → IsSpanOf part.left span
 unfolding span_in
 span_found part span b e =
-    let a = came (element_at 22 part) _ span e in
+    let a = came (element_at ia5_string_tag part) _ span e in
     let s = came (or_fault (start_of a.0.content.left) (no_number_at a.0.place)) _ span a.2 in
     let i = came (element_at integer_tag a.0.behind) _ span s.2 in
     let c = came (or_fault (counted s.0 (unsigned_of i.0.tag i.0.content.left)) (no_count_at i.0.place)) _ span i.2 in
     let end = ended i.0.behind c.0 span c.2 in
-    let string = element_found 22 part a.0 b a.1 in
-    let integer = element_found 2 a.0.behind i.0 string.0.behind_bytes i.1 in
+    let string = element_found ia5_string_tag part a.0 b a.1 in
+    let integer = element_found integer_tag a.0.behind i.0 string.0.behind_bytes i.1 in
     let start = start_found a.0.content.left s.0 (there _ _ s.0 s.1) in
     let count = counted_found s.0 i.0.tag i.0.content.left c.0 (there _ _ c.0 c.1) in
     let text : a.0.content.left ≡ c.0.start = start.0 ∙ count.0 in
@@ -149,7 +149,7 @@ span_found part span b e =
     let is : is_entry (Range c.0) ≡ true =
     grind (arith, nat_tests, sym (ap are_digits text) ∙ start.2, sym (ap is_number text) ∙ start.1, count.2, count.3) in
     subst (IsSpanOf part.left) end.1 (
-      begins_text 22 part a.0 string ∙ ap (λ r. string_text a.0.content.left ++ r) (known 2 a.0.behind i.0 (integer_content c.0.size) integer end.0 content)
+      begins_text ia5_string_tag part a.0 string ∙ ap (λ r. string_text a.0.content.left ++ r) (known integer_tag a.0.behind i.0 (integer_content c.0.size) integer end.0 content)
           ∙ ap (λ t. string_text t ++ integer_text c.0.size) text,
       is,
     )
@@ -158,24 +158,24 @@ span_again : (part : PartView) (span : SpanView) → part.left ≡ span_text spa
 unfolding span_in
 span_again part span e is =
     let r = is_range span is in
-    let string : ItemView = standing 22 span.start (integer_text span.size) part.place in
-    let integer : ItemView = standing 2 (integer_content span.size) [] string.behind.place in
-    after (element_at 22 part) string _ _
-    (stands 22 part span.start (integer_text span.size) e (λ e. omega (arith, e)) (omega (arith, number_short span.start r.0)))
+    let string : ItemView = standing ia5_string_tag span.start (integer_text span.size) part.place in
+    let integer : ItemView = standing integer_tag (integer_content span.size) [] string.behind.place in
+    after (element_at ia5_string_tag part) string _ _
+    (stands ia5_string_tag part span.start (integer_text span.size) e (λ e. omega (arith, e)) (omega (arith, number_short span.start r.0)))
     (rw (r.1, r.0)
     (after (element_at integer_tag string.behind) integer _ _
     (alone integer_tag string.behind (integer_content span.size) refl (λ e. omega (arith, e)) (omega (arith, integer_short span.size r.3)))
-    (rw (counted_again span.start 2 (integer_content span.size) span.size refl r.1 (integer_is_text span.size) r.2 r.3)
+    (rw (counted_again span.start integer_tag (integer_content span.size) span.size refl r.1 (integer_is_text span.size) r.2 r.3)
     (ends integer.behind span refl))))
 
 span_tells : (part : PartView) → AllBytes part.left → Tells (span_in part) (WrongSpan part)
 unfolding span_in
 span_tells part b =
-    element_tells 22 part _ _ b (λ string begins tag.
+    element_tells ia5_string_tag part _ _ b (λ string begins tag.
     value_tells (start_of string.content.left) string 4 _ IsStart (Behind WrongCount) (λ start e.
     let s = start_found string.content.left start e in (
       (s.1, s.2),
-      element_tells 2 string.behind _ _ begins.behind_bytes (λ integer begins tag.
+      element_tells integer_tag string.behind _ _ begins.behind_bytes (λ integer begins tag.
           value_tells (counted start (unsigned_of integer.tag integer.content.left)) integer 5 (λ span. end_at integer.behind span) IsCount (Behind LeftOver)
           (λ span e. let c = counted_found start integer.tag integer.content.left span e in ((span.size, c.1, c.2, c.3), end_tells integer.behind span))
           (λ good. (_, counted_again start integer.tag integer.content.left good.0 tag (sym (ap are_digits s.0) ∙ s.2) good.1 good.2 good.3))),
@@ -189,22 +189,22 @@ range_found part entry b e =
     let a = came (element_at sequence_tag part) _ entry e in
     let s = came (span_in a.0.content) _ entry a.2 in
     let end = ended a.0.behind (Range s.0) entry s.2 in
-    let sequence = element_found 48 part a.0 b a.1 in
+    let sequence = element_found sequence_tag part a.0 b a.1 in
     let span = span_found a.0.content s.0 sequence.0.content_bytes s.1 in
-    (s.0, end.1, known 48 part a.0 (span_text s.0) sequence end.0 span.0, span.1)
+    (s.0, end.1, known sequence_tag part a.0 (span_text s.0) sequence end.0 span.0, span.1)
 
 range_again : (part : PartView) (span : SpanView) → part.left ≡ element_text sequence_tag (span_text span) → is_entry (Range span) ≡ true
     → range_in part ≡ Ok (Range span)
 unfolding range_in
 range_again part span e is =
-    let sequence : ItemView = standing 48 (span_text span) [] part.place in
+    let sequence : ItemView = standing sequence_tag (span_text span) [] part.place in
     after (element_at sequence_tag part) sequence _ _ (alone sequence_tag part (span_text span) e (λ e. omega (arith, e)) (omega (arith, span_length span is)))
     (after (span_in sequence.content) span _ _ (span_again sequence.content span refl is) (ends sequence.behind (Range span) refl))
 
 range_tells : (part : PartView) → AllBytes part.left → Tells (range_in part) (WrongRange part)
 unfolding range_in
 range_tells part b =
-    element_tells 48 part _ _ b (λ sequence begins tag.
+    element_tells sequence_tag part _ _ b (λ sequence begins tag.
     through_tells (span_in sequence.content) sequence.content (λ span. end_at sequence.behind (Range span)) WrongSpan (λ text. (span : SpanView) × IsSpanOf text span) (LeftOver sequence.behind)
     (span_tells sequence.content begins.content_bytes)
     (λ span e. ((span, span_found sequence.content span begins.content_bytes e), end_tells sequence.behind (Range span)))
@@ -251,8 +251,8 @@ either_tells false Yes No r s Wrong Other passes fails told other fault =
 pub entry_tells : (item : ItemView) → AllBytes item.content.left → Tells (entry_in item) (WrongEntry item)
 unfolding entry_in
 entry_tells item b =
-    by 160 _ _ _ _ (string_tells is_code 3 Code item.content b) (by 161 _ _ _ _ (range_tells item.content b)
-    (by 162 _ _ _ _ (string_tells is_number 4 Single item.content b) (fault_tells (at_kind 1 item.place))))
+    by code_tag _ _ _ _ (string_tells is_code 3 Code item.content b) (by range_tag _ _ _ _ (range_tells item.content b)
+    (by single_tag _ _ _ _ (string_tells is_number 4 Single item.content b) (fault_tells (at_kind 1 item.place))))
   where
     by : (tag : ℕ) (r s : Result Entry Fault) (Wrong Other : Fault → Type 0) → Tells r Wrong → Tells s Other
         → Tells (cond (item.tag == tag) r s) (λ fault. ((item.tag ≡ tag) × Wrong fault) ⊎ ((item.tag ≢ tag) × Other fault))

@@ -198,10 +198,10 @@ list_found bytes entries b e =
     let a = came (element_at sequence_tag (whole_text bytes)) _ entries e in
     let c = came (content_entries a.0.content) _ entries a.2 in
     let end = ended a.0.behind c.0 entries c.2 in
-    let list = element_found 48 (whole_text bytes) a.0 b a.1 in
+    let list = element_found sequence_tag (whole_text bytes) a.0 b a.1 in
     let is = content_found a.0.content c.0 list.0.content_bytes c.1 in
     subst (ListText bytes) end.1 (record {
-      text = known 48 (whole_text bytes) a.0 (flat_map entry_text c.0) list end.0 is.0;
+      text = known sequence_tag (whole_text bytes) a.0 (flat_map entry_text c.0) list end.0 is.0;
       some = is.1;
       most = is.2;
       each = is.3;
@@ -212,10 +212,10 @@ pub list_again : (bytes : List ℕ) (entries : List Entry) → ListText bytes en
 unfolding read_list
 list_again bytes entries t =
     let content : List ℕ = flat_map entry_text entries in
-    let list : ItemView = standing 48 content [] 0 in
+    let list : ItemView = standing sequence_tag content [] 0 in
     let size : length content < 65536 = omega (arith, entries_length entries t.each, t.most) in
     rw (t.text ∙ sym (append-nil (element_text sequence_tag content)))
-    (after (element_at sequence_tag (whole_text (element_text sequence_tag content ++ []))) list _ _ (element_again 48 content [] 0 (λ e. omega (arith, e)) size)
+    (after (element_at sequence_tag (whole_text (element_text sequence_tag content ++ []))) list _ _ (element_again sequence_tag content [] 0 (λ e. omega (arith, e)) size)
     (after (content_entries list.content) entries _ _ (content_again list.content entries (refl, t.some, t.most, t.each))
     (ends list.behind entries refl)))
 
@@ -223,7 +223,7 @@ list_again bytes entries t =
 pub list_tells : (bytes : List ℕ) → AllBytes bytes → Tells (read_list bytes) (Refused bytes)
 unfolding read_list
 list_tells bytes b =
-    element_tells 48 (whole_text bytes) _ _ b (λ list begins tag.
+    element_tells sequence_tag (whole_text bytes) _ _ b (λ list begins tag.
     through_tells (content_entries list.content) list.content (λ entries. end_at list.behind entries) WrongContent (λ text. (entries : List Entry) × IsContentOf text entries) (LeftOver list.behind)
     (content_tells list.content begins.content_bytes)
     (λ entries e. ((entries, content_found list.content entries begins.content_bytes e), end_tells list.behind entries))
@@ -241,7 +241,7 @@ one_list bytes a b s t = inside a b (sym (list_again bytes a s) ∙ list_again b
 
 -- what is wrong with the SEQUENCE that the bytes begin with, or behind it
 wrong_list : (bytes content rest : List ℕ) (fault : Fault) → bytes ≡ element_text sequence_tag content ++ rest → length content < 65536
-    → Within WrongContent (λ text. (entries : List Entry) × IsContentOf text entries) (Behind LeftOver) (standing 48 content rest 0) fault → Refused bytes fault
+    → Within WrongContent (λ text. (entries : List Entry) × IsContentOf text entries) (Behind LeftOver) (standing sequence_tag content rest 0) fault → Refused bytes fault
 wrong_list bytes content rest fault text size wrong = inr (record {
   element = record { tag = sequence_tag; whole = element_text sequence_tag content; content = content };
   rest = rest;
