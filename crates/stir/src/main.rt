@@ -2,13 +2,13 @@
 #![tactic(auto)]
 
 use std::alloc::Global;
-use std::io::ErrorKind;
+use std::io::{BufReader, ErrorKind};
 use std::process::ExitCode;
 use std::{env, io};
 use stir_cmd::run;
 use stir_outside::{FileShelf, Sink, StdinSource, StdoutSink, write_whole};
 
-/// The line for want of memory, where not even the words could be held.
+/// The line for want of memory, where not even the words or the block of the input could be held.
 const NO_MEMORY: &[u8] = b"want of memory\n";
 
 /// The status for want of memory.
@@ -22,15 +22,19 @@ fn main(rt: HostRuntime) -> ExitCode {
     let mut sink = StdoutSink::new(rt.stdout());
     let args = match arguments(&rt) {
         Ok(args) => args,
-        Err(error) if error.kind() == ErrorKind::OutOfMemory => return without_words(&mut sink),
+        Err(error) if error.kind() == ErrorKind::OutOfMemory => return without_memory(&mut sink),
         // Words that are no text are refused, as no words at all are.
         Err(_) => Vec::new(rt.alloc()),
     };
     let Ok(words) = words_of(rt.alloc(), args.as_slice()) else {
-        return without_words(&mut sink);
+        return without_memory(&mut sink);
     };
     let mut shelf = FileShelf::new(rt);
-    let mut input = StdinSource::new(rt.stdin());
+    // The log is read a byte at a time, so the standard input is read ahead in blocks.
+    let Ok(ahead) = BufReader::new(rt.alloc(), rt.stdin()) else {
+        return without_memory(&mut sink);
+    };
+    let mut input = StdinSource::new(ahead);
     let status = run(
         &rt,
         rt.alloc(),
@@ -42,8 +46,8 @@ fn main(rt: HostRuntime) -> ExitCode {
     ExitCode::from(status)
 }
 
-/// Says that the words couldn't be held for want of memory.
-fn without_words<O: Sink>(sink: &mut O) -> ExitCode {
+/// Says that memory ran out before anything was read.
+fn without_memory<O: Sink>(sink: &mut O) -> ExitCode {
     match write_whole(sink, NO_MEMORY) {
         Ok(()) => ExitCode::from(MEMORY),
         Err(_) => ExitCode::from(SINK_FAILED),

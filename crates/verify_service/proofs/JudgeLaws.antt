@@ -1,9 +1,8 @@
 -- What comes of a call by itself, from its verdict.
-use Rattle.std.proofs.Common.{◌≡◌, ℕ, zero, suc, ◌≤◌, Bool, true, false, ◌⊎◌, inl, inr, List, [], ◌∷◌, Option, Some, None, Result, Ok, Err, unwrap_or, refl, ap, sym, ◌∙◌, subst}
-use Rattle.std.specs.List.{list_any, slice_get}
+use Rattle.std.proofs.Common.{◌≡◌, ℕ, ◌≤◌, Bool, true, false, ◌⊎◌, inl, inr, List, [], Option, Some, None, Result, Ok, Err, unwrap_or, refl, ap, sym, ◌∙◌, subst}
+use Rattle.std.specs.List.{list_any}
 use Rattle.std.specs.Option.{option_map}
-use Rattle.std.proofs.lemmas.Bool.{or_left, or_right}
-use Rattle.std.proofs.lemmas.Option.{same_Some}
+use Rattle.std.proofs.lemmas.Map.Keys.{any_passes_from_place}
 use Rattle.cert_store.specs.Rules.{Says}
 use Rattle.delegation.specs.Coverage.{Table}
 use Rattle.stir_outside.specs.Count.{Rose}
@@ -33,14 +32,6 @@ use Rattle.stir_outside.proofs.CountLaws.{rose_then, then_rose}
 false_is_not_true : false ≡ true → ⊥
 false_is_not_true e = cc
 
-not_none : {A : Type 0} → (a : A) → ◌≡◌ {A = Option A} None (Some a) → ⊥
-not_none a e = cc
-
-pub any_at : {A : Type 0} → (p : A → Bool) (xs : List A) (i : ℕ) (x : A) → slice_get xs i ≡ Some x → p x ≡ true → list_any p xs ≡ true
-any_at p [] i x at is = absurd (not_none x at)
-any_at p (a ∷ xs) zero x at is = or_left (p a) (list_any p xs) (ap p (same_Some a x at) ∙ is)
-any_at p (a ∷ xs) (suc i) x at is = or_right (p a) (list_any p xs) (any_at p xs i x at is)
-
 -- ---- a chain that isn't known
 
 -- a call is unread only where one of its chains isn't known
@@ -49,7 +40,7 @@ chain_unread : (readings : List Reading) (states : List State) (faults faults_no
 chain_unread readings states faults faults_now verdict (found.Refused refused) caused is set_aside = absurd (false_is_not_true set_aside)
 chain_unread readings states faults faults_now verdict (found.Unread bad) caused is set_aside =
     let here : IsUnknownAt readings states bad = subst (λ (v : Verdict). IsCaused readings states faults faults_now v) is caused in
-    any_at is_unread states here.at unread here.chain refl
+    any_passes_from_place is_unread states here.at unread here.chain refl
 chain_unread readings states faults faults_now verdict (found.Unasked bad) caused is set_aside = absurd (false_is_not_true set_aside)
 chain_unread readings states faults faults_now verdict (found.Passes pass) caused is set_aside = absurd (false_is_not_true set_aside)
 
@@ -62,7 +53,7 @@ unread_cause readings states faults faults_now verdict finding caused is before 
 -- ---- a question that failed
 
 left_open : (readings : List Reading) (states : List State) (bad : Place) → IsLeftOpen readings states bad → list_any is_unasked states ≡ true
-left_open readings states bad open_at = any_at is_unasked states open_at.at (have open_at.judged) open_at.chain (ap is_failed open_at.failed)
+left_open readings states bad open_at = any_passes_from_place is_unasked states open_at.at (have open_at.judged) open_at.chain (ap is_failed open_at.failed)
 
 open_or_rose : (readings : List Reading) (states : List State) (bad : Place) (faults faults_now : ℕ) → IsLeftOpen readings states bad ⊎ HasFailed faults faults_now bad
     → (list_any is_unasked states ≡ true) ⊎ Rose faults faults_now
