@@ -113,26 +113,12 @@ fn key() -> [u8; 65] {
 
 /// Lines that confirm a signature by the key for digests that are numbers.
 fn answer_lines(alloc: Global) -> Result<String, AllocError> {
-    let mut front = String::from_str(alloc, "confirm 04")?;
-    front.push_str(repeated(alloc, "ab", 64)?.as_str())?;
-    front.push(' ')?;
-    front.push_str(repeated(alloc, "00", 28)?.as_str())?;
-    let mut back = String::from_str(alloc, " ")?;
-    back.push_str(repeated(alloc, "f1", 64)?.as_str())?;
-    back.push('\n')?;
+    let key = hex::encode(alloc, &key())?;
+    let zeros = hex::encode(alloc, &[0; 28])?;
+    let signature = hex::encode(alloc, &SIGNATURE)?;
     let mut text = String::new(alloc);
     for number in 0..ANSWER_LINES {
-        text.push_str(front.as_str())?;
-        write!(text, "{number:08x}")?;
-        text.push_str(back.as_str())?;
-    }
-    Ok(text)
-}
-
-fn repeated(alloc: Global, piece: &str, times: u32) -> Result<String, AllocError> {
-    let mut text = String::new(alloc);
-    for _ in 0..times {
-        text.push_str(piece)?;
+        writeln!(text, "confirm {key} {zeros}{number:08x} {signature}")?;
     }
     Ok(text)
 }

@@ -7,18 +7,8 @@ mod adapters;
 #[cfg(test)]
 mod answers;
 #[cfg(test)]
-mod devices;
-#[cfg(test)]
-mod gates;
-#[cfg(test)]
 mod large;
 #[cfg(test)]
+mod memory;
+#[cfg(test)]
 mod numbers;
-#[cfg(test)]
-mod rows;
-#[cfg(test)]
-mod runs;
-#[cfg(test)]
-mod transfers;
-#[cfg(test)]
-mod world;

@@ -2,29 +2,12 @@
 
 use crate::answer::Answer;
 use crate::chains::numbers_of;
+use crate::devices::Drip;
 use crate::table::Unread;
 use crate::words::joined;
 use call_log::{Call, LogFault, LogReader};
 use std::alloc::Global;
-use stir_outside::{Failed, Source, SourceMem};
-
-/// A source that gives one byte a read.
-#[derive(Drop)]
-struct Drip {
-    source: SourceMem,
-}
-
-impl Source for Drip {
-    ghost use Rattle.std.specs.Prelude.{Some};
-
-    ghost left = { λ s. Some s.source.left };
-
-    ghost faults = { λ s. s.source.faults };
-
-    fn read(&mut self, buf: &mut [u8]) -> Result<usize, Failed> {
-        self.source.read(&mut buf[..1])
-    }
-}
+use stir_outside::SourceMem;
 
 /// What a call answers.
 pub fn answer(alloc: Global, call: &str, words: &[&[u8]]) -> Result<String, Unread> {

@@ -10,14 +10,17 @@ mod chains;
 mod claims;
 mod commands;
 mod der;
+mod devices;
 mod identity;
 mod log;
 mod messages;
 mod numbers;
 mod order;
+mod outside;
 mod paths;
 mod rounds;
 mod rules;
+mod runs;
 mod signing;
 mod table;
 mod text;
@@ -102,10 +105,11 @@ fn answered<T: Threads + Sync>(
         } => {
             let arguments = names.arguments(alloc, words)?;
             let words = slices(alloc, arguments.as_slice())?;
-            if subject == "rounds" {
-                return rounds::answer(threads, alloc, call, words.as_slice());
+            match subject {
+                "rounds" => rounds::answer(threads, alloc, call, words.as_slice()),
+                "runs" => runs::answer(threads, alloc, call, words.as_slice()),
+                _ => called(alloc, subject, call, words.as_slice()),
             }
-            called(alloc, subject, call, words.as_slice())
         }
     }
 }
@@ -160,6 +164,7 @@ fn called_of_calls(
         "chains" => chains::answer(alloc, call, words),
         "answers" => answers::answer(alloc, call, words),
         "log" => log::answer(alloc, call, words),
+        "outside" => outside::answer(alloc, call, words),
         "rules" => rules::answer(alloc, call, words),
         "verdicts" => verdicts::answer(alloc, call, words),
         "signing" => signing::answer(alloc, call, words),

@@ -9,7 +9,7 @@ use crate::table::Unread;
 use crate::words::files_of;
 use std::alloc::Global;
 use std::thread::Threads;
-use stir_outside::{AnswerProvider, NoGate, ShelfMem, SourceMem};
+use stir_outside::{AnswerProvider, Gate, ShelfMem, SourceMem};
 use verify_rules::Settings;
 use verify_service::{Call, LogReader, Outcome, Service, Worker, World, report_line};
 
@@ -22,8 +22,41 @@ pub fn answer<R: Threads + Sync>(
 ) -> Result<String, Unread> {
     match call {
         "report" => report(rt, alloc, words),
+        "gate" => passed(rt, alloc, words),
         _ => Err(Unread::Call),
     }
+}
+
+/// A gate that notes who passes and with which call, in order.
+#[derive(Drop)]
+struct Notes {
+    passed: Vec<(u8, u32)>,
+}
+
+impl Gate for Notes {
+    fn at(&mut self, worker: u8, call: u32) {
+        let _ = self.passed.push((worker, call));
+    }
+}
+
+/// The workers that passed the gate, counted from 0, each with the number of the call, where a log was judged in rounds.
+fn passed<R: Threads + Sync>(rt: &R, alloc: Global, words: &[&[u8]]) -> Result<String, Unread> {
+    let [rounds, log, world @ ..] = words else {
+        return Err(Unread::Call);
+    };
+    let answers = answers_of(alloc, b"")?;
+    let rounds = numbers_of(alloc, rounds)?;
+    let provider = answers.provider(&[])?;
+    let mut case = Case::new(alloc, world, Vec::new(alloc), provider)?;
+    let log = Vec::from_slice(alloc, log)?;
+    let _ = case.report(rt, alloc, log, rounds.as_slice())?;
+    let mut answer = Answer::new(alloc);
+    for worker in &case.workers {
+        for (who, call) in &worker.gate.passed {
+            answer = answer.word(*who).word(*call);
+        }
+    }
+    answer.line()
 }
 
 /// The report of a log, cut into rounds, where some calls of the provider and some reads of the shelf fail.
@@ -45,7 +78,7 @@ fn report<R: Threads + Sync>(rt: &R, alloc: Global, words: &[&[u8]]) -> Result<S
 #[derive(Drop)]
 struct Case<'a> {
     service: Service,
-    workers: Vec<Worker<AnswerProvider<'a>, NoGate>>,
+    workers: Vec<Worker<AnswerProvider<'a>, Notes>>,
     shelf: ShelfMem,
 }
 
@@ -67,7 +100,10 @@ impl<'a> Case<'a> {
         };
         let service = service_of(alloc, world)?;
         let mut workers = Vec::new(alloc);
-        workers.push(Worker::new(alloc, provider, NoGate))?;
+        let gate = Notes {
+            passed: Vec::new(alloc),
+        };
+        workers.push(Worker::new(alloc, provider, gate))?;
         let shelf = ShelfMem::new(files_of(alloc, files)?, reads);
         Ok(Case {
             service,
