@@ -87,14 +87,16 @@ def rows():
         yield run("1 1 x:", words, f"{LOG} {EMPTY}", one(2, "words refused\n", 11))
     yield comment("The calls that are whole before a read fails are reported, and no byte is taken behind that.")
     yield case("each_read", VERIFY, f"{LOG} {EMPTY}", each_read(CALLS, 1))
-    for read, said in ((1, ""), (7, CALLS[0][1]), (12, report)):
+    for read in range(1, 13):
+        said = "".join(line for end, line in CALLS if end < read)
         yield run(f"x: {read} x:", VERIFY, f"{LOG} {EMPTY}", one(3, said + READ_FAULT, 12 - read, 0, 1, 0))
     yield comment("Where a write fails a front of the report stands.")
     yield case("each_write", VERIFY, f"{LOG} {EMPTY}", each_write(report, 1))
     yield run(f"5 13 {len(report) + 1}", VERIFY, f"{LOG} {EMPTY}", one(1, report, 0))
     yield comment("Where a named file can't be read nothing is taken of the log.")
     yield case("each_file", VERIFY, f"{LOG} {EMPTY}", runs(NAMED, (1, report)))
-    yield run("2 1 x:", VERIFY, f"{LOG} {EMPTY}", one(3, "read fault a\n", 11, 1, 0, 0))
+    for read, (status, said) in enumerate(NAMED, 1):
+        yield run(f"{read} 1 x:", VERIFY, f"{LOG} {EMPTY}", one(status, said, 11, 1, 0, 0))
     yield comment("A call is set aside where the file of its chain can't be read; where it isn't there, rule 10 is broken.")
     files = "c u\\sf\\n a x: t x: w x:"
     yield f"COMPACT_ENTRY = {COMPACT}", "COMPACT_ENTRY ="

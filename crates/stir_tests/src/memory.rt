@@ -1,8 +1,11 @@
-//! The shelf in memory and the source in memory that gives a byte a read.
+//! The memory forms of the outside by themselves, and transfers with them that go in blocks.
 
 use crate::adapters::holds;
 use std::test::Fail;
-use stir_outside::{Shelf, ShelfFault, ShelfMem, SlowMem, Source, read_up_to};
+use stir_outside::{
+    Failed, Shelf, ShelfFault, ShelfMem, SinkMem, SlowMem, Source, SourceMem, read_up_to,
+    write_whole,
+};
 
 #[test]
 fn shelf_in_memory_answers_by_name_and_limit(rt: HostRuntime) -> Result<(), Fail> {
@@ -20,6 +23,20 @@ fn shelf_in_memory_answers_by_name_and_limit(rt: HostRuntime) -> Result<(), Fail
         (shelf.reads(), shelf.misses(), shelf.longs(), shelf.faults()),
         (2, 1, 1, 1)
     );
+    Ok(())
+}
+
+#[test]
+fn transfers_go_in_blocks(rt: HostRuntime) -> Result<(), Fail> {
+    let alloc = rt.alloc();
+    let mut source = SourceMem::new(b"abcdef".to_vec(alloc)?, Vec::new(alloc));
+    let mut bytes = b"_".to_vec(alloc)?;
+    assert!(rt; read_up_to(&mut source, &mut bytes, 3) == Ok(()));
+    assert_eq!(rt; bytes.as_slice(), b"_ab".as_slice());
+    let mut sink = SinkMem::new(alloc, Vec::new(alloc));
+    sink.reserve(2)?;
+    assert!(rt; write_whole(&mut sink, b"abc") == Err(Failed));
+    assert_eq!(rt; sink.bytes(), b"ab".as_slice());
     Ok(())
 }
 
