@@ -10,9 +10,9 @@ tests/tools/files/shuffled.der below root.der, it is openssl that says keys, dig
 import pathlib
 import re
 import subprocess
-import sys
 import tempfile
 
+import columns
 from calls import answer, scalar, signed_part
 from certificates import WORLD
 
@@ -100,11 +100,5 @@ def rows():
         yield from lines("$TRUSTED", 3, asked)
 
 
-def main():
-    column = 1 if sys.argv[1:] == ["answers"] else 0
-    for row in rows():
-        print(row[column])
-
-
 if __name__ == "__main__":
-    main()
+    columns.write(rows())

@@ -8,8 +8,8 @@ log end. The log is read and the output is written a byte a call, so that the ca
 """
 
 import itertools
-import sys
 
+import columns
 from signing import escaped
 
 VERIFY = "verify --chains=c --anchors=a --table=t --answers=w"
@@ -118,11 +118,5 @@ def rows():
         yield case("each_file", VERIFY, f"{log} {WORLD}", runs([*NAMED, *unread], (0, VALID)))
 
 
-def main():
-    column = 1 if sys.argv[1:] == ["answers"] else 0
-    for row in rows():
-        print(row[column])
-
-
 if __name__ == "__main__":
-    main()
+    columns.write(rows())

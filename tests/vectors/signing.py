@@ -8,8 +8,8 @@ lines name what `stdin` defines in front of them: START, FIELDS, INFO and INVITE
 """
 
 import hashlib
-import sys
 
+import columns
 from calls import IAT, ORIGID, base64url, header, link, payload, shaken, sorted_json
 
 FIELDS = (
@@ -226,11 +226,5 @@ def crlf():
     return b"\r\n"
 
 
-def main():
-    column = 1 if sys.argv[1:] == ["answers"] else 0
-    for row in rows():
-        print(row[column])
-
-
 if __name__ == "__main__":
-    main()
+    columns.write(rows())

@@ -10,8 +10,8 @@ tests/cli/run.py gives all of them to the program, and words that are no UTF-8 b
 
 import random
 import re
-import sys
 
+import columns
 from signing import escaped
 
 NUMBER = rb"0|[1-9][0-9]*"
@@ -415,11 +415,5 @@ def rows():
             yield " ".join(["words.order", *map(word_in_table, words)]), answer(words)
 
 
-def main():
-    column = 1 if sys.argv[1:] == ["answers"] else 0
-    for row in rows():
-        print(row[column])
-
-
 if __name__ == "__main__":
-    main()
+    columns.write(rows())
