@@ -21,7 +21,7 @@ use Rattle.auth_service.specs.declared.fault.SignFault.{SignFault}
 use Rattle.auth_service.specs.declared.fault.SignFault.TheVariants as faults
 use Rattle.auth_service.specs.declared.wanted.Shape.{Shape}
 use Rattle.auth_service.specs.declared.wanted.Shape.TheVariants as shapes
-use Rattle.auth_service.specs.Answer.{told}
+use Rattle.auth_service.specs.Answer.{decided}
 use Rattle.auth_service.specs.Causes.{HasRoom, IsCaused, IsInvite, IsOrdered, IsUnauthorized, MaySpeak, no_invite, no_message, other_date, too_long}
 use Rattle.auth_service.specs.Field.{field_name, value_of}
 use Rattle.auth_service.specs.Order.{HolderView, OrderView}
@@ -195,7 +195,7 @@ unfolding signed
 fault_caused laws bytes order holder signs fault h = caused_by bytes order holder signs (claims_for bytes order holder) fault (permitted laws bytes order holder) h
 
 pub answers_caused : {X : Type 0} (seen : X → List ℕ) (answer : Result X SignFault) → Laws → (bytes : List ℕ) (order : OrderView) (holder : Option HolderView)
-    (signs : List ℕ → List ℕ → Option (List ℕ)) → Gives told seen answer (signed bytes order holder signs) → IfErr answer (λ fault. IsCaused bytes order holder signs fault)
+    (signs : List ℕ → List ℕ → Option (List ℕ)) → Gives decided seen answer (signed bytes order holder signs) → IfErr answer (λ fault. IsCaused bytes order holder signs fault)
 answers_caused seen (Ok out) laws bytes order holder signs g = tt
 answers_caused seen (Err faults.Form) laws bytes order holder signs g = fault_caused laws bytes order holder signs faults.Form g
 answers_caused seen (Err faults.NoNumber) laws bytes order holder signs g = fault_caused laws bytes order holder signs faults.NoNumber g

@@ -2,7 +2,7 @@
 use Rattle.std.proofs.Common.{◌≡◌, ℕ, List, Option, Result, IfOk, IsTrue, sym, subst}
 use Rattle.std.specs.Prelude.{IfErr}
 use Rattle.lists.specs.Given.{Gives}
-use Rattle.auth_service.specs.Answer.{told}
+use Rattle.auth_service.specs.Answer.{decided}
 use Rattle.auth_service.specs.Causes.{IsCaused}
 use Rattle.auth_service.specs.Order.{HolderView, OrderView, is_order}
 use Rattle.auth_service.specs.Outcome.{IsSigned}
@@ -14,8 +14,8 @@ pub valid_as : (wanted order : OrderView) → wanted ≡ order → IsTrue (is_or
 valid_as wanted order same h = subst (λ (x : OrderView). IsTrue (is_order x)) (sym same) h
 
 pub exact_as : {X : Type 0} (seen : X → List ℕ) (bytes : List ℕ) (wanted order : OrderView) (holder : Option HolderView) (signs : List ℕ → List ℕ → Option (List ℕ)) (result : Result X SignFault)
-    → IsPromised seen bytes wanted holder signs result → wanted ≡ order → Gives told seen result (signed bytes order holder signs)
-exact_as seen bytes wanted order holder signs result p same = subst (λ (x : OrderView). Gives told seen result (signed bytes x holder signs)) same p.exact
+    → IsPromised seen bytes wanted holder signs result → wanted ≡ order → Gives decided seen result (signed bytes order holder signs)
+exact_as seen bytes wanted order holder signs result p same = subst (λ (x : OrderView). Gives decided seen result (signed bytes x holder signs)) same p.exact
 
 pub signed_as : {X : Type 0} (seen : X → List ℕ) (bytes : List ℕ) (wanted order : OrderView) (holder : Option HolderView) (signs : List ℕ → List ℕ → Option (List ℕ)) (result : Result X SignFault)
     → IsPromised seen bytes wanted holder signs result → wanted ≡ order → IfOk result (λ out. IsSigned bytes order holder signs (seen out))

@@ -18,7 +18,7 @@ use Rattle.passport_claims.specs.OrderReading.{first_from, order_of, undiverted}
 use Rattle.passport_claims.specs.Passport.{ClaimsView}
 use Rattle.passport_claims.specs.Read.{read_claims}
 use Rattle.passport_claims.specs.Signed.{signing_of}
-use Rattle.verify_rules.specs.Call.{Call, IdentityField, Reading, call_of, facts, facts_in, facts_of, fields_of, given_to_compact, in_chain, in_message, in_turn, judged_fields, mark_of, marked_or_part, numbered, or_none, originating, read_field, reading, reading_by, readings_of, turn_of, values_in, values_of}
+use Rattle.verify_rules.specs.Call.{Call, IdentityField, Reading, call_of, facts, facts_in, facts_of, fields_of, given_to_compact, in_call_order, in_message, in_turn, judged_fields, mark_of, marked_or_part, numbered, or_none, originating, read_field, reading, reading_by, readings_of, turn_of, values_in, values_of}
 use Rattle.verify_rules.specs.Rules.{HoldAll, Holds, Rule, bad_field, each, early_rules, first, foreign_alg, no_identity, no_invite, no_order, no_originating, or_later, other_calling, rule_1, rule_2, rule_3, rule_4, rule_5, rule_6, rule_7, rule_8, rule_9, stale, unreadable, unreadable_at}
 use Rattle.verify_rules.specs.States.{State, have, long, no_chain, unread as unread_state}
 use Rattle.verify_rules.specs.World.{World, asking_rule, forged, forged_by, truth_for, unless_good}
@@ -126,7 +126,7 @@ record Hop (call : Call) (order : SignOrder) (message : MessageView) (value toke
   to : r.passport.dest ≡ dest ∷ []
   issued : r.passport.iat ≡ order.iat
   turn : turn_of (facts call) (in_message call) ≡ Ok []
-  chain : in_chain call ≡ r ∷ []
+  chain : in_call_order call ≡ r ∷ []
 
 hop : HeadLaw → AddedLaws → (bytes : List ℕ) (order : SignOrder) (holder : Option HolderView) (signs : List ℕ → List ℕ → Option (List ℕ)) (out : List ℕ) (settings : Settings) (moment : ℕ)
     (s : IsSigned bytes (view_of order) holder signs out) → IsFirstHop s.message (view_of order) settings moment
@@ -229,7 +229,7 @@ signed_first head laws bytes order holder signs out settings moment s h =
 
 pub signed_judged : HeadLaw → AddedLaws → (bytes : List ℕ) (order : SignOrder) (holder : Option HolderView) (signs : List ℕ → List ℕ → Option (List ℕ)) (out : List ℕ) (settings : Settings)
     (moment : ℕ) (s : IsSigned bytes (view_of order) holder signs out) → IsFirstHop s.message (view_of order) settings moment
-    → in_chain (call_of settings moment out) ≡ judged_of (view_of order) s.orig s.dest s.token.token ∷ []
+    → in_call_order (call_of settings moment out) ≡ judged_of (view_of order) s.orig s.dest s.token.token ∷ []
 signed_judged head laws bytes order holder signs out settings moment s h = (hop head laws bytes order holder signs out settings moment s h).chain
 
 pub signed_asking : HeadLaw → AddedLaws → (bytes : List ℕ) (order : SignOrder) (holder : Option HolderView) (signs : List ℕ → List ℕ → Option (List ℕ)) (out : List ℕ) (settings : Settings)

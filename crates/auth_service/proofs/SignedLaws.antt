@@ -21,7 +21,7 @@ use Rattle.auth_service.specs.declared.fault.SignFault.{SignFault}
 use Rattle.auth_service.specs.declared.fault.SignFault.TheVariants as faults
 use Rattle.auth_service.specs.declared.wanted.Shape.{Shape}
 use Rattle.auth_service.specs.declared.wanted.Shape.TheVariants as shapes
-use Rattle.auth_service.specs.Answer.{told}
+use Rattle.auth_service.specs.Answer.{decided}
 use Rattle.auth_service.specs.Field.{field_name, field_of, token_by, value_of}
 use Rattle.auth_service.specs.Order.{HolderView, OrderView, kind_of}
 use Rattle.auth_service.specs.Outcome.{IsSigned}
@@ -200,12 +200,12 @@ faulty_claims None bytes order holder r h = tt
 faulty_claims (Some fault) bytes order holder r h = ap (λ (x : Result ClaimsView SignFault). x >>= allowed bytes order holder) h
 
 pub faulty_for : {X : Type 0} (seen : X → ClaimsView) (answer : Result X SignFault) (fault : SignFault) (bytes : List ℕ) (order : OrderView) (holder : Option HolderView)
-    → IsErrAnd answer (λ f. f ≡ fault) → IsFaultOf (told fault) (claims_in order (read bytes)) → Gives told seen answer (claims_for bytes order holder)
+    → IsErrAnd answer (λ f. f ≡ fault) → IsFaultOf (decided fault) (claims_in order (read bytes)) → Gives decided seen answer (claims_for bytes order holder)
 unfolding claims_for
 faulty_for seen (Ok x) fault bytes order holder e h = absurd e
 faulty_for seen (Err other) fault bytes order holder e h =
-    faulty_claims (told other) bytes order holder (claims_in order (read bytes))
-    (subst (λ (f : SignFault). IsFaultOf (told f) (claims_in order (read bytes))) (sym e) h)
+    faulty_claims (decided other) bytes order holder (claims_in order (read bytes))
+    (subst (λ (f : SignFault). IsFaultOf (decided f) (claims_in order (read bytes))) (sym e) h)
 
 pub too_long_for : (bytes : List ℕ) (order : OrderView) (holder : Option HolderView) (claims : ClaimsView) → claims_in order (read bytes) ≡ Ok claims
     → is_too_long bytes order.shape claims ≡ true → claims_for bytes order holder ≡ Err faults.Form
@@ -239,10 +239,10 @@ room_for full compact bytes order holder claims signature value given f is v =
 pub answers_signed : {X : Type 0} (seen : X → List ℕ) (answer : Result X SignFault) (bytes : List ℕ) (order : OrderView) (holder : Option HolderView)
     (signs : List ℕ → List ℕ → Option (List ℕ)) (claims : ClaimsView) (signature value : List ℕ) → claims_for bytes order holder ≡ Ok claims
     → signature_of signs order.key (signing_of claims) ≡ Ok signature → value ≡ value_of order.shape claims signature
-    → Gives told seen answer (Ok (with_line bytes field_name value)) → Gives told seen answer (signed bytes order holder signs)
+    → Gives decided seen answer (Ok (with_line bytes field_name value)) → Gives decided seen answer (signed bytes order holder signs)
 unfolding signed
 answers_signed seen answer bytes order holder signs claims signature value given made v g =
-    rw (given, made) (subst (λ (x : List ℕ). Gives told seen answer (Ok (with_line bytes field_name x))) v g)
+    rw (given, made) (subst (λ (x : List ℕ). Gives decided seen answer (Ok (with_line bytes field_name x))) v g)
 
 pub answers_record : {X : Type 0} (seen : X → List ℕ) (answer : Result X SignFault) → HeadLaw → (bytes : List ℕ) (order : OrderView) (holder : Option HolderView)
     (signs : List ℕ → List ℕ → Option (List ℕ)) (claims : ClaimsView) (signature value : List ℕ) → claims_for bytes order holder ≡ Ok claims → IsSignable claims

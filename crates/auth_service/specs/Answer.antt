@@ -4,13 +4,13 @@ use Rattle.auth_service.specs.declared.fault.SignFault.{SignFault}
 use Rattle.auth_service.specs.declared.fault.SignFault.TheVariants as faults
 
 -- a fault that message, order, holder and provider's answer decide
-abbrev pub told : SignFault → Option SignFault
-told faults.Form = Some faults.Form
-told faults.NoNumber = Some faults.NoNumber
-told faults.Authority = Some faults.Authority
-told (faults.NoSignature digest) = Some (faults.NoSignature digest)
-told faults.Provider = None
-told faults.Memory = None
+abbrev pub decided : SignFault → Option SignFault
+decided faults.Form = Some faults.Form
+decided faults.NoNumber = Some faults.NoNumber
+decided faults.Authority = Some faults.Authority
+decided (faults.NoSignature digest) = Some (faults.NoSignature digest)
+decided faults.Provider = None
+decided faults.Memory = None
 
 abbrev pub is_provider : SignFault → Bool
 is_provider faults.Form = false

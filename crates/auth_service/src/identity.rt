@@ -11,7 +11,7 @@ ghost use Rattle.passport_json.specs.Spelled.{IsSignature};
 ghost use Rattle.passport_claims.specs.Kind.{ppt_of};
 ghost use Rattle.passport_claims.specs.Passport.{ClaimsView};
 ghost use Rattle.passport_claims.specs.Signed.{IsSignable, signing_of};
-ghost use Rattle.auth_service.specs.Answer.{names_provider, told};
+ghost use Rattle.auth_service.specs.Answer.{names_provider, decided};
 ghost use Rattle.auth_service.specs.Field.{field_name, field_of, token_by, value_of};
 ghost use Rattle.auth_service.specs.Order.{is_order, wanted_of};
 ghost use Rattle.auth_service.specs.Signed.{is_too_long};
@@ -135,7 +135,7 @@ fn are_signature(signature: &[u8; 64])
 pub(crate) fn with_identity(alloc: Global, bytes: &[u8], value: &[u8]) -> Result<Vec<u8>, SignFault>
     requires value { IsTrue (is_field_value value.now) }
     requires room { HasRoomFor bytes.now value.now }
-    ensures exact { Gives told (λ out. out.items) result (Ok (with_line bytes.now field_name value.now)) }
+    ensures exact { Gives decided (λ out. out.items) result (Ok (with_line bytes.now field_name value.now)) }
     ensures placed { (message : MessageView) (head : Head bytes.now message)
         → IfOk result (λ out. out.items ≡ with_line_at head.empty.place bytes.now field_name value.now) }
     ensures added { (message : MessageView) → Head bytes.now message → IfOk result (λ out. Head out.items (with_last message field_name value.now)) }

@@ -1,6 +1,6 @@
 //! Laws: a function here does nothing, and its clauses are the law.
 ghost use Rattle.std.specs.Prelude.{ℕ, ◌≡◌, ◌∷◌, [], List, Option, None};
-ghost use Rattle.verify_rules.specs.Call.{call_of, in_chain};
+ghost use Rattle.verify_rules.specs.Call.{call_of, in_call_order};
 ghost use Rattle.verify_rules.specs.Rules.{HoldAll, Holds, early_rules, first};
 ghost use Rattle.verify_rules.specs.World.{World, asking_rule};
 ghost use Rattle.verify_rules.specs.declared.settings.Settings.{Settings};
@@ -22,7 +22,7 @@ pub fn signed_rules_law()
         → (s : IsSigned bytes (order_of order) holder signs out) → IsFirstHop s.message (order_of order) settings moment → first early_rules (call_of settings moment out) ≡ None }
     ensures judged { (bytes : List ℕ) (order : SignOrder) (holder : Option HolderView) (signs : List ℕ → List ℕ → Option (List ℕ)) (out : List ℕ) (settings : Settings) (moment : ℕ)
         → (s : IsSigned bytes (order_of order) holder signs out) → IsFirstHop s.message (order_of order) settings moment
-        → in_chain (call_of settings moment out) ≡ judged_of (order_of order) s.orig s.dest s.token.token ∷ [] }
+        → in_call_order (call_of settings moment out) ≡ judged_of (order_of order) s.orig s.dest s.token.token ∷ [] }
     ensures asking { (bytes : List ℕ) (order : SignOrder) (holder : Option HolderView) (signs : List ℕ → List ℕ → Option (List ℕ)) (out : List ℕ) (settings : Settings) (moment : ℕ) (world : World)
         → (s : IsSigned bytes (order_of order) holder signs out) → IsFirstHop s.message (order_of order) settings moment
         → IsConfirmed world (judged_of (order_of order) s.orig s.dest s.token.token) → Holds (asking_rule world) (call_of settings moment out) }

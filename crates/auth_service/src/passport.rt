@@ -5,7 +5,7 @@ ghost use Rattle.sip_message.specs.Reading.{read};
 ghost use Rattle.passport_claims.specs.Signed.{IsSignable, signing_of};
 ghost use Rattle.passport_claims.specs.declared.fault.ClaimFault.{ClaimFault};
 ghost use Rattle.auth_service.specs.declared.fault.SignFault.{SignFault};
-ghost use Rattle.auth_service.specs.Answer.{names_provider, told};
+ghost use Rattle.auth_service.specs.Answer.{names_provider, decided};
 ghost use Rattle.auth_service.specs.Order.{holder_seen, is_order, wanted_of};
 ghost use Rattle.auth_service.specs.Written.{IsFor};
 ghost use Rattle.auth_service.specs.Signed.{called_number, claims_by, claims_for, claims_in, invite_in, is_allowed, is_dated, is_second};
@@ -36,7 +36,7 @@ pub(crate) fn to_sign(
     holder: Option<&Holder<'_>>,
 ) -> Result<Signable, SignFault>
     requires { IsTrue (is_order (wanted_of order.now)) }
-    ensures exact { Gives told (λ one. one.passport) result (claims_for bytes.now (wanted_of order.now) (holder_seen holder.entry)) }
+    ensures exact { Gives decided (λ one. one.passport) result (claims_for bytes.now (wanted_of order.now) (holder_seen holder.entry)) }
     ensures signing { IfOk result (λ one. one.signing.items ≡ signing_of one.passport) }
     ensures signable { IfOk result (λ one. IsSignable one.passport) }
     ensures ordered { IfOk result (λ one. IsFor (wanted_of order.now) one.passport) }
@@ -58,7 +58,7 @@ pub(crate) fn to_sign(
 #[tactic(auto, unfolding(crate::specs::Signed::claims_in, crate::specs::Signed::claims_of))]
 fn passport_for(alloc: Global, bytes: &[u8], order: &Wanted<'_>) -> Result<Passport, SignFault>
     requires { IsTrue (is_order (wanted_of order.now)) }
-    ensures exact { Gives told (λ passport. passport) result (claims_in (wanted_of order.now) (read bytes.now)) }
+    ensures exact { Gives decided (λ passport. passport) result (claims_in (wanted_of order.now) (read bytes.now)) }
     ensures ordered { IfOk result (λ passport. IsFor (wanted_of order.now) passport) }
     ensures apart { names_provider result ≡ false }
 {
@@ -77,7 +77,7 @@ fn passport_for(alloc: Global, bytes: &[u8], order: &Wanted<'_>) -> Result<Passp
 
 /// The message, where it is an INVITE.
 fn read_invite<'a>(alloc: Global, bytes: &'a [u8]) -> Result<Message<'a>, SignFault>
-    ensures exact { Gives told (λ message. message) result (invite_in (read bytes.now)) }
+    ensures exact { Gives decided (λ message. message) result (invite_in (read bytes.now)) }
     ensures apart { names_provider result ≡ false }
 {
     match Message::read(alloc, bytes) {
@@ -131,7 +131,7 @@ fn passport_between(
     dest: Number,
 ) -> Result<Passport, SignFault>
     requires { IsTrue (is_order (wanted_of order.now)) }
-    ensures exact { Gives told (λ passport. passport) result (Ok (claims_by (wanted_of order.now) orig dest)) }
+    ensures exact { Gives decided (λ passport. passport) result (Ok (claims_by (wanted_of order.now) orig dest)) }
     ensures ordered { IfOk result (λ passport. IsFor (wanted_of order.now) passport) }
     ensures apart { names_provider result ≡ false }
 {

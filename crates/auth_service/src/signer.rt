@@ -2,7 +2,7 @@
 ghost use Rattle.std.specs.Prelude.{◌≡◌, ◌+◌, ◌≤◌, true, IfErr, IfOk, IsTrue};
 ghost use Rattle.lists.specs.Given.{Gives};
 ghost use Rattle.stir_outside.specs.Count.{Rose};
-ghost use Rattle.auth_service.specs.Answer.{names_provider, told};
+ghost use Rattle.auth_service.specs.Answer.{names_provider, decided};
 ghost use Rattle.auth_service.specs.Asking.{IsAskedOnce, stand};
 ghost use Rattle.auth_service.specs.Causes.{IsCaused};
 ghost use Rattle.auth_service.specs.Order.{divert_order_of, holder_seen, is_order, order_of, wanted_of};
@@ -38,7 +38,7 @@ pub fn sign<P: Provider>(
     requires { IsTrue (is_order (order_of order.now)) }
 
     // The bytes that come out, or the first fault of the four that message, order, holder and key decide.
-    ensures exact { Gives told (λ out. out.items) result (signed bytes.now (order_of order.now) (holder_seen holder.entry) (P.signs provider.old)) }
+    ensures exact { Gives decided (λ out. out.items) result (signed bytes.now (order_of order.now) (holder_seen holder.entry) (P.signs provider.old)) }
 
     // What was signed: the message with one more field, which is read as the PASSporT of the message's numbers and the key's signature.
     ensures signed { IfOk result (λ out. IsSigned bytes.now (order_of order.now) (holder_seen holder.entry) (P.signs provider.old) out.items) }
@@ -75,7 +75,7 @@ pub fn divert<P: Provider>(
     requires { IsTrue (is_order (divert_order_of order.now)) }
 
     // What is said of `sign`, by what this order wants.
-    ensures exact { Gives told (λ out. out.items) result (signed bytes.now (divert_order_of order.now) (holder_seen holder.entry) (P.signs provider.old)) }
+    ensures exact { Gives decided (λ out. out.items) result (signed bytes.now (divert_order_of order.now) (holder_seen holder.entry) (P.signs provider.old)) }
     ensures signed { IfOk result (λ out. IsSigned bytes.now (divert_order_of order.now) (holder_seen holder.entry) (P.signs provider.old) out.items) }
     ensures causes { IfErr result (λ fault. IsCaused bytes.now (divert_order_of order.now) (holder_seen holder.entry) (P.signs provider.old) fault) }
     ensures failed { names_provider result ≡ true → Rose (P.faults provider.old) (P.faults provider.new) }
@@ -118,7 +118,7 @@ fn sign_exactly<P: Provider>(
     provider: &mut P,
 ) -> Result<Vec<u8>, SignFault>
     requires { IsTrue (is_order (wanted_of wanted.now)) }
-    ensures exact { Gives told (λ out. out.items) result (signed bytes.now (wanted_of wanted.now) (holder_seen holder.entry) (P.signs provider.old)) }
+    ensures exact { Gives decided (λ out. out.items) result (signed bytes.now (wanted_of wanted.now) (holder_seen holder.entry) (P.signs provider.old)) }
     ensures signed { IfOk result (λ out. IsSigned bytes.now (wanted_of wanted.now) (holder_seen holder.entry) (P.signs provider.old) out.items) }
     ensures asked { IsAskedOnce (stand (P.says provider.old) (P.signs provider.old) (P.asks provider.old) (P.faults provider.old))
         (stand (P.says provider.new) (P.signs provider.new) (P.asks provider.new) (P.faults provider.new)) result }
@@ -137,7 +137,7 @@ fn signature_of<P: Provider>(
     signing: &[u8],
     provider: &mut P,
 ) -> Result<[u8; 64], SignFault>
-    ensures exact { Gives told (λ signature. signature) result (signature_of (P.signs provider.old) key.now signing.now) }
+    ensures exact { Gives decided (λ signature. signature) result (signature_of (P.signs provider.old) key.now signing.now) }
     ensures asked { IsAskedOnce (stand (P.says provider.old) (P.signs provider.old) (P.asks provider.old) (P.faults provider.old))
         (stand (P.says provider.new) (P.signs provider.new) (P.asks provider.new) (P.faults provider.new)) result }
 {

@@ -16,16 +16,16 @@ use Rattle.call_run.specs.Answer.{AnswerView}
 use Rattle.call_run.specs.Answering.{StopsBy}
 use Rattle.call_run.specs.Running.{RunsOn, RunsOut, StoppedBy, at}
 use Rattle.call_run.specs.Steps.{AnsweredCall, From, Replies}
-use Rattle.call_run.specs.declared.ends.Halt.{Halt}
-use Rattle.call_run.specs.declared.ends.Halt.TheVariants as halt
-use Rattle.call_run.specs.declared.stop.AnswerStop.{AnswerStop}
-use Rattle.call_run.specs.declared.stop.AnswerStop.TheVariants.{Unread, Memory as WantOfMemory}
+use Rattle.call_run.specs.declared.ends.RunError.{RunError}
+use Rattle.call_run.specs.declared.ends.RunError.TheVariants as error
+use Rattle.call_run.specs.declared.stop.AnswerError.{AnswerError}
+use Rattle.call_run.specs.declared.stop.AnswerError.TheVariants.{Unread, Memory as WantOfMemory}
 
 -- ---- no call was read
 
 -- of the log nothing was left, or what was left has a fault
 ended_ran : (answered : List Entry → Entry → AnswerView → Type 0) (behind : List Entry → Type 0) (stops : List Entry → Entry → List ℕ → List ℕ → Type 0) (passed passed_now : Passed) (left left_now : Option (List ℕ)) (faults : ℕ) (good : Bool)
-    (reads reads_now writes : ℕ) (written : Option (List ℕ)) (fault : Option LogFault) → BehindBy {X = Halt} passed left left_now (Ok fault) → SourceRose (streams reads written writes) (streams reads_now written writes) fault → reads ≤ reads_now
+    (reads reads_now writes : ℕ) (written : Option (List ℕ)) (fault : Option LogFault) → BehindBy {X = RunError} passed left left_now (Ok fault) → SourceRose (streams reads written writes) (streams reads_now written writes) fault → reads ≤ reads_now
     → From behind (λ first. RunsOut answered stops first (at passed left faults good) (at passed_now left_now faults good) (streams reads written writes) (streams reads_now written writes) (Ok fault))
 ended_ran answered behind stops passed passed_now left left_now faults good reads reads_now writes written fault read rose h = λ first known. record {
   calls = [];
@@ -37,7 +37,7 @@ ended_ran answered behind stops passed passed_now left left_now faults good read
   faults_stay = omega arith;
   reported = Appends-nil written;
   rose = rose;
-  stay = record { reads = h; writes = omega arith };
+  stay = record { read_faults = h; write_faults = omega arith };
 }
 
 pub none_ran : (answered : List Entry → Entry → AnswerView → Type 0) (behind : List Entry → Type 0) (stops : List Entry → Entry → List ℕ → List ℕ → Type 0) (passed passed_now : Passed) (left left_now : Option (List ℕ)) (faults : ℕ) (good : Bool)
@@ -65,12 +65,12 @@ more_ran answered behind behind_now passed passed_now left left_now faults fault
   stands = answers_one answered first (at passed left faults good) (at passed_now left_now faults_now good_now) call r.answer read (r.may first known) r.still_good r.unread stay;
   known = r.adds first known;
   reported = subst (Appends written written_now) (sym (append-nil r.answer.text)) r.reported;
-  stay = record { reads = h; writes = k };
+  stay = record { read_faults = h; write_faults = k };
 }
 
 -- ---- the run stops at the call
 
-stopped_by : (behind : List Entry → Type 0) (stops : List Entry → Entry → List ℕ → List ℕ → Type 0) (first : List Entry) (passed passed_now : Passed) (left left_now : Option (List ℕ)) (faults faults_now : ℕ) (good : Bool) (call : Entry) (stop : AnswerStop)
+stopped_by : (behind : List Entry → Type 0) (stops : List Entry → Entry → List ℕ → List ℕ → Type 0) (first : List Entry) (passed passed_now : Passed) (left left_now : Option (List ℕ)) (faults faults_now : ℕ) (good : Bool) (call : Entry) (stop : AnswerError)
     → behind first → ReadCalls passed left left_now passed_now (call ∷ []) → StopsBy behind stops call faults faults_now stop → StoppedBy stops (first ++ []) (at passed left faults good) faults_now stop
 stopped_by behind stops first passed passed_now left left_now faults faults_now good call (Unread text name) known read s = record {
   call = call;
@@ -83,10 +83,10 @@ stopped_by behind stops first passed passed_now left left_now faults faults_now 
 stopped_by behind stops first passed passed_now left left_now faults faults_now good call WantOfMemory known read s = tt
 
 pub halted : (answered : List Entry → Entry → AnswerView → Type 0) (behind behind_now : List Entry → Type 0) (stops : List Entry → Entry → List ℕ → List ℕ → Type 0) (passed passed_now : Passed) (left left_now : Option (List ℕ)) (faults faults_now : ℕ)
-    (good good_now : Bool) (reads reads_now writes writes_now : ℕ) (written written_now : Option (List ℕ)) (call : Entry) (stopped : Halt) → ReadCalls passed left left_now passed_now (call ∷ []) → reads ≤ reads_now → writes ≤ writes_now
+    (good good_now : Bool) (reads reads_now writes writes_now : ℕ) (written written_now : Option (List ℕ)) (call : Entry) (stopped : RunError) → ReadCalls passed left left_now passed_now (call ∷ []) → reads ≤ reads_now → writes ≤ writes_now
     → faults ≤ faults_now → AnsweredCall answered behind behind_now stops faults faults_now call good good_now written written_now writes writes_now (Err stopped)
     → From behind (λ first. RunsOut answered stops first (at passed left faults good) (at passed_now left_now faults_now good_now) (streams reads written writes) (streams reads_now written_now writes_now) (Err stopped))
-halted answered behind behind_now stops passed passed_now left left_now faults faults_now good good_now reads reads_now writes writes_now written written_now call halt.Sink read h k stay j = λ first known. record {
+halted answered behind behind_now stops passed passed_now left left_now faults faults_now good good_now reads reads_now writes writes_now written written_now call error.Sink read h k stay j = λ first known. record {
   calls = call ∷ [];
   answers = j.0.answer ∷ [];
   mid = at passed_now left_now faults_now good_now;
@@ -96,9 +96,9 @@ halted answered behind behind_now stops passed passed_now left left_now faults f
   faults_stay = omega arith;
   reported = subst (AppendsFront written written_now) (sym (append-nil j.0.answer.text)) j.0.reported;
   rose = j.1;
-  stay = record { reads = h; writes = k };
+  stay = record { read_faults = h; write_faults = k };
 }
-halted answered behind behind_now stops passed passed_now left left_now faults faults_now good good_now reads reads_now writes writes_now written written_now call (halt.Stopped stop) read h k stay j = λ first known. record {
+halted answered behind behind_now stops passed passed_now left left_now faults faults_now good good_now reads reads_now writes writes_now written written_now call (error.Stopped stop) read h k stay j = λ first known. record {
   calls = [];
   answers = [];
   mid = at passed left faults good;
@@ -108,5 +108,5 @@ halted answered behind behind_now stops passed passed_now left left_now faults f
   faults_stay = stay;
   reported = j.1;
   rose = stopped_by behind stops first passed passed_now left left_now faults faults_now good call stop known read j.0;
-  stay = record { reads = h; writes = k };
+  stay = record { read_faults = h; write_faults = k };
 }

@@ -10,24 +10,24 @@ use Rattle.log_run.specs.Running.{Streams, StreamsStay, streams}
 use Rattle.call_run.proofs.AnswerLaws.{answers_as, answers_both, answers_none, texts_both}
 use Rattle.call_run.specs.Answer.{AnswerView, texts_of}
 use Rattle.call_run.specs.Answering.{Implies, IncludedIn}
-use Rattle.call_run.specs.Clauses.{LogRan, around}
+use Rattle.call_run.specs.Clauses.{LogRan, run_state}
 use Rattle.call_run.specs.Ending.{EndsBy}
 use Rattle.call_run.specs.Running.{At, RoseBy, RunEnd, RunsOn, RunsOut, StoppedBy, WroteBy, at}
 use Rattle.call_run.specs.Steps.{From}
-use Rattle.call_run.specs.declared.ends.Halt.TheVariants as halt
-use Rattle.call_run.specs.declared.stop.AnswerStop.{AnswerStop}
-use Rattle.call_run.specs.declared.stop.AnswerStop.TheVariants.{Unread, Memory as WantOfMemory}
+use Rattle.call_run.specs.declared.ends.RunError.TheVariants as error
+use Rattle.call_run.specs.declared.stop.AnswerError.{AnswerError}
+use Rattle.call_run.specs.declared.stop.AnswerError.TheVariants.{Unread, Memory as WantOfMemory}
 
 -- ---- lines behind lines
 
 wrote_behind : (a b c : Option (List ℕ)) (text more : List ℕ) (ended : RunEnd) → Appends a b text → WroteBy b c more ended → WroteBy a c (text ++ more) ended
 wrote_behind a b c text more (Ok fault) p w = Appends-trans a b c text more p w
-wrote_behind a b c text more (Err halt.Sink) p w = front_behind a b c text more p w
-wrote_behind a b c text more (Err (halt.Stopped stop)) p w = Appends-trans a b c text more p w
+wrote_behind a b c text more (Err error.Sink) p w = front_behind a b c text more p w
+wrote_behind a b c text more (Err (error.Stopped stop)) p w = Appends-trans a b c text more p w
 
 -- ---- what rose
 
-stopped_as : (stops other : List Entry → Entry → List ℕ → List ℕ → Type 0) (calls : List Entry) (mid : At) (faults : ℕ) (stop : AnswerStop) → IncludedIn other stops → StoppedBy other calls mid faults stop → StoppedBy stops calls mid faults stop
+stopped_as : (stops other : List Entry → Entry → List ℕ → List ℕ → Type 0) (calls : List Entry) (mid : At) (faults : ℕ) (stop : AnswerError) → IncludedIn other stops → StoppedBy other calls mid faults stop → StoppedBy stops calls mid faults stop
 stopped_as stops other calls mid faults (Unread text name) included s = record {
   call = s.call;
   passed = s.passed;
@@ -41,8 +41,8 @@ stopped_as stops other calls mid faults WantOfMemory included s = tt
 rose_behind : (stops other : List Entry → Entry → List ℕ → List ℕ → Type 0) (calls : List Entry) (mid : At) (faults : ℕ) (a b c : Streams) (ended : RunEnd) → IncludedIn other stops → StreamsStay a b → RoseBy other calls mid faults b c ended
     → RoseBy stops calls mid faults a c ended
 rose_behind stops other calls mid faults a b c (Ok fault) included s r = source_behind a b c fault s r
-rose_behind stops other calls mid faults a b c (Err halt.Sink) included s r = λ e. omega (arith, s.writes, r e)
-rose_behind stops other calls mid faults a b c (Err (halt.Stopped stop)) included s r = stopped_as stops other calls mid faults stop included r
+rose_behind stops other calls mid faults a b c (Err error.Sink) included s r = λ e. omega (arith, s.write_faults, r e)
+rose_behind stops other calls mid faults a b c (Err (error.Stopped stop)) included s r = stopped_as stops other calls mid faults stop included r
 
 -- ---- pieces of a run
 
@@ -53,7 +53,7 @@ on_none answered behind here outside known = record {
   stands = answers_none answered [] here;
   known = known;
   reported = Appends-nil outside.written;
-  stay = record { reads = omega arith; writes = omega arith };
+  stay = record { read_faults = omega arith; write_faults = omega arith };
 }
 
 -- A piece behind a piece. What may be answered in the second may be answered in the first.
@@ -113,7 +113,7 @@ pub log_ran : (answered : List Entry → Entry → AnswerView → Type 0) (stops
     → IfOk ended (λ fault. reader_now.ahead ≡ [])
     → RunsOut answered stops [] (at reader.passed (left_to reader left) faults good) (at reader_now.passed (left_to reader_now left_now) faults_now good_now) (streams reads written writes) (streams reads_now written_mid writes_mid) ended
     → EndsBy written_mid written_now writes_mid writes_now status good_now ended
-    → LogRan answered stops (around left faults reads written writes) (around left_now faults_now reads_now written_now writes_now) status
+    → LogRan answered stops (run_state left faults reads written writes) (run_state left_now faults_now reads_now written_now writes_now) status
 log_ran answered stops left left_now faults faults_now reads reads_now writes writes_mid writes_now written written_mid written_now reader reader_now good good_now ended status fresh fine ahead r e =
     let first = at_same reader.passed (start 0 0) (left_to reader left) left faults good true (ap (λ (x : LogState). x.passed) fresh) (ap (λ (x : LogState). left_to x left) fresh ∙ prepend_known-nil left) fine in
     let begun = subst (λ x. RunsOut answered stops [] x (at reader_now.passed (left_to reader_now left_now) faults_now good_now) (streams reads written writes) (streams reads_now written_mid writes_mid) ended) first r in

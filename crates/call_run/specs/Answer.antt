@@ -1,14 +1,14 @@
 -- What a call is answered: its lines, and what they come to.
 use Rattle.std.specs.Prelude.{ℕ, ◌+◌, Bool, true, false, ◌&&◌, List, [], ◌∷◌, ◌++◌}
-use Rattle.call_run.specs.declared.finding.Finding.{Finding}
-use Rattle.call_run.specs.declared.finding.Finding.TheVariants.{Well, Broken, Unread}
+use Rattle.call_run.specs.declared.status.CallStatus.{CallStatus}
+use Rattle.call_run.specs.declared.status.CallStatus.TheVariants.{Well, Broken, Unread}
 
 -- the text of the lines, each with its LF, and what they come to
 pub record AnswerView : Type 0 where
   pub text : List ℕ
-  pub finding : Finding
+  pub finding : CallStatus
 
-abbrev pub found_well : Finding → Bool
+abbrev pub found_well : CallStatus → Bool
 found_well Well = true
 found_well Broken = false
 found_well Unread = false
@@ -17,7 +17,7 @@ found_well Unread = false
 abbrev pub is_well : AnswerView → Bool
 is_well answer = found_well answer.finding
 
-abbrev pub found_unread : Finding → ℕ
+abbrev pub found_unread : CallStatus → ℕ
 found_unread Well = 0
 found_unread Broken = 0
 found_unread Unread = 1

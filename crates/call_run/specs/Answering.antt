@@ -3,8 +3,8 @@ use Rattle.std.specs.Prelude.{⊤, ℕ, List, [], ◌∷◌, ◌++◌, string_by
 use Rattle.call_log.specs.Entry.{Entry}
 use Rattle.stir_outside.specs.Count.{Rose}
 use Rattle.call_run.specs.Answer.{AnswerView}
-use Rattle.call_run.specs.declared.stop.AnswerStop.{AnswerStop}
-use Rattle.call_run.specs.declared.stop.AnswerStop.TheVariants.{Unread, Memory}
+use Rattle.call_run.specs.declared.stop.AnswerError.{AnswerError}
+use Rattle.call_run.specs.declared.stop.AnswerError.TheVariants.{Unread, Memory}
 
 -- behind any calls that may have been answered before, this may be answered to the call
 abbrev pub AnswersBehind : (List Entry → Type 0) → (List Entry → Entry → AnswerView → Type 0) → Entry → AnswerView → Type 0
@@ -27,7 +27,7 @@ abbrev pub IncludedIn : (List Entry → Entry → List ℕ → List ℕ → Type
 IncludedIn stops other = (before : List Entry) (call : Entry) (text name : List ℕ) → stops before call text name → other before call text name
 
 -- a file that may stop the run couldn't be read, and the count of failed reads rose; want of memory is free
-abbrev pub StopsBy : (List Entry → Type 0) → (List Entry → Entry → List ℕ → List ℕ → Type 0) → Entry → ℕ → ℕ → AnswerStop → Type 0
+abbrev pub StopsBy : (List Entry → Type 0) → (List Entry → Entry → List ℕ → List ℕ → Type 0) → Entry → ℕ → ℕ → AnswerError → Type 0
 StopsBy behind stops call faults faults_now (Unread text name) = AnswersStop behind stops call (string_bytes text) (string_bytes name) × Rose faults faults_now
 StopsBy behind stops call faults faults_now Memory = ⊤
 

@@ -10,10 +10,10 @@ use Rattle.stir_outside.specs.Count.{AtMost, Rose}
 use Rattle.stir_outside.specs.Told.{AppendsFront}
 use Rattle.call_run.specs.Answer.{AnswerView, all_well, texts_of, unread_in}
 use Rattle.call_run.specs.Answering.{AreAnswered}
-use Rattle.call_run.specs.declared.ends.Halt.{Halt}
-use Rattle.call_run.specs.declared.ends.Halt.TheVariants as halt
-use Rattle.call_run.specs.declared.stop.AnswerStop.{AnswerStop}
-use Rattle.call_run.specs.declared.stop.AnswerStop.TheVariants.{Unread, Memory as WantOfMemory}
+use Rattle.call_run.specs.declared.ends.RunError.{RunError}
+use Rattle.call_run.specs.declared.ends.RunError.TheVariants as error
+use Rattle.call_run.specs.declared.stop.AnswerError.{AnswerError}
+use Rattle.call_run.specs.declared.stop.AnswerError.TheVariants.{Unread, Memory as WantOfMemory}
 
 -- how far a run has come: how far the log was read, what is left of it, how often a file of certificates couldn't be read, and whether all
 -- is well so far
@@ -46,7 +46,7 @@ pub record RunsOn (answered : List Entry → Entry → AnswerView → Type 0) (b
 
 -- what ended the run: the end of the log or a fault of it, or what stopped it before
 abbrev pub RunEnd : Type 0
-RunEnd = Result (Option LogFault) Halt
+RunEnd = Result (Option LogFault) RunError
 
 -- The next call is one at which the run may stop, at this file and behind these lines of it, and the file couldn't be read.
 pub record StopsAtCall (stops : List Entry → Entry → List ℕ → List ℕ → Type 0) (before : List Entry) (mid : At) (faults_now : ℕ) (text name : List ℕ) : Type 0 where
@@ -57,21 +57,21 @@ pub record StopsAtCall (stops : List Entry → Entry → List ℕ → List ℕ �
   pub may_stop : stops before call text name
   pub failed : Rose mid.faults faults_now
 
-abbrev pub StoppedBy : (List Entry → Entry → List ℕ → List ℕ → Type 0) → List Entry → At → ℕ → AnswerStop → Type 0
+abbrev pub StoppedBy : (List Entry → Entry → List ℕ → List ℕ → Type 0) → List Entry → At → ℕ → AnswerError → Type 0
 StoppedBy stops before mid faults_now (Unread text name) = StopsAtCall stops before mid faults_now (string_bytes text) (string_bytes name)
 StoppedBy stops before mid faults_now WantOfMemory = ⊤
 
 -- the source or the sink failed, or the call behind these wasn't answered, where that ended the run
 abbrev pub RoseBy : (List Entry → Entry → List ℕ → List ℕ → Type 0) → List Entry → At → ℕ → Streams → Streams → RunEnd → Type 0
 RoseBy stops calls mid faults_now before now (Ok fault) = SourceRose before now fault
-RoseBy stops calls mid faults_now before now (Err halt.Sink) = Rose before.writes now.writes
-RoseBy stops calls mid faults_now before now (Err (halt.Stopped stop)) = StoppedBy stops calls mid faults_now stop
+RoseBy stops calls mid faults_now before now (Err error.Sink) = Rose before.write_faults now.write_faults
+RoseBy stops calls mid faults_now before now (Err (error.Stopped stop)) = StoppedBy stops calls mid faults_now stop
 
 -- the lines were written, or where the sink failed a front of them
 abbrev pub WroteBy : Option (List ℕ) → Option (List ℕ) → List ℕ → RunEnd → Type 0
 WroteBy written written_now lines (Ok fault) = Appends written written_now lines
-WroteBy written written_now lines (Err halt.Sink) = AppendsFront written written_now lines
-WroteBy written written_now lines (Err (halt.Stopped stop)) = Appends written written_now lines
+WroteBy written written_now lines (Err error.Sink) = AppendsFront written written_now lines
+WroteBy written written_now lines (Err (error.Stopped stop)) = Appends written written_now lines
 
 -- calls were answered up to the last one or to what stopped the run, and their lines written
 pub record RunsOut (answered : List Entry → Entry → AnswerView → Type 0) (stops : List Entry → Entry → List ℕ → List ℕ → Type 0) (first : List Entry) (before now : At) (outside outside_now : Streams) (ended : RunEnd) : Type 0 where

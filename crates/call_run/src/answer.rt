@@ -2,14 +2,14 @@
 ghost use Rattle.std.specs.Prelude.{◌≡◌, ◌&&◌, string_bytes};
 ghost use Rattle.call_run.specs.Answer.{is_well};
 
-use crate::finding::Finding;
+use crate::status::CallStatus;
 use std::marker::Model;
 
 /// The lines that are written of a call, whole and each with its LF, and what they come to.
 #[derive(Drop)]
 pub struct Answer {
     text: String,
-    finding: Finding,
+    finding: CallStatus,
 }
 
 impl Model for Answer {
@@ -23,7 +23,7 @@ impl Model for Answer {
 
 impl Answer {
     /// The answer of these lines.
-    pub fn new(text: String, finding: Finding) -> Answer
+    pub fn new(text: String, finding: CallStatus) -> Answer
         ensures { result ≡ record { text = string_bytes text; finding = finding } }
     {
         Answer { text, finding }
@@ -37,7 +37,7 @@ impl Answer {
     }
 
     /// What they come to.
-    pub fn finding(&self) -> Finding
+    pub fn finding(&self) -> CallStatus
         ensures { result ≡ self.now.finding }
     {
         self.finding
@@ -48,9 +48,9 @@ impl Answer {
         ensures { result ≡ is_well self.now }
     {
         match self.finding {
-            Finding::Well => true,
-            Finding::Broken => false,
-            Finding::Unread => false,
+            CallStatus::Well => true,
+            CallStatus::Broken => false,
+            CallStatus::Unread => false,
         }
     }
 

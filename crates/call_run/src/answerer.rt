@@ -4,7 +4,7 @@ ghost use Rattle.call_log.specs.Entry.{most_message_length};
 ghost use Rattle.text_grammar.specs.Moment.{last_second};
 
 use crate::answer::Answer;
-use crate::stop::AnswerStop;
+use crate::stop::AnswerError;
 use call_log::Call;
 use std::alloc::Global;
 use stir_outside::Shelf;
@@ -33,7 +33,7 @@ pub trait Answerer {
         alloc: Global,
         shelf: &mut S,
         call: &Call,
-    ) -> Result<Answer, AnswerStop>
+    ) -> Result<Answer, AnswerError>
         requires moment { call.now.moment ≤ last_second }
         requires message { length call.now.message ≤ most_message_length }
         ensures answered { IfOk result (λ answer. AnswersBehind (behind self.old (S.files shelf.old)) (answered self.old (S.files shelf.old)) call.now answer) }

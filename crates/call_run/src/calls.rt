@@ -11,7 +11,7 @@ ghost use Rattle.log_run.specs.Steps.{ReadsOn};
 ghost use Rattle.text_grammar.specs.Moment.{last_second};
 
 use crate::answerer::Answerer;
-use crate::ends::{Halt, Next};
+use crate::ends::{Next, RunError};
 use call_log::{Call, LogFault, LogReader};
 use log_run::{next_call, reading_law};
 use std::alloc::Global;
@@ -25,7 +25,7 @@ fn answer_call<A: Answerer, S: Shelf, O: Sink>(
     call: &Call,
     sink: &mut O,
     all_good: &mut bool,
-) -> Result<(), Halt>
+) -> Result<(), RunError>
     requires moment { call.now.moment ≤ last_second }
     requires message { length call.now.message ≤ most_message_length }
     ensures answered { AnsweredCall (A.answered answerer.old (S.files shelf.old)) (A.behind answerer.old (S.files shelf.old)) (A.behind answerer.new (S.files shelf.new)) (A.stops answerer.old (S.files shelf.old))
@@ -38,12 +38,12 @@ fn answer_call<A: Answerer, S: Shelf, O: Sink>(
 {
     let answer = match answerer.answer(alloc, shelf, call) {
         Ok(answer) => answer,
-        Err(stop) => return Err(Halt::Stopped(stop)),
+        Err(stop) => return Err(RunError::Stopped(stop)),
     };
     *all_good = answer.keeps_well(*all_good);
     match write_whole(sink, answer.text().as_bytes()) {
         Ok(()) => Ok(()),
-        Err(_) => Err(Halt::Sink),
+        Err(_) => Err(RunError::Sink),
     }
 }
 
@@ -56,7 +56,7 @@ fn run_call<A: Answerer, S: Shelf, I: Source, O: Sink>(
     input: &mut I,
     sink: &mut O,
     all_good: &mut bool,
-) -> Result<Next, Halt>
+) -> Result<Next, RunError>
     requires reads_on { ReadsOn reader.old }
     ensures ran { RanCall (A.answered answerer.old (S.files shelf.old)) (A.behind answerer.old (S.files shelf.old)) (A.behind answerer.new (S.files shelf.new)) (A.stops answerer.old (S.files shelf.old))
         (at reader.old.passed (left_to reader.old (I.left input.old)) (S.counts shelf.old).faults all_good.old)
@@ -92,7 +92,7 @@ pub(crate) fn run_calls<A: Answerer, S: Shelf, I: Source, O: Sink>(
     input: &mut I,
     sink: &mut O,
     all_good: &mut bool,
-) -> Result<Option<LogFault>, Halt>
+) -> Result<Option<LogFault>, RunError>
     requires reads_on { ReadsOn reader.old }
     requires first { A.behind answerer.old (S.files shelf.old) [] }
     ensures ran { RunsOut (A.answered answerer.old (S.files shelf.old)) (A.stops answerer.old (S.files shelf.old)) []

@@ -1,5 +1,5 @@
 //! How a run goes on behind a call, and what stops it.
-use crate::stop::AnswerStop;
+use crate::stop::AnswerError;
 use call_log::LogFault;
 
 /// What stands behind a call that was answered, or in its place.
@@ -15,9 +15,9 @@ pub(crate) enum Next {
 
 /// What stops a run before the log has ended.
 #[derive(Drop)]
-pub(crate) enum Halt {
+pub(crate) enum RunError {
     /// A write failed.
     Sink,
     /// The call wasn't answered.
-    Stopped(AnswerStop),
+    Stopped(AnswerError),
 }

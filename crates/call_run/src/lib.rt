@@ -8,14 +8,14 @@ mod answer;
 mod answerer;
 mod calls;
 mod ends;
-mod finding;
 mod run;
+mod status;
 mod stop;
 
 pub use answer::Answer;
 pub use answerer::Answerer;
-pub use finding::Finding;
 pub use run::answer_log;
-pub use stop::AnswerStop;
+pub use status::CallStatus;
+pub use stop::AnswerError;
 /// Memory ran out.
 pub use std::alloc::AllocError as Memory;

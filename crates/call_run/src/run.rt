@@ -1,18 +1,16 @@
 //! A run over a whole log: its calls, and the last line.
 ghost use Rattle.std.specs.Prelude.{◌≡◌, ◌≤◌, ◌++◌, ℕ, [], string_bytes};
-ghost use Rattle.call_run.specs.Clauses.{AnswersLog, Fails, HasCauses, HasEnded, IsComplete, LogRan, Refuses, around};
+ghost use Rattle.call_run.specs.Clauses.{AnswersLog, Fails, HasCauses, HasEnded, IsComplete, LogRan, Refuses, run_state};
 ghost use Rattle.call_run.specs.Ending.{EndsBy, EndsStopped, EndsUnread, unread_line};
-ghost use Rattle.log_run.specs.Ending.{memory_line};
 
 use crate::answerer::Answerer;
 use crate::calls::run_calls;
-use crate::ends::Halt;
-use crate::stop::AnswerStop;
+use crate::ends::RunError;
+use crate::stop::AnswerError;
 use call_log::{LogFault, LogReader, one_log};
-use log_run::{end_at, end_with, report_status};
+use log_run::{end_at, report_status};
 use std::alloc::Global;
-use stir_outside::{Shelf, Sink, Source};
-use stir_words::Status;
+use stir_outside::{Shelf, Sink, Source, Status, end_with, memory_line};
 
 /// Answers the calls of a log one by one, by what has answered none before, and writes the lines of each before the next is read.
 ///
@@ -29,26 +27,26 @@ pub fn answer_log<A: Answerer, S: Shelf, I: Source, O: Sink>(
 ) -> u8
     requires { A.behind answerer.old (S.files shelf.old) [] }
     ensures ran { LogRan (A.answered answerer.old (S.files shelf.old)) (A.stops answerer.old (S.files shelf.old))
-        (around (I.left input.old) (S.counts shelf.old).faults (I.faults input.old) (O.written sink.old) (O.faults sink.old))
-        (around (I.left input.new) (S.counts shelf.new).faults (I.faults input.new) (O.written sink.new) (O.faults sink.new)) result }
+        (run_state (I.left input.old) (S.counts shelf.old).faults (I.faults input.old) (O.written sink.old) (O.faults sink.old))
+        (run_state (I.left input.new) (S.counts shelf.new).faults (I.faults input.new) (O.written sink.new) (O.faults sink.new)) result }
     // The lines of the calls of the log are what was written.
     ensures answers { AnswersLog (A.answered answerer.old (S.files shelf.old))
-        (around (I.left input.old) (S.counts shelf.old).faults (I.faults input.old) (O.written sink.old) (O.faults sink.old))
-        (around (I.left input.new) (S.counts shelf.new).faults (I.faults input.new) (O.written sink.new) (O.faults sink.new)) result }
+        (run_state (I.left input.old) (S.counts shelf.old).faults (I.faults input.old) (O.written sink.old) (O.faults sink.old))
+        (run_state (I.left input.new) (S.counts shelf.new).faults (I.faults input.new) (O.written sink.new) (O.faults sink.new)) result }
     ensures ended { HasEnded
-        (around (I.left input.new) (S.counts shelf.new).faults (I.faults input.new) (O.written sink.new) (O.faults sink.new)) result }
+        (run_state (I.left input.new) (S.counts shelf.new).faults (I.faults input.new) (O.written sink.new) (O.faults sink.new)) result }
     ensures refuses { Refuses (A.answered answerer.old (S.files shelf.old))
-        (around (I.left input.old) (S.counts shelf.old).faults (I.faults input.old) (O.written sink.old) (O.faults sink.old))
-        (around (I.left input.new) (S.counts shelf.new).faults (I.faults input.new) (O.written sink.new) (O.faults sink.new)) result }
+        (run_state (I.left input.old) (S.counts shelf.old).faults (I.faults input.old) (O.written sink.old) (O.faults sink.old))
+        (run_state (I.left input.new) (S.counts shelf.new).faults (I.faults input.new) (O.written sink.new) (O.faults sink.new)) result }
     ensures fails { Fails (A.answered answerer.old (S.files shelf.old)) (A.stops answerer.old (S.files shelf.old))
-        (around (I.left input.old) (S.counts shelf.old).faults (I.faults input.old) (O.written sink.old) (O.faults sink.old))
-        (around (I.left input.new) (S.counts shelf.new).faults (I.faults input.new) (O.written sink.new) (O.faults sink.new)) result }
+        (run_state (I.left input.old) (S.counts shelf.old).faults (I.faults input.old) (O.written sink.old) (O.faults sink.old))
+        (run_state (I.left input.new) (S.counts shelf.new).faults (I.faults input.new) (O.written sink.new) (O.faults sink.new)) result }
     ensures causes { HasCauses (A.answered answerer.old (S.files shelf.old)) (A.stops answerer.old (S.files shelf.old))
-        (around (I.left input.old) (S.counts shelf.old).faults (I.faults input.old) (O.written sink.old) (O.faults sink.old))
-        (around (I.left input.new) (S.counts shelf.new).faults (I.faults input.new) (O.written sink.new) (O.faults sink.new)) result }
+        (run_state (I.left input.old) (S.counts shelf.old).faults (I.faults input.old) (O.written sink.old) (O.faults sink.old))
+        (run_state (I.left input.new) (S.counts shelf.new).faults (I.faults input.new) (O.written sink.new) (O.faults sink.new)) result }
     ensures complete { IsComplete (A.stops answerer.old (S.files shelf.old))
-        (around (I.left input.old) (S.counts shelf.old).faults (I.faults input.old) (O.written sink.old) (O.faults sink.old))
-        (around (I.left input.new) (S.counts shelf.new).faults (I.faults input.new) (O.written sink.new) (O.faults sink.new)) result }
+        (run_state (I.left input.old) (S.counts shelf.old).faults (I.faults input.old) (O.written sink.old) (O.faults sink.old))
+        (run_state (I.left input.new) (S.counts shelf.new).faults (I.faults input.new) (O.written sink.new) (O.faults sink.new)) result }
     ensures same_files { S.files shelf.new ≡ S.files shelf.old }
     ensures shelf_stays { (S.counts shelf.old).faults ≤ (S.counts shelf.new).faults }
 {
@@ -66,8 +64,8 @@ fn run_log<A: Answerer, S: Shelf, I: Source, O: Sink>(
 ) -> u8
     requires { A.behind answerer.old (S.files shelf.old) [] }
     ensures ran { LogRan (A.answered answerer.old (S.files shelf.old)) (A.stops answerer.old (S.files shelf.old))
-        (around (I.left input.old) (S.counts shelf.old).faults (I.faults input.old) (O.written sink.old) (O.faults sink.old))
-        (around (I.left input.new) (S.counts shelf.new).faults (I.faults input.new) (O.written sink.new) (O.faults sink.new)) result }
+        (run_state (I.left input.old) (S.counts shelf.old).faults (I.faults input.old) (O.written sink.old) (O.faults sink.old))
+        (run_state (I.left input.new) (S.counts shelf.new).faults (I.faults input.new) (O.written sink.new) (O.faults sink.new)) result }
     ensures same_files { S.files shelf.new ≡ S.files shelf.old }
     ensures shelf_stays { (S.counts shelf.old).faults ≤ (S.counts shelf.new).faults }
 {
@@ -89,7 +87,7 @@ fn run_log<A: Answerer, S: Shelf, I: Source, O: Sink>(
 fn finish<O: Sink>(
     alloc: Global,
     sink: &mut O,
-    ended: Result<Option<LogFault>, Halt>,
+    ended: Result<Option<LogFault>, RunError>,
     all_good: bool,
 ) -> u8
     ensures { EndsBy (O.written sink.old) (O.written sink.new) (O.faults sink.old) (O.faults sink.new) result all_good ended }
@@ -97,29 +95,28 @@ fn finish<O: Sink>(
     match ended {
         Ok(None) => report_status(all_good),
         Ok(Some(fault)) => end_at(alloc, sink, fault),
-        Err(Halt::Sink) => Status::Write.number(),
-        Err(Halt::Stopped(stop)) => end_stopped(alloc, sink, stop),
+        Err(RunError::Sink) => Status::Write.number(),
+        Err(RunError::Stopped(stop)) => end_stopped(alloc, sink, stop),
     }
 }
 
 /// Writes the last lines of a run that stopped at a call.
-#[tactic(auto, unfolding(log_run::specs::Ending::memory_line))]
-fn end_stopped<O: Sink>(alloc: Global, sink: &mut O, stop: AnswerStop) -> u8
+fn end_stopped<O: Sink>(alloc: Global, sink: &mut O, stop: AnswerError) -> u8
     ensures { EndsStopped (O.written sink.old) (O.written sink.new) (O.faults sink.old) (O.faults sink.new) result stop }
 {
     match stop {
-        AnswerStop::Unread { text, name } => end_unread(alloc, sink, text.as_str(), name.as_str()),
-        AnswerStop::Memory => end_with(sink, "want of memory\n", Status::Memory),
+        AnswerError::Unread { text, name } => end_unread(alloc, sink, text.as_str(), name.as_str()),
+        AnswerError::Memory => end_with(sink, memory_line(), Status::Memory),
     }
 }
 
 /// Writes these lines of a call, and that the file of this name couldn't be read.
-#[tactic(auto, unfolding(log_run::specs::Ending::memory_line, crate::specs::Ending::unread_line))]
+#[tactic(auto, unfolding(crate::specs::Ending::unread_line))]
 fn end_unread<O: Sink>(alloc: Global, sink: &mut O, text: &str, name: &str) -> u8
     ensures { EndsUnread (O.written sink.old) (O.written sink.new) (O.faults sink.old) (O.faults sink.new) result text.now name.now }
 {
     match format!(in alloc; "{text}read fault {name}\n") {
         Ok(line) => end_with(sink, line.as_str(), Status::Read),
-        Err(_) => end_with(sink, "want of memory\n", Status::Memory),
+        Err(_) => end_with(sink, memory_line(), Status::Memory),
     }
 }

@@ -16,7 +16,7 @@ use delegation::{Anchors, shape};
 use std::alloc::{AllocError, Global};
 use stir_outside::Provider;
 use tn_auth_list::CodeTable;
-use x509_profile::{Certificate, ChainFault, read_chain};
+use x509_profile::{CertChainFault, Certificate, read_chain};
 
 /// The most bytes that a chain may have: six certificates of 8,192.
 const MOST_BYTES: usize = 49_152;
@@ -81,8 +81,8 @@ fn judge_bytes<P: Provider>(
     }
     match read_chain(alloc, bytes) {
         Ok(certificates) => judge_certificates(alloc, certificates, anchors, table, provider),
-        Err(ChainFault::At { number, .. }) => Ok(outside_profile(alloc, number)),
-        Err(ChainFault::Memory) => Err(AllocError),
+        Err(CertChainFault::At { number, .. }) => Ok(outside_profile(alloc, number)),
+        Err(CertChainFault::Memory) => Err(AllocError),
     }
 }
 

@@ -14,10 +14,12 @@ mod map;
 mod map_rows;
 mod path;
 mod signatures;
+mod world;
 
 pub use judge::judge_chain;
 pub use judged::{Asked, Judged, Question};
 pub use laws::{judged_law, questions_law};
 pub use map::{ChainMap, MapFault};
+pub use world::World;
 /// Memory ran out.
 pub use std::alloc::AllocError as Memory;

@@ -9,7 +9,7 @@ use Rattle.log_run.proofs.EndLaws.{Base, Ended, EndedFailed, EndedFaulty, EndedF
 use Rattle.log_run.proofs.JudgedLaws.{aside_on}
 use Rattle.log_run.proofs.LegalLaws.{first_of, legal_of}
 use Rattle.log_run.specs.Bench.{Bench}
-use Rattle.log_run.specs.Clauses.{AnswersFaulty, AnswersWhole, AreFirst, AreJudged, Around, DoneReport, FailedReport, Fails, FaultyAt, FrontReport, HasCauses, HasEnded, Headline, IsComplete, IsFaulty, LogRan, PartLog, PartReport, Refuses, ShortReport, WholeReport}
+use Rattle.log_run.specs.Clauses.{AnswersFaulty, AnswersWhole, AreFirst, AreJudged, RunState, DoneReport, FailedReport, Fails, FaultyAt, FrontReport, HasCauses, HasEnded, Headline, IsComplete, IsFaulty, LogRan, PartLog, PartReport, Refuses, ShortReport, WholeReport}
 use Rattle.log_run.specs.Ending.{report_status}
 use Rattle.log_run.specs.Judged.{At}
 use Rattle.log_run.specs.Reading.{ReadCalls}
@@ -47,7 +47,7 @@ faulty_some passed place rest (inr (inr m)) = m.some
 
 -- ---- the calls that were judged
 
-are_judged : LegalTogether → FirstOfAll → (judged : Entry → Outcome → Type 0) (bench : Bench) (before now : Around) (rounds : List Round) (mid : At) → before.standing.past ≡ nothing → Base judged bench before now rounds mid
+are_judged : LegalTogether → FirstOfAll → (judged : Entry → Outcome → Type 0) (bench : Bench) (before now : RunState) (rounds : List Round) (mid : At) → before.standing.past ≡ nothing → Base judged bench before now rounds mid
     → AreJudged judged bench before.standing now.standing rounds
 are_judged legal first judged bench before now rounds mid empty b = record {
   cut = b.cut;
@@ -57,7 +57,7 @@ are_judged legal first judged bench before now rounds mid empty b = record {
   aside = aside_on bench before.standing mid.standing now.standing rounds b.stands.shelf_stays b.shelf_stays b.stands.provider_stays b.provider_stays b.stands.aside;
 }
 
-first_calls : (judged : Entry → Outcome → Type 0) (bench : Bench) (before now : Around) (rounds : List Round) (mid : At) → Base judged bench before now rounds mid → AreFirst before.left (calls_in rounds)
+first_calls : (judged : Entry → Outcome → Type 0) (bench : Bench) (before now : RunState) (rounds : List Round) (mid : At) → Base judged bench before now rounds mid → AreFirst before.left (calls_in rounds)
 first_calls judged bench before now rounds mid b = record { passed = mid.passed; behind = mid.left; read = b.stands.read }
 
 -- ---- status 0 and 1
@@ -66,7 +66,7 @@ pub low_status : (good : Bool) → report_status good ≤ 1
 low_status true = omega arith
 low_status false = omega arith
 
-whole_by : LegalTogether → FirstOfAll → (judged : Entry → Outcome → Type 0) (bench : Bench) (before now : Around) (status : ℕ) (left : Option (List ℕ)) → before.standing.past ≡ nothing → before.left ≡ left → EndedWhole judged bench before now status
+whole_by : LegalTogether → FirstOfAll → (judged : Entry → Outcome → Type 0) (bench : Bench) (before now : RunState) (status : ℕ) (left : Option (List ℕ)) → before.standing.past ≡ nothing → before.left ≡ left → EndedWhole judged bench before now status
     → IfSome left (λ bytes. WholeReport judged bench before now bytes status)
 whole_by legal first judged bench before now status None empty is e = tt
 whole_by legal first judged bench before now status (Some bytes) empty is e = record {
@@ -77,22 +77,22 @@ whole_by legal first judged bench before now status (Some bytes) empty is e = re
   said = e.said ∙ ap report_status e.base.stands.good;
 }
 
-above_one : (judged : Entry → Outcome → Type 0) (bench : Bench) (before now : Around) (status : ℕ) → Ended judged bench before now status → status ≤ 1 → EndedWhole judged bench before now status
+above_one : (judged : Entry → Outcome → Type 0) (bench : Bench) (before now : RunState) (status : ℕ) → Ended judged bench before now status → status ≤ 1 → EndedWhole judged bench before now status
 above_one judged bench before now status (inl e) low = e
 above_one judged bench before now status (inr (inl e)) low = absurd (omega (arith, e.said, low))
 above_one judged bench before now status (inr (inr (inl e))) low = absurd (omega (arith, e.said, low))
 above_one judged bench before now status (inr (inr (inr (inl e)))) low = absurd (omega (arith, e.said, low))
 above_one judged bench before now status (inr (inr (inr (inr e)))) low = absurd (omega (arith, e.said, low))
 
-pub headline : LegalTogether → FirstOfAll → (judged : Entry → Outcome → Type 0) (bench : Bench) (before now : Around) (status : ℕ) → before.standing.past ≡ nothing → LogRan judged bench before now status → Headline judged bench before now status
+pub headline : LegalTogether → FirstOfAll → (judged : Entry → Outcome → Type 0) (bench : Bench) (before now : RunState) (status : ℕ) → before.standing.past ≡ nothing → LogRan judged bench before now status → Headline judged bench before now status
 headline legal first judged bench before now status empty r low = whole_by legal first judged bench before now status before.left empty refl (above_one judged bench before now status (ended_of judged bench before now status r) low)
 
-pub has_ended : (judged : Entry → Outcome → Type 0) (bench : Bench) (before now : Around) (status : ℕ) → LogRan judged bench before now status → HasEnded now status
+pub has_ended : (judged : Entry → Outcome → Type 0) (bench : Bench) (before now : RunState) (status : ℕ) → LogRan judged bench before now status → HasEnded now status
 has_ended judged bench before now status r low = (above_one judged bench before now status (ended_of judged bench before now status r) low).behind.reads.ended
 
 -- ---- status 5
 
-part_by : LegalTogether → FirstOfAll → (judged : Entry → Outcome → Type 0) (bench : Bench) (before now : Around) (status : ℕ) (left : Option (List ℕ)) → before.standing.past ≡ nothing → before.left ≡ left → EndedFaulty judged bench before now status
+part_by : LegalTogether → FirstOfAll → (judged : Entry → Outcome → Type 0) (bench : Bench) (before now : RunState) (status : ℕ) (left : Option (List ℕ)) → before.standing.past ≡ nothing → before.left ≡ left → EndedFaulty judged bench before now status
     → IfSome left (λ bytes. PartReport judged bench before now bytes)
 part_by legal first judged bench before now status None empty is e = tt
 part_by legal first judged bench before now status (Some bytes) empty is e =
@@ -107,19 +107,19 @@ part_by legal first judged bench before now status (Some bytes) empty is e =
       reported = e.reported;
     }
 
-is_five : (judged : Entry → Outcome → Type 0) (bench : Bench) (before now : Around) (status : ℕ) → Ended judged bench before now status → status ≡ 5 → EndedFaulty judged bench before now status
+is_five : (judged : Entry → Outcome → Type 0) (bench : Bench) (before now : RunState) (status : ℕ) → Ended judged bench before now status → status ≡ 5 → EndedFaulty judged bench before now status
 is_five judged bench before now status (inl e) five = absurd (omega (arith, e.said, low_status e.mid.all_good, five))
 is_five judged bench before now status (inr (inl e)) five = e
 is_five judged bench before now status (inr (inr (inl e))) five = absurd (omega (arith, e.said, five))
 is_five judged bench before now status (inr (inr (inr (inl e)))) five = absurd (omega (arith, e.said, five))
 is_five judged bench before now status (inr (inr (inr (inr e)))) five = absurd (omega (arith, e.said, five))
 
-pub refuses : LegalTogether → FirstOfAll → (judged : Entry → Outcome → Type 0) (bench : Bench) (before now : Around) (status : ℕ) → before.standing.past ≡ nothing → LogRan judged bench before now status → Refuses judged bench before now status
+pub refuses : LegalTogether → FirstOfAll → (judged : Entry → Outcome → Type 0) (bench : Bench) (before now : RunState) (status : ℕ) → before.standing.past ≡ nothing → LogRan judged bench before now status → Refuses judged bench before now status
 refuses legal first judged bench before now status empty r five = part_by legal first judged bench before now status before.left empty refl (is_five judged bench before now status (ended_of judged bench before now status r) five)
 
 -- ---- status 3
 
-failed_by : LegalTogether → FirstOfAll → (judged : Entry → Outcome → Type 0) (bench : Bench) (before now : Around) (status : ℕ) → before.standing.past ≡ nothing → EndedFailed judged bench before now status → FailedReport judged bench before now
+failed_by : LegalTogether → FirstOfAll → (judged : Entry → Outcome → Type 0) (bench : Bench) (before now : RunState) (status : ℕ) → before.standing.past ≡ nothing → EndedFailed judged bench before now status → FailedReport judged bench before now
 failed_by legal first judged bench before now status empty e =
     let read = e.base.stands.read in
     let taken = e.behind.reads.taken in
@@ -134,40 +134,40 @@ failed_by legal first judged bench before now status empty e =
       reported = e.reported;
     }
 
-is_three : (judged : Entry → Outcome → Type 0) (bench : Bench) (before now : Around) (status : ℕ) → Ended judged bench before now status → status ≡ 3 → EndedFailed judged bench before now status
+is_three : (judged : Entry → Outcome → Type 0) (bench : Bench) (before now : RunState) (status : ℕ) → Ended judged bench before now status → status ≡ 3 → EndedFailed judged bench before now status
 is_three judged bench before now status (inl e) three = absurd (omega (arith, e.said, low_status e.mid.all_good, three))
 is_three judged bench before now status (inr (inl e)) three = absurd (omega (arith, e.said, three))
 is_three judged bench before now status (inr (inr (inl e))) three = e
 is_three judged bench before now status (inr (inr (inr (inl e)))) three = absurd (omega (arith, e.said, three))
 is_three judged bench before now status (inr (inr (inr (inr e)))) three = absurd (omega (arith, e.said, three))
 
-pub fails : LegalTogether → FirstOfAll → (judged : Entry → Outcome → Type 0) (bench : Bench) (before now : Around) (status : ℕ) → before.standing.past ≡ nothing → LogRan judged bench before now status → Fails judged bench before now status
+pub fails : LegalTogether → FirstOfAll → (judged : Entry → Outcome → Type 0) (bench : Bench) (before now : RunState) (status : ℕ) → before.standing.past ≡ nothing → LogRan judged bench before now status → Fails judged bench before now status
 fails legal first judged bench before now status empty r three = failed_by legal first judged bench before now status empty (is_three judged bench before now status (ended_of judged bench before now status r) three)
 
 -- ---- status 4 and 6
 
-is_four : (judged : Entry → Outcome → Type 0) (bench : Bench) (before now : Around) (status : ℕ) → Ended judged bench before now status → status ≡ 4 → EndedFront judged bench before now status
+is_four : (judged : Entry → Outcome → Type 0) (bench : Bench) (before now : RunState) (status : ℕ) → Ended judged bench before now status → status ≡ 4 → EndedFront judged bench before now status
 is_four judged bench before now status (inl e) four = absurd (omega (arith, e.said, low_status e.mid.all_good, four))
 is_four judged bench before now status (inr (inl e)) four = absurd (omega (arith, e.said, four))
 is_four judged bench before now status (inr (inr (inl e))) four = absurd (omega (arith, e.said, four))
 is_four judged bench before now status (inr (inr (inr (inl e)))) four = e
 is_four judged bench before now status (inr (inr (inr (inr e)))) four = absurd (omega (arith, e.said, four))
 
-is_six : (judged : Entry → Outcome → Type 0) (bench : Bench) (before now : Around) (status : ℕ) → Ended judged bench before now status → status ≡ 6 → EndedShort judged bench before now status
+is_six : (judged : Entry → Outcome → Type 0) (bench : Bench) (before now : RunState) (status : ℕ) → Ended judged bench before now status → status ≡ 6 → EndedShort judged bench before now status
 is_six judged bench before now status (inl e) six = absurd (omega (arith, e.said, low_status e.mid.all_good, six))
 is_six judged bench before now status (inr (inl e)) six = absurd (omega (arith, e.said, six))
 is_six judged bench before now status (inr (inr (inl e))) six = absurd (omega (arith, e.said, six))
 is_six judged bench before now status (inr (inr (inr (inl e)))) six = absurd (omega (arith, e.said, six))
 is_six judged bench before now status (inr (inr (inr (inr e)))) six = e
 
-known_status : (judged : Entry → Outcome → Type 0) (bench : Bench) (before now : Around) (status : ℕ) → Ended judged bench before now status → (status ≤ 6) × (status ≢ 2)
+known_status : (judged : Entry → Outcome → Type 0) (bench : Bench) (before now : RunState) (status : ℕ) → Ended judged bench before now status → (status ≤ 6) × (status ≢ 2)
 known_status judged bench before now status (inl e) = (omega (arith, e.said, low_status e.mid.all_good), λ two. omega (arith, e.said, low_status e.mid.all_good, two))
 known_status judged bench before now status (inr (inl e)) = (omega (arith, e.said), λ two. omega (arith, e.said, two))
 known_status judged bench before now status (inr (inr (inl e))) = (omega (arith, e.said), λ two. omega (arith, e.said, two))
 known_status judged bench before now status (inr (inr (inr (inl e)))) = (omega (arith, e.said), λ two. omega (arith, e.said, two))
 known_status judged bench before now status (inr (inr (inr (inr e)))) = (omega (arith, e.said), λ two. omega (arith, e.said, two))
 
-front_by : LegalTogether → FirstOfAll → (judged : Entry → Outcome → Type 0) (bench : Bench) (before now : Around) (status : ℕ) → before.standing.past ≡ nothing → EndedFront judged bench before now status → FrontReport judged bench before now
+front_by : LegalTogether → FirstOfAll → (judged : Entry → Outcome → Type 0) (bench : Bench) (before now : RunState) (status : ℕ) → before.standing.past ≡ nothing → EndedFront judged bench before now status → FrontReport judged bench before now
 front_by legal first judged bench before now status empty e = record {
   failed = e.rose;
   rounds = e.rounds;
@@ -178,7 +178,7 @@ front_by legal first judged bench before now status empty e = record {
   front = e.front;
 }
 
-short_by : LegalTogether → FirstOfAll → (judged : Entry → Outcome → Type 0) (bench : Bench) (before now : Around) (status : ℕ) → before.standing.past ≡ nothing → EndedShort judged bench before now status → ShortReport judged bench before now
+short_by : LegalTogether → FirstOfAll → (judged : Entry → Outcome → Type 0) (bench : Bench) (before now : RunState) (status : ℕ) → before.standing.past ≡ nothing → EndedShort judged bench before now status → ShortReport judged bench before now
 short_by legal first judged bench before now status empty e = record {
   rounds = e.rounds;
   first = first_calls judged bench before now e.rounds e.mid e.base;
@@ -186,7 +186,7 @@ short_by legal first judged bench before now status empty e = record {
   reported = e.reported;
 }
 
-done_by : LegalTogether → FirstOfAll → (judged : Entry → Outcome → Type 0) (bench : Bench) (before now : Around) (status : ℕ) → before.standing.past ≡ nothing → EndedWhole judged bench before now status → DoneReport judged bench before now status
+done_by : LegalTogether → FirstOfAll → (judged : Entry → Outcome → Type 0) (bench : Bench) (before now : RunState) (status : ℕ) → before.standing.past ≡ nothing → EndedWhole judged bench before now status → DoneReport judged bench before now status
 done_by legal first judged bench before now status empty e = record {
   rounds = e.rounds;
   first = first_calls judged bench before now e.rounds e.mid e.base;
@@ -195,7 +195,7 @@ done_by legal first judged bench before now status empty e = record {
   said = e.said ∙ ap report_status e.base.stands.good;
 }
 
-pub causes : LegalTogether → FirstOfAll → (judged : Entry → Outcome → Type 0) (bench : Bench) (before now : Around) (status : ℕ) → before.standing.past ≡ nothing → LogRan judged bench before now status → HasCauses judged bench before now status
+pub causes : LegalTogether → FirstOfAll → (judged : Entry → Outcome → Type 0) (bench : Bench) (before now : RunState) (status : ℕ) → before.standing.past ≡ nothing → LogRan judged bench before now status → HasCauses judged bench before now status
 causes legal first judged bench before now status empty r =
     let ended = ended_of judged bench before now status r in
     record {
@@ -208,32 +208,32 @@ causes legal first judged bench before now status empty r =
 
 -- ---- which status comes
 
-not_faulty : OneLog → (judged : Entry → Outcome → Type 0) (bench : Bench) (before now : Around) (status : ℕ) (bytes : List ℕ) (calls : List Entry) → before.left ≡ Some bytes → LogText (start 0 0) bytes calls [] → EndedFaulty judged bench before now status → ⊥
+not_faulty : OneLog → (judged : Entry → Outcome → Type 0) (bench : Bench) (before now : RunState) (status : ℕ) (bytes : List ℕ) (calls : List Entry) → before.left ≡ Some bytes → LogText (start 0 0) bytes calls [] → EndedFaulty judged bench before now status → ⊥
 not_faulty law judged bench before now status bytes calls is whole e =
     let p = part_log e.mid.passed bytes e.mid.left (calls_in e.rounds) e.place (subst (λ l. ReadCalls (start 0 0) l e.mid.left e.mid.passed (calls_in e.rounds)) is e.base.stands.read) e.faulty in
     faulty_some (after_all (start 0 0) (calls_in e.rounds)) e.place p.rest p.fault (law (start 0 0) bytes (calls_in e.rounds) calls p.rest [] p.log whole).1
 
-not_whole : OneLog → (judged : Entry → Outcome → Type 0) (bench : Bench) (before now : Around) (status : ℕ) (bytes rest : List ℕ) (calls : List Entry) → before.left ≡ Some bytes → LogText (start 0 0) bytes calls rest → rest ≢ []
+not_whole : OneLog → (judged : Entry → Outcome → Type 0) (bench : Bench) (before now : RunState) (status : ℕ) (bytes rest : List ℕ) (calls : List Entry) → before.left ≡ Some bytes → LogText (start 0 0) bytes calls rest → rest ≢ []
     → EndedWhole judged bench before now status → ⊥
 not_whole law judged bench before now status bytes rest calls is part some e =
     let whole = whole_log e.mid.passed bytes e.mid.left now.left (calls_in e.rounds) (subst (λ l. ReadCalls (start 0 0) l e.mid.left e.mid.passed (calls_in e.rounds)) is e.base.stands.read) e.behind.hands_out in
     some (law (start 0 0) bytes calls (calls_in e.rounds) rest [] part whole).1
 
-answers_whole : OneLog → (judged : Entry → Outcome → Type 0) (bench : Bench) (before now : Around) (status : ℕ) → Ended judged bench before now status → AnswersWhole before now status
+answers_whole : OneLog → (judged : Entry → Outcome → Type 0) (bench : Bench) (before now : RunState) (status : ℕ) → Ended judged bench before now status → AnswersWhole before now status
 answers_whole law judged bench before now status (inl e) bytes calls is whole reads writes = inl (omega (arith, e.said, low_status e.mid.all_good))
 answers_whole law judged bench before now status (inr (inl e)) bytes calls is whole reads writes = absurd (not_faulty law judged bench before now status bytes calls is whole e)
-answers_whole law judged bench before now status (inr (inr (inl e))) bytes calls is whole reads writes = absurd (not_rose before.outside.reads now.outside.reads reads e.rose)
-answers_whole law judged bench before now status (inr (inr (inr (inl e)))) bytes calls is whole reads writes = absurd (not_rose before.outside.writes now.outside.writes writes e.rose)
+answers_whole law judged bench before now status (inr (inr (inl e))) bytes calls is whole reads writes = absurd (not_rose before.streams.read_faults now.streams.read_faults reads e.rose)
+answers_whole law judged bench before now status (inr (inr (inr (inl e)))) bytes calls is whole reads writes = absurd (not_rose before.streams.write_faults now.streams.write_faults writes e.rose)
 answers_whole law judged bench before now status (inr (inr (inr (inr e)))) bytes calls is whole reads writes = inr e.said
 
-answers_faulty : OneLog → (judged : Entry → Outcome → Type 0) (bench : Bench) (before now : Around) (status : ℕ) → Ended judged bench before now status → AnswersFaulty before now status
+answers_faulty : OneLog → (judged : Entry → Outcome → Type 0) (bench : Bench) (before now : RunState) (status : ℕ) → Ended judged bench before now status → AnswersFaulty before now status
 answers_faulty law judged bench before now status (inl e) bytes rest calls is part some reads writes = absurd (not_whole law judged bench before now status bytes rest calls is part some e)
 answers_faulty law judged bench before now status (inr (inl e)) bytes rest calls is part some reads writes = inl e.said
-answers_faulty law judged bench before now status (inr (inr (inl e))) bytes rest calls is part some reads writes = absurd (not_rose before.outside.reads now.outside.reads reads e.rose)
-answers_faulty law judged bench before now status (inr (inr (inr (inl e)))) bytes rest calls is part some reads writes = absurd (not_rose before.outside.writes now.outside.writes writes e.rose)
+answers_faulty law judged bench before now status (inr (inr (inl e))) bytes rest calls is part some reads writes = absurd (not_rose before.streams.read_faults now.streams.read_faults reads e.rose)
+answers_faulty law judged bench before now status (inr (inr (inr (inl e)))) bytes rest calls is part some reads writes = absurd (not_rose before.streams.write_faults now.streams.write_faults writes e.rose)
 answers_faulty law judged bench before now status (inr (inr (inr (inr e)))) bytes rest calls is part some reads writes = inr e.said
 
-pub complete : OneLog → (judged : Entry → Outcome → Type 0) (bench : Bench) (before now : Around) (status : ℕ) → LogRan judged bench before now status → IsComplete before now status
+pub complete : OneLog → (judged : Entry → Outcome → Type 0) (bench : Bench) (before now : RunState) (status : ℕ) → LogRan judged bench before now status → IsComplete before now status
 complete law judged bench before now status r =
     let ended = ended_of judged bench before now status r in
     record { whole = answers_whole law judged bench before now status ended; faulty = answers_faulty law judged bench before now status ended }

@@ -18,8 +18,8 @@ use Rattle.log_run.specs.Running.{BehindBy, RanRound, RoseBy, RunsOn, RunsOut, S
 use Rattle.log_run.specs.Steps.{JudgedRound, Reports, StandsBy, first_number}
 use Rattle.log_run.specs.declared.ends.Next.{Next}
 use Rattle.log_run.specs.declared.ends.Next.TheVariants.{More, Whole, Fault}
-use Rattle.log_run.specs.declared.ends.Stop.{Stop}
-use Rattle.log_run.specs.declared.ends.Stop.TheVariants as stop
+use Rattle.log_run.specs.declared.ends.RunError.{RunError}
+use Rattle.log_run.specs.declared.ends.RunError.TheVariants as error
 use Rattle.stir_outside.specs.Count.{Rose}
 use Rattle.stir_outside.specs.Told.{AppendsFront}
 use Rattle.verify_service.specs.Report.{report}
@@ -66,7 +66,7 @@ stands_read before now left left_now calls standing standing_now r s m =
 
 -- memory was wanting before a call was judged
 pub stopped_at_once : (judged : Entry → Outcome → Type 0) (bench : Bench) (a b : At) (s t : Streams) → a.standing.shelf ≤ b.standing.shelf → a.standing.provider ≤ b.standing.provider → StreamsStay s t → Appends s.written t.written []
-    → RunsOut judged bench a b s t (Err stop.Memory)
+    → RunsOut judged bench a b s t (Err error.Memory)
 stopped_at_once judged bench a b s t shelf provider stay same = record {
   rounds = [];
   mid = a;
@@ -97,7 +97,7 @@ empty_last judged bench a mid mid_left calls read none =
     }
 
 ended_empty : (judged : Entry → Outcome → Type 0) (bench : Bench) (a : At) (passed : Passed) (left_now : Option (List ℕ)) (calls : List Entry) (fault : Option LogFault) (s t : Streams) (mid : Passed) (mid_left : Option (List ℕ))
-    → ReadCalls a.passed a.left mid_left mid calls → calls ≡ [] → BehindBy {X = Stop} mid mid_left left_now (Ok fault) → SourceRose s t fault → StreamsStay s t → Appends s.written t.written []
+    → ReadCalls a.passed a.left mid_left mid calls → calls ≡ [] → BehindBy {X = RunError} mid mid_left left_now (Ok fault) → SourceRose s t fault → StreamsStay s t → Appends s.written t.written []
     → RunsOut judged bench a (at passed left_now a.standing a.all_good) s t (Ok fault)
 ended_empty judged bench a passed left_now calls fault s t mid mid_left read none behind rose stay same = record {
   rounds = [];
@@ -119,7 +119,7 @@ no_calls (call ∷ others) e = absurd (omega (arith, e))
 
 -- where no call was read, the round is none
 pub none_read : (judged : Entry → Outcome → Type 0) (bench : Bench) (a : At) (passed : Passed) (left_now : Option (List ℕ)) (calls : List Entry) (next : Next) (s t : Streams)
-    → ReadRound {E = AllocError} a.passed a.left left_now passed calls (Ok next) → calls ≡ [] → (◌≡◌ {A = Result Next AllocError} (Ok next) (Ok (Fault Source)) → Rose s.reads t.reads) → StreamsStay s t → Appends s.written t.written []
+    → ReadRound {E = AllocError} a.passed a.left left_now passed calls (Ok next) → calls ≡ [] → (◌≡◌ {A = Result Next AllocError} (Ok next) (Ok (Fault Source)) → Rose s.read_faults t.read_faults) → StreamsStay s t → Appends s.written t.written []
     → RanRound judged bench a (at passed left_now a.standing a.all_good) s t (Ok next)
 none_read judged bench a passed left_now calls More s t r none rose stay same = absurd (omega (arith, r.full, ap length none))
 none_read judged bench a passed left_now calls Whole s t r none rose stay same = ended_empty judged bench a passed left_now calls None s t r.mid r.mid_left r.read none r.behind tt stay same
@@ -156,7 +156,7 @@ more_ran judged bench a b calls s t one full stay = record {
 }
 
 last_ran : (judged : Entry → Outcome → Type 0) (bench : Bench) (a : At) (passed mid : Passed) (mid_left left_now : Option (List ℕ)) (b : Standing) (good : Bool) (calls : List Entry) (fault : Option LogFault) (s t : Streams)
-    → OneRound judged bench a (at mid mid_left b good) calls (Appends s.written t.written) → 0 < length calls → length calls < most_in_round → BehindBy {X = Stop} mid mid_left left_now (Ok fault) → RoseBy s t (Ok fault) → StreamsStay s t
+    → OneRound judged bench a (at mid mid_left b good) calls (Appends s.written t.written) → 0 < length calls → length calls < most_in_round → BehindBy {X = RunError} mid mid_left left_now (Ok fault) → RoseBy s t (Ok fault) → StreamsStay s t
     → RunsOut judged bench a (at passed left_now b good) s t (Ok fault)
 last_ran judged bench a passed mid mid_left left_now b good calls fault s t one some few behind rose stay = record {
   rounds = record { calls = calls; outcomes = one.outcomes } ∷ [];
@@ -173,7 +173,7 @@ last_ran judged bench a passed mid mid_left left_now b good calls fault s t one 
 }
 
 pub round_ran : (judged : Entry → Outcome → Type 0) (bench : Bench) (a : At) (passed : Passed) (left_now : Option (List ℕ)) (b : Standing) (good : Bool) (calls : List Entry) (next : Next) (s t : Streams)
-    → ReadRound {E = AllocError} a.passed a.left left_now passed calls (Ok next) → 0 < length calls → (◌≡◌ {A = Result Next AllocError} (Ok next) (Ok (Fault Source)) → Rose s.reads t.reads) → StreamsStay s t → Moves a.standing b calls
+    → ReadRound {E = AllocError} a.passed a.left left_now passed calls (Ok next) → 0 < length calls → (◌≡◌ {A = Result Next AllocError} (Ok next) (Ok (Fault Source)) → Rose s.read_faults t.read_faults) → StreamsStay s t → Moves a.standing b calls
     → Reports judged bench a.standing b calls a.all_good good (Appends s.written t.written) → RanRound judged bench a (at passed left_now b good) s t (Ok next)
 round_ran judged bench a passed left_now b good calls More s t r some rose stay moves reports =
     more_ran judged bench a (at passed left_now b good) calls s t (one_round judged bench a passed left_now b good calls (Appends s.written t.written) r.read some moves reports) r.full stay
@@ -186,8 +186,8 @@ round_ran judged bench a passed left_now b good calls (Fault fault) s t r some r
 -- ---- a round that was stopped
 
 pub sink_stopped : (judged : Entry → Outcome → Type 0) (bench : Bench) (a : At) (passed : Passed) (left_now : Option (List ℕ)) (b : Standing) (good : Bool) (calls : List Entry) (s t : Streams) → CallsRead a.passed a.left calls → 0 < length calls
-    → StreamsStay s t → Moves a.standing b calls → Reports judged bench a.standing b calls a.all_good good (AppendsFront s.written t.written) → Rose s.writes t.writes
-    → RunsOut judged bench a (at passed left_now b good) s t (Err stop.Sink)
+    → StreamsStay s t → Moves a.standing b calls → Reports judged bench a.standing b calls a.all_good good (AppendsFront s.written t.written) → Rose s.write_faults t.write_faults
+    → RunsOut judged bench a (at passed left_now b good) s t (Err error.Sink)
 sink_stopped judged bench a passed left_now b good calls s t r some stay moves reports rose =
     let one = one_round judged bench a r.mid r.mid_left b good calls (AppendsFront s.written t.written) r.read some moves reports in
     record {
@@ -204,40 +204,40 @@ sink_stopped judged bench a passed left_now b good calls s t r some stay moves r
       stay = stay;
     }
 
-pub round_stopped : (judged : Entry → Outcome → Type 0) (bench : Bench) (a : At) (passed : Passed) (left_now : Option (List ℕ)) (b : Standing) (good : Bool) (calls : List Entry) (stopped : Stop) (s t : Streams) → CallsRead a.passed a.left calls
-    → 0 < length calls → StreamsStay s t → Moves a.standing b calls → JudgedRound judged bench a.standing b calls a.all_good good s.written t.written s.writes t.writes (Err stopped)
+pub round_stopped : (judged : Entry → Outcome → Type 0) (bench : Bench) (a : At) (passed : Passed) (left_now : Option (List ℕ)) (b : Standing) (good : Bool) (calls : List Entry) (stopped : RunError) (s t : Streams) → CallsRead a.passed a.left calls
+    → 0 < length calls → StreamsStay s t → Moves a.standing b calls → JudgedRound judged bench a.standing b calls a.all_good good s.written t.written s.write_faults t.write_faults (Err stopped)
     → RunsOut judged bench a (at passed left_now b good) s t (Err stopped)
-round_stopped judged bench a passed left_now b good calls stop.Sink s t r some stay moves j = sink_stopped judged bench a passed left_now b good calls s t r some stay moves j.0 j.1
-round_stopped judged bench a passed left_now b good calls stop.Memory s t r some stay moves j = stopped_at_once judged bench a (at passed left_now b good) s t moves.shelf_stays moves.provider_stays stay j
+round_stopped judged bench a passed left_now b good calls error.Sink s t r some stay moves j = sink_stopped judged bench a passed left_now b good calls s t r some stay moves j.0 j.1
+round_stopped judged bench a passed left_now b good calls error.Memory s t r some stay moves j = stopped_at_once judged bench a (at passed left_now b good) s t moves.shelf_stays moves.provider_stays stay j
 
 -- ---- the same, as a run meets them
 
 -- memory was wanting while calls were read
 pub unread_stopped : (judged : Entry → Outcome → Type 0) (bench : Bench) (passed passed_now : Passed) (left left_now : Option (List ℕ)) (standing : Standing) (good : Bool) (reads reads_now writes : ℕ) (written : Option (List ℕ)) → reads ≤ reads_now
-    → RunsOut judged bench (at passed left standing good) (at passed_now left_now standing good) (streams reads written writes) (streams reads_now written writes) (Err stop.Memory)
+    → RunsOut judged bench (at passed left standing good) (at passed_now left_now standing good) (streams reads written writes) (streams reads_now written writes) (Err error.Memory)
 unread_stopped judged bench passed passed_now left left_now standing good reads reads_now writes written h =
-    stopped_at_once judged bench (at passed left standing good) (at passed_now left_now standing good) (streams reads written writes) (streams reads_now written writes) (omega arith) (omega arith) (record { reads = h; writes = omega arith }) (Appends-nil written)
+    stopped_at_once judged bench (at passed left standing good) (at passed_now left_now standing good) (streams reads written writes) (streams reads_now written writes) (omega arith) (omega arith) (record { read_faults = h; write_faults = omega arith }) (Appends-nil written)
 
 pub none_ran : (judged : Entry → Outcome → Type 0) (bench : Bench) (passed passed_now : Passed) (left left_now : Option (List ℕ)) (standing : Standing) (good : Bool) (reads reads_now writes : ℕ) (written : Option (List ℕ)) (calls : List Entry) (next : Next)
     → ReadRound {E = AllocError} passed left left_now passed_now calls (Ok next) → calls ≡ [] → (◌≡◌ {A = Result Next AllocError} (Ok next) (Ok (Fault Source)) → Rose reads reads_now) → reads ≤ reads_now
     → RanRound judged bench (at passed left standing good) (at passed_now left_now standing good) (streams reads written writes) (streams reads_now written writes) (Ok next)
 none_ran judged bench passed passed_now left left_now standing good reads reads_now writes written calls next r none rose h =
-    none_read judged bench (at passed left standing good) passed_now left_now calls next (streams reads written writes) (streams reads_now written writes) r none rose (record { reads = h; writes = omega arith }) (Appends-nil written)
+    none_read judged bench (at passed left standing good) passed_now left_now calls next (streams reads written writes) (streams reads_now written writes) r none rose (record { read_faults = h; write_faults = omega arith }) (Appends-nil written)
 
 pub all_ran : (judged : Entry → Outcome → Type 0) (bench : Bench) (passed passed_now : Passed) (left left_now : Option (List ℕ)) (standing standing_now : Standing) (good good_now : Bool) (reads reads_now writes writes_now : ℕ) (written written_now : Option (List ℕ))
     (calls : List Entry) (next : Next) → ReadRound {E = AllocError} passed left left_now passed_now calls (Ok next) → 0 < length calls → (◌≡◌ {A = Result Next AllocError} (Ok next) (Ok (Fault Source)) → Rose reads reads_now) → reads ≤ reads_now → writes ≤ writes_now
     → Moves standing standing_now calls → Reports judged bench standing standing_now calls good good_now (λ lines. Appends written written_now lines)
     → RanRound judged bench (at passed left standing good) (at passed_now left_now standing_now good_now) (streams reads written writes) (streams reads_now written_now writes_now) (Ok next)
 all_ran judged bench passed passed_now left left_now standing standing_now good good_now reads reads_now writes writes_now written written_now calls next r some rose h k moves reports =
-    round_ran judged bench (at passed left standing good) passed_now left_now standing_now good_now calls next (streams reads written writes) (streams reads_now written_now writes_now) r some rose (record { reads = h; writes = k }) moves reports
+    round_ran judged bench (at passed left standing good) passed_now left_now standing_now good_now calls next (streams reads written writes) (streams reads_now written_now writes_now) r some rose (record { read_faults = h; write_faults = k }) moves reports
 
 -- the calls as they were handed in are those that were read
 pub all_stopped : (judged : Entry → Outcome → Type 0) (bench : Bench) (passed passed_now : Passed) (left left_now : Option (List ℕ)) (standing standing_now : Standing) (good good_now : Bool) (reads reads_now writes writes_now : ℕ) (written written_now : Option (List ℕ))
-    (calls handed : List Entry) (next : Next) (stopped : Stop) → ReadRound {E = AllocError} passed left left_now passed_now calls (Ok next) → 0 < length calls → reads ≤ reads_now → writes ≤ writes_now → handed ≡ calls
+    (calls handed : List Entry) (next : Next) (stopped : RunError) → ReadRound {E = AllocError} passed left left_now passed_now calls (Ok next) → 0 < length calls → reads ≤ reads_now → writes ≤ writes_now → handed ≡ calls
     → Moves standing standing_now handed → JudgedRound judged bench standing standing_now handed good good_now written written_now writes writes_now (Err stopped)
     → RunsOut judged bench (at passed left standing good) (at passed_now left_now standing_now good_now) (streams reads written writes) (streams reads_now written_now writes_now) (Err stopped)
 all_stopped judged bench passed passed_now left left_now standing standing_now good good_now reads reads_now writes writes_now written written_now calls handed next stopped r some h k same moves j =
-    round_stopped judged bench (at passed left standing good) passed_now left_now standing_now good_now calls stopped (streams reads written writes) (streams reads_now written_now writes_now) (calls_read passed passed_now left left_now calls next r) some (record { reads = h; writes = k })
+    round_stopped judged bench (at passed left standing good) passed_now left_now standing_now good_now calls stopped (streams reads written writes) (streams reads_now written_now writes_now) (calls_read passed passed_now left left_now calls next r) some (record { read_faults = h; write_faults = k })
     (subst (Moves standing standing_now) same moves) (subst (λ x. JudgedRound judged bench standing standing_now x good good_now written written_now writes writes_now (Err stopped)) same j)
 
 -- ---- the numbers of a round leave room
@@ -248,7 +248,7 @@ numbers_fit number moment (c ∷ []) some f = omega (arith, f.0.below)
 numbers_fit number moment (c ∷ d ∷ cs) some f = omega (arith, f.1.0.above, numbers_fit c.number c.moment (d ∷ cs) (omega arith) f.1)
 
 -- a full round is one that goes on
-pub more_is : (before now : Passed) (left left_now : Option (List ℕ)) (calls : List Entry) (next : Next) → ReadRound {E = AllocError} before left left_now now calls (Ok next) → ◌≡◌ {A = Result Next Stop} (Ok next) (Ok More) → ReadFull before left left_now now calls
+pub more_is : (before now : Passed) (left left_now : Option (List ℕ)) (calls : List Entry) (next : Next) → ReadRound {E = AllocError} before left left_now now calls (Ok next) → ◌≡◌ {A = Result Next RunError} (Ok next) (Ok More) → ReadFull before left left_now now calls
 more_is before now left left_now calls More r e = r
 more_is before now left left_now calls Whole r e = absurd (cc)
 more_is before now left left_now calls (Fault fault) r e = absurd (cc)

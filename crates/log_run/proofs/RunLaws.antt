@@ -11,12 +11,12 @@ use Rattle.log_run.proofs.JudgedLaws.{judged_as, judged_both, judged_none, numbe
 use Rattle.log_run.proofs.ReportLaws.{report_append}
 use Rattle.log_run.proofs.RoundLaws.{full_both, full_cut, outcomes_both}
 use Rattle.log_run.specs.Bench.{Bench, Implies, Standing}
-use Rattle.log_run.specs.Clauses.{LogRan, around}
+use Rattle.log_run.specs.Clauses.{LogRan, run_state}
 use Rattle.log_run.specs.Ending.{EndsBy}
 use Rattle.log_run.specs.Judged.{At, Judged, at}
 use Rattle.log_run.specs.Rounds.{Round, outcomes_in}
 use Rattle.log_run.specs.Running.{RoseBy, RunEnd, RunsOn, RunsOut, SourceRose, Streams, StreamsStay, WroteBy, lines_behind, streams}
-use Rattle.log_run.specs.declared.ends.Stop.TheVariants as stop
+use Rattle.log_run.specs.declared.ends.RunError.TheVariants as error
 use Rattle.replay_law.specs.Law.{MoreRounds}
 use Rattle.stir_outside.specs.Count.{Rose}
 use Rattle.stir_outside.specs.Told.{AppendsFront}
@@ -35,8 +35,8 @@ front_behind a b c text more p f = record {
 
 wrote_behind : (a b c : Option (List ℕ)) (text more : List ℕ) (ended : RunEnd) → Appends a b text → WroteBy b c more ended → WroteBy a c (text ++ more) ended
 wrote_behind a b c text more (Ok fault) p w = Appends-trans a b c text more p w
-wrote_behind a b c text more (Err stop.Sink) p w = front_behind a b c text more p w
-wrote_behind a b c text more (Err stop.Memory) p w = Appends-trans a b c text more p w
+wrote_behind a b c text more (Err error.Sink) p w = front_behind a b c text more p w
+wrote_behind a b c text more (Err error.Memory) p w = Appends-trans a b c text more p w
 
 -- the lines of rounds behind rounds
 lines_both : (judged : Entry → Outcome → Type 0) (bench : Bench) (a b : At) (xs ys : List Round) → Judged judged bench a b xs → lines_behind a (xs ++ ys) ≡ lines_behind a xs ++ lines_behind b ys
@@ -48,7 +48,7 @@ lines_both judged bench a b xs ys f =
 -- ---- what rose
 
 -- the source failed only where its count rose
-pub source_rose : (s t : Streams) (fault : LogFault) → (fault ≡ Source → Rose s.reads t.reads) → SourceRose s t (Some fault)
+pub source_rose : (s t : Streams) (fault : LogFault) → (fault ≡ Source → Rose s.read_faults t.read_faults) → SourceRose s t (Some fault)
 source_rose s t (Grammar place) r = tt
 source_rose s t (Backward place) r = tt
 source_rose s t (Many place) r = tt
@@ -60,16 +60,16 @@ source_behind a b c None s r = tt
 source_behind a b c (Some (Grammar place)) s r = tt
 source_behind a b c (Some (Backward place)) s r = tt
 source_behind a b c (Some (Many place)) s r = tt
-source_behind a b c (Some Source) s r = λ e. omega (arith, s.reads, r e)
+source_behind a b c (Some Source) s r = λ e. omega (arith, s.read_faults, r e)
 source_behind a b c (Some Memory) s r = tt
 
 rose_behind : (a b c : Streams) (ended : RunEnd) → StreamsStay a b → RoseBy b c ended → RoseBy a c ended
 rose_behind a b c (Ok fault) s r = source_behind a b c fault s r
-rose_behind a b c (Err stop.Sink) s r = λ e. omega (arith, s.writes, r e)
-rose_behind a b c (Err stop.Memory) s r = tt
+rose_behind a b c (Err error.Sink) s r = λ e. omega (arith, s.write_faults, r e)
+rose_behind a b c (Err error.Memory) s r = tt
 
 pub stay_both : (a b c : Streams) → StreamsStay a b → StreamsStay b c → StreamsStay a c
-stay_both a b c s t = record { reads = omega (arith, s.reads, t.reads); writes = omega (arith, s.writes, t.writes) }
+stay_both a b c s t = record { read_faults = omega (arith, s.read_faults, t.read_faults); write_faults = omega (arith, s.write_faults, t.write_faults) }
 
 -- ---- pieces of a run
 
@@ -79,7 +79,7 @@ on_none judged bench here outside = record {
   stands = judged_none judged bench here;
   full = tt;
   reported = Appends-nil outside.written;
-  stay = record { reads = omega arith; writes = omega arith };
+  stay = record { read_faults = omega arith; write_faults = omega arith };
 }
 
 -- a piece behind a piece; the second judge's answers may stand under the first
@@ -139,7 +139,7 @@ pub log_ran : (judged : Entry → Outcome → Type 0) (bench : Bench) (left left
     (good good_now : Bool) (ended : RunEnd) (status : ℕ) → reader ≡ record { passed = start 0 0; ahead = []; fault = None } → good ≡ true → IfOk ended (λ fault. reader_now.ahead ≡ [])
     → RunsOut judged bench (at reader.passed (left_to reader left) standing good) (at reader_now.passed (left_to reader_now left_now) standing_now good_now) (streams reads written writes) (streams reads_now written_mid writes_mid) ended
     → EndsBy written_mid written_now writes_mid writes_now status good_now ended
-    → LogRan judged bench (around left standing reads written writes) (around left_now standing_now reads_now written_now writes_now) status
+    → LogRan judged bench (run_state left standing reads written writes) (run_state left_now standing_now reads_now written_now writes_now) status
 log_ran judged bench left left_now standing standing_now reads reads_now writes writes_mid writes_now written written_mid written_now reader reader_now good good_now ended status fresh fine ahead r e =
     let first = at_same reader.passed (start 0 0) (left_to reader left) left standing good true (ap (λ (x : LogState). x.passed) fresh) (ap (λ (x : LogState). left_to x left) fresh ∙ prepend_known-nil left) fine in
     let begun = subst (λ x. RunsOut judged bench x (at reader_now.passed (left_to reader_now left_now) standing_now good_now) (streams reads written writes) (streams reads_now written_mid writes_mid) ended) first r in

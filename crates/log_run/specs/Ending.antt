@@ -5,9 +5,8 @@ use Rattle.std.specs.Io.KnownBytes.{Appends}
 use Rattle.call_log.specs.declared.fault.LogFault.{LogFault}
 use Rattle.call_log.specs.declared.fault.LogFault.TheVariants.{Grammar, Backward, Many, Source, Memory}
 use Rattle.log_run.specs.Running.{RunEnd}
-use Rattle.log_run.specs.declared.ends.Stop.TheVariants as stop
-use Rattle.stir_outside.specs.Count.{Rose}
-use Rattle.stir_outside.specs.Told.{AppendsFront}
+use Rattle.log_run.specs.declared.ends.RunError.TheVariants as error
+use Rattle.stir_outside.specs.Ending.{EndsAs, memory_line}
 
 -- the status of a whole report
 abbrev pub report_status : Bool → ℕ
@@ -19,15 +18,6 @@ refused_line place = codes "refused input " ++ (decimal place ++ codes "\n")
 
 unfoldable pub failed_line : List ℕ
 failed_line = codes "read fault input\n"
-
-unfoldable pub memory_line : List ℕ
-memory_line = codes "want of memory\n"
-
--- the line was written and its status answered; or the sink failed, a front of the line was written, and 4 was answered
-abbrev pub EndsAs : Option (List ℕ) → Option (List ℕ) → ℕ → ℕ → ℕ → List ℕ → ℕ → Type 0
-EndsAs written written_now writes writes_now result line status =
-    ((result ≡ status) × Appends written written_now line)
-    ⊎ ((result ≡ 4) × Rose writes writes_now × AppendsFront written written_now line)
 
 -- the line of the log's fault, unless memory is wanting for it
 abbrev pub EndsRefused : Option (List ℕ) → Option (List ℕ) → ℕ → ℕ → ℕ → ℕ → Type 0
@@ -50,5 +40,5 @@ pub record EndsAlone (written written_now : Option (List ℕ)) (writes writes_no
 abbrev pub EndsBy : Option (List ℕ) → Option (List ℕ) → ℕ → ℕ → ℕ → Bool → RunEnd → Type 0
 EndsBy written written_now writes writes_now result good (Ok None) = EndsAlone written written_now writes writes_now result (report_status good)
 EndsBy written written_now writes writes_now result good (Ok (Some fault)) = EndsAtFault written written_now writes writes_now result fault
-EndsBy written written_now writes writes_now result good (Err stop.Sink) = EndsAlone written written_now writes writes_now result 4
-EndsBy written written_now writes writes_now result good (Err stop.Memory) = EndsAs written written_now writes writes_now result memory_line 6
+EndsBy written written_now writes writes_now result good (Err error.Sink) = EndsAlone written written_now writes writes_now result 4
+EndsBy written written_now writes writes_now result good (Err error.Memory) = EndsAs written written_now writes writes_now result memory_line 6

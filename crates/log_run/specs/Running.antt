@@ -11,8 +11,8 @@ use Rattle.log_run.specs.Reading.{ReadBehind}
 use Rattle.log_run.specs.Rounds.{AllFull, IsCut, Round, outcomes_in}
 use Rattle.log_run.specs.declared.ends.Next.{Next}
 use Rattle.log_run.specs.declared.ends.Next.TheVariants.{More, Whole, Fault}
-use Rattle.log_run.specs.declared.ends.Stop.{Stop}
-use Rattle.log_run.specs.declared.ends.Stop.TheVariants as stop
+use Rattle.log_run.specs.declared.ends.RunError.{RunError}
+use Rattle.log_run.specs.declared.ends.RunError.TheVariants as error
 use Rattle.stir_outside.specs.Count.{Rose}
 use Rattle.stir_outside.specs.Told.{AppendsFront}
 use Rattle.verify_service.specs.Report.{report}
@@ -20,17 +20,17 @@ use Rattle.verify_service.specs.declared.outcome.Outcome.{Outcome}
 
 -- how often reads of the log failed, what was written, and how often writes failed
 pub record Streams : Type 0 where
-  pub reads : ℕ
+  pub read_faults : ℕ
   pub written : Option (List ℕ)
-  pub writes : ℕ
+  pub write_faults : ℕ
 
 abbrev pub streams : ℕ → Option (List ℕ) → ℕ → Streams
-streams reads written writes = record { reads = reads; written = written; writes = writes }
+streams reads written writes = record { read_faults = reads; written = written; write_faults = writes }
 
 -- neither count of failures fell
 pub record StreamsStay (before now : Streams) : Type 0 where
-  pub reads : before.reads ≤ now.reads
-  pub writes : before.writes ≤ now.writes
+  pub read_faults : before.read_faults ≤ now.read_faults
+  pub write_faults : before.write_faults ≤ now.write_faults
 
 -- the lines of these rounds, which go on from those before
 abbrev pub lines_behind : At → List Round → List ℕ
@@ -63,25 +63,25 @@ SourceRose before now None = ⊤
 SourceRose before now (Some (Grammar place)) = ⊤
 SourceRose before now (Some (Backward place)) = ⊤
 SourceRose before now (Some (Many place)) = ⊤
-SourceRose before now (Some Source) = Rose before.reads now.reads
+SourceRose before now (Some Source) = Rose before.read_faults now.read_faults
 SourceRose before now (Some Memory) = ⊤
 
 -- ---- what ended the rounds of a log
 
 abbrev pub RunEnd : Type 0
-RunEnd = Result (Option LogFault) Stop
+RunEnd = Result (Option LogFault) RunError
 
 -- the source or the sink failed where that ended the run
 abbrev pub RoseBy : Streams → Streams → RunEnd → Type 0
 RoseBy before now (Ok fault) = SourceRose before now fault
-RoseBy before now (Err stop.Sink) = Rose before.writes now.writes
-RoseBy before now (Err stop.Memory) = ⊤
+RoseBy before now (Err error.Sink) = Rose before.write_faults now.write_faults
+RoseBy before now (Err error.Memory) = ⊤
 
 -- the lines were written, or where the sink failed a front of them
 abbrev pub WroteBy : Option (List ℕ) → Option (List ℕ) → List ℕ → RunEnd → Type 0
 WroteBy written written_now lines (Ok fault) = Appends written written_now lines
-WroteBy written written_now lines (Err stop.Sink) = AppendsFront written written_now lines
-WroteBy written written_now lines (Err stop.Memory) = Appends written written_now lines
+WroteBy written written_now lines (Err error.Sink) = AppendsFront written written_now lines
+WroteBy written written_now lines (Err error.Memory) = Appends written written_now lines
 
 -- rounds were judged up to the last one or to what stopped the run, and reported
 pub record RunsOut (judged : Entry → Outcome → Type 0) (bench : Bench) (before now : At) (outside outside_now : Streams) (ended : RunEnd) : Type 0 where
@@ -97,7 +97,7 @@ pub record RunsOut (judged : Entry → Outcome → Type 0) (bench : Bench) (befo
   pub rose : RoseBy outside outside_now ended
   pub stay : StreamsStay outside outside_now
 
-abbrev pub RanRound : (Entry → Outcome → Type 0) → Bench → At → At → Streams → Streams → Result Next Stop → Type 0
+abbrev pub RanRound : (Entry → Outcome → Type 0) → Bench → At → At → Streams → Streams → Result Next RunError → Type 0
 RanRound judged bench before now outside outside_now (Ok More) = RunsOn judged bench before now outside outside_now
 RanRound judged bench before now outside outside_now (Ok Whole) = RunsOut judged bench before now outside outside_now (Ok None)
 RanRound judged bench before now outside outside_now (Ok (Fault fault)) = RunsOut judged bench before now outside outside_now (Ok (Some fault))

@@ -6,8 +6,8 @@ use Rattle.call_log.specs.Log.{Passed}
 use Rattle.call_log.specs.Reads.{LogState}
 use Rattle.log_run.specs.AllValid.{all_valid}
 use Rattle.log_run.specs.Bench.{Bench, RoundJudged, Standing}
-use Rattle.log_run.specs.declared.ends.Stop.{Stop}
-use Rattle.log_run.specs.declared.ends.Stop.TheVariants as stop
+use Rattle.log_run.specs.declared.ends.RunError.{RunError}
+use Rattle.log_run.specs.declared.ends.RunError.TheVariants as error
 use Rattle.replay_law.specs.Held.{nothing}
 use Rattle.stir_outside.specs.Count.{Rose}
 use Rattle.stir_outside.specs.Told.{AppendsFront}
@@ -44,8 +44,8 @@ pub record Reports (judged : Entry → Outcome → Type 0) (bench : Bench) (befo
   pub reported : Wrote (report (first_number calls) outcomes)
 
 -- the lines were written, or where the sink failed a front of them, or for want of memory nothing
-abbrev pub JudgedRound : (Entry → Outcome → Type 0) → Bench → Standing → Standing → List Entry → Bool → Bool → Option (List ℕ) → Option (List ℕ) → ℕ → ℕ → Result (Unit {0}) Stop → Type 0
+abbrev pub JudgedRound : (Entry → Outcome → Type 0) → Bench → Standing → Standing → List Entry → Bool → Bool → Option (List ℕ) → Option (List ℕ) → ℕ → ℕ → Result (Unit {0}) RunError → Type 0
 JudgedRound judged bench before now calls good good_now written written_now writes writes_now (Ok done) = Reports judged bench before now calls good good_now (λ lines. Appends written written_now lines)
-JudgedRound judged bench before now calls good good_now written written_now writes writes_now (Err stop.Sink) =
+JudgedRound judged bench before now calls good good_now written written_now writes writes_now (Err error.Sink) =
     Reports judged bench before now calls good good_now (λ lines. AppendsFront written written_now lines) × Rose writes writes_now
-JudgedRound judged bench before now calls good good_now written written_now writes writes_now (Err stop.Memory) = Appends written written_now []
+JudgedRound judged bench before now calls good good_now written written_now writes writes_now (Err error.Memory) = Appends written written_now []

@@ -14,7 +14,7 @@ pub(crate) enum Next {
 
 /// What stops a run before the log has ended.
 #[derive(Clone, Copy)]
-pub(crate) enum Stop {
+pub(crate) enum RunError {
     /// A write failed.
     Sink,
     /// Memory ran out.

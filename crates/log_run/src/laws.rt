@@ -41,7 +41,7 @@ pub fn log_law()
 pub fn run_law()
     ensures front { (a b c : Option (List ℕ)) (text more : List ℕ) → Appends a b text → AppendsFront b c more → AppendsFront a c (text ++ more) }
     ensures stay { (a b c : Streams) → StreamsStay a b → StreamsStay b c → StreamsStay a c }
-    ensures source { (s t : Streams) (fault : LogFault) → (fault ≡ Source → Rose s.reads t.reads) → SourceRose s t (Some fault) }
+    ensures source { (s t : Streams) (fault : LogFault) → (fault ≡ Source → Rose s.read_faults t.read_faults) → SourceRose s t (Some fault) }
     ensures source_behind { (a b c : Streams) (fault : Option LogFault) → StreamsStay a b → SourceRose b c fault → SourceRose a c fault }
     ensures low { (good : Bool) → report_status good ≤ 1 }
 {}

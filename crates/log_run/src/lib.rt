@@ -15,6 +15,6 @@ mod run;
 pub use judge::Judge;
 pub use laws::{log_law, reading_law, run_law};
 pub use reading::next_call;
-pub use run::{end_at, end_with, judge_log, report_status};
+pub use run::{end_at, judge_log, report_status};
 /// Memory ran out.
 pub use std::alloc::AllocError as Memory;

@@ -8,7 +8,7 @@ ghost use Rattle.log_run.specs.Steps.{JudgedRound, ReadsOn, StandsBy, first_numb
 ghost use Rattle.log_run.specs.declared.ends.Next.TheVariants.{More};
 ghost use Rattle.verify_service.specs.Service.{EachFollows};
 
-use crate::ends::{Next, Stop};
+use crate::ends::{Next, RunError};
 use crate::judge::Judge;
 use crate::reading::read_round;
 use crate::report::{all_valid, both, lines_of};
@@ -37,7 +37,7 @@ fn judge_round<R: Threads + Sync, J: Judge, S: Shelf, O: Sink>(
     calls: &[Call],
     sink: &mut O,
     all_good: &mut bool,
-) -> Result<(), Stop>
+) -> Result<(), RunError>
     requires some { 0 < length calls.now }
     requires few { length calls.now ≤ 256 }
     requires follow { EachFollows (J.standing judge.old (S.counts shelf.old).faults).number (J.standing judge.old (S.counts shelf.old).faults).moment calls.now }
@@ -52,16 +52,16 @@ fn judge_round<R: Threads + Sync, J: Judge, S: Shelf, O: Sink>(
 {
     let outcomes = match judge.round(rt, alloc, shelf, calls) {
         Ok(outcomes) => outcomes,
-        Err(_) => return Err(Stop::Memory),
+        Err(_) => return Err(RunError::Memory),
     };
     let lines = match lines_of(alloc, first_number(calls), &outcomes) {
         Ok(lines) => lines,
-        Err(_) => return Err(Stop::Memory),
+        Err(_) => return Err(RunError::Memory),
     };
     *all_good = both(*all_good, all_valid(&outcomes));
     match write_whole(sink, &lines) {
         Ok(()) => Ok(()),
-        Err(_) => Err(Stop::Sink),
+        Err(_) => Err(RunError::Sink),
     }
 }
 
@@ -75,7 +75,7 @@ fn run_round<R: Threads + Sync, J: Judge, S: Shelf, I: Source, O: Sink>(
     input: &mut I,
     sink: &mut O,
     all_good: &mut bool,
-) -> Result<Next, Stop>
+) -> Result<Next, RunError>
     requires reads_on { ReadsOn reader.old }
     requires stands { StandsBy reader.old.passed (J.standing judge.old (S.counts shelf.old).faults) }
     ensures ran { RanRound (J.judged judge.old (S.files shelf.old)) (J.bench judge.old)
@@ -95,7 +95,7 @@ fn run_round<R: Threads + Sync, J: Judge, S: Shelf, I: Source, O: Sink>(
     let mut calls = Vec::new(alloc);
     let next = match read_round(reader, input, &mut calls) {
         Ok(next) => next,
-        Err(_) => return Err(Stop::Memory),
+        Err(_) => return Err(RunError::Memory),
     };
     if calls.is_empty() {
         return Ok(next);
@@ -116,7 +116,7 @@ pub(crate) fn run_rounds<R: Threads + Sync, J: Judge, S: Shelf, I: Source, O: Si
     input: &mut I,
     sink: &mut O,
     all_good: &mut bool,
-) -> Result<Option<LogFault>, Stop>
+) -> Result<Option<LogFault>, RunError>
     requires reads_on { ReadsOn reader.old }
     requires stands { StandsBy reader.old.passed (J.standing judge.old (S.counts shelf.old).faults) }
     ensures ran { RunsOut (J.judged judge.old (S.files shelf.old)) (J.bench judge.old)

@@ -1,19 +1,18 @@
 //! A run over a whole log: its rounds, and the last line.
 ghost use Rattle.std.specs.Prelude.{◌≡◌, ◌≤◌, ℕ};
-ghost use Rattle.log_run.specs.Clauses.{Fails, HasCauses, HasEnded, Headline, IsComplete, LogRan, Refuses, around};
-ghost use Rattle.log_run.specs.Ending.{EndsAs, EndsAtFault, EndsBy, EndsRefused, failed_line, memory_line, refused_line, report_status};
+ghost use Rattle.log_run.specs.Clauses.{Fails, HasCauses, HasEnded, Headline, IsComplete, LogRan, Refuses, run_state};
+ghost use Rattle.log_run.specs.Ending.{EndsAtFault, EndsBy, EndsRefused, failed_line, refused_line, report_status};
 ghost use Rattle.log_run.specs.Steps.{StandsAtFirst};
-ghost use Rattle.stir_words.specs.Status.{status_number};
+ghost use Rattle.stir_outside.specs.Status.{status_number};
 
-use crate::ends::Stop;
+use crate::ends::RunError;
 use crate::judge::Judge;
 use crate::rounds::run_rounds;
 use call_log::{LogFault, LogReader, one_log};
 use replay_law::{first_of_all, legal_together};
 use std::alloc::Global;
 use std::thread::Threads;
-use stir_outside::{Shelf, Sink, Source, write_whole};
-use stir_words::Status;
+use stir_outside::{Shelf, Sink, Source, Status, end_with, memory_line};
 
 /// Judges a whole log by a judge that has judged nothing before, and writes a line for each call, in rounds of 256.
 ///
@@ -30,25 +29,25 @@ pub fn judge_log<R: Threads + Sync, J: Judge, S: Shelf, I: Source, O: Sink>(
 ) -> u8
     requires { StandsAtFirst (J.standing judge.old (S.counts shelf.old).faults) }
     ensures ran { LogRan (J.judged judge.old (S.files shelf.old)) (J.bench judge.old)
-        (around (I.left input.old) (J.standing judge.old (S.counts shelf.old).faults) (I.faults input.old) (O.written sink.old) (O.faults sink.old))
-        (around (I.left input.new) (J.standing judge.new (S.counts shelf.new).faults) (I.faults input.new) (O.written sink.new) (O.faults sink.new)) result }
+        (run_state (I.left input.old) (J.standing judge.old (S.counts shelf.old).faults) (I.faults input.old) (O.written sink.old) (O.faults sink.old))
+        (run_state (I.left input.new) (J.standing judge.new (S.counts shelf.new).faults) (I.faults input.new) (O.written sink.new) (O.faults sink.new)) result }
     ensures headline { Headline (J.judged judge.old (S.files shelf.old)) (J.bench judge.old)
-        (around (I.left input.old) (J.standing judge.old (S.counts shelf.old).faults) (I.faults input.old) (O.written sink.old) (O.faults sink.old))
-        (around (I.left input.new) (J.standing judge.new (S.counts shelf.new).faults) (I.faults input.new) (O.written sink.new) (O.faults sink.new)) result }
+        (run_state (I.left input.old) (J.standing judge.old (S.counts shelf.old).faults) (I.faults input.old) (O.written sink.old) (O.faults sink.old))
+        (run_state (I.left input.new) (J.standing judge.new (S.counts shelf.new).faults) (I.faults input.new) (O.written sink.new) (O.faults sink.new)) result }
     ensures ended { HasEnded
-        (around (I.left input.new) (J.standing judge.new (S.counts shelf.new).faults) (I.faults input.new) (O.written sink.new) (O.faults sink.new)) result }
+        (run_state (I.left input.new) (J.standing judge.new (S.counts shelf.new).faults) (I.faults input.new) (O.written sink.new) (O.faults sink.new)) result }
     ensures refuses { Refuses (J.judged judge.old (S.files shelf.old)) (J.bench judge.old)
-        (around (I.left input.old) (J.standing judge.old (S.counts shelf.old).faults) (I.faults input.old) (O.written sink.old) (O.faults sink.old))
-        (around (I.left input.new) (J.standing judge.new (S.counts shelf.new).faults) (I.faults input.new) (O.written sink.new) (O.faults sink.new)) result }
+        (run_state (I.left input.old) (J.standing judge.old (S.counts shelf.old).faults) (I.faults input.old) (O.written sink.old) (O.faults sink.old))
+        (run_state (I.left input.new) (J.standing judge.new (S.counts shelf.new).faults) (I.faults input.new) (O.written sink.new) (O.faults sink.new)) result }
     ensures fails { Fails (J.judged judge.old (S.files shelf.old)) (J.bench judge.old)
-        (around (I.left input.old) (J.standing judge.old (S.counts shelf.old).faults) (I.faults input.old) (O.written sink.old) (O.faults sink.old))
-        (around (I.left input.new) (J.standing judge.new (S.counts shelf.new).faults) (I.faults input.new) (O.written sink.new) (O.faults sink.new)) result }
+        (run_state (I.left input.old) (J.standing judge.old (S.counts shelf.old).faults) (I.faults input.old) (O.written sink.old) (O.faults sink.old))
+        (run_state (I.left input.new) (J.standing judge.new (S.counts shelf.new).faults) (I.faults input.new) (O.written sink.new) (O.faults sink.new)) result }
     ensures causes { HasCauses (J.judged judge.old (S.files shelf.old)) (J.bench judge.old)
-        (around (I.left input.old) (J.standing judge.old (S.counts shelf.old).faults) (I.faults input.old) (O.written sink.old) (O.faults sink.old))
-        (around (I.left input.new) (J.standing judge.new (S.counts shelf.new).faults) (I.faults input.new) (O.written sink.new) (O.faults sink.new)) result }
+        (run_state (I.left input.old) (J.standing judge.old (S.counts shelf.old).faults) (I.faults input.old) (O.written sink.old) (O.faults sink.old))
+        (run_state (I.left input.new) (J.standing judge.new (S.counts shelf.new).faults) (I.faults input.new) (O.written sink.new) (O.faults sink.new)) result }
     ensures complete { IsComplete
-        (around (I.left input.old) (J.standing judge.old (S.counts shelf.old).faults) (I.faults input.old) (O.written sink.old) (O.faults sink.old))
-        (around (I.left input.new) (J.standing judge.new (S.counts shelf.new).faults) (I.faults input.new) (O.written sink.new) (O.faults sink.new)) result }
+        (run_state (I.left input.old) (J.standing judge.old (S.counts shelf.old).faults) (I.faults input.old) (O.written sink.old) (O.faults sink.old))
+        (run_state (I.left input.new) (J.standing judge.new (S.counts shelf.new).faults) (I.faults input.new) (O.written sink.new) (O.faults sink.new)) result }
     ensures same_files { S.files shelf.new ≡ S.files shelf.old }
     ensures shelf_stays { (S.counts shelf.old).faults ≤ (S.counts shelf.new).faults }
 {
@@ -69,8 +68,8 @@ fn run_log<R: Threads + Sync, J: Judge, S: Shelf, I: Source, O: Sink>(
 ) -> u8
     requires { StandsAtFirst (J.standing judge.old (S.counts shelf.old).faults) }
     ensures ran { LogRan (J.judged judge.old (S.files shelf.old)) (J.bench judge.old)
-        (around (I.left input.old) (J.standing judge.old (S.counts shelf.old).faults) (I.faults input.old) (O.written sink.old) (O.faults sink.old))
-        (around (I.left input.new) (J.standing judge.new (S.counts shelf.new).faults) (I.faults input.new) (O.written sink.new) (O.faults sink.new)) result }
+        (run_state (I.left input.old) (J.standing judge.old (S.counts shelf.old).faults) (I.faults input.old) (O.written sink.old) (O.faults sink.old))
+        (run_state (I.left input.new) (J.standing judge.new (S.counts shelf.new).faults) (I.faults input.new) (O.written sink.new) (O.faults sink.new)) result }
     ensures same_files { S.files shelf.new ≡ S.files shelf.old }
     ensures shelf_stays { (S.counts shelf.old).faults ≤ (S.counts shelf.new).faults }
 {
@@ -90,11 +89,10 @@ fn run_log<R: Threads + Sync, J: Judge, S: Shelf, I: Source, O: Sink>(
 }
 
 /// Writes the line that says why the log ended, if one is to be written, and gives the status.
-#[tactic(auto, unfolding(crate::specs::Ending::memory_line))]
 fn finish<O: Sink>(
     alloc: Global,
     sink: &mut O,
-    ended: Result<Option<LogFault>, Stop>,
+    ended: Result<Option<LogFault>, RunError>,
     all_good: bool,
 ) -> u8
     ensures { EndsBy (O.written sink.old) (O.written sink.new) (O.faults sink.old) (O.faults sink.new) result all_good ended }
@@ -102,8 +100,8 @@ fn finish<O: Sink>(
     match ended {
         Ok(None) => report_status(all_good),
         Ok(Some(fault)) => end_at(alloc, sink, fault),
-        Err(Stop::Sink) => Status::Write.number(),
-        Err(Stop::Memory) => end_with(sink, "want of memory\n", Status::Memory),
+        Err(RunError::Sink) => Status::Write.number(),
+        Err(RunError::Memory) => end_with(sink, memory_line(), Status::Memory),
     }
 }
 
@@ -119,7 +117,7 @@ pub fn report_status(all_good: bool) -> u8
 }
 
 /// Writes the line of a fault of the log.
-#[tactic(auto, unfolding(crate::specs::Ending::memory_line, crate::specs::Ending::failed_line))]
+#[tactic(auto, unfolding(crate::specs::Ending::failed_line))]
 pub fn end_at<O: Sink>(alloc: Global, sink: &mut O, fault: LogFault) -> u8
     ensures { EndsAtFault (O.written sink.old) (O.written sink.new) (O.faults sink.old) (O.faults sink.new) result fault }
 {
@@ -128,27 +126,17 @@ pub fn end_at<O: Sink>(alloc: Global, sink: &mut O, fault: LogFault) -> u8
         LogFault::Backward { place } => refuse(alloc, sink, place),
         LogFault::Many { place } => refuse(alloc, sink, place),
         LogFault::Source => end_with(sink, "read fault input\n", Status::Read),
-        LogFault::Memory => end_with(sink, "want of memory\n", Status::Memory),
+        LogFault::Memory => end_with(sink, memory_line(), Status::Memory),
     }
 }
 
 /// Writes the line of a log that is outside its grammar at this offset.
-#[tactic(auto, unfolding(crate::specs::Ending::memory_line, crate::specs::Ending::refused_line))]
+#[tactic(auto, unfolding(crate::specs::Ending::refused_line))]
 fn refuse<O: Sink>(alloc: Global, sink: &mut O, place: u64) -> u8
     ensures { EndsRefused (O.written sink.old) (O.written sink.new) (O.faults sink.old) (O.faults sink.new) result place }
 {
     match format!(in alloc; "refused input {place}\n") {
         Ok(line) => end_with(sink, line.as_str(), Status::Input),
-        Err(_) => end_with(sink, "want of memory\n", Status::Memory),
-    }
-}
-
-/// Writes the last line and gives its status, or that of a sink that failed.
-pub fn end_with<O: Sink>(sink: &mut O, line: &str, status: Status) -> u8
-    ensures { EndsAs (O.written sink.old) (O.written sink.new) (O.faults sink.old) (O.faults sink.new) result line.now (status_number status) }
-{
-    match write_whole(sink, line.as_bytes()) {
-        Ok(()) => status.number(),
-        Err(_) => Status::Write.number(),
+        Err(_) => end_with(sink, memory_line(), Status::Memory),
     }
 }

@@ -13,7 +13,7 @@ use Rattle.cert_store.specs.Judged.{HasAuthority, JudgedView, judged_of}
 use Rattle.cert_store.specs.Questions.{AgreeOn, questions_of}
 use Rattle.cert_store.specs.Rules.{QuestionView, Says, is_good}
 use Rattle.verify_rules.proofs.WorldEvents.{first_append}
-use Rattle.verify_rules.specs.Call.{Call, Reading, in_chain}
+use Rattle.verify_rules.specs.Call.{Call, Reading, in_call_order}
 use Rattle.verify_rules.specs.Late.{is_signed_by}
 use Rattle.verify_rules.specs.Rules.{each, early_rules, first}
 use Rattle.verify_rules.specs.States.{State, have, no_chain, long, unread}
@@ -150,28 +150,28 @@ abbrev pub SameCertificates : Type 0
 SameCertificates = (world : World) (other : Says) (call : Call) → first (certificate_rules (with_says world other)) call ≡ first (certificate_rules world) call
 
 abbrev pub SameSignatures : Type 0
-SameSignatures = (world : World) (other : Says) (call : Call) → truths (with_says world other) (in_chain call) ≡ truths world (in_chain call)
-    → each (forged (with_says world other)) (in_chain call) ≡ each (forged world) (in_chain call)
+SameSignatures = (world : World) (other : Says) (call : Call) → truths (with_says world other) (in_call_order call) ≡ truths world (in_call_order call)
+    → each (forged (with_says world other)) (in_call_order call) ≡ each (forged world) (in_call_order call)
     → first (signature_rules (with_says world other)) call ≡ first (signature_rules world) call
 
-asked_late : (world : World) (call : Call) → first early_rules call ≡ None → call_questions world call ≡ late_questions world (is_none (first (certificate_rules world) call)) (in_chain call)
+asked_late : (world : World) (call : Call) → first early_rules call ≡ None → call_questions world call ≡ late_questions world (is_none (first (certificate_rules world) call)) (in_call_order call)
 unfolding call_questions
-asked_late world call early = ap (λ (x : Option Refusal). cond (is_none x) (late_questions world (is_none (first (certificate_rules world) call)) (in_chain call)) []) early
+asked_late world call early = ap (λ (x : Option Refusal). cond (is_none x) (late_questions world (is_none (first (certificate_rules world) call)) (in_call_order call)) []) early
 
 late_alike : SameJudged → SameCertificates → SameSignatures → (world : World) (other : Says) (call : Call) → first early_rules call ≡ None
-    → AgreeOn world.says other (late_questions world (is_none (first (certificate_rules world) call)) (in_chain call))
+    → AgreeOn world.says other (late_questions world (is_none (first (certificate_rules world) call)) (in_call_order call))
     → First (with_says world other) call ≡ First world call
 late_alike law first_ones last_ones world other call early agree =
-    let states : List State = truths world (in_chain call) in
-    let own : List QuestionView = cond (is_none (first (certificate_rules world) call)) (own_questions (in_chain call) states) [] in
+    let states : List State = truths world (in_call_order call) in
+    let own : List QuestionView = cond (is_none (first (certificate_rules world) call)) (own_questions (in_call_order call) states) [] in
     let chains : AgreeOn world.says other (chains_questions states) = agree_left world.says other (chains_questions states) own agree in
     let owns : AgreeOn world.says other own = agree_right world.says other (chains_questions states) own agree in
     late_parts (with_says world other) call early
     ∙ or_same (first (certificate_rules (with_says world other)) call) (first (certificate_rules world) call)
     (first (signature_rules (with_says world other)) call) (first (signature_rules world) call) (first_ones world other call)
-    (λ none. last_ones world other call (truths_agree law world other (in_chain call) chains)
-    (asking_same law world other (in_chain call) chains
-    (subst (λ (x : Option Refusal). AgreeOn world.says other (cond (is_none x) (own_questions (in_chain call) states) [])) none owns)))
+    (λ none. last_ones world other call (truths_agree law world other (in_call_order call) chains)
+    (asking_same law world other (in_call_order call) chains
+    (subst (λ (x : Option Refusal). AgreeOn world.says other (cond (is_none x) (own_questions (in_call_order call) states) [])) none owns)))
     ∙ sym (late_parts world call early)
 
 early_alike : (world : World) (other : Says) (call : Call) (refused : Refusal) → first early_rules call ≡ Some refused → First (with_says world other) call ≡ First world call
@@ -206,15 +206,15 @@ truths_alike world other (one ∷ readings) = (truth_alike world other one, trut
 pub call_same : SameCertificates → (world : World) (other : Says) (call : Call) → call_questions (with_says world other) call ≡ call_questions world call
 unfolding call_questions
 call_same first_ones world other call =
-    let mine : List State = truths (with_says world other) (in_chain call) in
-    let yours : List State = truths world (in_chain call) in
-    let alike : AllAlike mine yours = truths_alike world other (in_chain call) in
+    let mine : List State = truths (with_says world other) (in_call_order call) in
+    let yours : List State = truths world (in_call_order call) in
+    let alike : AllAlike mine yours = truths_alike world other (in_call_order call) in
     let own = is_none (first (certificate_rules (with_says world other)) call) in
-    let over : questions_over own (in_chain call) mine ≡ questions_over own (in_chain call) yours =
-    ap (λ (x : List QuestionView). x ++ cond own (own_questions (in_chain call) mine) []) (chains_same mine yours alike)
-    ∙ ap (λ (x : List QuestionView). chains_questions yours ++ cond own x []) (owns_same (in_chain call) mine yours alike) in
+    let over : questions_over own (in_call_order call) mine ≡ questions_over own (in_call_order call) yours =
+    ap (λ (x : List QuestionView). x ++ cond own (own_questions (in_call_order call) mine) []) (chains_same mine yours alike)
+    ∙ ap (λ (x : List QuestionView). chains_questions yours ++ cond own x []) (owns_same (in_call_order call) mine yours alike) in
     ap (λ (x : List QuestionView). cond (is_none (first early_rules call)) x [])
-    (over ∙ ap (λ (x : Option Refusal). questions_over (is_none x) (in_chain call) yours) (first_ones world other call))
+    (over ∙ ap (λ (x : Option Refusal). questions_over (is_none x) (in_call_order call) yours) (first_ones world other call))
 
 pub calls_same : SameCertificates → (world : World) (other : Says) (settings : Settings) (calls : List Entry) → calls_questions (with_says world other) settings calls ≡ calls_questions world settings calls
 calls_same first_ones world other settings [] = refl

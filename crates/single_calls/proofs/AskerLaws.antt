@@ -3,7 +3,7 @@ use Rattle.std.proofs.Common.{◌≡◌, ℕ, List, [], ◌∷◌, ◌++◌, app
 use Rattle.call_log.specs.Entry.{Entry}
 use Rattle.call_run.specs.Answer.{AnswerView}
 use Rattle.call_run.specs.Answering.{Adds, AnswersBehind, AnswersStop}
-use Rattle.call_run.specs.declared.finding.Finding.TheVariants.{Well}
+use Rattle.call_run.specs.declared.status.CallStatus.TheVariants.{Well}
 use Rattle.cert_store.specs.Rules.{QuestionView}
 use Rattle.stir_outside.specs.Count.{Rose}
 use Rattle.stir_outside.specs.Files.{Files}

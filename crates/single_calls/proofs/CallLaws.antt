@@ -7,7 +7,7 @@ use Rattle.cert_store.specs.ChainMap.{listed}
 use Rattle.cert_store.specs.Rules.{QuestionView, Says}
 use Rattle.delegation.specs.Coverage.{Table}
 use Rattle.stir_outside.specs.Files.{Files}
-use Rattle.verify_rules.specs.Call.{Call, Reading, in_chain}
+use Rattle.verify_rules.specs.Call.{Call, Reading, in_call_order}
 use Rattle.verify_rules.specs.Causes.{IsCaused}
 use Rattle.verify_rules.specs.Rules.{early_rules, first}
 use Rattle.verify_rules.specs.Screened.{IsScreenedBy, ScreenedView}
@@ -16,16 +16,16 @@ use Rattle.verify_rules.specs.World.{AreRight, IsJudgedBy, VerdictOf, World, cer
 use Rattle.verify_rules.specs.declared.refusal.Refusal.{Refusal}
 use Rattle.verify_rules.specs.declared.verdict.Verdict.{Verdict}
 use Rattle.verify_service.specs.Chains.{AreRightWhere}
-use Rattle.verify_service.specs.declared.materials.World.{World as Materials}
+use Rattle.cert_store.specs.declared.world.World.{World as Materials}
 use Rattle.single_calls.specs.AlwaysYes.{always_yes}
 use Rattle.single_calls.specs.Asker.{asking_world}
 use Rattle.single_calls.specs.CallQuestions.{call_questions, chains_questions, late_questions, own_questions, questions_over}
 use Rattle.single_calls.specs.Reading.{AreAsked, Lines, Stopped, StopsCall, StopsCallAt, WritesCall}
 use Rattle.single_calls.specs.Verdicts.{asks_own}
 use Rattle.single_calls.specs.Written.{Writes}
-use Rattle.single_calls.specs.declared.reading.ChainStop.{ChainStop}
+use Rattle.single_calls.specs.declared.reading.ChainError.{ChainError}
 use Rattle.single_calls.specs.declared.written.Triple.{Triple}
-use Rattle.single_calls.specs.declared.reading.ChainStop.TheVariants.{Unread, Memory}
+use Rattle.single_calls.specs.declared.reading.ChainError.TheVariants.{Unread, Memory}
 use Rattle.single_calls.proofs.StateLaws.{AllAlike, all_alike, chains_same, owns_same}
 use Rattle.single_calls.proofs.VerdictLaws.{asks_own_where}
 use Rattle.single_calls.proofs.WriteLaws.{writes_both, writes_none}
@@ -39,7 +39,7 @@ JudgedOn = (world : World) (call : Call) (table : Table) (says : Says) (moment :
 
 pub refused_asks : (world : World) (call : Call) (refused : Refusal) → first early_rules call ≡ Some refused → call_questions world call ≡ []
 unfolding call_questions
-refused_asks world call refused is = ap (λ (x : Option Refusal). cond (is_none x) (late_questions world (is_none (first (certificate_rules world) call)) (in_chain call)) []) is
+refused_asks world call refused is = ap (λ (x : Option Refusal). cond (is_none x) (late_questions world (is_none (first (certificate_rules world) call)) (in_call_order call)) []) is
 
 pub writes_refused : (told : Option Files) (materials : Materials) (call : Call) (refused : Refusal) (before : Lines) → first early_rules call ≡ Some refused
     → WritesCall told materials call before before
@@ -49,7 +49,7 @@ writes_refused (Some files) materials call refused before is =
 
 -- ---- one that they don't
 
-screened_asks : (world : World) (call : Call) (readings : List Reading) (states : List State) (own : Bool) → first early_rules call ≡ None → readings ≡ in_chain call
+screened_asks : (world : World) (call : Call) (readings : List Reading) (states : List State) (own : Bool) → first early_rules call ≡ None → readings ≡ in_call_order call
     → AllAlike states (truths world readings) → own ≡ is_none (first (certificate_rules world) call) → questions_over own readings states ≡ call_questions world call
 unfolding call_questions
 screened_asks world call readings states own early in_order alike is =
@@ -58,8 +58,8 @@ screened_asks world call readings states own early in_order alike is =
     let over : questions_over own readings states ≡ late_questions world own readings =
     ap (λ (x : List QuestionView). x ++ cond own (own_questions readings states) []) chains
     ∙ ap (λ (x : List QuestionView). chains_questions (truths world readings) ++ cond own x []) owns in
-    over ∙ ap (λ (r : List Reading). late_questions world own r) in_order ∙ ap (λ t. late_questions world t (in_chain call)) is
-    ∙ sym (ap (λ (x : Option Refusal). cond (is_none x) (late_questions world (is_none (first (certificate_rules world) call)) (in_chain call)) []) early)
+    over ∙ ap (λ (r : List Reading). late_questions world own r) in_order ∙ ap (λ t. late_questions world t (in_call_order call)) is
+    ∙ sym (ap (λ (x : Option Refusal). cond (is_none x) (late_questions world (is_none (first (certificate_rules world) call)) (in_call_order call)) []) early)
 
 -- the lines of the chains, and where it is so those of the PASSporTs
 over_lines : (held mid now : List Triple) (text text_mid text_now : List ℕ) (readings : List Reading) (states : List State) (own : Bool)
@@ -101,7 +101,7 @@ stops_told (Some files) materials call screened before now name states here law 
     let world : World = asking_world materials files in
     let by = law world call materials.table always_yes call.moment screened passed refl refl refl in
     let alike : AllAlike states (truths world (take (length states) screened.readings)) = all_alike world (take (length states) screened.readings) states asked.right asked.known in
-    let chains : chains_questions states ≡ chains_questions (truths world (take (length states) (in_chain call))) =
+    let chains : chains_questions states ≡ chains_questions (truths world (take (length states) (in_call_order call))) =
     chains_same states (truths world (take (length states) screened.readings)) alike
     ∙ ap (λ (r : List Reading). chains_questions (truths world (take (length states) r))) by.in_order in
     record {
@@ -113,7 +113,7 @@ stops_told (Some files) materials call screened before now name states here law 
       writes = subst (Writes before.held now.held before.text now.text) chains asked.writes;
     }
 
-pub stops_screened : (told : Option Files) (materials : Materials) (call : Call) (screened : ScreenedView) (before now : Lines) (faults faults_now : ℕ) (stop : ChainStop) → JudgedOn
+pub stops_screened : (told : Option Files) (materials : Materials) (call : Call) (screened : ScreenedView) (before now : Lines) (faults faults_now : ℕ) (stop : ChainError) → JudgedOn
     → IsScreenedBy early_rules call (Ok screened) → Stopped told materials screened.readings before now faults faults_now stop → StopsCall told materials call before now faults faults_now stop
 stops_screened told materials call screened before now faults faults_now (Unread name) law passed (stopped, rose) =
     (stops_told told materials call screened before now (string_bytes name) stopped.states stopped.here law passed stopped.asked stopped.is stopped.named, rose)

@@ -12,14 +12,14 @@ use Rattle.passport_claims.specs.Passport.{ClaimsView}
 use Rattle.verify_rules.specs.Call.{Reading, passport_in}
 use Rattle.verify_rules.specs.States.{State}
 use Rattle.verify_service.specs.Chains.{AreRightWhere, IsRightWhere, is_unread}
-use Rattle.verify_service.specs.declared.materials.World.{World as Materials}
+use Rattle.cert_store.specs.declared.world.World.{World as Materials}
 use Rattle.stir_outside.proofs.CountLaws.{then_rose}
 use Rattle.single_calls.specs.AlwaysYes.{always_yes}
 use Rattle.single_calls.specs.CallQuestions.{chain_questions, chains_questions}
 use Rattle.single_calls.specs.Reading.{AreAsked, Lines, Stopped, StopsFor}
 use Rattle.single_calls.specs.Written.{Writes}
-use Rattle.single_calls.specs.declared.reading.ChainStop.{ChainStop}
-use Rattle.single_calls.specs.declared.reading.ChainStop.TheVariants.{Unread, Memory}
+use Rattle.single_calls.specs.declared.reading.ChainError.{ChainError}
+use Rattle.single_calls.specs.declared.reading.ChainError.TheVariants.{Unread, Memory}
 use Rattle.single_calls.proofs.WriteLaws.{writes_both}
 
 -- the law that one chain more is right
@@ -67,7 +67,7 @@ at_by readings i passport None here is = absurd (cc)
 at_by readings i passport (Some one) here is = record { one = one; is = here; says = same_Some one.passport passport is }
 
 pub stopped_at : (told : Option Files) (materials : Materials) (readings : List Reading) (before now : Lines) (states : List State) (i : ℕ) (passport : ClaimsView) (x5u : List ℕ)
-    (faults mid faults_now : ℕ) (stop : ChainStop) → length states ≡ i → option_map passport_in (slice_get readings i) ≡ Some passport → x5u ≡ passport.x5u
+    (faults mid faults_now : ℕ) (stop : ChainError) → length states ≡ i → option_map passport_in (slice_get readings i) ≡ Some passport → x5u ≡ passport.x5u
     → AreAsked told materials readings before now states → faults ≤ mid → StopsFor materials x5u mid faults_now stop
     → Stopped told materials readings before now faults faults_now stop
 stopped_at told materials readings before now states i passport x5u faults mid faults_now (Unread name) counted is text asked stay (named, rose) =

@@ -3,16 +3,16 @@ use Rattle.std.specs.Prelude.{◌≡◌, ⊤, ℕ, List, take, Option, Some, Non
 use Rattle.std.specs.List.{slice_get}
 use Rattle.call_log.specs.Entry.{Entry}
 use Rattle.call_run.specs.Answer.{AnswerView}
-use Rattle.call_run.specs.declared.finding.Finding.TheVariants.{Well}
+use Rattle.call_run.specs.declared.status.CallStatus.TheVariants.{Well}
 use Rattle.cert_store.specs.ChainMap.{listed}
 use Rattle.stir_outside.specs.Files.{Files}
-use Rattle.verify_rules.specs.Call.{Reading, in_chain}
+use Rattle.verify_rules.specs.Call.{Reading, in_call_order}
 use Rattle.verify_rules.specs.Rules.{early_rules, first}
 use Rattle.verify_rules.specs.World.{World, truths}
 use Rattle.verify_rules.specs.declared.settings.Settings.{Settings}
 use Rattle.verify_service.specs.Chains.{world_by}
 use Rattle.verify_service.specs.Judging.{call_in}
-use Rattle.verify_service.specs.declared.materials.World.{World as Materials}
+use Rattle.cert_store.specs.declared.world.World.{World as Materials}
 use Rattle.single_calls.specs.AlwaysYes.{always_yes}
 use Rattle.single_calls.specs.Asks.{ask_lines, calls_questions, fresh}
 use Rattle.single_calls.specs.CallQuestions.{call_questions, chains_questions}
@@ -54,9 +54,9 @@ pub record StopsAt (world : World) (settings : Settings) (before : List Entry) (
   pub early : first early_rules (call_in settings entry) ≡ None
   pub at : ℕ
   pub here : Reading
-  pub is : slice_get (in_chain (call_in settings entry)) at ≡ Some here
+  pub is : slice_get (in_call_order (call_in settings entry)) at ≡ Some here
   pub named : listed world.chains here.passport.x5u ≡ Some name
-  pub lines : text ≡ ask_lines (fresh (calls_questions world settings before) (chains_questions (truths world (take at (in_chain (call_in settings entry))))))
+  pub lines : text ≡ ask_lines (fresh (calls_questions world settings before) (chains_questions (truths world (take at (in_call_order (call_in settings entry))))))
 
 -- the chain map names the file
 abbrev pub IsNamed : Materials → List ℕ → Type 0

@@ -6,7 +6,7 @@ use Rattle.x509_profile.specs.View.{CertView}
 use Rattle.cert_store.specs.Judged.{JudgedView}
 use Rattle.cert_store.specs.Questions.{questions_of}
 use Rattle.cert_store.specs.Rules.{QuestionView, question}
-use Rattle.verify_rules.specs.Call.{Call, Reading, in_chain}
+use Rattle.verify_rules.specs.Call.{Call, Reading, in_call_order}
 use Rattle.verify_rules.specs.Rules.{early_rules, first}
 use Rattle.verify_rules.specs.States.{State, have, no_chain, long, unread}
 use Rattle.verify_rules.specs.World.{World, certificate_rules, truths}
@@ -63,4 +63,4 @@ late_questions world own readings = questions_over own readings (truths world re
 -- 14, those of the PASSporTs themselves.
 unfoldable pub call_questions : World → Call → List QuestionView
 call_questions world call =
-    if is_none (first early_rules call) then late_questions world (is_none (first (certificate_rules world) call)) (in_chain call) else []
+    if is_none (first early_rules call) then late_questions world (is_none (first (certificate_rules world) call)) (in_call_order call) else []

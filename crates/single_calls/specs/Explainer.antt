@@ -2,8 +2,8 @@
 use Rattle.std.specs.Prelude.{◌≡◌, ⊤, ◌⊎◌, ℕ, List, Option, Some, None}
 use Rattle.call_log.specs.Entry.{Entry}
 use Rattle.call_run.specs.Answer.{AnswerView}
-use Rattle.call_run.specs.declared.finding.Finding.{Finding as Sign}
-use Rattle.call_run.specs.declared.finding.Finding.TheVariants.{Well, Broken, Unread}
+use Rattle.call_run.specs.declared.status.CallStatus.{CallStatus}
+use Rattle.call_run.specs.declared.status.CallStatus.TheVariants.{Well, Broken, Unread}
 use Rattle.stir_outside.specs.Files.{Files}
 use Rattle.stir_outside.specs.Held.{Held, held_says}
 use Rattle.verify_rules.specs.World.{First, MayBeUnread, World}
@@ -14,7 +14,7 @@ use Rattle.verify_service.specs.Chains.{world_by}
 use Rattle.verify_service.specs.Judging.{call_in}
 use Rattle.verify_service.specs.declared.finding.Finding.{Finding}
 use Rattle.verify_service.specs.declared.finding.Finding.TheVariants as found
-use Rattle.verify_service.specs.declared.materials.World.{World as Materials}
+use Rattle.cert_store.specs.declared.world.World.{World as Materials}
 use Rattle.single_calls.specs.Explain.{Explain, explained, unread_text}
 
 -- by what calls are explained
@@ -25,18 +25,18 @@ pub record ExplainerView : Type 0 where
 
 -- ---- an explanation
 
-abbrev pub sign_of : Finding → Sign
-sign_of (found.Refused refused) = Broken
-sign_of (found.Unread bad) = Unread
-sign_of (found.Unasked bad) = Broken
-sign_of (found.Passes pass) = Well
+abbrev pub status_of : Finding → CallStatus
+status_of (found.Refused refused) = Broken
+status_of (found.Unread bad) = Unread
+status_of (found.Unasked bad) = Broken
+status_of (found.Passes pass) = Well
 
 -- of the call of this number, by what is found of it
 abbrev pub explanation : ℕ → Finding → AnswerView
-explanation number finding = record { text = explained number finding; finding = sign_of finding }
+explanation number finding = record { text = explained number finding; finding = status_of finding }
 
 -- whether a rule is broken
-abbrev pub sign_by : Option Refusal → Sign
+abbrev pub sign_by : Option Refusal → CallStatus
 sign_by None = Well
 sign_by (Some refused) = Broken
 

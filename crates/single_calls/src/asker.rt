@@ -11,10 +11,10 @@ ghost use Rattle.verify_service.specs.Judging.{call_in};
 
 use crate::always_yes::AlwaysYes;
 use crate::own::add_own;
-use crate::reading::{ChainStop, ask_chains};
+use crate::reading::{ChainError, ask_chains};
 use crate::written::Written;
 use call_log::Call;
-use call_run::{Answer, AnswerStop, Answerer, Finding};
+use call_run::{Answer, AnswerError, Answerer, CallStatus};
 use std::alloc::Global;
 use std::marker::Model;
 use stir_outside::Shelf;
@@ -73,7 +73,7 @@ impl Answerer for Asker {
         alloc: Global,
         shelf: &mut S,
         call: &Call,
-    ) -> Result<Answer, AnswerStop> {
+    ) -> Result<Answer, AnswerError> {
         let mut text = String::new(alloc);
         match ask_call(
             alloc,
@@ -84,9 +84,9 @@ impl Answerer for Asker {
             &mut self.written,
             &mut text,
         ) {
-            Ok(()) => Ok(Answer::new(text, Finding::Well)),
-            Err(ChainStop::Unread { name }) => Err(AnswerStop::Unread { text, name }),
-            Err(ChainStop::Memory) => Err(AnswerStop::Memory),
+            Ok(()) => Ok(Answer::new(text, CallStatus::Well)),
+            Err(ChainError::Unread { name }) => Err(AnswerError::Unread { text, name }),
+            Err(ChainError::Memory) => Err(AnswerError::Memory),
         }
     }
 }
@@ -100,7 +100,7 @@ fn ask_call<S: Shelf>(
     call: &Call,
     written: &mut Written,
     text: &mut String,
-) -> Result<(), ChainStop>
+) -> Result<(), ChainError>
     requires window { settings.now.window ≤ 86400 }
     ensures writes { OnOk result (WritesCall (S.files shelf.old) world.now (call_in settings.now call.now) (lines written.old (string_bytes text.old)) (lines written.new (string_bytes text.new))) }
     ensures stopped { IfErr result (StopsCall (S.files shelf.old) world.now (call_in settings.now call.now) (lines written.old (string_bytes text.old))
@@ -113,7 +113,7 @@ fn ask_call<S: Shelf>(
         Ok(screened) => ask_screened(alloc, world, shelf, call.moment(), &screened, written, text),
         Err(fault) => match fault {
             ScreenFault::Refused(_) => Ok(()),
-            ScreenFault::Memory => Err(ChainStop::Memory),
+            ScreenFault::Memory => Err(ChainError::Memory),
         },
     }
 }
@@ -128,7 +128,7 @@ fn ask_screened<S: Shelf>(
     screened: &Screened,
     written: &mut Written,
     text: &mut String,
-) -> Result<(), ChainStop>
+) -> Result<(), ChainError>
     ensures writes { (call : RuledCall) → IsScreenedBy early_rules call (Ok screened.now) → moment ≡ call.moment
         → OnOk result (WritesCall (S.files shelf.old) world.now call (lines written.old (string_bytes text.old)) (lines written.new (string_bytes text.new))) }
     ensures stopped { (call : RuledCall) → IsScreenedBy early_rules call (Ok screened.now)
@@ -159,7 +159,7 @@ fn ask_screened<S: Shelf>(
     }
     match add_own(alloc, screened, &chains, written, text) {
         Ok(()) => Ok(()),
-        Err(_) => Err(ChainStop::Memory),
+        Err(_) => Err(ChainError::Memory),
     }
 }
 

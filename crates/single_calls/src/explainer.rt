@@ -2,12 +2,12 @@
 ghost use Rattle.std.specs.Prelude.{◌≡◌, ◌≤◌, List, IfOk};
 ghost use Rattle.call_log.specs.Entry.{Entry};
 ghost use Rattle.call_run.specs.Answer.{unread_lines};
-ghost use Rattle.single_calls.specs.Explainer.{BehindAny, ExplainedBy, NeverStops, explanation, sign_of};
+ghost use Rattle.single_calls.specs.Explainer.{BehindAny, ExplainedBy, NeverStops, explanation, status_of};
 ghost use Rattle.stir_outside.specs.Count.{AtMost};
 
 use crate::explain::explained;
 use call_log::Call;
-use call_run::{Answer, AnswerStop, Answerer, Finding as Sign};
+use call_run::{Answer, AnswerError, Answerer, CallStatus};
 use std::alloc::{AllocError, Global};
 use std::marker::Model;
 use stir_outside::{Answers, Shelf};
@@ -81,18 +81,18 @@ fn explanation(alloc: Global, number: u32, finding: &Finding) -> Result<Answer, 
     ensures { IfOk result (λ answer. answer ≡ explanation number finding.now) }
 {
     let text = explained(alloc, number, finding)?;
-    Ok(Answer::new(text, sign_of(finding)))
+    Ok(Answer::new(text, status_of(finding)))
 }
 
 /// What is found of a call comes to.
-fn sign_of(finding: &Finding) -> Sign
-    ensures { result ≡ sign_of finding.now }
+fn status_of(finding: &Finding) -> CallStatus
+    ensures { result ≡ status_of finding.now }
 {
     match finding {
-        Finding::Refused(_) => Sign::Broken,
-        Finding::Unread(_) => Sign::Unread,
-        Finding::Unasked(_) => Sign::Broken,
-        Finding::Passes(_) => Sign::Well,
+        Finding::Refused(_) => CallStatus::Broken,
+        Finding::Unread(_) => CallStatus::Unread,
+        Finding::Unasked(_) => CallStatus::Broken,
+        Finding::Passes(_) => CallStatus::Well,
     }
 }
 
@@ -108,10 +108,10 @@ impl<'a> Answerer for Explainer<'a> {
         alloc: Global,
         shelf: &mut S,
         call: &Call,
-    ) -> Result<Answer, AnswerStop> {
+    ) -> Result<Answer, AnswerError> {
         match self.explain(alloc, shelf, call) {
             Ok(answer) => Ok(answer),
-            Err(_) => Err(AnswerStop::Memory),
+            Err(_) => Err(AnswerError::Memory),
         }
     }
 }

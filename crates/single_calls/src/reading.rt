@@ -18,7 +18,7 @@ use verify_service::{CallChain, CallChains, World, chain_in, chains_law};
 
 /// What stops the reading of a call's chains.
 #[derive(Drop)]
-pub(crate) enum ChainStop {
+pub(crate) enum ChainError {
     /// The file of this name couldn't be read.
     Unread { name: String },
     /// Memory ran out.
@@ -36,7 +36,7 @@ pub(crate) fn ask_chains<S: Shelf>(
     chains: &mut CallChains,
     written: &mut Written,
     text: &mut String,
-) -> Result<(), ChainStop>
+) -> Result<(), ChainError>
     requires none { chains.old ≡ [] }
     ensures counted { OnOk result (length chains.new ≡ length screened.now.readings) }
     ensures asked { OnOk result (AreAsked (S.files shelf.old) world.now screened.now.readings (lines written.old (string_bytes text.old)) (lines written.new (string_bytes text.new)) chains.new) }
@@ -54,11 +54,11 @@ pub(crate) fn ask_chains<S: Shelf>(
         };
         match add_chain(alloc, &chain, written, text) {
             Ok(()) => {}
-            Err(_) => return Err(ChainStop::Memory),
+            Err(_) => return Err(ChainError::Memory),
         }
         match chains.push(chain) {
             Ok(()) => {}
-            Err(_) => return Err(ChainStop::Memory),
+            Err(_) => return Err(ChainError::Memory),
         }
     }
     Ok(())
@@ -71,7 +71,7 @@ fn known_chain<S: Shelf>(
     shelf: &mut S,
     provider: &mut AlwaysYes,
     x5u: &[u8],
-) -> Result<CallChain, ChainStop>
+) -> Result<CallChain, ChainError>
     ensures right { IfOk result (λ chain. IsRightWhere (S.files shelf.old) world.now always_yes x5u.now (state_of chain)) }
     ensures known { IfOk result (λ chain. is_unread (state_of chain) ≡ false) }
     ensures stopped { IfErr result (StopsFor world.now x5u.now (S.counts shelf.old).faults (S.counts shelf.new).faults) }
@@ -84,12 +84,12 @@ fn known_chain<S: Shelf>(
     };
     match chain_in(alloc, world, shelf, provider, name) {
         Ok(chain) => unless_unread(alloc, chain, name),
-        Err(_) => Err(ChainStop::Memory),
+        Err(_) => Err(ChainError::Memory),
     }
 }
 
 /// The chain, unless the file of this name couldn't be read.
-fn unless_unread(alloc: Global, chain: CallChain, name: &str) -> Result<CallChain, ChainStop>
+fn unless_unread(alloc: Global, chain: CallChain, name: &str) -> Result<CallChain, ChainError>
     ensures same { IfOk result (λ known. known ≡ chain) }
     ensures known { IfOk result (λ known. is_unread (state_of known) ≡ false) }
     ensures unread { OnErr result (is_unread (state_of chain) ≡ true) }
@@ -114,11 +114,11 @@ fn is_unread(chain: &CallChain) -> bool
 }
 
 /// The stop at the file of this name.
-fn stop_at(alloc: Global, name: &str) -> ChainStop
+fn stop_at(alloc: Global, name: &str) -> ChainError
     ensures { IsNamed name.now result }
 {
     match String::from_str(alloc, name) {
-        Ok(name) => ChainStop::Unread { name },
-        Err(_) => ChainStop::Memory,
+        Ok(name) => ChainError::Unread { name },
+        Err(_) => ChainError::Memory,
     }
 }

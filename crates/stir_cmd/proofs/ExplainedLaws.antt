@@ -10,16 +10,16 @@ use Rattle.log_run.specs.Ending.{report_status}
 use Rattle.single_calls.specs.Asker.{AskedBy, AskerView, asking_world}
 use Rattle.single_calls.specs.Asks.{Asks}
 use Rattle.single_calls.specs.Explainer.{ExplainedBy, Explains, IsExplained}
-use Rattle.stir_files.specs.Grounds.{GroundsOf}
+use Rattle.stir_files.specs.World.{WorldOf}
 use Rattle.stir_files.specs.Materials.{MaterialsOf}
-use Rattle.stir_files.specs.declared.grounds.Grounds.{Grounds}
+use Rattle.cert_store.specs.declared.world.World.{World as WorldRead}
 use Rattle.stir_files.specs.declared.materials.Materials.{Materials}
 use Rattle.stir_outside.specs.Count.{AtMost, last_count}
 use Rattle.stir_outside.specs.Files.{Files}
 use Rattle.stir_words.specs.Order.{AskBy, AskingView, ExplainBy, JudgingView}
 use Rattle.verify_rules.specs.World.{World}
 use Rattle.verify_rules.specs.declared.settings.Settings.{Settings}
-use Rattle.stir_cmd.specs.Around.{IfTold, Outside}
+use Rattle.stir_cmd.specs.Outside.{IfTold, Outside}
 use Rattle.stir_cmd.specs.Calls.{settings_by, world_by}
 use Rattle.stir_cmd.specs.Explained.{Asked, AskedLog, EachCall, Explained, ExplainedLog}
 use Rattle.stir_cmd.specs.Singly.{RanSingly, around_calls}
@@ -100,22 +100,22 @@ TextsLaw = (asker : AskerView) (files : Files) (calls : List Entry) (answers : L
 abbrev pub WellLaw : Type 0
 WellLaw = (asker : AskerView) (told : Option Files) (calls : List Entry) (answers : List AnswerView) → AreAnswered (AskedBy asker told) [] calls answers → all_well answers ≡ true
 
-asked_log : TextsLaw → (words : AskingView) (files : Files) (bytes : List ℕ) (before now : Outside) (status faults : ℕ) (grounds : Grounds) → GroundsOf (Some files) words grounds
-    → WholeAnswer (AskedBy (asker_by (settings_by words.settings) grounds) (Some files)) (around_calls before faults) (around_calls now now.counts.faults) bytes status → AskedLog words files bytes before now
-asked_log texts words files bytes before now status faults grounds stands whole = record {
-  grounds = grounds;
+asked_log : TextsLaw → (words : AskingView) (files : Files) (bytes : List ℕ) (before now : Outside) (status faults : ℕ) (world : WorldRead) → WorldOf (Some files) words world
+    → WholeAnswer (AskedBy (asker_by (settings_by words.settings) world) (Some files)) (around_calls before faults) (around_calls now now.counts.faults) bytes status → AskedLog words files bytes before now
+asked_log texts words files bytes before now status faults world stands whole = record {
+  world = world;
   stands = stands;
   calls = whole.calls;
   log = whole.log;
-  reported = subst (λ (text : List ℕ). Appends before.written now.written text) (texts (asker_by (settings_by words.settings) grounds) files whole.calls whole.answers whole.are_answered.each) whole.reported;
+  reported = subst (λ (text : List ℕ). Appends before.written now.written text) (texts (asker_by (settings_by words.settings) world) files whole.calls whole.answers whole.are_answered.each) whole.reported;
 }
 
-asked_told : TextsLaw → (words : AskingView) (before now : Outside) (status faults : ℕ) (grounds : Grounds) (files : Option Files) (left : Option (List ℕ)) → GroundsOf files words grounds
-    → IfSome left (λ bytes. WholeAnswer (AskedBy (asker_by (settings_by words.settings) grounds) files) (around_calls before faults) (around_calls now now.counts.faults) bytes status)
+asked_told : TextsLaw → (words : AskingView) (before now : Outside) (status faults : ℕ) (world : WorldRead) (files : Option Files) (left : Option (List ℕ)) → WorldOf files words world
+    → IfSome left (λ bytes. WholeAnswer (AskedBy (asker_by (settings_by words.settings) world) files) (around_calls before faults) (around_calls now now.counts.faults) bytes status)
     → IfTold files left (λ told bytes. AskedLog words told bytes before now)
-asked_told texts words before now status faults grounds None left stands whole = tt
-asked_told texts words before now status faults grounds (Some files) None stands whole = tt
-asked_told texts words before now status faults grounds (Some files) (Some bytes) stands whole = asked_log texts words files bytes before now status faults grounds stands whole
+asked_told texts words before now status faults world None left stands whole = tt
+asked_told texts words before now status faults world (Some files) None stands whole = tt
+asked_told texts words before now status faults world (Some files) (Some bytes) stands whole = asked_log texts words files bytes before now status faults world stands whole
 
 pub asked : TextsLaw → WellLaw → (words : AskingView) (before now : Outside) (status : ℕ) → RanSingly (ask_way words before.files) before now status → Asked (Some (AskBy words)) before now status
 asked texts well words before now status ran = λ low.

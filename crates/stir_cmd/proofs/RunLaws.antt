@@ -1,9 +1,9 @@
 -- What a run promises, by what its words order.
 use Rattle.std.proofs.Common.{◌≡◌, ℕ, ◌≤◌, inl, inr, List, [], codes, Option, Some, None, Err, refl, sym, subst, arith}
 use Rattle.std.specs.Io.KnownBytes.{Appends, Consumes, IsAtEnd}
-use Rattle.log_run.specs.Ending.{EndsAs, memory_line}
+use Rattle.stir_outside.specs.Ending.{EndsAs, memory_line}
 use Rattle.stir_words.specs.Order.{AskBy, DivertBy, ExplainBy, OrderView, ShowCertificates, SignBy, VerifyBy}
-use Rattle.stir_cmd.specs.Around.{IsUntouched, Outside}
+use Rattle.stir_cmd.specs.Outside.{IsUntouched, Outside}
 use Rattle.stir_cmd.specs.Causes.{HasCauses, IsComplete, IsRefusal, IsThrough, Ran, Signed}
 use Rattle.stir_cmd.specs.Headline.{Headline}
 use Rattle.stir_cmd.specs.Showing.{Showed, TakesAtMost}
@@ -30,7 +30,7 @@ headline (Some (ExplainBy judging)) before now status ran = tt
 headline (Some (AskBy words)) before now status ran = tt
 
 -- the line that ends a run without an order
-of_line : (before now : Outside) (status said : ℕ) (line : List ℕ) → IsRefusal line → EndsAs before.written now.written before.writes now.writes status line said
+of_line : (before now : Outside) (status said : ℕ) (line : List ℕ) → IsRefusal line → EndsAs before.written now.written before.write_faults now.write_faults status line said
     → (status ≡ said → Appends before.written now.written line → CausesOf None before now status) → CausesOf None before now status
 of_line before now status said line is (inl ends) written = written ends.0 ends.1
 of_line before now status said line is (inr ends) written = at_write status ends.0 (record { rose = ends.1; line = line; says = is; front = ends.2 })
@@ -59,7 +59,7 @@ complete law (Some (DivertBy words)) before now status ran showed = signing.comp
 complete law (Some (ExplainBy judging)) before now status ran showed = singly.complete (explain_way judging before.files) before now status ran
 complete law (Some (AskBy words)) before now status ran showed = singly.complete (ask_way words before.files) before now status ran
 
-none_low : (before now : Outside) (status said : ℕ) (line : List ℕ) → EndsAs before.written now.written before.writes now.writes status line said → 2 ≤ said → status ≤ 1 → ⊥
+none_low : (before now : Outside) (status said : ℕ) (line : List ℕ) → EndsAs before.written now.written before.write_faults now.write_faults status line said → 2 ≤ said → status ≤ 1 → ⊥
 none_low before now status said line (inl ends) high low = omega (arith, ends.0, high, low)
 none_low before now status said line (inr ends) high low = omega (arith, ends.0, low)
 
@@ -112,16 +112,16 @@ took_none left left_now same =
     record { taken = []; from_front = subst (λ (now : Option (List ℕ)). Consumes left now []) (sym same) (nothing_taken left); limited = omega arith }
 
 pub wanting : (order : Option OrderView) (before now : Outside) (status : ℕ) → IsUntouched before now
-    → EndsAs before.written now.written before.writes now.writes status (codes "want of memory\n") 6 → Ran order before now status
+    → EndsAs before.written now.written before.write_faults now.write_faults status (codes "want of memory\n") 6 → Ran order before now status
 unfolding memory_line
 wanting None before now status u ends = inr (record { untouched = u; ends = ends })
 wanting (Some ShowCertificates) before now status u ends =
     record { counts = u.counts; limited = took_none before.left now.left u.left; ran = record { outcome = Err show_fault.Memory; reason = tt; ends = ends } }
-wanting (Some (VerifyBy judging)) before now status u ends = inr (inr (record { stays = record { left = u.left; reads = u.reads }; ends = ends }))
-wanting (Some (SignBy words)) before now status u ends = inr (inr (record { stays = record { left = u.left; reads = u.reads }; ends = ends }))
-wanting (Some (DivertBy words)) before now status u ends = inr (inr (record { stays = record { left = u.left; reads = u.reads }; ends = ends }))
-wanting (Some (ExplainBy judging)) before now status u ends = inr (inr (record { stays = record { left = u.left; reads = u.reads }; ends = ends }))
-wanting (Some (AskBy words)) before now status u ends = inr (inr (record { stays = record { left = u.left; reads = u.reads }; ends = ends }))
+wanting (Some (VerifyBy judging)) before now status u ends = inr (inr (record { stays = record { left = u.left; read_faults = u.read_faults }; ends = ends }))
+wanting (Some (SignBy words)) before now status u ends = inr (inr (record { stays = record { left = u.left; read_faults = u.read_faults }; ends = ends }))
+wanting (Some (DivertBy words)) before now status u ends = inr (inr (record { stays = record { left = u.left; read_faults = u.read_faults }; ends = ends }))
+wanting (Some (ExplainBy judging)) before now status u ends = inr (inr (record { stays = record { left = u.left; read_faults = u.read_faults }; ends = ends }))
+wanting (Some (AskBy words)) before now status u ends = inr (inr (record { stays = record { left = u.left; read_faults = u.read_faults }; ends = ends }))
 
 -- then the status is neither 0 nor 1
 pub wanting_high : (written written_now : Option (List ℕ)) (writes writes_now status : ℕ) → EndsAs written written_now writes writes_now status (codes "want of memory\n") 6 → 2 ≤ status

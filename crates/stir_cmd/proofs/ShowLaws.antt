@@ -2,16 +2,16 @@
 use Rattle.std.proofs.Common.{◌≡◌, ℕ, ◌<◌, ◌≤◌, ◌⊎◌, inl, inr, List, [], ◌++◌, length, nat_lt, Bool, true, false, Option, Some, None, Result, Ok, Err, IfSome, refl, sym, ◌∙◌, ap, subst, arith, append-nil, length-append}
 use Rattle.std.specs.Io.KnownBytes.{Appends, IsAtEnd}
 use Rattle.std.proofs.lemmas.Bool.Decides.{nat_tests}
-use Rattle.log_run.specs.Ending.{EndsAs}
+use Rattle.stir_outside.specs.Ending.{EndsAs}
 use Rattle.stir_outside.proofs.CountLaws.{not_rose}
 use Rattle.stir_outside.specs.Count.{NotRisen}
 use Rattle.stir_outside.specs.Told.{Takes}
 use Rattle.stir_words.specs.Order.{ShowCertificates}
-use Rattle.stir_words.specs.Status.{status_number}
+use Rattle.stir_outside.specs.Status.{status_number}
 use Rattle.x509_profile.specs.Chain.{Chain, RefusedCertificate, certificates_in}
 use Rattle.x509_profile.specs.View.{CertView}
 use Rattle.stir_cmd.specs.Answer.{Reply, fault_status, long_input, shown, shown_reply, status_of, text_of}
-use Rattle.stir_cmd.specs.Around.{Outside}
+use Rattle.stir_cmd.specs.Outside.{Outside}
 use Rattle.stir_cmd.specs.Causes.{AnswersChain, AnswersNoChain, ShowComplete, Showing}
 use Rattle.stir_cmd.specs.Showing.{HasReason, IsAnswerTo, IsNoChain, Showed, Shows, TakesAtMost}
 use Rattle.stir_cmd.specs.declared.answer.ShowFault.{ShowFault}
@@ -145,8 +145,8 @@ answered : (before now : Outside) (status : ℕ) → (status ≡ 0) ⊎ (status 
 answered before now status (inl e) refused = at_done status (omega (arith, e)) e
 answered before now status (inr e) refused = at_input status e (refused e)
 
-causes_by : ReadsChain → (before now : Outside) (status : ℕ) (outcome : Result Reply ShowFault) → HasReason before.left before.reads now.reads outcome
-    → EndsAs before.written now.written before.writes now.writes status (text_of outcome) (status_number (status_of outcome)) → CausesOf (Some ShowCertificates) before now status
+causes_by : ReadsChain → (before now : Outside) (status : ℕ) (outcome : Result Reply ShowFault) → HasReason before.left before.read_faults now.read_faults outcome
+    → EndsAs before.written now.written before.write_faults now.write_faults status (text_of outcome) (status_number (status_of outcome)) → CausesOf (Some ShowCertificates) before now status
 causes_by law before now status (Ok reply) reason (inl ends) =
     let s = subst (StatusOf before.left) (sym ends.0) (status_of_answer law before.left reply reason) in
     answered before now status (each_of before.left status s) (refused_of before.left status s)
@@ -160,18 +160,18 @@ causes law before now status showing = causes_by law before now status showing.r
 
 -- ---- which status comes
 
-chain_by : ReadsChain → (before now : Outside) (status : ℕ) (bytes : List ℕ) (certificates : List CertView) (outcome : Result Reply ShowFault) → HasReason (Some bytes) before.reads now.reads outcome
-    → EndsAs before.written now.written before.writes now.writes status (text_of outcome) (status_number (status_of outcome)) → length bytes ≤ 49152 → Chain bytes certificates
-    → NotRisen before.reads now.reads → NotRisen before.writes now.writes → (status ≡ 0) ⊎ (status ≡ 6)
+chain_by : ReadsChain → (before now : Outside) (status : ℕ) (bytes : List ℕ) (certificates : List CertView) (outcome : Result Reply ShowFault) → HasReason (Some bytes) before.read_faults now.read_faults outcome
+    → EndsAs before.written now.written before.write_faults now.write_faults status (text_of outcome) (status_number (status_of outcome)) → length bytes ≤ 49152 → Chain bytes certificates
+    → NotRisen before.read_faults now.read_faults → NotRisen before.write_faults now.write_faults → (status ≡ 0) ⊎ (status ≡ 6)
 chain_by law before now status bytes certificates (Ok reply) reason (inl ends) short chain reads writes =
     inl (ends.0 ∙ (status_of_answer law (Some bytes) reply reason).shown_if certificates short chain)
-chain_by law before now status bytes certificates (Err Read) reason (inl ends) short chain reads writes = absurd (not_rose before.reads now.reads reads reason)
+chain_by law before now status bytes certificates (Err Read) reason (inl ends) short chain reads writes = absurd (not_rose before.read_faults now.read_faults reads reason)
 chain_by law before now status bytes certificates (Err Memory) reason (inl ends) short chain reads writes = inr ends.0
-chain_by law before now status bytes certificates outcome reason (inr ends) short chain reads writes = absurd (not_rose before.writes now.writes writes ends.1)
+chain_by law before now status bytes certificates outcome reason (inr ends) short chain reads writes = absurd (not_rose before.write_faults now.write_faults writes ends.1)
 
 chain : ReadsChain → (before now : Outside) (status : ℕ) → Showing before now status → AnswersChain before now status
 chain law before now status showing bytes certificates told short is reads writes =
-    chain_by law before now status bytes certificates showing.ran.outcome (subst (λ (x : Option (List ℕ)). HasReason x before.reads now.reads showing.ran.outcome) told showing.ran.reason)
+    chain_by law before now status bytes certificates showing.ran.outcome (subst (λ (x : Option (List ℕ)). HasReason x before.read_faults now.read_faults showing.ran.outcome) told showing.ran.reason)
     showing.ran.ends short is reads writes
 
 none_shown : (bytes : List ℕ) (left : Option (List ℕ)) (text : List ℕ) → left ≡ Some bytes → IsNoChain bytes → Shows left text → ⊥
@@ -183,22 +183,22 @@ none_shown bytes left text told none shows =
     by_none (inl long) = omega (arith, long, shows.size)
     by_none (inr other) = other shows.certificates shows.chain
 
-no_chain_by : ReadsChain → (before now : Outside) (status : ℕ) (bytes : List ℕ) (outcome : Result Reply ShowFault) → HasReason (Some bytes) before.reads now.reads outcome
-    → EndsAs before.written now.written before.writes now.writes status (text_of outcome) (status_number (status_of outcome)) → (status ≡ 0 → ⊥)
-    → NotRisen before.reads now.reads → NotRisen before.writes now.writes → (status ≡ 5) ⊎ (status ≡ 6)
+no_chain_by : ReadsChain → (before now : Outside) (status : ℕ) (bytes : List ℕ) (outcome : Result Reply ShowFault) → HasReason (Some bytes) before.read_faults now.read_faults outcome
+    → EndsAs before.written now.written before.write_faults now.write_faults status (text_of outcome) (status_number (status_of outcome)) → (status ≡ 0 → ⊥)
+    → NotRisen before.read_faults now.read_faults → NotRisen before.write_faults now.write_faults → (status ≡ 5) ⊎ (status ≡ 6)
 no_chain_by law before now status bytes (Ok reply) reason (inl ends) shown reads writes =
     five (subst (λ (x : ℕ). (x ≡ 0) ⊎ (x ≡ 5)) (sym ends.0) (status_of_answer law (Some bytes) reply reason).each)
   where
     five : (status ≡ 0) ⊎ (status ≡ 5) → (status ≡ 5) ⊎ (status ≡ 6)
     five (inl zero_status) = absurd (shown zero_status)
     five (inr e) = inl e
-no_chain_by law before now status bytes (Err Read) reason (inl ends) shown reads writes = absurd (not_rose before.reads now.reads reads reason)
+no_chain_by law before now status bytes (Err Read) reason (inl ends) shown reads writes = absurd (not_rose before.read_faults now.read_faults reads reason)
 no_chain_by law before now status bytes (Err Memory) reason (inl ends) shown reads writes = inr ends.0
-no_chain_by law before now status bytes outcome reason (inr ends) shown reads writes = absurd (not_rose before.writes now.writes writes ends.1)
+no_chain_by law before now status bytes outcome reason (inr ends) shown reads writes = absurd (not_rose before.write_faults now.write_faults writes ends.1)
 
 no_chain_answered : ReadsChain → (before now : Outside) (status : ℕ) → Showing before now status → (status ≤ 1 → Showed before.left before.written now.written) → AnswersNoChain before now status
 no_chain_answered law before now status showing showed bytes told none reads writes =
-    no_chain_by law before now status bytes showing.ran.outcome (subst (λ (x : Option (List ℕ)). HasReason x before.reads now.reads showing.ran.outcome) told showing.ran.reason)
+    no_chain_by law before now status bytes showing.ran.outcome (subst (λ (x : Option (List ℕ)). HasReason x before.read_faults now.read_faults showing.ran.outcome) told showing.ran.reason)
     showing.ran.ends (λ e. let s = showed (omega (arith, e)) in none_shown bytes before.left s.text told none s.shows) reads writes
 
 pub complete : ReadsChain → (before now : Outside) (status : ℕ) → Showing before now status → (status ≤ 1 → Showed before.left before.written now.written) → ShowComplete before now status

@@ -1,12 +1,12 @@
 -- What `sign` and `divert` promise, from what they came to.
 use Rattle.std.proofs.Common.{◌≡◌, ℕ, ◌<◌, ◌≤◌, ◌⊎◌, inl, inr, List, length, Option, Some, Result, Ok, Err, refl, sym, ◌∙◌, ap, subst, arith}
 use Rattle.std.specs.Io.KnownBytes.{Appends, IsAtEnd}
-use Rattle.log_run.specs.Ending.{EndsAs, memory_line}
+use Rattle.stir_outside.specs.Ending.{EndsAs, memory_line}
 use Rattle.auth_service.specs.Order.{OrderView}
 use Rattle.auth_service.specs.declared.fault.SignFault.{SignFault}
 use Rattle.stir_files.specs.declared.signing.SigningMaterials.{SigningMaterials}
 use Rattle.stir_outside.proofs.CountLaws.{not_rose}
-use Rattle.stir_cmd.specs.Around.{Outside}
+use Rattle.stir_cmd.specs.Outside.{Outside}
 use Rattle.stir_cmd.specs.Signing.{AnswersCall, AnswersMessage, BySigningFiles, EndsOrShort, HasReason, IsAll, IsInput, IsWritten, MessageFailed, RanBySigningFiles, RanMessage, RanSign, RefusedMessage, SignCommand, SignComplete, SignDone, SignEnded, SignFailed, SignShort, SignThrough, SignUnwritten, SignedMessage, Told, Wrote, files_named, reason_line, reason_status, signed_by, status_for}
 use Rattle.stir_cmd.specs.Stopping.{AnswersFault, FileRefused, Front, IsQuiet}
 use Rattle.stir_cmd.specs.declared.sign.Unsigned.{Unsigned}
@@ -18,7 +18,7 @@ use Rattle.stir_cmd.proofs.StopLaws.{early_causes, early_fault, early_high, earl
 
 abbrev RunOf : OrderView → SigningMaterials → Outside → Outside → ℕ → Type 0
 RunOf order materials before now status =
-    RanMessage order materials before.left now.left before.reads now.reads before.written now.written before.writes now.writes status
+    RanMessage order materials before.left now.left before.read_faults now.read_faults before.written now.written before.write_faults now.write_faults status
 
 -- the statuses with which it ends, each with its cause
 data MessageCause (order : OrderView) (materials : SigningMaterials) (before now : Outside) (status : ℕ) : Type 0 where
@@ -28,23 +28,23 @@ data MessageCause (order : OrderView) (materials : SigningMaterials) (before now
   Unwritten : status ≡ 4 → Front before now (IsWritten order materials before now) → MessageCause order materials before now status
   Wants : status ≡ 6 → Appends before.written now.written memory_line → MessageCause order materials before now status
 
-of_wrote : (order : OrderView) (materials : SigningMaterials) (before now : Outside) (status : ℕ) → Wrote order materials before.left now.left before.written now.written before.writes now.writes status
+of_wrote : (order : OrderView) (materials : SigningMaterials) (before now : Outside) (status : ℕ) → Wrote order materials before.left now.left before.written now.written before.write_faults now.write_faults status
     → MessageCause order materials before now status
 of_wrote order materials before now status wrote = by_ends wrote.ends
   where
-    by_ends : EndsAs before.written now.written before.writes now.writes status wrote.out 0 → MessageCause order materials before now status
+    by_ends : EndsAs before.written now.written before.write_faults now.write_faults status wrote.out 0 → MessageCause order materials before now status
     by_ends (inl ends) = Signs ends.0 (record { out = wrote.out; was = wrote.was; reported = ends.1 })
     by_ends (inr ends) = Unwritten ends.0 (record { rose = ends.1; line = wrote.out; says = inr (inl wrote.was); front = ends.2 })
 
 told_line : (order : OrderView) (materials : SigningMaterials) (before now : Outside) (status : ℕ) (why : Unsigned)
-    → HasReason order materials before.left now.left before.reads now.reads why → status ≡ reason_status why → Appends before.written now.written (reason_line order.key why)
+    → HasReason order materials before.left now.left before.read_faults now.read_faults why → status ≡ reason_status why → Appends before.written now.written (reason_line order.key why)
     → MessageCause order materials before now status
 told_line order materials before now status Read reason said reported = Fails said (record { rose = reason; reported = reported })
 told_line order materials before now status Memory reason said reported = Wants said reported
 told_line order materials before now status (Fault fault) reason said reported = Refuses said (record { fault = fault; was = reason; reported = reported })
 
-of_told : (order : OrderView) (materials : SigningMaterials) (before now : Outside) (status : ℕ) (why : Unsigned) → HasReason order materials before.left now.left before.reads now.reads why
-    → EndsOrShort before.written now.written before.writes now.writes status (reason_line order.key why) (reason_status why) → MessageCause order materials before now status
+of_told : (order : OrderView) (materials : SigningMaterials) (before now : Outside) (status : ℕ) (why : Unsigned) → HasReason order materials before.left now.left before.read_faults now.read_faults why
+    → EndsOrShort before.written now.written before.write_faults now.write_faults status (reason_line order.key why) (reason_status why) → MessageCause order materials before now status
 of_told order materials before now status why reason (inl (inl ends)) = told_line order materials before now status why reason ends.0 ends.1
 of_told order materials before now status why reason (inl (inr ends)) =
     Unwritten ends.0 (record { rose = ends.1; line = reason_line order.key why; says = inr (inr (why, reason, refl)); front = ends.2 })
@@ -54,8 +54,8 @@ of_told order materials before now status why reason (inr (inr ends)) = Unwritte
 message_cause : (order : OrderView) (materials : SigningMaterials) (before now : Outside) (status : ℕ) → RunOf order materials before now status → MessageCause order materials before now status
 message_cause order materials before now status ran = by_what ran.came
   where
-    by_what : Wrote order materials before.left now.left before.written now.written before.writes now.writes status
-        ⊎ Told order materials before.left now.left before.reads now.reads before.written now.written before.writes now.writes status → MessageCause order materials before now status
+    by_what : Wrote order materials before.left now.left before.written now.written before.write_faults now.write_faults status
+        ⊎ Told order materials before.left now.left before.read_faults now.read_faults before.written now.written before.write_faults now.write_faults status → MessageCause order materials before now status
     by_what (inl wrote) = of_wrote order materials before now status wrote
     by_what (inr told) = of_told order materials before now status told.why told.reason told.ends
 
@@ -105,8 +105,8 @@ message_status command before now status bytes ran (Refuses e m) told q = inl (r
   stands = ran.stands;
   answered = e ∙ sym (for_told command.order ran.materials before.left m.was.input.taken m.was.bytes bytes (Err m.fault) m.was.input.all told m.was.refuses.gives);
 })
-message_status command before now status bytes ran (Fails e m) told q = absurd (not_rose before.reads now.reads q.reads m.rose)
-message_status command before now status bytes ran (Unwritten e m) told q = absurd (not_rose before.writes now.writes q.writes m.rose)
+message_status command before now status bytes ran (Fails e m) told q = absurd (not_rose before.read_faults now.read_faults q.read_faults m.rose)
+message_status command before now status bytes ran (Unwritten e m) told q = absurd (not_rose before.write_faults now.write_faults q.write_faults m.rose)
 message_status command before now status bytes ran (Wants e m) told q = inr e
 
 message : (command : SignCommand) (before now : Outside) (status : ℕ) → RanSign command before now status → AnswersMessage command before now status

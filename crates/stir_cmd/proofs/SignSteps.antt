@@ -10,7 +10,7 @@ use Rattle.passport_claims.specs.Made.{has_origid}
 use Rattle.passport_claims.specs.declared.form.Form.{Form}
 use Rattle.passport_claims.specs.declared.form.Form.TheVariants as forms
 use Rattle.sip_message.specs.Reading.{fault, read}
-use Rattle.auth_service.specs.Answer.{names_provider, told}
+use Rattle.auth_service.specs.Answer.{decided, names_provider}
 use Rattle.auth_service.specs.Causes.{IsCaused, no_message}
 use Rattle.auth_service.specs.Order.{HolderView, OrderView, is_order, kind_of, shape_of}
 use Rattle.auth_service.specs.Outcome.{IsSigned}
@@ -27,7 +27,7 @@ use Rattle.stir_outside.specs.Files.{Counts, Files}
 use Rattle.stir_outside.specs.Held.{held_signs}
 use Rattle.stir_outside.specs.Told.{Takes}
 use Rattle.stir_words.specs.Order.{DivertingView, HolderNames, IsDiverting, IsSigning, SigningView}
-use Rattle.stir_cmd.specs.Around.{Outside, outside}
+use Rattle.stir_cmd.specs.Outside.{Outside, outside}
 use Rattle.stir_cmd.specs.Showing.{TakesAtMost}
 use Rattle.stir_cmd.specs.SignCode.{outcome_of}
 use Rattle.stir_cmd.specs.Signing.{EndsOrShort, GivesMessage, HasLine, HasList, HasReason, IsAll, IsInput, RanMessage, RanSign, GivesFault, GivesWhy, SignCommand, WasRefused, WasSigned, diverting_command, files_named, holder_by, reason_line, reason_status, signing_command}
@@ -70,7 +70,7 @@ short_by order holder signs bytes out false e gave =
 -- ---- what the call gives
 
 pub gives_of : {V : Type 0} (items : V → List ℕ) (order : OrderView) (holder : Option HolderView) (signs : Signs) (bytes : List ℕ) (result : Result V SignFault)
-    → Gives told items result (signed bytes order holder signs) → IfOk result (λ out. IsSigned bytes order holder signs (items out))
+    → Gives decided items result (signed bytes order holder signs) → IfOk result (λ out. IsSigned bytes order holder signs (items out))
     → IfOk (outcome_of result) (λ out. GivesMessage order holder signs bytes (items out))
 gives_of items order holder signs bytes (Ok out) exact says = record { gives = exact; says = says }
 gives_of items order holder signs bytes (Err why) exact says = tt
@@ -79,7 +79,7 @@ never : Rose 0 0 → ⊥
 never rose = omega (arith, rose (λ e. omega (arith, e)))
 
 pub refuses_of : {V : Type 0} (items : V → List ℕ) (order : OrderView) (holder : Option HolderView) (signs : Signs) (bytes : List ℕ) (result : Result V SignFault)
-    → Gives told items result (signed bytes order holder signs) → IfErr result (λ why. IsCaused bytes order holder signs why) → (names_provider result ≡ true → Rose 0 0)
+    → Gives decided items result (signed bytes order holder signs) → IfErr result (λ why. IsCaused bytes order holder signs why) → (names_provider result ≡ true → Rose 0 0)
     → IfErr (outcome_of result) (GivesWhy order holder signs bytes)
 refuses_of items order holder signs bytes (Ok out) exact caused failed = tt
 refuses_of items order holder signs bytes (Err faults.Form) exact caused failed = record { decided = refl; gives = exact; caused = caused }

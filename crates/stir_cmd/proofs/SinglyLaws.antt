@@ -1,8 +1,8 @@
 -- What a run promises that answers calls one by one, from what it came to.
 use Rattle.std.proofs.Common.{◌≡◌, ℕ, ◌≤◌, ◌⊎◌, inl, inr, List, Option, Some, None, arith}
 use Rattle.std.specs.Io.KnownBytes.{IsAtEnd}
-use Rattle.call_run.specs.Clauses.{Around, IsQuiet as CallsQuiet}
-use Rattle.stir_cmd.specs.Around.{Outside}
+use Rattle.call_run.specs.Clauses.{RunState, IsQuiet as CallsQuiet}
+use Rattle.stir_cmd.specs.Outside.{Outside}
 use Rattle.stir_cmd.specs.Singly.{AnswersPart, AnswersWhole, LogAnswers, RanSingly, Saying, SinglyComplete, SinglyDone, SinglyInput, SinglyMemory, SinglyRead, SinglyWrite, Way, around_calls}
 use Rattle.stir_cmd.specs.Stopping.{AnswersFault, EndsEarly, IsQuiet}
 use Rattle.stir_outside.proofs.CountLaws.{not_risen_behind}
@@ -16,7 +16,7 @@ abbrev pub RanCalls : Way → Outside → Outside → ℕ → Type 0
 RanCalls way before now status = Saying way before now (λ read stands stands_now. LogAnswers (way.answered read) (way.stops read) stands stands_now status)
 
 -- the run over the log, with another thing that is said of it
-pub saying : (way : Way) (before now : Outside) (status : ℕ) (Says : way.Read → Around → Around → Type 0) (ran : RanCalls way before now status)
+pub saying : (way : Way) (before now : Outside) (status : ℕ) (Says : way.Read → RunState → RunState → Type 0) (ran : RanCalls way before now status)
     → Says ran.read (around_calls before ran.faults) (around_calls now now.counts.faults) → Saying way before now Says
 saying way before now status Says ran says = record {
   read = ran.read;
@@ -64,8 +64,8 @@ causes way before now status (inr early) =
 quiet : (way : Way) (before now : Outside) (status : ℕ) (ran : RanCalls way before now status) → IsQuiet before now
     → CallsQuiet (way.stops ran.read) (around_calls before ran.faults) (around_calls now now.counts.faults)
 quiet way before now status ran q = record {
-  reads = q.reads;
-  writes = q.writes;
+  read_faults = q.read_faults;
+  write_faults = q.write_faults;
   files = λ calls call text name may. not_risen_behind before.counts.faults ran.faults now.counts.faults ran.low ran.high q.files;
 }
 

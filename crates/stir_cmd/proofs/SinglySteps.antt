@@ -5,10 +5,10 @@ use Rattle.call_run.specs.Answer.{AnswerView}
 use Rattle.single_calls.specs.Asker.{AskerView, BehindAsked}
 use Rattle.stir_files.specs.Named.{NamedFile}
 use Rattle.stir_files.specs.Stop.{Truly}
-use Rattle.stir_files.specs.declared.grounds.Grounds.{Grounds}
+use Rattle.cert_store.specs.declared.world.World.{World}
 use Rattle.stir_outside.specs.Files.{Counts, CountsGoOn, Files}
 use Rattle.verify_rules.specs.declared.settings.Settings.{Settings}
-use Rattle.stir_cmd.specs.Around.{Outside, outside}
+use Rattle.stir_cmd.specs.Outside.{Outside, outside}
 use Rattle.stir_cmd.specs.Singly.{CallsBy, RanSingly, Way}
 use Rattle.stir_cmd.specs.Ways.{asker_by}
 use Rattle.stir_cmd.proofs.StopSteps.{no_fault}
@@ -47,9 +47,9 @@ from_read V Read named Stands view Answered Stops read one files files_now count
 -- ---- what asks
 
 -- one that has asked nothing stands behind no calls
-asked_nothing : (settings : Settings) (grounds : Grounds) (files : Option Files) → BehindAsked (asker_by settings grounds) files []
-asked_nothing settings grounds None = tt
-asked_nothing settings grounds (Some files) = λ asked. refl
+asked_nothing : (settings : Settings) (world : World) (files : Option Files) → BehindAsked (asker_by settings world) files []
+asked_nothing settings world None = tt
+asked_nothing settings world (Some files) = λ asked. refl
 
-pub behind_none : (settings : Settings) (grounds : Grounds) (asker : AskerView) (files : Option Files) → asker ≡ asker_by settings grounds → BehindAsked asker files []
-behind_none settings grounds asker files new = subst (λ (x : AskerView). BehindAsked x files []) (sym new) (asked_nothing settings grounds files)
+pub behind_none : (settings : Settings) (world : World) (asker : AskerView) (files : Option Files) → asker ≡ asker_by settings world → BehindAsked asker files []
+behind_none settings world asker files new = subst (λ (x : AskerView). BehindAsked x files []) (sym new) (asked_nothing settings world files)

@@ -1,7 +1,7 @@
 -- A run that ends with one status has the cause of this one alone to show.
 use Rattle.std.proofs.Common.{◌≡◌, ℕ, ◌≤◌, Option, None, arith}
 use Rattle.stir_words.specs.Order.{OrderView}
-use Rattle.stir_cmd.specs.Around.{Outside}
+use Rattle.stir_cmd.specs.Outside.{Outside}
 use Rattle.stir_cmd.specs.Causes.{DoneCause, HasCauses, InputCause, MemoryCause, ReadCause, WriteCause}
 
 -- what is to be shown of a status, whatever its causes are

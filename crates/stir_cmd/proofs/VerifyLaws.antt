@@ -11,12 +11,12 @@ use Rattle.stir_outside.specs.Count.{AtMost, NotRisen}
 use Rattle.stir_outside.specs.Files.{Files}
 use Rattle.stir_words.specs.Order.{JudgingView, VerifyBy}
 use Rattle.verify_rules.specs.declared.settings.Settings.{Settings}
-use Rattle.stir_cmd.specs.Around.{IfTold, Outside}
+use Rattle.stir_cmd.specs.Outside.{IfTold, Outside}
 use Rattle.stir_cmd.specs.Calls.{AnswersBy, bench_by, settings_by}
 use Rattle.stir_cmd.specs.Causes.{AnswersPart, AnswersWhole, VerifyComplete}
 use Rattle.stir_cmd.specs.Headline.{AreJudged, Headline, Verified}
 use Rattle.stir_cmd.specs.Stopping.{AnswersFault}
-use Rattle.stir_cmd.specs.Verifying.{ByFiles, RanLog, RanVerify, around_by}
+use Rattle.stir_cmd.specs.Verifying.{ByFiles, RanLog, RanVerify, run_state_by}
 use Rattle.stir_cmd.proofs.StatusCauses.{CausesOf}
 use Rattle.stir_cmd.proofs.StopLaws.{early_causes, early_fault, early_high, early_six, no_such}
 
@@ -43,7 +43,7 @@ are_judged settings materials files before now standing standing_now rounds shel
 told_by : (judging : JudgingView) (before now : Outside) (status : ℕ) (files : Option Files) (left : Option (List ℕ)) (materials : Materials) (standing standing_now : Standing)
     → MaterialsOf files judging materials → before.counts.faults ≤ standing.shelf → standing.shelf ≤ standing_now.shelf → standing_now.shelf ≡ now.counts.faults → standing.provider ≡ 0
     → standing_now.provider ≡ 0
-    → IfSome left (λ bytes. log.WholeReport (AnswersBy materials (settings_by judging.settings) files) (bench_by (settings_by judging.settings)) (around_by before standing) (around_by now standing_now) bytes status)
+    → IfSome left (λ bytes. log.WholeReport (AnswersBy materials (settings_by judging.settings) files) (bench_by (settings_by judging.settings)) (run_state_by before standing) (run_state_by now standing_now) bytes status)
     → IfTold files left (λ told bytes. Verified judging told bytes before now status)
 told_by judging before now status None left materials standing standing_now stands shelf stays shelf_now provider provider_now whole = tt
 told_by judging before now status (Some files) None materials standing standing_now stands shelf stays shelf_now provider provider_now whole = tt
@@ -69,8 +69,8 @@ ended judging before now status (inr early) low = absurd (omega (arith, low, ear
 -- ---- the causes
 
 -- the run over the log, with another thing that is said of it
-saying : (judging : JudgingView) (before now : Outside) (status : ℕ) (Says : Materials → log.Around → log.Around → Type 0) (ran : RanLog judging before now status)
-    → Says ran.materials (around_by before ran.standing) (around_by now ran.standing_now) → ByFiles judging before now Says
+saying : (judging : JudgingView) (before now : Outside) (status : ℕ) (Says : Materials → log.RunState → log.RunState → Type 0) (ran : RanLog judging before now status)
+    → Says ran.materials (run_state_by before ran.standing) (run_state_by now ran.standing_now) → ByFiles judging before now Says
 saying judging before now status Says ran says = record {
   materials = ran.materials;
   stands = ran.stands;
@@ -104,11 +104,11 @@ causes judging before now status (inr early) =
 -- ---- which status comes
 
 whole : (judging : JudgingView) (before now : Outside) (status : ℕ) → RanVerify judging before now status → AnswersWhole judging before now status
-whole judging before now status (inl ran) files bytes calls told none left log q = ran.says.complete.whole bytes calls left log q.reads q.writes
+whole judging before now status (inl ran) files bytes calls told none left log q = ran.says.complete.whole bytes calls left log q.read_faults q.write_faults
 whole judging before now status (inr early) files bytes calls told none left log q = inr (early_six (files_of judging) before now status files early told none q)
 
 part : (judging : JudgingView) (before now : Outside) (status : ℕ) → RanVerify judging before now status → AnswersPart judging before now status
-part judging before now status (inl ran) files bytes rest calls told none left log some q = ran.says.complete.faulty bytes rest calls left log some q.reads q.writes
+part judging before now status (inl ran) files bytes rest calls told none left log some q = ran.says.complete.faulty bytes rest calls left log some q.read_faults q.write_faults
 part judging before now status (inr early) files bytes rest calls told none left log some q = inr (early_six (files_of judging) before now status files early told none q)
 
 fault : (judging : JudgingView) (before now : Outside) (status : ℕ) → RanVerify judging before now status → AnswersFault (files_of judging) before now status

@@ -12,11 +12,11 @@ use Rattle.stir_words.specs.Order.{JudgingView}
 use Rattle.verify_rules.specs.declared.settings.Settings.{Settings}
 use Rattle.verify_service.specs.Rows.{held}
 use Rattle.verify_service.specs.Service.{IsNew, ServiceView}
-use Rattle.verify_service.specs.declared.materials.World.{World as Told}
-use Rattle.stir_cmd.specs.Around.{Outside, outside}
+use Rattle.cert_store.specs.declared.world.World.{World as Told}
+use Rattle.stir_cmd.specs.Outside.{Outside, outside}
 use Rattle.stir_cmd.specs.Calls.{settings_by}
 use Rattle.stir_cmd.specs.Standing.{materials_by, standing_by}
-use Rattle.stir_cmd.specs.Verifying.{LogSays, RanBy, RanVerify, around_by}
+use Rattle.stir_cmd.specs.Verifying.{LogSays, RanBy, RanVerify, run_state_by}
 use Rattle.stir_cmd.proofs.StopSteps.{no_fault}
 
 -- ---- the files were read
@@ -36,11 +36,11 @@ from_files judging materials settings files files_now counts counts_now left rea
   shelf_now = log.shelf_now;
   provider = log.provider;
   provider_now = log.provider_now;
-  says = subst (λ (x : Settings). LogSays materials x files (around_by (outside files counts left reads written writes) log.standing) (around_by now log.standing_now) status) given
-      (subst (λ (x : Option Files). LogSays materials settings x (around_by (outside files counts left reads written writes) log.standing) (around_by now log.standing_now) status) same log.says);
+  says = subst (λ (x : Settings). LogSays materials x files (run_state_by (outside files counts left reads written writes) log.standing) (run_state_by now log.standing_now) status) given
+      (subst (λ (x : Option Files). LogSays materials settings x (run_state_by (outside files counts left reads written writes) log.standing) (run_state_by now log.standing_now) status) same log.says);
 })
 from_files judging materials settings files files_now counts counts_now left reads written writes now status stands truly same goes given (inr none) =
-    inr (inr (record { stays = record { left = none.stays.left; reads = none.stays.reads }; ends = none.ends }))
+    inr (inr (record { stays = record { left = none.stays.left; read_faults = none.stays.read_faults }; ends = none.ends }))
 
 -- ---- a new service stands at first
 
@@ -62,7 +62,7 @@ same_materials settings materials service new = λ i. record { chains = new.chai
 pub log_by : (settings : Settings) (materials : Materials) (service : ServiceView) (before now : Outside) (standing_now : Standing) (status : ℕ)
     → IsNew settings (record { chains = materials.chains; anchors = materials.anchors; table = materials.table }) service → before.counts.faults ≤ standing_now.shelf → standing_now.shelf ≡ now.counts.faults
     → standing_now.provider ≡ 0
-    → LogSays (materials_by service materials.answers) service.settings before.files (around_by before (standing_by service before.counts.faults)) (around_by now standing_now) status
+    → LogSays (materials_by service materials.answers) service.settings before.files (run_state_by before (standing_by service before.counts.faults)) (run_state_by now standing_now) status
     → RanBy materials settings before now status
 log_by settings materials service before now standing_now status new stays shelf_now provider says = inl (record {
   standing = standing_by service before.counts.faults;
@@ -72,7 +72,7 @@ log_by settings materials service before now standing_now status new stays shelf
   shelf_now = shelf_now;
   provider = refl;
   provider_now = provider;
-  says = subst (λ (x : Settings). LogSays materials x before.files (around_by before (standing_by service before.counts.faults)) (around_by now standing_now) status) new.settings_are
-      (subst (λ (x : Materials). LogSays x service.settings before.files (around_by before (standing_by service before.counts.faults)) (around_by now standing_now) status)
+  says = subst (λ (x : Settings). LogSays materials x before.files (run_state_by before (standing_by service before.counts.faults)) (run_state_by now standing_now) status) new.settings_are
+      (subst (λ (x : Materials). LogSays x service.settings before.files (run_state_by before (standing_by service before.counts.faults)) (run_state_by now standing_now) status)
       (same_materials settings materials service new) says);
 })

@@ -4,7 +4,7 @@ use Rattle.std.specs.Io.KnownBytes.{Appends, IsAtEnd}
 use Rattle.call_log.specs.Entry.{Entry}
 use Rattle.call_log.specs.Log.{LogText, start}
 use Rattle.log_run.specs.Clauses.{DoneReport, FailedReport, FrontReport, PartReport, ShortReport}
-use Rattle.log_run.specs.Ending.{EndsAs}
+use Rattle.stir_outside.specs.Ending.{EndsAs}
 use Rattle.stir_files.specs.Materials.{files_of}
 use Rattle.stir_files.specs.Named.{first_fault}
 use Rattle.stir_outside.specs.Count.{NotRisen, Rose}
@@ -13,7 +13,7 @@ use Rattle.x509_profile.specs.Chain.{Chain}
 use Rattle.x509_profile.specs.View.{CertView}
 use Rattle.stir_cmd.specs.Answer.{Reply, most_chain, text_of}
 use Rattle.stir_words.specs.Order.{AskBy, DivertBy, ExplainBy, JudgingView, OrderView, ShowCertificates, SignBy, VerifyBy}
-use Rattle.stir_cmd.specs.Around.{IsUntouched, Outside}
+use Rattle.stir_cmd.specs.Outside.{IsUntouched, Outside}
 use Rattle.stir_cmd.specs.Calls.{AnswersBy, bench_by, settings_by}
 use Rattle.stir_cmd.specs.Showing.{HasReason, IsNoChain, RanShow, TakesAtMost}
 use Rattle.stir_cmd.specs.Signing.{RanSign, SignComplete, SignDone, SignEnded, SignFailed, SignShort, SignThrough, SignUnwritten, diverting_command, files_named, signing_command}
@@ -26,18 +26,18 @@ use Rattle.stir_cmd.specs.declared.answer.ShowFault.{ShowFault}
 -- the words are refused, and nothing was read
 pub record Refused (before now : Outside) (status : ℕ) : Type 0 where
   pub untouched : IsUntouched before now
-  pub ends : EndsAs before.written now.written before.writes now.writes status (codes "words refused\n") 2
+  pub ends : EndsAs before.written now.written before.write_faults now.write_faults status (codes "words refused\n") 2
 
 -- memory was wanting for the words, and nothing was read
 pub record Wanting (before now : Outside) (status : ℕ) : Type 0 where
   pub untouched : IsUntouched before now
-  pub ends : EndsAs before.written now.written before.writes now.writes status (codes "want of memory\n") 6
+  pub ends : EndsAs before.written now.written before.write_faults now.write_faults status (codes "want of memory\n") 6
 
 -- certificates were shown, and no file was read; of the input no more than the longest and one byte
 pub record Showing (before now : Outside) (status : ℕ) : Type 0 where
   pub counts : now.counts ≡ before.counts
   pub limited : TakesAtMost 49153 before.left now.left
-  pub ran : RanShow before.left before.reads now.reads before.written now.written before.writes now.writes status
+  pub ran : RanShow before.left before.read_faults now.read_faults before.written now.written before.write_faults now.write_faults status
 
 -- what a run came to, by the words
 abbrev pub Ran : Option OrderView → Outside → Outside → ℕ → Type 0
@@ -58,7 +58,7 @@ LogFailed judging before now = ByFiles judging before now (λ materials stands s
 
 abbrev pub ReadCause : Option OrderView → Outside → Outside → Type 0
 ReadCause None before now = ⊥
-ReadCause (Some ShowCertificates) before now = Rose before.reads now.reads
+ReadCause (Some ShowCertificates) before now = Rose before.read_faults now.read_faults
 ReadCause (Some (VerifyBy judging)) before now = FileFailed (files_of judging) before now ⊎ LogFailed judging before now
 ReadCause (Some (SignBy words)) before now = SignFailed (signing_command words) before now
 ReadCause (Some (DivertBy words)) before now = SignFailed (diverting_command words) before now
@@ -71,7 +71,7 @@ abbrev pub IsRefusal : List ℕ → Type 0
 IsRefusal line = (line ≡ codes "words refused\n") ⊎ (line ≡ codes "want of memory\n")
 
 abbrev pub IsShown : Outside → Outside → List ℕ → Type 0
-IsShown before now line = (outcome : Result Reply ShowFault) × HasReason before.left before.reads now.reads outcome × (line ≡ text_of outcome)
+IsShown before now line = (outcome : Result Reply ShowFault) × HasReason before.left before.read_faults now.read_faults outcome × (line ≡ text_of outcome)
 
 abbrev pub LogFront : JudgingView → Outside → Outside → Type 0
 LogFront judging before now = ByFiles judging before now (λ materials stands stands_now.
@@ -155,11 +155,11 @@ pub record VerifyComplete (judging : JudgingView) (before now : Outside) (status
 -- where the bytes are a chain within the limit, they are shown, and else refused
 abbrev pub AnswersChain : Outside → Outside → ℕ → Type 0
 AnswersChain before now status = (bytes : List ℕ) (certificates : List CertView) → before.left ≡ Some bytes → length bytes ≤ most_chain → Chain bytes certificates
-    → NotRisen before.reads now.reads → NotRisen before.writes now.writes → (status ≡ 0) ⊎ (status ≡ 6)
+    → NotRisen before.read_faults now.read_faults → NotRisen before.write_faults now.write_faults → (status ≡ 0) ⊎ (status ≡ 6)
 
 abbrev pub AnswersNoChain : Outside → Outside → ℕ → Type 0
 AnswersNoChain before now status = (bytes : List ℕ) → before.left ≡ Some bytes → IsNoChain bytes
-    → NotRisen before.reads now.reads → NotRisen before.writes now.writes → (status ≡ 5) ⊎ (status ≡ 6)
+    → NotRisen before.read_faults now.read_faults → NotRisen before.write_faults now.write_faults → (status ≡ 5) ⊎ (status ≡ 6)
 
 pub record ShowComplete (before now : Outside) (status : ℕ) : Type 0 where
   pub chain : AnswersChain before now status
@@ -167,7 +167,7 @@ pub record ShowComplete (before now : Outside) (status : ℕ) : Type 0 where
 
 -- what the words, the files and the input ask for comes, where nothing fails outside, or memory was wanting
 abbrev pub IsComplete : Option OrderView → Outside → Outside → ℕ → Type 0
-IsComplete None before now status = NotRisen before.writes now.writes → (status ≡ 2) ⊎ (status ≡ 6)
+IsComplete None before now status = NotRisen before.write_faults now.write_faults → (status ≡ 2) ⊎ (status ≡ 6)
 IsComplete (Some ShowCertificates) before now status = ShowComplete before now status
 IsComplete (Some (VerifyBy judging)) before now status = VerifyComplete judging before now status
 IsComplete (Some (SignBy words)) before now status = SignComplete (signing_command words) before now status

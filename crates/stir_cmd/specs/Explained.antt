@@ -9,14 +9,14 @@ use Rattle.log_run.specs.Ending.{report_status}
 use Rattle.single_calls.specs.Asker.{asking_world}
 use Rattle.single_calls.specs.Asks.{Asks}
 use Rattle.single_calls.specs.Explainer.{Explains, IsExplained}
-use Rattle.stir_files.specs.Grounds.{GroundsOf}
+use Rattle.stir_files.specs.World.{WorldOf}
 use Rattle.stir_files.specs.Materials.{MaterialsOf}
-use Rattle.stir_files.specs.declared.grounds.Grounds.{Grounds}
+use Rattle.cert_store.specs.declared.world.World.{World}
 use Rattle.stir_files.specs.declared.materials.Materials.{Materials}
 use Rattle.stir_outside.specs.Count.{AtMost, last_count}
 use Rattle.stir_outside.specs.Files.{Files}
 use Rattle.stir_words.specs.Order.{AskBy, AskingView, DivertBy, ExplainBy, JudgingView, OrderView, ShowCertificates, SignBy, VerifyBy}
-use Rattle.stir_cmd.specs.Around.{IfTold, Outside}
+use Rattle.stir_cmd.specs.Outside.{IfTold, Outside}
 use Rattle.stir_cmd.specs.Calls.{settings_by, world_by}
 use Rattle.stir_cmd.specs.Ways.{asker_by}
 
@@ -45,11 +45,11 @@ pub record ExplainedLog (judging : JudgingView) (files : Files) (bytes : List �
 -- The named files are in their grammars; the bytes are a whole log; and the lines of what is asked for its calls, each once, were written, and
 -- nothing else.
 pub record AskedLog (words : AskingView) (files : Files) (bytes : List ℕ) (before now : Outside) : Type 0 where
-  pub grounds : Grounds
-  pub stands : GroundsOf (Some files) words grounds
+  pub world : World
+  pub stands : WorldOf (Some files) words world
   pub calls : List Entry
   pub log : LogText (start 0 0) bytes calls []
-  pub reported : Appends before.written now.written (Asks (asking_world (asker_by (settings_by words.settings) grounds).materials files) (settings_by words.settings) calls)
+  pub reported : Appends before.written now.written (Asks (asking_world (asker_by (settings_by words.settings) world).materials files) (settings_by words.settings) calls)
 
 abbrev pub Explained : Option OrderView → Outside → Outside → ℕ → Type 0
 Explained None before now status = Unit {0}

@@ -14,7 +14,7 @@ use Rattle.stir_words.specs.Order.{AskBy, DivertBy, ExplainBy, JudgingView, Orde
 use Rattle.verify_rules.specs.declared.settings.Settings.{Settings}
 use Rattle.verify_service.specs.Causes.{NoneUnasked, NoneUnread}
 use Rattle.verify_service.specs.Report.{report}
-use Rattle.stir_cmd.specs.Around.{IfTold, Outside}
+use Rattle.stir_cmd.specs.Outside.{IfTold, Outside}
 use Rattle.stir_cmd.specs.Calls.{Answers, bench_by, settings_by, world_by}
 
 -- Rounds of 256 calls, but the last, judged by what the files say: each call is answered by the first rule that it breaks. Where no two signing

@@ -1,5 +1,5 @@
 pub mod Answer
-pub mod Around
+pub mod Outside
 pub mod Calls
 pub mod Show
 pub mod Showing

@@ -1,9 +1,9 @@
 -- The command `show`: what it came to, and why.
 use Rattle.std.specs.Prelude.{◌≡◌, ⊤, ℕ, ◌≤◌, ◌<◌, ◌⊎◌, List, length, Option, Some, None, Result, Ok, Err, IfSome}
 use Rattle.std.specs.Io.KnownBytes.{Appends, Consumes}
-use Rattle.log_run.specs.Ending.{EndsAs}
+use Rattle.stir_outside.specs.Ending.{EndsAs}
 use Rattle.stir_outside.specs.Count.{Rose}
-use Rattle.stir_words.specs.Status.{status_number}
+use Rattle.stir_outside.specs.Status.{status_number}
 use Rattle.x509_profile.specs.Chain.{Chain}
 use Rattle.x509_profile.specs.View.{CertView}
 use Rattle.stir_cmd.specs.Answer.{Reply, most_chain, shown, status_of, text_of}

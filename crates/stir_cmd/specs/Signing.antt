@@ -2,7 +2,8 @@
 use Rattle.std.specs.Prelude.{unwrap_or, ◌≡◌, ⊤, ℕ, ◌<◌, ◌≤◌, ◌⊎◌, true, List, [], ◌++◌, length, codes, is_some, Option, Some, None, Result, Ok, Err}
 use Rattle.std.specs.Io.KnownBytes.{Appends, Consumes, IsAtEnd}
 use Rattle.hex.specs.Hex.{encode_lower}
-use Rattle.log_run.specs.Ending.{EndsAs, failed_line, memory_line}
+use Rattle.log_run.specs.Ending.{failed_line}
+use Rattle.stir_outside.specs.Ending.{EndsAs, memory_line}
 use Rattle.auth_service.specs.Answer.{told}
 use Rattle.auth_service.specs.Causes.{IsCaused}
 use Rattle.auth_service.specs.Order.{HolderView, OrderView, shape_of, shape_of_diversion}
@@ -18,7 +19,7 @@ use Rattle.stir_outside.specs.Count.{Rose}
 use Rattle.stir_outside.specs.Files.{Files}
 use Rattle.stir_outside.specs.Held.{held_signs}
 use Rattle.stir_words.specs.Order.{DivertingView, HolderNames, SigningView}
-use Rattle.stir_cmd.specs.Around.{Outside}
+use Rattle.stir_cmd.specs.Outside.{Outside}
 use Rattle.stir_cmd.specs.Showing.{TakesAtMost}
 use Rattle.stir_cmd.specs.Stopping.{AnswersFault, Early, EndsEarly, FileFailed, FileRefused, Front, HaveNoFault, IsEarly, IsQuiet}
 use Rattle.stir_cmd.specs.declared.sign.Unsigned.{Unsigned}
@@ -189,7 +190,7 @@ pub record BySigningFiles (command : SignCommand) (before now : Outside) (Says :
 
 abbrev pub RanBySigningFiles : SignCommand → Outside → Outside → ℕ → Type 0
 RanBySigningFiles command before now status = BySigningFiles command before now (λ materials.
-    RanMessage command.order materials before.left now.left before.reads now.reads before.written now.written before.writes now.writes status)
+    RanMessage command.order materials before.left now.left before.read_faults now.read_faults before.written now.written before.write_faults now.write_faults status)
 
 -- what `sign` or `divert` came to
 abbrev pub RanSign : SignCommand → Outside → Outside → ℕ → Type 0
@@ -217,7 +218,7 @@ SignRefused command before now = BySigningFiles command before now (λ materials
 
 -- 3: a named file or the input couldn't be read
 pub record MessageFailed (before now : Outside) : Type 0 where
-  pub rose : Rose before.reads now.reads
+  pub rose : Rose before.read_faults now.read_faults
   pub reported : Appends before.written now.written failed_line
 
 abbrev pub SignFailed : SignCommand → Outside → Outside → Type 0
@@ -228,7 +229,7 @@ abbrev pub IsWritten : OrderView → SigningMaterials → Outside → Outside �
 IsWritten order materials before now line =
     (line ≡ memory_line)
     ⊎ (WasSigned order materials before.left now.left line
-    ⊎ ((why : Unsigned) × HasReason order materials before.left now.left before.reads now.reads why × (line ≡ reason_line order.key why)))
+    ⊎ ((why : Unsigned) × HasReason order materials before.left now.left before.read_faults now.read_faults why × (line ≡ reason_line order.key why)))
 
 abbrev pub SignUnwritten : SignCommand → Outside → Outside → Type 0
 SignUnwritten command before now =

@@ -3,18 +3,18 @@ use Rattle.std.specs.Prelude.{◌≡◌, ◌≢◌, ◌⊎◌, ℕ, ◌≤◌, L
 use Rattle.call_log.specs.Entry.{Entry}
 use Rattle.call_log.specs.Log.{LogText, start}
 use Rattle.call_run.specs.Answer.{AnswerView}
-use Rattle.call_run.specs.Clauses.{AnswersLog, Around, DoneAnswer, Fails, FailedAnswer, FrontAnswer, HasCauses, HasEnded, IsComplete, LogRan, PartAnswer, Refuses, ShortAnswer, UnreadAnswer, around}
+use Rattle.call_run.specs.Clauses.{AnswersLog, RunState, DoneAnswer, Fails, FailedAnswer, FrontAnswer, HasCauses, HasEnded, IsComplete, LogRan, PartAnswer, Refuses, ShortAnswer, UnreadAnswer, run_state}
 use Rattle.stir_files.specs.Named.{NamedFile, first_fault}
 use Rattle.stir_outside.specs.Files.{Files}
-use Rattle.stir_cmd.specs.Around.{Outside}
+use Rattle.stir_cmd.specs.Outside.{Outside}
 use Rattle.stir_cmd.specs.Stopping.{AnswersFault, Early, EndsEarly, FileFailed, FileRefused, Front, HaveNoFault, IsEarly, IsQuiet}
 
 -- what stands around the run over the log, with so many failed reads of files
-abbrev pub around_calls : Outside → ℕ → Around
-around_calls stands faults = around stands.left faults stands.reads stands.written stands.writes
+abbrev pub around_calls : Outside → ℕ → RunState
+around_calls stands faults = run_state stands.left faults stands.read_faults stands.written stands.write_faults
 
 -- what is said of a run over a log whose calls are answered so
-pub record LogAnswers (answered : List Entry → Entry → AnswerView → Type 0) (stops : List Entry → Entry → List ℕ → List ℕ → Type 0) (before now : Around) (status : ℕ) : Type 0 where
+pub record LogAnswers (answered : List Entry → Entry → AnswerView → Type 0) (stops : List Entry → Entry → List ℕ → List ℕ → Type 0) (before now : RunState) (status : ℕ) : Type 0 where
   pub ran : LogRan answered stops before now status
   pub answers : AnswersLog answered before now status
   pub ended : HasEnded now status
@@ -25,7 +25,7 @@ pub record LogAnswers (answered : List Entry → Entry → AnswerView → Type 0
 
 -- The files were read, and this is said of a run over the log by what they say. The shelf's failed reads are counted from behind the named
 -- files on.
-pub record ByRead {X : Type 0} (named : List NamedFile) (Stands : X → Type 0) (before now : Outside) (Says : X → Around → Around → Type 0) : Type 0 where
+pub record ByRead {X : Type 0} (named : List NamedFile) (Stands : X → Type 0) (before now : Outside) (Says : X → RunState → RunState → Type 0) : Type 0 where
   pub read : X
   pub stands : Stands read
   pub no_fault : HaveNoFault before.files named
@@ -44,7 +44,7 @@ pub record Way : Type 1 where
   pub stops : Read → List Entry → Entry → List ℕ → List ℕ → Type 0
 
 -- this is said of a run over the log
-abbrev pub Saying : (way : Way) → Outside → Outside → (way.Read → Around → Around → Type 0) → Type 0
+abbrev pub Saying : (way : Way) → Outside → Outside → (way.Read → RunState → RunState → Type 0) → Type 0
 Saying way before now Says = ByRead {X = way.Read} way.named way.Stands before now Says
 
 -- the same, of what was read, from behind the reading on

@@ -1,24 +1,24 @@
 -- The command `verify`: what it came to. A named file can't be had; or the log was judged by what the files say; or memory was wanting between.
 use Rattle.std.specs.Prelude.{◌≡◌, ◌⊎◌, ℕ, ◌≤◌, Option}
 use Rattle.log_run.specs.Bench.{Standing}
-use Rattle.log_run.specs.Clauses.{Around, Fails, HasCauses, HasEnded, Headline, IsComplete, LogRan, Refuses, around}
+use Rattle.log_run.specs.Clauses.{RunState, Fails, HasCauses, HasEnded, Headline, IsComplete, LogRan, Refuses, run_state}
 use Rattle.stir_files.specs.Materials.{MaterialsOf, files_of}
 use Rattle.stir_files.specs.declared.materials.Materials.{Materials}
 use Rattle.stir_outside.specs.Files.{Files}
 use Rattle.stir_words.specs.Order.{JudgingView}
 use Rattle.verify_rules.specs.declared.settings.Settings.{Settings}
-use Rattle.stir_cmd.specs.Around.{Outside}
+use Rattle.stir_cmd.specs.Outside.{Outside}
 use Rattle.stir_cmd.specs.Calls.{AnswersBy, bench_by, settings_by}
 use Rattle.stir_cmd.specs.Stopping.{EndsEarly, HaveNoFault, NoMemory}
 
 -- ---- the log was judged
 
 -- what stands around the run over the log
-abbrev pub around_by : Outside → Standing → Around
-around_by stands standing = around stands.left standing stands.reads stands.written stands.writes
+abbrev pub run_state_by : Outside → Standing → RunState
+run_state_by stands standing = run_state stands.left standing stands.read_faults stands.written stands.write_faults
 
 -- what is said of a run over a log whose calls are judged by what was read of the files
-pub record LogSays (materials : Materials) (settings : Settings) (files : Option Files) (before now : Around) (status : ℕ) : Type 0 where
+pub record LogSays (materials : Materials) (settings : Settings) (files : Option Files) (before now : RunState) (status : ℕ) : Type 0 where
   pub ran : LogRan (AnswersBy materials settings files) (bench_by settings) before now status
   pub headline : Headline (AnswersBy materials settings files) (bench_by settings) before now status
   pub ended : HasEnded now status
@@ -29,7 +29,7 @@ pub record LogSays (materials : Materials) (settings : Settings) (files : Option
 
 -- The files were read, and this is said of a run over the log by what they say. The shelf's failed reads are counted from behind the named
 -- files on, and the provider never fails.
-pub record ByFiles (judging : JudgingView) (before now : Outside) (Says : Materials → Around → Around → Type 0) : Type 0 where
+pub record ByFiles (judging : JudgingView) (before now : Outside) (Says : Materials → RunState → RunState → Type 0) : Type 0 where
   pub materials : Materials
   pub stands : MaterialsOf before.files judging materials
   pub no_fault : HaveNoFault before.files (files_of judging)
@@ -40,7 +40,7 @@ pub record ByFiles (judging : JudgingView) (before now : Outside) (Says : Materi
   pub shelf_now : standing_now.shelf ≡ now.counts.faults
   pub provider : standing.provider ≡ 0
   pub provider_now : standing_now.provider ≡ 0
-  pub says : Says materials (around_by before standing) (around_by now standing_now)
+  pub says : Says materials (run_state_by before standing) (run_state_by now standing_now)
 
 abbrev pub RanLog : JudgingView → Outside → Outside → ℕ → Type 0
 RanLog judging before now status =
@@ -55,7 +55,7 @@ pub record LogBy (materials : Materials) (settings : Settings) (before now : Out
   pub shelf_now : standing_now.shelf ≡ now.counts.faults
   pub provider : standing.provider ≡ 0
   pub provider_now : standing_now.provider ≡ 0
-  pub says : LogSays materials settings before.files (around_by before standing) (around_by now standing_now) status
+  pub says : LogSays materials settings before.files (run_state_by before standing) (run_state_by now standing_now) status
 
 abbrev pub RanBy : Materials → Settings → Outside → Outside → ℕ → Type 0
 RanBy materials settings before now status = LogBy materials settings before now status ⊎ NoMemory before now status

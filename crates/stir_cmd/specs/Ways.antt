@@ -2,9 +2,9 @@
 use Rattle.std.specs.Prelude.{[], Option}
 use Rattle.single_calls.specs.Asker.{AskedBy, AskerView, StopsAsking}
 use Rattle.single_calls.specs.Explainer.{ExplainedBy, ExplainerView, NeverStops}
-use Rattle.stir_files.specs.Grounds.{GroundsOf, grounds_of}
+use Rattle.stir_files.specs.World.{WorldOf, world_files}
 use Rattle.stir_files.specs.Materials.{MaterialsOf, files_of}
-use Rattle.stir_files.specs.declared.grounds.Grounds.{Grounds}
+use Rattle.cert_store.specs.declared.world.World.{World}
 use Rattle.stir_files.specs.declared.materials.Materials.{Materials}
 use Rattle.stir_outside.specs.Files.{Files}
 use Rattle.stir_words.specs.Order.{AskingView, JudgingView}
@@ -21,10 +21,10 @@ explainer_by settings materials = record {
 }
 
 -- what asks by what was read of three files, and has asked nothing
-abbrev pub asker_by : Settings → Grounds → AskerView
-asker_by settings grounds = record {
+abbrev pub asker_by : Settings → World → AskerView
+asker_by settings world = record {
   settings = settings;
-  materials = record { chains = grounds.chains; anchors = grounds.anchors; table = grounds.table };
+  materials = record { chains = world.chains; anchors = world.anchors; table = world.table };
   written = [];
 }
 
@@ -40,9 +40,9 @@ explain_way judging files = record {
 
 abbrev pub ask_way : AskingView → Option Files → Way
 ask_way words files = record {
-  Read = Grounds;
-  named = grounds_of words;
-  Stands = λ grounds. GroundsOf files words grounds;
-  answered = λ grounds. AskedBy (asker_by (settings_by words.settings) grounds) files;
-  stops = λ grounds. StopsAsking (asker_by (settings_by words.settings) grounds) files;
+  Read = World;
+  named = world_files words;
+  Stands = λ world. WorldOf files words world;
+  answered = λ world. AskedBy (asker_by (settings_by words.settings) world) files;
+  stops = λ world. StopsAsking (asker_by (settings_by words.settings) world) files;
 }

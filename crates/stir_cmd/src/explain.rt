@@ -1,6 +1,6 @@
 //! The commands `explain` and `ask`, which answer the calls of a log one by one.
 ghost use Rattle.std.specs.Prelude.{◌≡◌, []};
-ghost use Rattle.stir_cmd.specs.Around.{outside};
+ghost use Rattle.stir_cmd.specs.Outside.{outside};
 ghost use Rattle.stir_cmd.specs.Singly.{CallsBy, RanSingly};
 ghost use Rattle.stir_cmd.specs.Ways.{ask_way, explain_way};
 ghost use Rattle.stir_words.specs.Seen.{asking_view, judging_view};
@@ -8,12 +8,12 @@ ghost use Rattle.stir_words.specs.Seen.{asking_view, judging_view};
 use crate::settings::settings_of;
 use crate::verify::end_at;
 use call_run::{Answerer, answer_log};
+use cert_store::World;
 use single_calls::{Asker, Explainer};
 use std::alloc::Global;
-use stir_files::{Grounds, Materials, read_grounds, read_materials};
+use stir_files::{Materials, read_materials, read_world};
 use stir_outside::{Shelf, Sink, Source};
 use stir_words::{Asking, Judging};
-use verify_service::World;
 
 /// Reads the named files, and says of each call of the log which rules it meets, up to the first that it breaks; where a file can't be had, it
 /// says so.
@@ -63,18 +63,8 @@ pub(crate) fn ask<S: Shelf, I: Source, O: Sink>(
         (outside (S.files shelf.new) (S.counts shelf.new) (I.left input.new) (I.faults input.new) (O.written sink.new) (O.faults sink.new)) result }
     ensures same_files { S.files shelf.new ≡ S.files shelf.old }
 {
-    match read_grounds(alloc, shelf, asking) {
-        Ok(grounds) => {
-            let Grounds {
-                chains,
-                anchors,
-                table,
-            } = grounds;
-            let world = World {
-                chains,
-                anchors,
-                table,
-            };
+    match read_world(alloc, shelf, asking) {
+        Ok(world) => {
             let mut asker = Asker::new(alloc, settings_of(&asking.settings), world);
             answer_calls(alloc, &mut asker, shelf, input, sink)
         }

@@ -1,7 +1,7 @@
 //! The top call.
 ghost use Rattle.std.specs.Prelude.{◌≡◌, ◌≤◌, List, Some};
 ghost use Rattle.std.specs.Io.KnownBytes.{IsAtEnd};
-ghost use Rattle.stir_cmd.specs.Around.{outside};
+ghost use Rattle.stir_cmd.specs.Outside.{outside};
 ghost use Rattle.stir_cmd.specs.Causes.{HasCauses, IsComplete, IsThrough, Ran, Signed};
 ghost use Rattle.stir_cmd.specs.Explained.{Asked, Explained};
 ghost use Rattle.stir_cmd.specs.Headline.{Headline};
@@ -20,12 +20,11 @@ use crate::explain::{ask, explain};
 use crate::show::show;
 use crate::sign::{SignerCommand, sign_message};
 use crate::verify::verify;
-use log_run::end_with;
 use single_calls::{agreement_law, asks_law};
 use std::alloc::Global;
 use std::thread::Threads;
-use stir_outside::{Shelf, Sink, Source};
-use stir_words::{Order, Status, WordsFault};
+use stir_outside::{Shelf, Sink, Source, Status, end_with, memory_line};
+use stir_words::{Order, WordsFault};
 use x509_profile::chain_law;
 
 /// The program: takes the words after its name, reads the named files and the input, writes what the command says, and gives the status with
@@ -136,6 +135,6 @@ fn carry_out<R: Threads + Sync, S: Shelf, I: Source, O: Sink>(
         ),
         Ok(Order::Show) => show(alloc, input, sink),
         Err(WordsFault::Refused) => end_with(sink, "words refused\n", Status::Words),
-        Err(WordsFault::Memory) => end_with(sink, "want of memory\n", Status::Memory),
+        Err(WordsFault::Memory) => end_with(sink, memory_line(), Status::Memory),
     }
 }

@@ -2,8 +2,8 @@
 ghost use Rattle.std.specs.Prelude.{unwrap_or, ◌≡◌, [], true, is_some, string_bytes, IfErr, IfOk, IsTrue};
 ghost use Rattle.std.specs.Option.{option_map};
 ghost use Rattle.lists.specs.Given.{Gives};
-ghost use Rattle.log_run.specs.Ending.{EndsAs};
-ghost use Rattle.auth_service.specs.Answer.{names_provider, told};
+ghost use Rattle.stir_outside.specs.Ending.{EndsAs};
+ghost use Rattle.auth_service.specs.Answer.{decided, names_provider};
 ghost use Rattle.auth_service.specs.Causes.{IsCaused};
 ghost use Rattle.auth_service.specs.Order.{holder_seen, is_order};
 ghost use Rattle.auth_service.specs.Outcome.{IsSigned};
@@ -11,18 +11,20 @@ ghost use Rattle.auth_service.specs.Signed.{signed};
 ghost use Rattle.stir_outside.specs.Count.{Rose};
 ghost use Rattle.stir_outside.specs.Held.{held_signs};
 ghost use Rattle.stir_words.specs.Seen.{holder_view};
-ghost use Rattle.stir_cmd.specs.Around.{outside};
+ghost use Rattle.stir_cmd.specs.Outside.{outside};
 ghost use Rattle.stir_cmd.specs.Showing.{TakesAtMost};
 ghost use Rattle.stir_cmd.specs.SignCode.{command_of, outcome_of, unread_by, unsigned_by};
 ghost use Rattle.stir_cmd.specs.Signing.{EndsOrShort, GivesMessage, GivesWhy, HasLine, HasList, HasReason, IsDecided, RanMessage, RanSign, WasSigned, fault_line, holder_by, reason_line, reason_status, unsigned_line};
 
 use crate::verify::end_at;
 use auth_service::{DivertOrder, Holder, SignFault, SignOrder, divert, sign};
-use log_run::end_with;
 use std::alloc::{AllocError, Global};
 use stir_files::{SigningMaterials, read_signing};
-use stir_outside::{ReadFault, Shelf, Sink, Source, SteadyProvider, read_up_to, write_whole};
-use stir_words::{Diverting, HolderFiles, Signing, Status};
+use stir_outside::{
+    ReadFault, Shelf, Sink, Source, Status, SteadyProvider, end_with, memory_line, read_up_to,
+    write_whole,
+};
+use stir_words::{Diverting, HolderFiles, Signing};
 use tn_auth_list::AuthList;
 use x509_profile::Certificate;
 
@@ -89,7 +91,7 @@ impl<'a> SignerCommand<'a> {
         provider: &mut SteadyProvider<'_>,
     ) -> Result<Vec<u8>, SignFault>
         requires { IsTrue (is_order (command_of self.now).order) }
-        ensures exact { Gives told (λ out. out.items) result (signed bytes.now (command_of self.now).order (holder_seen holder.entry) (held_signs provider.old.held)) }
+        ensures exact { Gives decided (λ out. out.items) result (signed bytes.now (command_of self.now).order (holder_seen holder.entry) (held_signs provider.old.held)) }
         ensures signed { IfOk result (λ out. IsSigned bytes.now (command_of self.now).order (holder_seen holder.entry) (held_signs provider.old.held) out.items) }
         ensures causes { IfErr result (λ fault. IsCaused bytes.now (command_of self.now).order (holder_seen holder.entry) (held_signs provider.old.held) fault) }
         ensures failed { names_provider result ≡ true → Rose 0 0 }
@@ -278,14 +280,14 @@ fn write_message<O: Sink>(sink: &mut O, message: &[u8]) -> u8
 }
 
 /// Writes the line that says why no message is written.
-#[tactic(auto, unfolding(log_run::specs::Ending::memory_line, log_run::specs::Ending::failed_line))]
+#[tactic(auto, unfolding(log_run::specs::Ending::failed_line))]
 fn end_for<O: Sink>(alloc: Global, key: &str, why: Unsigned, sink: &mut O) -> u8
     requires { HasLine why }
     ensures { EndsOrShort (O.written sink.old) (O.written sink.new) (O.faults sink.old) (O.faults sink.new) result (reason_line key.now why) (reason_status why) }
 {
     match why {
         Unsigned::Read => end_with(sink, "read fault input\n", Status::Read),
-        Unsigned::Memory => end_with(sink, "want of memory\n", Status::Memory),
+        Unsigned::Memory => end_with(sink, memory_line(), Status::Memory),
         Unsigned::Fault(fault) => end_at_fault(alloc, key, fault, sink),
     }
 }
@@ -305,13 +307,12 @@ fn end_at_fault<O: Sink>(alloc: Global, key: &str, fault: SignFault, sink: &mut 
 }
 
 /// Writes the line that says that the key has no signature for this digest.
-#[tactic(auto, unfolding(log_run::specs::Ending::memory_line))]
 fn end_unsigned<O: Sink>(alloc: Global, key: &str, digest: &[u8; 32], sink: &mut O) -> u8
     ensures { EndsOrShort (O.written sink.old) (O.written sink.new) (O.faults sink.old) (O.faults sink.new) result (unsigned_line key.now digest.now) 1 }
 {
     match unsigned_line(alloc, key, digest) {
         Ok(line) => end_with(sink, line.as_str(), Status::NotAllValid),
-        Err(_) => end_with(sink, "want of memory\n", Status::Memory),
+        Err(_) => end_with(sink, memory_line(), Status::Memory),
     }
 }
 

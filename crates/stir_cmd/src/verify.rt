@@ -1,6 +1,6 @@
 //! The command `verify`: the judgement of the calls of a log.
 ghost use Rattle.std.specs.Prelude.{◌≡◌, ◌≤◌};
-ghost use Rattle.stir_cmd.specs.Around.{outside};
+ghost use Rattle.stir_cmd.specs.Outside.{outside};
 ghost use Rattle.stir_cmd.specs.Stopping.{EndsAtStop};
 ghost use Rattle.stir_cmd.specs.Verifying.{RanBy, RanVerify};
 ghost use Rattle.stir_files.specs.Stop.{stop_of};
@@ -8,12 +8,12 @@ ghost use Rattle.stir_words.specs.Seen.{judging_view};
 
 use crate::bench::Bench;
 use crate::settings::settings_of;
-use log_run::{end_with, judge_log};
+use log_run::judge_log;
 use std::alloc::Global;
 use std::thread::Threads;
-use stir_files::{FileStop, Materials, read_materials};
-use stir_outside::{Shelf, Sink, Source};
-use stir_words::{Judging, Status};
+use stir_files::{FileError, Materials, read_materials};
+use stir_outside::{Shelf, Sink, Source, Status, end_with, memory_line};
+use stir_words::Judging;
 use verify_rules::Settings;
 use verify_service::{Service, World};
 
@@ -46,7 +46,6 @@ pub(crate) fn verify<R: Threads + Sync, S: Shelf, I: Source, O: Sink>(
 }
 
 /// Judges the calls of the log by what the files say.
-#[tactic(auto, unfolding(log_run::specs::Ending::memory_line))]
 fn judge_by<R: Threads + Sync, S: Shelf, I: Source, O: Sink>(
     rt: &R,
     alloc: Global,
@@ -75,7 +74,7 @@ fn judge_by<R: Threads + Sync, S: Shelf, I: Source, O: Sink>(
     };
     let service = match Service::new(alloc, settings, world) {
         Ok(service) => service,
-        Err(_) => return end_with(sink, "want of memory\n", Status::Memory),
+        Err(_) => return end_with(sink, memory_line(), Status::Memory),
     };
     let mut bench = Bench {
         service,
@@ -85,12 +84,11 @@ fn judge_by<R: Threads + Sync, S: Shelf, I: Source, O: Sink>(
 }
 
 /// Writes the line that says why a named file can't be had.
-#[tactic(auto, unfolding(log_run::specs::Ending::memory_line))]
-pub(crate) fn end_at<O: Sink>(alloc: Global, stop: &FileStop<'_>, sink: &mut O) -> u8
+pub(crate) fn end_at<O: Sink>(alloc: Global, stop: &FileError<'_>, sink: &mut O) -> u8
     ensures { EndsAtStop (stop_of stop.now) (O.written sink.old) (O.written sink.new) (O.faults sink.old) (O.faults sink.new) result }
 {
     match stop.line(alloc) {
         Ok(line) => end_with(sink, line.as_str(), stop.status()),
-        Err(_) => end_with(sink, "want of memory\n", Status::Memory),
+        Err(_) => end_with(sink, memory_line(), Status::Memory),
     }
 }

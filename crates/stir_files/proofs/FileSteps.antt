@@ -9,10 +9,10 @@ use Rattle.x509_profile.specs.View.{CertView}
 use Rattle.cert_store.specs.ChainMap.{MapOf}
 use Rattle.cert_store.specs.Files.{Files as MapFiles}
 use Rattle.stir_words.specs.Order.{AskingView}
-use Rattle.stir_files.specs.Grounds.{GroundsOf, grounds_of}
+use Rattle.stir_files.specs.World.{WorldOf, world_files}
 use Rattle.stir_files.specs.Named.{AnchorsOf, CausedBy, FaultSays, NamedFile, Passes, ReadOf, ShelfSays, Stop, StopsAt, anchor_file, answers_file, chain_map, code_table, refusal_of}
 use Rattle.stir_files.specs.declared.fault.FileFault.{FileFault}
-use Rattle.stir_files.specs.declared.grounds.Grounds.{Grounds}
+use Rattle.cert_store.specs.declared.world.World.{World}
 use Rattle.stir_files.specs.declared.fault.FileFault.TheVariants.{Missing, Long, Failed, Refused, NoList, Memory}
 
 -- ---- one file
@@ -102,15 +102,15 @@ stop_more files (first ∷ rest) others stop (inl h) = inl h
 stop_more files (first ∷ rest) others stop (inr h) = inr (h.0, stop_more files rest others stop h.1)
 
 -- the three files before have no fault
-pub stop_answers : (files mid : Option Files) (asking : AskingView) (grounds : Grounds) (answers : List ℕ) (fault : FileFault) → GroundsOf files asking grounds → mid ≡ files
-    → FaultSays mid (answers_file answers) fault → StopsAt files (grounds_of asking ++ answers_file answers ∷ []) (record { name = answers; fault = fault })
-stop_answers files mid asking grounds answers fault read same says =
+pub stop_answers : (files mid : Option Files) (asking : AskingView) (world : World) (answers : List ℕ) (fault : FileFault) → WorldOf files asking world → mid ≡ files
+    → FaultSays mid (answers_file answers) fault → StopsAt files (world_files asking ++ answers_file answers ∷ []) (record { name = answers; fault = fault })
+stop_answers files mid asking world answers fault read same says =
     inr (
-      map_passes files asking.chains grounds.chains read.chains,
+      map_passes files asking.chains world.chains read.chains,
       inr (
-        anchors_pass files asking.anchors grounds.anchors read.anchors,
+        anchors_pass files asking.anchors world.anchors read.anchors,
         inr (
-          table_passes files asking.table grounds.table read.table,
+          table_passes files asking.table world.table read.table,
           inl (refl, says_then files mid (answers_file answers) fault same says),
         ),
       ),

@@ -4,15 +4,15 @@ use Rattle.std.proofs.lemmas.Bool.Decides.{nat_tests}
 use Rattle.std.specs.Option.{option_map, option_or}
 use Rattle.stir_outside.specs.Files.{Files, IsLonger, file}
 use Rattle.stir_words.specs.Order.{AskingView, JudgingView}
-use Rattle.stir_files.specs.Grounds.{GroundsOf, grounds_of}
-use Rattle.stir_files.specs.declared.grounds.Grounds.{Grounds}
+use Rattle.stir_files.specs.World.{WorldOf, world_files}
+use Rattle.cert_store.specs.declared.world.World.{World}
 use Rattle.stir_files.specs.Named.{FaultSays, IsOutside, NamedFile, Passes, Stop, StopsAt, anchor_file, answers_file, chain_map, code_table, fault_in, first_fault, stop_in}
 use Rattle.stir_files.specs.Materials.{MaterialsOf, files_of}
 use Rattle.stir_files.specs.Stop.{Truly, stop_of}
 use Rattle.stir_files.specs.declared.fault.FileFault.{FileFault}
 use Rattle.stir_files.specs.declared.fault.FileFault.TheVariants.{Missing, Long, Failed, Refused, NoList, Memory}
 use Rattle.stir_files.specs.declared.materials.Materials.{Materials}
-use Rattle.stir_files.specs.declared.stop.FileStop.{FileStop}
+use Rattle.stir_files.specs.declared.stop.FileError.{FileError}
 use Rattle.stir_files.proofs.FileSteps.{anchors_pass, answers_pass, map_passes, table_passes}
 
 abbrev stop_at : NamedFile → FileFault → Stop
@@ -61,28 +61,28 @@ told_stop files [] stop h = absurd h
 told_stop files (first ∷ others) stop (inl h) = here files first others stop h.0 (says_truly files first stop.fault h.1)
 told_stop files (first ∷ others) stop (inr h) = behind files first others stop h.0 (told_stop files others stop h.1)
 
-pub truly_stopped : (X : Type 0) (files : Option Files) (named : List NamedFile) (stop : FileStop) → StopsAt files named (stop_of stop) → Truly {X = X} files named (Err stop)
+pub truly_stopped : (X : Type 0) (files : Option Files) (named : List NamedFile) (stop : FileError) → StopsAt files named (stop_of stop) → Truly {X = X} files named (Err stop)
 truly_stopped X None named stop h = tt
 truly_stopped X (Some files) named stop h = told_stop files named (stop_of stop) h
 
 -- behind the first three files, where they have no fault
-first_behind : (files : Files) (asking : AskingView) (grounds : Grounds) (others : List NamedFile) → GroundsOf (Some files) asking grounds → first_fault files (grounds_of asking ++ others) ≡ first_fault files others
-first_behind files asking grounds others g =
+first_behind : (files : Files) (asking : AskingView) (world : World) (others : List NamedFile) → WorldOf (Some files) asking world → first_fault files (world_files asking ++ others) ≡ first_fault files others
+first_behind files asking world others g =
     let table = code_table asking.table in
     let anchors = anchor_file asking.anchors in
-    passed_on files (chain_map asking.chains) (anchors ∷ table ∷ others) (map_passes (Some files) asking.chains grounds.chains g.chains)
-    ∙ passed_on files anchors (table ∷ others) (anchors_pass (Some files) asking.anchors grounds.anchors g.anchors)
-    ∙ passed_on files table others (table_passes (Some files) asking.table grounds.table g.table)
+    passed_on files (chain_map asking.chains) (anchors ∷ table ∷ others) (map_passes (Some files) asking.chains world.chains g.chains)
+    ∙ passed_on files anchors (table ∷ others) (anchors_pass (Some files) asking.anchors world.anchors g.anchors)
+    ∙ passed_on files table others (table_passes (Some files) asking.table world.table g.table)
 
-pub truly_grounds : (files : Option Files) (asking : AskingView) (grounds : Grounds) → GroundsOf files asking grounds → Truly files (grounds_of asking) (Ok grounds)
-truly_grounds None asking grounds g = tt
-truly_grounds (Some files) asking grounds g = first_behind files asking grounds [] g
+pub truly_world : (files : Option Files) (asking : AskingView) (world : World) → WorldOf files asking world → Truly files (world_files asking) (Ok world)
+truly_world None asking world g = tt
+truly_world (Some files) asking world g = first_behind files asking world [] g
 
 pub truly_read : (files : Option Files) (judging : JudgingView) (materials : Materials) → MaterialsOf files judging materials → Truly files (files_of judging) (Ok materials)
 truly_read None judging materials m = tt
 truly_read (Some files) judging materials m =
     let answers = answers_file judging.answers in
     let asking : AskingView = record { chains = judging.chains; anchors = judging.anchors; table = judging.table; settings = judging.settings } in
-    let grounds : Grounds = record { chains = materials.chains; anchors = materials.anchors; table = materials.table } in
-    first_behind files asking grounds (answers ∷ []) (record { chains = m.chains; anchors = m.anchors; table = m.table })
+    let world : World = record { chains = materials.chains; anchors = materials.anchors; table = materials.table } in
+    first_behind files asking world (answers ∷ []) (record { chains = m.chains; anchors = m.anchors; table = m.table })
     ∙ passed_on files answers [] (answers_pass (Some files) judging.answers materials.answers m.answers)

@@ -1,6 +1,6 @@
 pub mod Event
 pub mod Named
-pub mod Grounds
+pub mod World
 pub mod Stop
 pub mod Materials
 pub mod Leaf

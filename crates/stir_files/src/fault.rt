@@ -2,7 +2,7 @@
 ghost use Rattle.std.specs.Prelude.{◌≡◌};
 ghost use Rattle.stir_files.specs.Event.{fault_status};
 
-use stir_words::Status;
+use stir_outside::Status;
 
 /// Why a named file can't be had.
 #[derive(Clone, Copy, Debug, PartialEq, Eq)]

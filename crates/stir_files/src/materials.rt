@@ -7,9 +7,9 @@ ghost use Rattle.stir_files.specs.Stop.{IsReadInOrder, Truly, stop_of};
 ghost use Rattle.stir_words.specs.Seen.{judging_view};
 
 use crate::answers::read_answers;
-use crate::grounds::{Grounds, read_grounds};
-use crate::stop::FileStop;
-use cert_store::ChainMap;
+use crate::stop::FileError;
+use crate::world::read_world;
+use cert_store::{ChainMap, World};
 use delegation::Anchors;
 use std::alloc::Global;
 use stir_outside::{Answers, Shelf};
@@ -38,7 +38,7 @@ pub fn read_materials<'a, S: Shelf>(
     alloc: Global,
     shelf: &mut S,
     judging: &Judging<'a>,
-) -> Result<Materials, FileStop<'a>>
+) -> Result<Materials, FileError<'a>>
     ensures same { S.files shelf.new ≡ S.files shelf.old }
     ensures go_on { CountsGoOn (S.counts shelf.old) (S.counts shelf.new) }
     // What was read is what the files say; else those before one have no fault, and of that one this is said.
@@ -57,7 +57,7 @@ fn read_all<'a, S: Shelf>(
     alloc: Global,
     shelf: &mut S,
     judging: &Judging<'a>,
-) -> Result<Materials, FileStop<'a>>
+) -> Result<Materials, FileError<'a>>
     ensures { IsReadInOrder (files_of (judging_view judging.now)) (MaterialsOf (S.files shelf.old) (judging_view judging.now))
         (S.files shelf.old) (S.files shelf.new) (S.counts shelf.old) (S.counts shelf.new) result }
 {
@@ -67,24 +67,24 @@ fn read_all<'a, S: Shelf>(
         table: judging.table,
         settings: judging.settings,
     };
-    let grounds = match read_grounds(alloc, shelf, &asking) {
-        Ok(grounds) => grounds,
+    let world = match read_world(alloc, shelf, &asking) {
+        Ok(world) => world,
         Err(stop) => return Err(stop),
     };
     let answers = match read_answers(alloc, shelf, judging.answers) {
         Ok(answers) => answers,
         Err(fault) => {
-            return Err(FileStop {
+            return Err(FileError {
                 name: judging.answers,
                 fault,
             });
         }
     };
-    let Grounds {
+    let World {
         chains,
         anchors,
         table,
-    } = grounds;
+    } = world;
     Ok(Materials {
         chains,
         anchors,

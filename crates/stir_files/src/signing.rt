@@ -9,7 +9,7 @@ ghost use Rattle.stir_words.specs.Seen.{holder_view};
 
 use crate::answers::read_answers;
 use crate::leaf::read_leaf;
-use crate::stop::FileStop;
+use crate::stop::FileError;
 use crate::table::read_table;
 use std::alloc::Global;
 use stir_outside::{Answers, Shelf};
@@ -46,7 +46,7 @@ pub fn read_signing<'a, S: Shelf>(
     shelf: &mut S,
     answers: &'a str,
     holder: Option<HolderFiles<'a>>,
-) -> Result<SigningMaterials, FileStop<'a>>
+) -> Result<SigningMaterials, FileError<'a>>
     ensures same { S.files shelf.new ≡ S.files shelf.old }
     ensures go_on { CountsGoOn (S.counts shelf.old) (S.counts shelf.new) }
     // What was read is what the files say; else those before one have no fault, and of that one this is said.
@@ -66,14 +66,14 @@ fn read_in_order<'a, S: Shelf>(
     shelf: &mut S,
     answers: &'a str,
     holder: Option<HolderFiles<'a>>,
-) -> Result<SigningMaterials, FileStop<'a>>
+) -> Result<SigningMaterials, FileError<'a>>
     ensures { IsReadInOrder (signing_files answers.entry.now (option_map holder_view holder.entry)) (SigningOf (S.files shelf.old) answers.entry.now (option_map holder_view holder.entry))
         (S.files shelf.old) (S.files shelf.new) (S.counts shelf.old) (S.counts shelf.new) result }
 {
     let held = match read_answers(alloc, shelf, answers) {
         Ok(held) => held,
         Err(fault) => {
-            return Err(FileStop {
+            return Err(FileError {
                 name: answers,
                 fault,
             });
@@ -100,14 +100,14 @@ fn read_holder<'a, S: Shelf>(
     alloc: Global,
     shelf: &mut S,
     names: &HolderFiles<'a>,
-) -> Result<HolderMaterials, FileStop<'a>>
+) -> Result<HolderMaterials, FileError<'a>>
     ensures { IsReadInOrder (holder_files (Some (holder_view names.now))) (HolderOf (S.files shelf.old) (holder_view names.now))
         (S.files shelf.old) (S.files shelf.new) (S.counts shelf.old) (S.counts shelf.new) result }
 {
     let leaf = match read_leaf(alloc, shelf, names.leaf) {
         Ok(leaf) => leaf,
         Err(fault) => {
-            return Err(FileStop {
+            return Err(FileError {
                 name: names.leaf,
                 fault,
             });
@@ -116,7 +116,7 @@ fn read_holder<'a, S: Shelf>(
     let table = match read_table(alloc, shelf, names.table) {
         Ok(table) => table,
         Err(fault) => {
-            return Err(FileStop {
+            return Err(FileError {
                 name: names.table,
                 fault,
             });

@@ -4,18 +4,18 @@ ghost use Rattle.stir_files.specs.Event.{event_line, fault_status};
 
 use crate::fault::FileFault;
 use std::alloc::{AllocError, Global};
-use stir_words::Status;
+use stir_outside::{Status, memory_line};
 
 /// The first named file, in the order of reading, that can't be had.
 #[derive(Clone, Copy, Debug)]
-pub struct FileStop<'a> {
+pub struct FileError<'a> {
     /// Its name, as it was given.
     pub name: &'a str,
     /// Why it can't be had.
     pub fault: FileFault,
 }
 
-impl FileStop<'_> {
+impl FileError<'_> {
     /// The line that says it, with its LF: `missing NAME`, `long NAME`, `read fault NAME`, `refused NAME PLACE`, `no list NAME` or
     /// `want of memory`.
     pub fn line(&self, alloc: Global) -> Result<String, AllocError>
@@ -28,7 +28,7 @@ impl FileStop<'_> {
             FileFault::Failed => format!(in alloc; "read fault {name}\n"),
             FileFault::Refused { place } => format!(in alloc; "refused {name} {place}\n"),
             FileFault::NoList => format!(in alloc; "no list {name}\n"),
-            FileFault::Memory => String::from_str(alloc, "want of memory\n"),
+            FileFault::Memory => String::from_str(alloc, memory_line()),
         }
     }
 

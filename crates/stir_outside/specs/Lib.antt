@@ -1,10 +1,12 @@
 pub mod Adapters
 pub mod AnswersText
 pub mod Count
+pub mod Ending
 pub mod Files
 pub mod Held
 pub mod KeyName
 pub mod Memory
 pub mod Provided
 pub mod Shelf
+pub mod Status
 pub mod Told

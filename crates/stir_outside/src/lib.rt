@@ -6,12 +6,14 @@
 
 mod adapters;
 mod answers;
+mod ending;
 mod gate;
 mod memory;
 mod provider;
 mod shelf;
 mod sink;
 mod source;
+mod status;
 mod transfer;
 
 pub use adapters::files::FileShelf;
@@ -20,6 +22,7 @@ pub use adapters::stdout::StdoutSink;
 pub use answers::held::{AnswerFault, Answers};
 pub use answers::provider::AnswerProvider;
 pub use answers::steady::SteadyProvider;
+pub use ending::{end_with, memory_line};
 pub use gate::{Gate, NoGate};
 pub use memory::shelf::ShelfMem;
 pub use memory::sink::SinkMem;
@@ -29,5 +32,6 @@ pub use provider::Provider;
 pub use shelf::{Shelf, ShelfFault};
 pub use sink::Sink;
 pub use source::{Failed, Source};
+pub use status::Status;
 pub use std::alloc::AllocError as Memory;
 pub use transfer::{ReadFault, read_up_to, write_whole};

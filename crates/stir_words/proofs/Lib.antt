@@ -6,7 +6,7 @@ pub mod SigningLaws
 pub mod OptionLaws
 pub mod AcceptLaws
 pub mod FormLaws
-pub mod ToldWords
-pub mod ToldTable
-pub mod ToldWalk
-pub mod ToldLaws
+pub mod ClapWords
+pub mod ClapTable
+pub mod ClapWalk
+pub mod ClapLaws

@@ -6,7 +6,7 @@ use Rattle.stir_words.specs.Options.{Pair, are_options, options_in, pairs_of}
 use Rattle.stir_words.specs.Order.{OrderView, order_by, order_with}
 use Rattle.stir_words.specs.Seen.{Orders}
 use Rattle.stir_words.specs.Table.{Given, accepts, given_by, options_of}
-use Rattle.stir_words.specs.Told.{IsParsed}
+use Rattle.stir_words.specs.ClapRules.{IsParsed}
 use Rattle.stir_words.specs.declared.commands.Command.{Command}
 use Rattle.stir_words.specs.declared.fault.WordsFault.{WordsFault}
 use Rattle.stir_words.specs.declared.fault.WordsFault.TheVariants as words_fault

@@ -3,5 +3,4 @@ pub mod Table
 pub mod Values
 pub mod Order
 pub mod Seen
-pub mod Told
-pub mod Status
+pub mod ClapRules

@@ -6,7 +6,7 @@ ghost use Rattle.clap.specs.Walk.{rule_of};
 ghost use Rattle.clap.specs.declared.error.kind.ErrorKind.{ErrorKind};
 ghost use Rattle.stir_words.specs.Options.{are_options, options_in};
 ghost use Rattle.stir_words.specs.Seen.{known_of, texts};
-ghost use Rattle.stir_words.specs.Told.{app_for, told, IsParsed};
+ghost use Rattle.stir_words.specs.ClapRules.{app_for, rule_for, IsParsed};
 ghost use Rattle.stir_words.specs.declared.fault.WordsFault.{WordsFault};
 
 use crate::commands::Row;
@@ -34,7 +34,7 @@ pub(crate) fn parsed<'a>(
 }
 
 /// The command of clap for a table.
-#[tactic(auto, using(crate::proofs::ToldTable::all_told))]
+#[tactic(auto, using(crate::proofs::ClapTable::all_added))]
 fn command_for<'a>(alloc: Global, table: &[Row]) -> Result<Command<'a>, AllocError>
     ensures { IfOk result (λ command. app_of command ≡ app_for (map known_of table.now)) }
 {
@@ -56,7 +56,7 @@ fn new_command<'a>(alloc: Global) -> Command<'a>
 
 /// The option of a row.
 fn arg_for<'a>(alloc: Global, row: &Row) -> Arg<'a>
-    ensures rule { rule_of result ≡ told (known_of row.now) }
+    ensures rule { rule_of result ≡ rule_for (known_of row.now) }
     ensures local { result.global ≡ false }
 {
     Arg::new(alloc, row.name)

@@ -12,11 +12,9 @@ mod options;
 mod order;
 mod settings;
 mod signing;
-mod status;
 mod values;
 
 pub use fault::WordsFault;
 pub use order::{Asking, Judging, Order};
 pub use settings::Settings;
 pub use signing::{Diverting, HolderFiles, Signing};
-pub use status::Status;

@@ -5,7 +5,7 @@ ghost use Rattle.stir_words.specs.Options.{pairs_of, Options, Pair};
 ghost use Rattle.stir_words.specs.Order.{asking_of, judging_of, order_by, order_of, order_with, settings_of, CanBeSigned};
 ghost use Rattle.stir_words.specs.Seen.{asking_view, judging_view, order_view, settings_view, texts, Orders};
 ghost use Rattle.stir_words.specs.Table.{Accepted, Known, accepts};
-ghost use Rattle.stir_words.specs.Told.{values_in};
+ghost use Rattle.stir_words.specs.ClapRules.{values_in};
 
 use crate::clap_options::parsed;
 use crate::commands::Command;

@@ -3,7 +3,7 @@ ghost use Rattle.std.specs.Prelude.{◌≡◌};
 ghost use Rattle.std.specs.Option.{option_copied, option_map};
 ghost use Rattle.stir_words.specs.Order.{diverting_of, holder_by, holder_of, signer_of, signing_of};
 ghost use Rattle.stir_words.specs.Seen.{diverting_view, holder_view, signer_view, signing_view};
-ghost use Rattle.stir_words.specs.Told.{values_in};
+ghost use Rattle.stir_words.specs.ClapRules.{values_in};
 
 use crate::values::{earlier_of, form_of, iat_of, key_of, local_of, x5u_of};
 use clap::ArgMatches;

@@ -5,7 +5,7 @@ ghost use Rattle.std.specs.Option.{option_copied};
 ghost use Rattle.text_grammar.specs.Decimal.{number_up_to};
 ghost use Rattle.text_grammar.specs.Uri.{is_uri};
 ghost use Rattle.passport_claims.specs.Origid.{is_origid};
-ghost use Rattle.stir_words.specs.Told.{values_in};
+ghost use Rattle.stir_words.specs.ClapRules.{values_in};
 ghost use Rattle.stir_words.specs.Values.{country_of, earlier_of, form_by, form_of, iat_of, is_key, is_key_byte, key_of, local_in, national_of, plain_by, shaken_by, text_if, window_of, x5u_of};
 
 use clap::ArgMatches;

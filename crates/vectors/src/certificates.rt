@@ -5,7 +5,7 @@ use crate::authority::put_entries;
 use crate::table::{Unread, number};
 use std::alloc::Global;
 use tn_auth_list::AuthList;
-use x509_profile::{CertFault, Certificate, ChainFault, read_chain};
+use x509_profile::{CertFault, Certificate, CertChainFault, read_chain};
 
 /// What a call answers.
 pub fn answer(alloc: Global, call: &str, words: &[&[u8]]) -> Result<String, Unread> {
@@ -38,7 +38,7 @@ fn chain_says(alloc: Global, words: &[&[u8]]) -> Result<String, Unread> {
     let place = number(place)?;
     word(
         alloc,
-        ChainFault::At {
+        CertChainFault::At {
             number: which,
             place,
         },
@@ -117,7 +117,7 @@ fn chain(alloc: Global, words: &[&[u8]]) -> Result<String, Unread> {
     };
     match read_chain(alloc, bytes) {
         Ok(certificates) => ok(alloc, certificates.len()),
-        Err(ChainFault::At { number, place }) => fault(alloc, number, place),
-        Err(ChainFault::Memory) => Err(Unread::Memory),
+        Err(CertChainFault::At { number, place }) => fault(alloc, number, place),
+        Err(CertChainFault::Memory) => Err(Unread::Memory),
     }
 }

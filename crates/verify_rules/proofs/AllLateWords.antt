@@ -1,6 +1,6 @@
 -- A verdict of a world says of each of rules 10 to 17 what it means.
 use Rattle.std.proofs.Common.{◌≡◌, ◌↔◌, [], ◌∷◌, None, sym, ◌∙◌, arith}
-use Rattle.verify_rules.specs.Call.{Call, in_chain}
+use Rattle.verify_rules.specs.Call.{Call, in_call_order}
 use Rattle.verify_rules.specs.LateWords.{HasAuthority, IsAnchored, IsCertified, IsCovered, IsGenuine, IsInDate, IsInProfile, IsListed, SaysLateWords}
 use Rattle.verify_rules.specs.Rules.{Rule, each, early_rules, first}
 use Rattle.verify_rules.specs.Words.{Each}
@@ -19,42 +19,42 @@ use Rattle.verify_rules.proofs.WorldVerdict.{first_late}
 
 -- a rule of 10 to 17 holds
 abbrev Keeps : World → Call → LateRule → Type 0
-Keeps world call rule = each (broken_by world rule call.moment) (in_chain call) ≡ None
+Keeps world call rule = each (broken_by world rule call.moment) (in_call_order call) ≡ None
 
 -- what each rule means of all PASSporTs
 record Meanings (world : World) (call : Call) : Type 0 where
-  listing : Keeps world call late.Listed ↔ Each (IsListed world) (in_chain call)
-  profile : Each (IsListed world) (in_chain call) → Keeps world call late.Profile ↔ Each (IsInProfile world) (in_chain call)
-  shape : Each (IsInProfile world) (in_chain call) → Keeps world call late.Shape ↔ Each (IsAnchored world) (in_chain call)
-  dates : Each (IsAnchored world) (in_chain call) → Keeps world call late.Dates ↔ Each (IsInDate world call.moment) (in_chain call)
-  authority : Each (IsAnchored world) (in_chain call) → Keeps world call late.Authority ↔ Each (HasAuthority world) (in_chain call)
-  asked : Each (HasAuthority world) (in_chain call) → Keeps world call late.Asked ↔ Each (IsCertified world) (in_chain call)
-  genuine : Each (IsInProfile world) (in_chain call) → (each (forged world) (in_chain call) ≡ None) ↔ Each (IsGenuine world) (in_chain call)
-  covered : Each (IsInProfile world) (in_chain call) → Keeps world call late.Covers ↔ Each (IsCovered world) (in_chain call)
+  listing : Keeps world call late.Listed ↔ Each (IsListed world) (in_call_order call)
+  profile : Each (IsListed world) (in_call_order call) → Keeps world call late.Profile ↔ Each (IsInProfile world) (in_call_order call)
+  shape : Each (IsInProfile world) (in_call_order call) → Keeps world call late.Shape ↔ Each (IsAnchored world) (in_call_order call)
+  dates : Each (IsAnchored world) (in_call_order call) → Keeps world call late.Dates ↔ Each (IsInDate world call.moment) (in_call_order call)
+  authority : Each (IsAnchored world) (in_call_order call) → Keeps world call late.Authority ↔ Each (HasAuthority world) (in_call_order call)
+  asked : Each (HasAuthority world) (in_call_order call) → Keeps world call late.Asked ↔ Each (IsCertified world) (in_call_order call)
+  genuine : Each (IsInProfile world) (in_call_order call) → (each (forged world) (in_call_order call) ≡ None) ↔ Each (IsGenuine world) (in_call_order call)
+  covered : Each (IsInProfile world) (in_call_order call) → Keeps world call late.Covers ↔ Each (IsCovered world) (in_call_order call)
 
 meanings : ChainLaws → CoversLaw → (world : World) → HoldsBytes world → (call : Call) → Meanings world call
 meanings laws law world typed call = record {
-  listing = each_means (broken_by world late.Listed call.moment) (IsListed world) (listed_means world call.moment) (in_chain call);
-  profile = each_means_of (broken_by world late.Profile call.moment) (IsListed world) (IsInProfile world) (profile_means laws world typed call.moment) (in_chain call);
-  shape = each_means_of (broken_by world late.Shape call.moment) (IsInProfile world) (IsAnchored world) (path_means laws world typed call.moment) (in_chain call);
-  dates = each_means_of (broken_by world late.Dates call.moment) (IsAnchored world) (IsInDate world call.moment) (dates_mean laws world typed call.moment) (in_chain call);
-  authority = each_means_of (broken_by world late.Authority call.moment) (IsAnchored world) (HasAuthority world) (authority_means laws world typed call.moment) (in_chain call);
-  asked = each_means_of (broken_by world late.Asked call.moment) (HasAuthority world) (IsCertified world) (signatures_mean laws world typed call.moment) (in_chain call);
-  genuine = each_means_of (forged world) (IsInProfile world) (IsGenuine world) (genuine_means laws world typed) (in_chain call);
-  covered = each_means_of (broken_by world late.Covers call.moment) (IsInProfile world) (IsCovered world) (coverage_means laws law world typed call.moment) (in_chain call);
+  listing = each_means (broken_by world late.Listed call.moment) (IsListed world) (listed_means world call.moment) (in_call_order call);
+  profile = each_means_of (broken_by world late.Profile call.moment) (IsListed world) (IsInProfile world) (profile_means laws world typed call.moment) (in_call_order call);
+  shape = each_means_of (broken_by world late.Shape call.moment) (IsInProfile world) (IsAnchored world) (path_means laws world typed call.moment) (in_call_order call);
+  dates = each_means_of (broken_by world late.Dates call.moment) (IsAnchored world) (IsInDate world call.moment) (dates_mean laws world typed call.moment) (in_call_order call);
+  authority = each_means_of (broken_by world late.Authority call.moment) (IsAnchored world) (HasAuthority world) (authority_means laws world typed call.moment) (in_call_order call);
+  asked = each_means_of (broken_by world late.Asked call.moment) (HasAuthority world) (IsCertified world) (signatures_mean laws world typed call.moment) (in_call_order call);
+  genuine = each_means_of (forged world) (IsInProfile world) (IsGenuine world) (genuine_means laws world typed) (in_call_order call);
+  covered = each_means_of (broken_by world late.Covers call.moment) (IsInProfile world) (IsCovered world) (coverage_means laws law world typed call.moment) (in_call_order call);
 }
 
 -- ---- what holds where so many of them do
 
 -- rules 10 to 14, as far as they hold, in their own words
-listed_of : (world : World) (call : Call) → Meanings world call → Keeps world call late.Listed → Each (IsListed world) (in_chain call)
+listed_of : (world : World) (call : Call) → Meanings world call → Keeps world call late.Listed → Each (IsListed world) (in_call_order call)
 listed_of world call m a = m.listing.0 a
 
-profile_of : (world : World) (call : Call) → Meanings world call → Keeps world call late.Listed → Keeps world call late.Profile → Each (IsInProfile world) (in_chain call)
+profile_of : (world : World) (call : Call) → Meanings world call → Keeps world call late.Listed → Keeps world call late.Profile → Each (IsInProfile world) (in_call_order call)
 profile_of world call m a b = (m.profile (listed_of world call m a)).0 b
 
 anchored_of : (world : World) (call : Call) → Meanings world call → Keeps world call late.Listed → Keeps world call late.Profile → Keeps world call late.Shape
-    → Each (IsAnchored world) (in_chain call)
+    → Each (IsAnchored world) (in_call_order call)
 anchored_of world call m a b c = (m.shape (profile_of world call m a b)).0 c
 
 -- ---- each rule by a verdict
@@ -70,28 +70,28 @@ words_by world call verdict m h =
     let r16 : Rule = asking_rule world in
     let r17 : Rule = late_rule world late.Covers in
     record {
-      files = late_means (Each (IsListed world) (in_chain call)) [] r10 (r11 ∷ r12 ∷ r13 ∷ r14 ∷ r15 ∷ r16 ∷ r17 ∷ []) world call verdict tt
+      files = late_means (Each (IsListed world) (in_call_order call)) [] r10 (r11 ∷ r12 ∷ r13 ∷ r14 ∷ r15 ∷ r16 ∷ r17 ∷ []) world call verdict tt
           (omega arith, (omega arith, (omega arith, (omega arith, (omega arith, (omega arith, (omega arith, tt)))))))
           (λ _. m.listing) (λ low all. m.listing.0 all.0) h;
-      profile = late_means (Each (IsInProfile world) (in_chain call)) (r10 ∷ []) r11 (r12 ∷ r13 ∷ r14 ∷ r15 ∷ r16 ∷ r17 ∷ []) world call verdict (omega arith, tt)
+      profile = late_means (Each (IsInProfile world) (in_call_order call)) (r10 ∷ []) r11 (r12 ∷ r13 ∷ r14 ∷ r15 ∷ r16 ∷ r17 ∷ []) world call verdict (omega arith, tt)
           (omega arith, (omega arith, (omega arith, (omega arith, (omega arith, (omega arith, tt))))))
           (λ f. m.profile (listed_of world call m f.0)) (λ low all. profile_of world call m all.0 all.1.0) h;
-      paths = late_means (Each (IsAnchored world) (in_chain call)) (r10 ∷ r11 ∷ []) r12 (r13 ∷ r14 ∷ r15 ∷ r16 ∷ r17 ∷ []) world call verdict (omega arith, (omega arith, tt))
+      paths = late_means (Each (IsAnchored world) (in_call_order call)) (r10 ∷ r11 ∷ []) r12 (r13 ∷ r14 ∷ r15 ∷ r16 ∷ r17 ∷ []) world call verdict (omega arith, (omega arith, tt))
           (omega arith, (omega arith, (omega arith, (omega arith, (omega arith, tt)))))
           (λ f. m.shape (profile_of world call m f.0 f.1.0)) (λ low all. anchored_of world call m all.0 all.1.0 all.1.1.0) h;
-      dates = late_means (Each (IsInDate world call.moment) (in_chain call)) (r10 ∷ r11 ∷ r12 ∷ []) r13 (r14 ∷ r15 ∷ r16 ∷ r17 ∷ []) world call verdict
+      dates = late_means (Each (IsInDate world call.moment) (in_call_order call)) (r10 ∷ r11 ∷ r12 ∷ []) r13 (r14 ∷ r15 ∷ r16 ∷ r17 ∷ []) world call verdict
           (omega arith, (omega arith, (omega arith, tt))) (omega arith, (omega arith, (omega arith, (omega arith, tt))))
           (λ f. m.dates (anchored_of world call m f.0 f.1.0 f.1.1.0)) (λ low all. (m.dates (anchored_of world call m all.0 all.1.0 all.1.1.0)).0 all.1.1.1.0) h;
-      authority = late_means (Each (HasAuthority world) (in_chain call)) (r10 ∷ r11 ∷ r12 ∷ r13 ∷ []) r14 (r15 ∷ r16 ∷ r17 ∷ []) world call verdict
+      authority = late_means (Each (HasAuthority world) (in_call_order call)) (r10 ∷ r11 ∷ r12 ∷ r13 ∷ []) r14 (r15 ∷ r16 ∷ r17 ∷ []) world call verdict
           (omega arith, (omega arith, (omega arith, (omega arith, tt)))) (omega arith, (omega arith, (omega arith, tt)))
           (λ f. m.authority (anchored_of world call m f.0 f.1.0 f.1.1.0)) (λ low all. (m.authority (anchored_of world call m all.0 all.1.0 all.1.1.0)).0 all.1.1.1.1.0) h;
-      certificates = late_means (Each (IsCertified world) (in_chain call)) (r10 ∷ r11 ∷ r12 ∷ r13 ∷ r14 ∷ []) r15 (r16 ∷ r17 ∷ []) world call verdict
+      certificates = late_means (Each (IsCertified world) (in_call_order call)) (r10 ∷ r11 ∷ r12 ∷ r13 ∷ r14 ∷ []) r15 (r16 ∷ r17 ∷ []) world call verdict
           (omega arith, (omega arith, (omega arith, (omega arith, (omega arith, tt))))) (omega arith, (omega arith, tt))
           (λ f. m.asked ((m.authority (anchored_of world call m f.0 f.1.0 f.1.1.0)).0 f.1.1.1.1.0)) (λ low all. absurd (omega (arith, low))) h;
-      signatures = late_means (Each (IsGenuine world) (in_chain call)) (r10 ∷ r11 ∷ r12 ∷ r13 ∷ r14 ∷ r15 ∷ []) r16 (r17 ∷ []) world call verdict
+      signatures = late_means (Each (IsGenuine world) (in_call_order call)) (r10 ∷ r11 ∷ r12 ∷ r13 ∷ r14 ∷ r15 ∷ []) r16 (r17 ∷ []) world call verdict
           (omega arith, (omega arith, (omega arith, (omega arith, (omega arith, (omega arith, tt)))))) (omega arith, tt)
           (λ f. m.genuine (profile_of world call m f.0 f.1.0)) (λ low all. absurd (omega (arith, low))) h;
-      coverage = late_means (Each (IsCovered world) (in_chain call)) (r10 ∷ r11 ∷ r12 ∷ r13 ∷ r14 ∷ r15 ∷ r16 ∷ []) r17 [] world call verdict
+      coverage = late_means (Each (IsCovered world) (in_call_order call)) (r10 ∷ r11 ∷ r12 ∷ r13 ∷ r14 ∷ r15 ∷ r16 ∷ []) r17 [] world call verdict
           (omega arith, (omega arith, (omega arith, (omega arith, (omega arith, (omega arith, (omega arith, tt))))))) tt
           (λ f. m.covered (profile_of world call m f.0 f.1.0)) (λ low all. absurd (omega (arith, low))) h;
     }

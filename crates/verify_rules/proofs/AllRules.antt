@@ -1,7 +1,7 @@
 -- A verdict over a world says of each rule but the one on replay what it means.
 use Rattle.std.proofs.Common.{◌≡◌, ℕ, ◌<◌, ◌≤◌, List, length, Option, Some, None, Result, Ok, Err, refl, sym, ◌∙◌, arith}
 use Rattle.verify_rules.specs.AllWords.{SaysRules, early_answer}
-use Rattle.verify_rules.specs.Call.{Call, call_of, facts, fields_of, in_chain, in_message, judged_fields, values_of}
+use Rattle.verify_rules.specs.Call.{Call, call_of, facts, fields_of, in_call_order, in_message, judged_fields, values_of}
 use Rattle.verify_rules.specs.LateWords.{SaysLateWords}
 use Rattle.verify_rules.specs.Rules.{early_rules, first}
 use Rattle.verify_rules.specs.Screened.{IsScreenedBy, ScreenedView, screened_of}
@@ -43,7 +43,7 @@ refused_late bytes call refused high w = record {
   read = λ later. w.read;
   calling = refused_behind 7 (Each (IsFrom (facts call).calling) (in_message call)) refused (omega (arith, high)) w.calling;
   order = refused_behind 8 (CallHasOrder call) refused (omega (arith, high)) w.order;
-  fresh = refused_behind 9 (Each (IsFresh call.settings.window call.moment) (in_chain call)) refused high w.fresh;
+  fresh = refused_behind 9 (Each (IsFresh call.settings.window call.moment) (in_call_order call)) refused high w.fresh;
 }
 
 late_above : (world : World) (call : Call) (refused : Refusal) → first (late_rules world) call ≡ Some refused → 9 < refused.rule

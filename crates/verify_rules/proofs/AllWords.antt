@@ -3,7 +3,7 @@ use Rattle.std.proofs.Common.{◌≡◌, ◌↔◌, ℕ, ◌≤◌, List, [], �
 use Rattle.sip_message.specs.Head.{Head}
 use Rattle.sip_message.specs.Message.{MessageView}
 use Rattle.sip_message.specs.Reading.{read}
-use Rattle.verify_rules.specs.Call.{Call, call_of, facts, fields_of, in_chain, in_message, judged_fields, values_of}
+use Rattle.verify_rules.specs.Call.{Call, call_of, facts, fields_of, in_call_order, in_message, judged_fields, values_of}
 use Rattle.verify_rules.specs.Rules.{early_rules, foreign_alg, other_calling, rule_1, rule_2, rule_3, rule_4, rule_5, rule_6, rule_7, rule_8, rule_9, stale}
 use Rattle.verify_rules.specs.Screened.{IsScreenedBy, ScreenedView}
 use Rattle.verify_rules.specs.Words.{AreRead, CallHasOrder, CanBeRead, Each, IsEs256, IsFresh, IsFrom, IsInvite, AreFewFields, MayOriginate, Means, OfOne, SaysWords, SpeaksOfRead}
@@ -42,6 +42,6 @@ all_words settings moment bytes result heads fields tokens found claims orders h
           (each_means (other_calling (facts call).calling) (IsFrom (facts call).calling) (orig_means (facts call).calling) (in_message call)) h;
       order = means (CallHasOrder call) (rule_1 ∷ rule_2 ∷ rule_3 ∷ rule_4 ∷ rule_5 ∷ rule_6 ∷ rule_7 ∷ []) rule_8 (rule_9 ∷ []) call result (omega arith, (omega arith, (omega arith, (omega arith, (omega arith, (omega arith, (omega arith, tt))))))) (omega arith, tt)
           (order_means orders (facts call) (in_message call)) h;
-      fresh = means (Each (IsFresh call.settings.window call.moment) (in_chain call)) (rule_1 ∷ rule_2 ∷ rule_3 ∷ rule_4 ∷ rule_5 ∷ rule_6 ∷ rule_7 ∷ rule_8 ∷ []) rule_9 [] call result (omega arith, (omega arith, (omega arith, (omega arith, (omega arith, (omega arith, (omega arith, (omega arith, tt)))))))) tt
-          (each_means (stale call.settings.window call.moment) (IsFresh call.settings.window call.moment) (fresh_means call.settings.window call.moment) (in_chain call)) h;
+      fresh = means (Each (IsFresh call.settings.window call.moment) (in_call_order call)) (rule_1 ∷ rule_2 ∷ rule_3 ∷ rule_4 ∷ rule_5 ∷ rule_6 ∷ rule_7 ∷ rule_8 ∷ []) rule_9 [] call result (omega arith, (omega arith, (omega arith, (omega arith, (omega arith, (omega arith, (omega arith, (omega arith, tt)))))))) tt
+          (each_means (stale call.settings.window call.moment) (IsFresh call.settings.window call.moment) (fresh_means call.settings.window call.moment) (in_call_order call)) h;
     }

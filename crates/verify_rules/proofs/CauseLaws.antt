@@ -6,7 +6,7 @@ use Rattle.cert_store.specs.Rules.{Says}
 use Rattle.delegation.specs.Coverage.{Table}
 use Rattle.verify_rules.specs.Call.{Reading}
 use Rattle.verify_rules.specs.Causes.{IsCaused, IsUnknownAt}
-use Rattle.verify_rules.specs.Late.{at_rule, first_rule, rules_before, told_by}
+use Rattle.verify_rules.specs.Late.{at_rule, first_rule, rules_before, rule_event}
 use Rattle.verify_rules.specs.Rules.{place}
 use Rattle.verify_rules.specs.States.{State, have, no_chain, long, unread}
 use Rattle.verify_rules.specs.Verdict.{IsLeftOpen, IsVerdict}
@@ -27,7 +27,7 @@ unknown_here table moment readings states i one long bad e f h = absurd cc
 unknown_here table moment readings states i one unread bad e f h =
     record { at = i; here = one; is = e; chain = f; stands = unread_same (place one.mark.field 0) bad h }
 
-unknown_at : (table : Table) (moment : ℕ) (readings : List Reading) (states : List State) (bad : Place) → told_by late.Listed table moment readings states ≡ Some (events.Unread bad)
+unknown_at : (table : Table) (moment : ℕ) (readings : List Reading) (states : List State) (bad : Place) → rule_event late.Listed table moment readings states ≡ Some (events.Unread bad)
     → IsUnknownAt readings states bad
 unknown_at table moment readings states bad h =
     let f = found (at_rule late.Listed table moment) readings states (events.Unread bad) h in

@@ -4,7 +4,7 @@ use Rattle.sip_message.specs.Accessors.{identities, is_invite}
 use Rattle.sip_message.specs.Message.{MessageView}
 use Rattle.sip_message.specs.Reading.{read}
 use Rattle.sip_message.specs.declared.fault.FormFault.{FormFault}
-use Rattle.verify_rules.specs.Call.{Call, IdentityField, Reading, call_of, facts, fields_of, in_chain, in_message, in_turn, judged_fields, links, or_none, originating, read_call, readings_of, turn_of}
+use Rattle.verify_rules.specs.Call.{Call, IdentityField, Reading, call_of, facts, fields_of, in_call_order, in_message, in_turn, judged_fields, links, or_none, originating, read_call, readings_of, turn_of}
 use Rattle.verify_rules.specs.Rules.{Rule, bad_field, chain_rules, each, early_rules, field_rules, first, foreign_alg, other_calling, no_identity, no_invite, no_order, no_originating, place, refusal, rule_1, rule_2, rule_3, rule_4, rule_5, rule_6, rule_7, rule_8, rule_9, stale, unreadable}
 use Rattle.verify_rules.specs.Screened.{IsScreenedBy, ScreenedView, screened_by, screened_of}
 use Rattle.verify_rules.specs.declared.facts.Facts.{Facts}
@@ -72,7 +72,7 @@ pub message_is : (call : Call) (fields : List IdentityField) (o : IdentityField)
 message_is call fields o said readings is e s r =
     ap (readings_of (facts call)) (judged_is call fields o is e) ∙ sym s.readings ∙ sym r
 
-chain_is : (call : Call) (said : Facts) (readings : List Reading) (turn : List ℕ) → in_message call ≡ readings → turn_of said readings ≡ turn_of (facts call) readings → turn_of said readings ≡ Ok turn → in_chain call ≡ in_turn readings turn
+chain_is : (call : Call) (said : Facts) (readings : List Reading) (turn : List ℕ) → in_message call ≡ readings → turn_of said readings ≡ turn_of (facts call) readings → turn_of said readings ≡ Ok turn → in_call_order call ≡ in_turn readings turn
 chain_is call said readings turn m s t =
     ap (λ x. in_turn x (or_none (turn_of (facts call) x))) m ∙ ap (λ x. in_turn readings (or_none x)) (sym s) ∙ ap (λ x. in_turn readings (or_none x)) t
 
@@ -99,7 +99,7 @@ seen_in : (window : ℕ) (screened : ScreenedView) (chain : List Reading) → sc
 unfolding screened_by
 seen_in window screened chain e = ap (λ (x : ScreenedView). x.readings) e
 
-iats_are : (call : Call) (chain : List Reading) (screened : ScreenedView) (k : Option Place) → in_chain call ≡ chain → screened ≡ screened_by call.settings.window chain
+iats_are : (call : Call) (chain : List Reading) (screened : ScreenedView) (k : Option Place) → in_call_order call ≡ chain → screened ≡ screened_by call.settings.window chain
     → k ≡ each (stale call.settings.window call.moment) screened.readings → rule_9.broken call ≡ k
 iats_are call chain screened k c s h =
     ap (each (stale call.settings.window call.moment)) (c ∙ sym (seen_in call.settings.window screened chain s)) ∙ sym h

@@ -6,7 +6,7 @@ use Rattle.std.specs.List.{slice_get}
 use Rattle.std.specs.Option.{option_or}
 use Rattle.std.proofs.lemmas.Bool.Decides.{nat_tests}
 use Rattle.std.proofs.lemmas.Option.{slice_get-get_or}
-use Rattle.verify_rules.specs.Call.{Call, IdentityField, Reading, facts, fields_of, in_chain, in_message, in_turn, judged_fields, links, or_none, originating, read_field, readings_of, turn_of}
+use Rattle.verify_rules.specs.Call.{Call, IdentityField, Reading, facts, fields_of, in_call_order, in_message, in_turn, judged_fields, links, or_none, originating, read_field, readings_of, turn_of}
 use Rattle.verify_rules.specs.Rules.{HoldAll, each, early_rules, no_originating, place, stale, unreadable, unreadable_at}
 use Rattle.verify_rules.specs.Screened.{IsScreenedBy, ScreenedView, iat_or_none, last_of, screened_by, screened_of}
 use Rattle.verify_rules.specs.declared.facts.Facts.{Facts}
@@ -60,23 +60,23 @@ some_message call h =
     let first : readings_of (facts call) (o.0 ∷ links (fields_of call)) ≡ r.0 ∷ readings_of (facts call) (links (fields_of call)) = rw r.1 refl in
     (r.0, readings_of (facts call) (links (fields_of call)), ap (readings_of (facts call)) judged ∙ first)
 
-pub some_chain : (call : Call) → HoldAll early_rules call → 1 ≤ length (in_chain call)
+pub some_chain : (call : Call) → HoldAll early_rules call → 1 ≤ length (in_call_order call)
 some_chain call h =
     let m = some_message call h in
-    let chain : in_chain call ≡ in_turn (m.0 ∷ m.1) (or_none (turn_of (facts call) (in_message call))) = ap (λ x. in_turn x (or_none (turn_of (facts call) (in_message call)))) m.2 in
+    let chain : in_call_order call ≡ in_turn (m.0 ∷ m.1) (or_none (turn_of (facts call) (in_message call))) = ap (λ x. in_turn x (or_none (turn_of (facts call) (in_message call)))) m.2 in
     let count = ap length chain in omega (arith, count)
 
-pub fresh_call : (call : Call) → HoldAll early_rules call → call.moment ≤ iat_or_none (last_of (in_chain call)) + call.settings.window
+pub fresh_call : (call : Call) → HoldAll early_rules call → call.moment ≤ iat_or_none (last_of (in_call_order call)) + call.settings.window
 fresh_call call h =
     let some = some_chain call h in
     let m = some_message call h in
-    let at : slice_get (in_chain call) (length (in_chain call) - 1) ≡ Some (get_or (in_chain call) (length (in_chain call) - 1) m.0) =
-    slice_get-get_or (in_chain call) (length (in_chain call) - 1) m.0 (omega (arith, some)) in
-    let last : Reading = get_or (in_chain call) (length (in_chain call) - 1) m.0 in
-    let one = fresh_one call.settings.window call.moment last (each_at (stale call.settings.window call.moment) (in_chain call) (length (in_chain call) - 1) last h.1.1.1.1.1.1.1.1.0 at) in
+    let at : slice_get (in_call_order call) (length (in_call_order call) - 1) ≡ Some (get_or (in_call_order call) (length (in_call_order call) - 1) m.0) =
+    slice_get-get_or (in_call_order call) (length (in_call_order call) - 1) m.0 (omega (arith, some)) in
+    let last : Reading = get_or (in_call_order call) (length (in_call_order call) - 1) m.0 in
+    let one = fresh_one call.settings.window call.moment last (each_at (stale call.settings.window call.moment) (in_call_order call) (length (in_call_order call) - 1) last h.1.1.1.1.1.1.1.1.0 at) in
     subst (λ x. call.moment ≤ iat_or_none x + call.settings.window) (sym at) one
 
-last_seen : (call : Call) (screened : ScreenedView) → screened ≡ screened_of call → screened.last ≡ iat_or_none (last_of (in_chain call)) + call.settings.window
+last_seen : (call : Call) (screened : ScreenedView) → screened ≡ screened_of call → screened.last ≡ iat_or_none (last_of (in_call_order call)) + call.settings.window
 unfolding screened_by
 last_seen call screened e = ap (λ (x : ScreenedView). x.last) e
 

@@ -5,7 +5,7 @@ use Rattle.std.specs.Option.{option_or}
 use Rattle.std.proofs.lemmas.List.{drop_all}
 use Rattle.delegation.specs.Coverage.{Table}
 use Rattle.verify_rules.specs.Call.{Reading}
-use Rattle.verify_rules.specs.Late.{at_rule, first_rule, told_by}
+use Rattle.verify_rules.specs.Late.{at_rule, first_rule, rule_event}
 use Rattle.verify_rules.specs.States.{State}
 use Rattle.verify_rules.specs.declared.late.Event.{Event}
 use Rattle.verify_rules.specs.declared.late.LateRule.{LateRule}
@@ -13,31 +13,31 @@ use Rattle.verify_rules.proofs.FirstOf.{done, here, more}
 
 -- ---- one PASSporT
 
-pub told_more : (rule : LateRule) (table : Table) (moment : ℕ) (readings : List Reading) (states : List State) (i : ℕ) (one : Reading) (state : State) (o all : Option Event)
+pub rule_event_more : (rule : LateRule) (table : Table) (moment : ℕ) (readings : List Reading) (states : List State) (i : ℕ) (one : Reading) (state : State) (o all : Option Event)
     → slice_get readings i ≡ Some one → slice_get states i ≡ Some state → o ≡ at_rule rule table moment one state → o ≡ None
-    → told_by rule table moment (drop i readings) (drop i states) ≡ all → told_by rule table moment (drop (i + 1) readings) (drop (i + 1) states) ≡ all
-told_more rule table moment readings states i one state o all e f is none left = more (at_rule rule table moment) readings states i one state all e f (sym is ∙ none) left
+    → rule_event rule table moment (drop i readings) (drop i states) ≡ all → rule_event rule table moment (drop (i + 1) readings) (drop (i + 1) states) ≡ all
+rule_event_more rule table moment readings states i one state o all e f is none left = more (at_rule rule table moment) readings states i one state all e f (sym is ∙ none) left
 
-pub told_here : (rule : LateRule) (table : Table) (moment : ℕ) (readings : List Reading) (states : List State) (i : ℕ) (one : Reading) (state : State) (event : Event) (o all : Option Event)
+pub rule_event_here : (rule : LateRule) (table : Table) (moment : ℕ) (readings : List Reading) (states : List State) (i : ℕ) (one : Reading) (state : State) (event : Event) (o all : Option Event)
     → slice_get readings i ≡ Some one → slice_get states i ≡ Some state → o ≡ at_rule rule table moment one state → o ≡ Some event
-    → told_by rule table moment (drop i readings) (drop i states) ≡ all → Some event ≡ all
-told_here rule table moment readings states i one state event o all e f is some left = here (at_rule rule table moment) readings states i one state event all e f (sym is ∙ some) left
+    → rule_event rule table moment (drop i readings) (drop i states) ≡ all → Some event ≡ all
+rule_event_here rule table moment readings states i one state event o all e f is some left = here (at_rule rule table moment) readings states i one state event all e f (sym is ∙ some) left
 
-pub told_done : (rule : LateRule) (table : Table) (moment : ℕ) (readings : List Reading) (states : List State) (i : ℕ) (all : Option Event) → length readings ≤ i
-    → told_by rule table moment (drop i readings) (drop i states) ≡ all → None ≡ all
-told_done rule table moment readings states i all end left = done (at_rule rule table moment) readings states i all end left
+pub rule_event_done : (rule : LateRule) (table : Table) (moment : ℕ) (readings : List Reading) (states : List State) (i : ℕ) (all : Option Event) → length readings ≤ i
+    → rule_event rule table moment (drop i readings) (drop i states) ≡ all → None ≡ all
+rule_event_done rule table moment readings states i all end left = done (at_rule rule table moment) readings states i all end left
 
 -- ---- one rule
 
 rules_step : (rules : List LateRule) (table : Table) (moment : ℕ) (readings : List Reading) (states : List State) (i : ℕ) (rule d : LateRule) → i < length rules → rule ≡ get_or rules i d
     → first_rule (drop i rules) table moment readings states
-    ≡ option_or (told_by rule table moment readings states) (first_rule (drop (suc i) rules) table moment readings states)
+    ≡ option_or (rule_event rule table moment readings states) (first_rule (drop (suc i) rules) table moment readings states)
 rules_step rules table moment readings states i rule d inside is =
     ap (λ (x : List LateRule). first_rule x table moment readings states) (drop-cons rules i d inside)
-    ∙ ap (λ (x : LateRule). option_or (told_by x table moment readings states) (first_rule (drop (suc i) rules) table moment readings states)) (sym is)
+    ∙ ap (λ (x : LateRule). option_or (rule_event x table moment readings states) (first_rule (drop (suc i) rules) table moment readings states)) (sym is)
 
 pub rules_more : (rules : List LateRule) (table : Table) (moment : ℕ) (readings : List Reading) (states : List State) (i : ℕ) (rule d : LateRule) (o all : Option Event)
-    → i < length rules → rule ≡ get_or rules i d → o ≡ told_by rule table moment readings states → o ≡ None
+    → i < length rules → rule ≡ get_or rules i d → o ≡ rule_event rule table moment readings states → o ≡ None
     → first_rule (drop i rules) table moment readings states ≡ all → first_rule (drop (i + 1) rules) table moment readings states ≡ all
 rules_more rules table moment readings states i rule d o all inside is told none left =
     let behind : i + 1 ≡ suc i = omega arith in
@@ -46,7 +46,7 @@ rules_more rules table moment readings states i rule d o all inside is told none
     ∙ sym (rules_step rules table moment readings states i rule d inside is) ∙ left
 
 pub rules_here : (rules : List LateRule) (table : Table) (moment : ℕ) (readings : List Reading) (states : List State) (i : ℕ) (rule d : LateRule) (event : Event) (o all : Option Event)
-    → i < length rules → rule ≡ get_or rules i d → o ≡ told_by rule table moment readings states → o ≡ Some event
+    → i < length rules → rule ≡ get_or rules i d → o ≡ rule_event rule table moment readings states → o ≡ Some event
     → first_rule (drop i rules) table moment readings states ≡ all → Some event ≡ all
 rules_here rules table moment readings states i rule d event o all inside is told some left =
     sym (ap (λ x. option_or x (first_rule (drop (suc i) rules) table moment readings states)) (sym told ∙ some))

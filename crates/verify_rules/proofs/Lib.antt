@@ -19,7 +19,7 @@ pub mod ReadSteps
 pub mod ReadingLaws
 pub mod ScreenedLaws
 pub mod SignedLaws
-pub mod ToldLaws
+pub mod ResultLaws
 pub mod TokenWords
 pub mod TurnSteps
 pub mod VerdictLaws

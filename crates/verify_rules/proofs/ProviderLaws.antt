@@ -4,7 +4,7 @@ use Rattle.delegation.specs.Coverage.{Table}
 use Rattle.cert_store.specs.Judged.{JudgedView, judged_of}
 use Rattle.cert_store.specs.Rules.{Says}
 use Rattle.lists.proofs.Options.{or_same}
-use Rattle.verify_rules.specs.Call.{Call, Reading, in_chain}
+use Rattle.verify_rules.specs.Call.{Call, Reading, in_call_order}
 use Rattle.verify_rules.specs.Late.{tell, tell_judged}
 use Rattle.verify_rules.specs.Rules.{each, first, or_later}
 use Rattle.verify_rules.specs.States.{State, have, long}
@@ -75,11 +75,11 @@ unsigned_same world other rule moment (one ∷ readings) unsigned =
 
 pub certificates_same : (world : World) (other : Says) (call : Call) → first (certificate_rules (with_says world other)) call ≡ first (certificate_rules world) call
 certificates_same world other call =
-    later_same 10 _ _ _ _ (unsigned_same world other late.Listed call.moment (in_chain call) listed_unsigned)
-    (later_same 11 _ _ _ _ (unsigned_same world other late.Profile call.moment (in_chain call) profile_unsigned)
-    (later_same 12 _ _ _ _ (unsigned_same world other late.Shape call.moment (in_chain call) shape_unsigned)
-    (later_same 13 _ _ _ _ (unsigned_same world other late.Dates call.moment (in_chain call) dates_unsigned)
-    (later_same 14 _ _ _ _ (unsigned_same world other late.Authority call.moment (in_chain call) authority_unsigned) refl))))
+    later_same 10 _ _ _ _ (unsigned_same world other late.Listed call.moment (in_call_order call) listed_unsigned)
+    (later_same 11 _ _ _ _ (unsigned_same world other late.Profile call.moment (in_call_order call) profile_unsigned)
+    (later_same 12 _ _ _ _ (unsigned_same world other late.Shape call.moment (in_call_order call) shape_unsigned)
+    (later_same 13 _ _ _ _ (unsigned_same world other late.Dates call.moment (in_call_order call) dates_unsigned)
+    (later_same 14 _ _ _ _ (unsigned_same world other late.Authority call.moment (in_call_order call) authority_unsigned) refl))))
 
 -- ---- rules over the same chains
 
@@ -98,10 +98,10 @@ chains_same world other rule moment (one ∷ readings) same =
     let rest : truths (with_says world other) readings ≡ truths world readings = tail_same _ _ _ _ same in
     or_same _ _ _ _ (ap (λ (state : State). part_at one.mark.field (tell rule world.table moment one state)) here) (λ none. chains_same world other rule moment readings rest)
 
-pub signatures_same : (world : World) (other : Says) (call : Call) → truths (with_says world other) (in_chain call) ≡ truths world (in_chain call)
-    → each (forged (with_says world other)) (in_chain call) ≡ each (forged world) (in_chain call)
+pub signatures_same : (world : World) (other : Says) (call : Call) → truths (with_says world other) (in_call_order call) ≡ truths world (in_call_order call)
+    → each (forged (with_says world other)) (in_call_order call) ≡ each (forged world) (in_call_order call)
     → first (signature_rules (with_says world other)) call ≡ first (signature_rules world) call
 signatures_same world other call chains own =
-    later_same 15 _ _ _ _ (chains_same world other late.Asked call.moment (in_chain call) chains)
+    later_same 15 _ _ _ _ (chains_same world other late.Asked call.moment (in_call_order call) chains)
     (later_same 16 _ _ _ _ own
-    (later_same 17 _ _ _ _ (chains_same world other late.Covers call.moment (in_chain call) chains) refl))
+    (later_same 17 _ _ _ _ (chains_same world other late.Covers call.moment (in_call_order call) chains) refl))

@@ -13,7 +13,7 @@ use Rattle.passport_json.specs.Signed.{payload_in}
 use Rattle.passport_json.specs.Token.{TokenText}
 use Rattle.passport_json.specs.View.{TokenView}
 use Rattle.text_grammar.specs.Moment.{last_second}
-use Rattle.verify_rules.specs.Call.{Call, IdentityField, Reading, facts, fields_of, given_to_compact, in_chain, in_message, in_turn, judged_fields, or_none, turn_of, values_of}
+use Rattle.verify_rules.specs.Call.{Call, IdentityField, Reading, facts, fields_of, given_to_compact, in_call_order, in_message, in_turn, judged_fields, or_none, turn_of, values_of}
 use Rattle.verify_rules.specs.Rules.{HoldAll, early_rules, first}
 use Rattle.verify_rules.specs.Screened.{digest_in, iat_or_none, last_of}
 use Rattle.verify_rules.specs.Signed.{IsKnownAgain, last_by}
@@ -88,7 +88,7 @@ last_is window signing payload seconds there issued =
 
 -- ---- the call
 
-known_by : TokenLaw → SignedLaw → (call : Call) (at : ℕ) (one : Reading) → HoldAll early_rules call → last_of (in_chain call) ≡ Some one
+known_by : TokenLaw → SignedLaw → (call : Call) (at : ℕ) (one : Reading) → HoldAll early_rules call → last_of (in_call_order call) ≡ Some one
     → ReadAt (facts call) (judged_fields (fields_of call)) at one → IsKnownAgain call
 known_by tokens signed call at one h last here =
     let token : TokenView = here.read.token in
@@ -125,7 +125,7 @@ known_again fields tokens found claims signed call early =
     let read : AreRead (facts call) (judged_fields (fields_of call)) (in_message call) = speaks_of_read fields tokens claims (facts call) (values_of call) can in
     let some = some_chain call h in
     let default = (some_message call h).0 in
-    let one : Reading = get_or (in_chain call) (length (in_chain call) - 1) default in
-    let last : last_of (in_chain call) ≡ Some one = slice_get-get_or (in_chain call) (length (in_chain call) - 1) default (omega (arith, some)) in
-    let among = among_chain (in_message call) (or_none (turn_of (facts call) (in_message call))) (length (in_chain call) - 1) one last in
+    let one : Reading = get_or (in_call_order call) (length (in_call_order call) - 1) default in
+    let last : last_of (in_call_order call) ≡ Some one = slice_get-get_or (in_call_order call) (length (in_call_order call) - 1) default (omega (arith, some)) in
+    let among = among_chain (in_message call) (or_none (turn_of (facts call) (in_message call))) (length (in_call_order call) - 1) one last in
     known_by tokens signed call among.0 one h last (read_at (facts call) (judged_fields (fields_of call)) (in_message call) among.0 one read among.1)

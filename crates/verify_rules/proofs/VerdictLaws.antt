@@ -9,7 +9,7 @@ use Rattle.cert_store.specs.Rules.{Says}
 use Rattle.cert_store.specs.declared.judged.Asked.{Asked}
 use Rattle.cert_store.specs.declared.judged.Asked.TheVariants.{NotAsked, Yes, No, Failed}
 use Rattle.verify_rules.specs.Call.{Reading}
-use Rattle.verify_rules.specs.Late.{asking, at_asking, at_rule, by_answer, event_of, first_event, first_rule, is_signed_by, number, rules_after, rules_before, tell_judged, tell_long, tell_missing, told_by, unless_signed}
+use Rattle.verify_rules.specs.Late.{asking, at_asking, at_rule, by_answer, event_of, first_event, first_rule, is_signed_by, number, rules_after, rules_before, tell_judged, tell_long, tell_missing, rule_event, unless_signed}
 use Rattle.verify_rules.specs.Rules.{place}
 use Rattle.verify_rules.specs.States.{State, have, no_chain, long, unread}
 use Rattle.verify_rules.specs.Verdict.{IsLeftOpen, IsOpenAt, IsVerdict, QuietIs, verdict_of}
@@ -22,7 +22,7 @@ use Rattle.verify_rules.specs.declared.verdict.Verdict.{Verdict}
 use Rattle.verify_rules.specs.declared.verdict.Verdict.TheVariants.{Passed, Refused, Unread, Unasked}
 use Rattle.lists.proofs.Options.{or_none}
 use Rattle.verify_rules.proofs.FirstOf.{both_none, found, none_at}
-use Rattle.verify_rules.proofs.ToldLaws.{AsksNothing, IsSetAside, definite_event, judged_definite, unjudged_definite}
+use Rattle.verify_rules.proofs.ResultLaws.{AsksNothing, IsSetAside, definite_event, judged_definite, unjudged_definite}
 
 -- ---- what a rule leaves open of a chain: nothing, but where it asks for the chain's signatures, or the chain isn't known
 
@@ -80,13 +80,13 @@ signing_here says table moment one no_chain bad holds h = cc
 signing_here says table moment one long bad holds h = cc
 signing_here says table moment one unread bad holds h = listed_unread table moment one holds
 
-told_known : (rule : LateRule) (table : Table) (moment : ℕ) (readings : List Reading) (states : List State) (bad : Place) → told_by late.Listed table moment readings states ≡ None
-    → told_by rule table moment readings states ≡ Some (events.Unread bad) → ⊥
-told_known rule table moment readings states bad holds h =
+rule_event_known : (rule : LateRule) (table : Table) (moment : ℕ) (readings : List Reading) (states : List State) (bad : Place) → rule_event late.Listed table moment readings states ≡ None
+    → rule_event rule table moment readings states ≡ Some (events.Unread bad) → ⊥
+rule_event_known rule table moment readings states bad holds h =
     let f = found (at_rule rule table moment) readings states (events.Unread bad) h in
     known_here rule table moment f.one f.state bad (none_at (at_rule late.Listed table moment) readings states f.index f.one f.state holds f.is f.chain) f.gives
 
-asking_known : (says : Says) (table : Table) (moment : ℕ) (readings : List Reading) (states : List State) (bad : Place) → told_by late.Listed table moment readings states ≡ None
+asking_known : (says : Says) (table : Table) (moment : ℕ) (readings : List Reading) (states : List State) (bad : Place) → rule_event late.Listed table moment readings states ≡ None
     → asking says readings states ≡ Some (events.Unread bad) → ⊥
 asking_known says table moment readings states bad holds h =
     let f = found (at_asking says) readings states (events.Unread bad) h in
@@ -95,33 +95,33 @@ asking_known says table moment readings states bad holds h =
 -- ---- the rule of an event
 
 rule_by : (rule : LateRule) (rules : List LateRule) (table : Table) (moment : ℕ) (readings : List Reading) (states : List State) (event : Event) (o : Option Event)
-    → told_by rule table moment readings states ≡ o → (first_rule rules table moment readings states ≡ Some event → (by : LateRule) × (told_by by table moment readings states ≡ Some event))
-    → option_or o (first_rule rules table moment readings states) ≡ Some event → (by : LateRule) × (told_by by table moment readings states ≡ Some event)
+    → rule_event rule table moment readings states ≡ o → (first_rule rules table moment readings states ≡ Some event → (by : LateRule) × (rule_event by table moment readings states ≡ Some event))
+    → option_or o (first_rule rules table moment readings states) ≡ Some event → (by : LateRule) × (rule_event by table moment readings states ≡ Some event)
 rule_by rule rules table moment readings states event None e below h = below h
 rule_by rule rules table moment readings states event (Some x) e below h = (rule, e ∙ h)
 
 rule_of : (rules : List LateRule) (table : Table) (moment : ℕ) (readings : List Reading) (states : List State) (event : Event) → first_rule rules table moment readings states ≡ Some event
-    → (by : LateRule) × (told_by by table moment readings states ≡ Some event)
+    → (by : LateRule) × (rule_event by table moment readings states ≡ Some event)
 rule_of [] table moment readings states event h = absurd cc
 rule_of (rule ∷ rules) table moment readings states event h =
-    rule_by rule rules table moment readings states event (told_by rule table moment readings states) refl (rule_of rules table moment readings states event) h
+    rule_by rule rules table moment readings states event (rule_event rule table moment readings states) refl (rule_of rules table moment readings states event) h
 
-listed_by : (rules : List LateRule) (table : Table) (moment : ℕ) (readings : List Reading) (states : List State) (bad : Place) (o : Option Event) → told_by late.Listed table moment readings states ≡ o
-    → option_or o (first_rule rules table moment readings states) ≡ Some (events.Unread bad) → told_by late.Listed table moment readings states ≡ Some (events.Unread bad)
+listed_by : (rules : List LateRule) (table : Table) (moment : ℕ) (readings : List Reading) (states : List State) (bad : Place) (o : Option Event) → rule_event late.Listed table moment readings states ≡ o
+    → option_or o (first_rule rules table moment readings states) ≡ Some (events.Unread bad) → rule_event late.Listed table moment readings states ≡ Some (events.Unread bad)
 listed_by rules table moment readings states bad None e h =
-    let r = rule_of rules table moment readings states (events.Unread bad) h in absurd (told_known r.0 table moment readings states bad e r.1)
+    let r = rule_of rules table moment readings states (events.Unread bad) h in absurd (rule_event_known r.0 table moment readings states bad e r.1)
 listed_by rules table moment readings states bad (Some x) e h = e ∙ h
 
 abbrev behind_listed : List LateRule
 behind_listed = late.Profile ∷ late.Shape ∷ late.Dates ∷ late.Authority ∷ late.Asked ∷ []
 
 listed_first : (table : Table) (moment : ℕ) (readings : List Reading) (states : List State) (bad : Place) → first_rule rules_before table moment readings states ≡ Some (events.Unread bad)
-    → told_by late.Listed table moment readings states ≡ Some (events.Unread bad)
-listed_first table moment readings states bad h = listed_by behind_listed table moment readings states bad (told_by late.Listed table moment readings states) refl h
+    → rule_event late.Listed table moment readings states ≡ Some (events.Unread bad)
+listed_first table moment readings states bad h = listed_by behind_listed table moment readings states bad (rule_event late.Listed table moment readings states) refl h
 
 listed_holds : (table : Table) (moment : ℕ) (readings : List Reading) (states : List State) → first_rule rules_before table moment readings states ≡ None
-    → told_by late.Listed table moment readings states ≡ None
-listed_holds table moment readings states h = (both_none (told_by late.Listed table moment readings states) (first_rule behind_listed table moment readings states) h).0
+    → rule_event late.Listed table moment readings states ≡ None
+listed_holds table moment readings states h = (both_none (rule_event late.Listed table moment readings states) (first_rule behind_listed table moment readings states) h).0
 
 -- ---- rule 15 alone, and a question of rule 16 that failed, leave an answer open
 
@@ -198,9 +198,9 @@ after_by says table moment readings states faults now (events.Refused refused) n
     ∙ ap (λ x. option_or x (first_rule rules_after table moment readings states)) signed ∙ h
 after_by says table moment readings states faults now (events.Unread bad) none signed h =
     let r = rule_of rules_after table moment readings states (events.Unread bad) h in
-    absurd (told_known r.0 table moment readings states bad (listed_holds table moment readings states none) r.1)
+    absurd (rule_event_known r.0 table moment readings states bad (listed_holds table moment readings states none) r.1)
 after_by says table moment readings states faults now (events.Unasked bad) none signed h =
-    let e = sym (or_none (told_by late.Covers table moment readings states)) ∙ h in
+    let e = sym (or_none (rule_event late.Covers table moment readings states)) ∙ h in
     let f = found (at_rule late.Covers table moment) readings states (events.Unasked bad) e in absurd (covering_here table moment f.one f.state bad f.gives)
 
 pub by_before : (says : Says) (table : Table) (moment : ℕ) (readings : List Reading) (states : List State) (faults now : ℕ) (event : Event) (o : Option Event) (v : Verdict)

@@ -8,14 +8,14 @@ use Rattle.cert_store.specs.declared.judged.Asked.{Asked}
 use Rattle.cert_store.specs.declared.judged.Asked.TheVariants.{NotAsked, Yes, No, Failed}
 use Rattle.delegation.specs.Coverage.{Table}
 use Rattle.verify_rules.specs.Call.{Reading}
-use Rattle.verify_rules.specs.Late.{asking, at_asking, at_rule, by_answer, event_of, first_event, first_rule, is_signed_by, number, rules_after, rules_before, tell, tell_judged, told_by, unless_signed}
+use Rattle.verify_rules.specs.Late.{asking, at_asking, at_rule, by_answer, event_of, first_event, first_rule, is_signed_by, number, rules_after, rules_before, tell, tell_judged, rule_event, unless_signed}
 use Rattle.verify_rules.specs.States.{State, have, no_chain, long, unread}
 use Rattle.verify_rules.specs.World.{AreRight, IsRight, World, truth_for, truths}
 use Rattle.verify_rules.specs.declared.late.Event.{Event}
 use Rattle.verify_rules.specs.declared.late.Event.TheVariants as events
 use Rattle.verify_rules.specs.declared.late.LateRule.{LateRule}
 use Rattle.verify_rules.specs.declared.late.LateRule.TheVariants as late
-use Rattle.verify_rules.proofs.ToldLaws.{IsSetAside}
+use Rattle.verify_rules.proofs.ResultLaws.{IsSetAside}
 
 -- ---- the same event, or one that sets aside
 
@@ -72,13 +72,13 @@ signed_agrees world one unread named = inr tt
 
 -- ---- all PASSporTs
 
-pub told_agrees : (world : World) (rule : LateRule) (moment : ℕ) (readings : List Reading) (states : List State) → AreRight world readings states
-    → Agrees (told_by rule world.table moment readings (truths world readings)) (told_by rule world.table moment readings states)
-told_agrees world rule moment [] [] right = inl refl
-told_agrees world rule moment [] (state ∷ states) right = absurd right
-told_agrees world rule moment (one ∷ others) [] right = absurd right
-told_agrees world rule moment (one ∷ others) (state ∷ states) right =
-    agrees_or _ _ _ _ (state_agrees world rule moment one state right.0) (told_agrees world rule moment others states right.1)
+pub rule_event_agrees : (world : World) (rule : LateRule) (moment : ℕ) (readings : List Reading) (states : List State) → AreRight world readings states
+    → Agrees (rule_event rule world.table moment readings (truths world readings)) (rule_event rule world.table moment readings states)
+rule_event_agrees world rule moment [] [] right = inl refl
+rule_event_agrees world rule moment [] (state ∷ states) right = absurd right
+rule_event_agrees world rule moment (one ∷ others) [] right = absurd right
+rule_event_agrees world rule moment (one ∷ others) (state ∷ states) right =
+    agrees_or _ _ _ _ (state_agrees world rule moment one state right.0) (rule_event_agrees world rule moment others states right.1)
 
 pub asking_agrees : (world : World) (readings : List Reading) (states : List State) → AreRight world readings states
     → Agrees (asking world.says readings (truths world readings)) (asking world.says readings states)
@@ -93,7 +93,7 @@ rules_agree : (world : World) (moment : ℕ) (readings : List Reading) (states :
     → Agrees (first_rule rules world.table moment readings (truths world readings)) (first_rule rules world.table moment readings states)
 rules_agree world moment readings states [] right = inl refl
 rules_agree world moment readings states (rule ∷ rules) right =
-    agrees_or _ _ _ _ (told_agrees world rule moment readings states right) (rules_agree world moment readings states rules right)
+    agrees_or _ _ _ _ (rule_event_agrees world rule moment readings states right) (rules_agree world moment readings states rules right)
 
 pub first_agrees : (world : World) (moment : ℕ) (readings : List Reading) (states : List State) → AreRight world readings states
     → Agrees (first_event world.says world.table moment readings (truths world readings)) (first_event world.says world.table moment readings states)

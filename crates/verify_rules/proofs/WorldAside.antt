@@ -9,8 +9,8 @@ use Rattle.cert_store.specs.Judged.{JudgedView}
 use Rattle.cert_store.specs.declared.judged.Asked.{Asked}
 use Rattle.cert_store.specs.declared.judged.Asked.TheVariants.{NotAsked, Yes, No, Failed}
 use Rattle.delegation.specs.Coverage.{Table}
-use Rattle.verify_rules.specs.Call.{Call, Reading, in_chain}
-use Rattle.verify_rules.specs.Late.{asking, at_rule, by_answer, event_of, first_rule, number, rules_before, tell_judged, tell_long, tell_missing, told_by}
+use Rattle.verify_rules.specs.Call.{Call, Reading, in_call_order}
+use Rattle.verify_rules.specs.Late.{asking, at_rule, by_answer, event_of, first_rule, number, rules_before, tell_judged, tell_long, tell_missing, rule_event}
 use Rattle.verify_rules.specs.Rules.{HoldAll, each, early_rules, place}
 use Rattle.verify_rules.specs.States.{State, have, no_chain, long, unread}
 use Rattle.verify_rules.specs.Verdict.{IsOpenAt}
@@ -19,14 +19,14 @@ use Rattle.verify_rules.specs.declared.late.Event.{Event}
 use Rattle.verify_rules.specs.declared.late.Event.TheVariants as events
 use Rattle.verify_rules.specs.declared.late.LateRule.{LateRule}
 use Rattle.verify_rules.specs.declared.late.LateRule.TheVariants as late
-use Rattle.verify_rules.specs.declared.late.Told.{Told}
-use Rattle.verify_rules.specs.declared.late.Told.TheVariants as told
+use Rattle.verify_rules.specs.declared.late.RuleResult.{RuleResult}
+use Rattle.verify_rules.specs.declared.late.RuleResult.TheVariants as results
 use Rattle.verify_rules.specs.declared.refusal.Place.{Place}
 use Rattle.lists.proofs.Options.{or_none}
 use Rattle.verify_rules.proofs.FirstOf.{both_none, unread_same}
-use Rattle.verify_rules.proofs.ToldLaws.{AsksNothing, IsDefinite, judged_definite, unjudged_definite}
-use Rattle.verify_rules.proofs.WorldAgrees.{Agrees, asking_agrees, right_before, state_agrees, told_agrees}
-use Rattle.verify_rules.proofs.WorldEvents.{AnsweredLaw, asking_is, broken_event, rule_is, told_is}
+use Rattle.verify_rules.proofs.ResultLaws.{AsksNothing, IsDefinite, judged_definite, unjudged_definite}
+use Rattle.verify_rules.proofs.WorldAgrees.{Agrees, asking_agrees, right_before, state_agrees, rule_event_agrees}
+use Rattle.verify_rules.proofs.WorldEvents.{AnsweredLaw, asking_is, broken_event, rule_is, rule_event_is}
 
 -- ---- a rule that gives nothing holds
 
@@ -46,9 +46,9 @@ one_holds law world rule moment one state right none =
 
 -- of all
 rule_holds : AnsweredLaw → (world : World) (rule : LateRule) (moment : ℕ) (readings : List Reading) (states : List State) → AreRight world readings states
-    → told_by rule world.table moment readings states ≡ None → each (broken_by world rule moment) readings ≡ None
+    → rule_event rule world.table moment readings states ≡ None → each (broken_by world rule moment) readings ≡ None
 rule_holds law world rule moment readings states right none =
-    unbroken (number rule) (each (broken_by world rule moment) readings) _ _ (told_is law world rule moment readings) none (told_agrees world rule moment readings states right)
+    unbroken (number rule) (each (broken_by world rule moment) readings) _ _ (rule_event_is law world rule moment readings) none (rule_event_agrees world rule moment readings states right)
 
 -- of those before some place, rule 16
 genuine_before : AnsweredLaw → (world : World) (readings : List Reading) (states : List State) (at : ℕ) → AreRight world readings states
@@ -104,16 +104,16 @@ unread_here world moment one others unread bad later law right below h = record 
 }
 
 unread_at : AnsweredLaw → (world : World) (moment : ℕ) (readings : List Reading) (states : List State) (bad : Place) → AreRight world readings states
-    → told_by late.Listed world.table moment readings states ≡ Some (events.Unread bad) → UnreadAt world moment readings bad
+    → rule_event late.Listed world.table moment readings states ≡ Some (events.Unread bad) → UnreadAt world moment readings bad
 unread_at law world moment [] states bad right h = absurd cc
 unread_at law world moment (one ∷ others) [] bad right h = absurd right
 unread_at law world moment (one ∷ others) (state ∷ states) bad right h =
-    unread_here world moment one others state bad (told_by late.Listed world.table moment others states) law right.0 (unread_at law world moment others states bad right.1) h
+    unread_here world moment one others state bad (rule_event late.Listed world.table moment others states) law right.0 (unread_at law world moment others states bad right.1) h
 
-pub may_be_unread : AnsweredLaw → (world : World) (call : Call) (states : List State) (bad : Place) → HoldAll early_rules call → AreRight world (in_chain call) states
-    → told_by late.Listed world.table call.moment (in_chain call) states ≡ Some (events.Unread bad) → MayBeUnread world call bad
+pub may_be_unread : AnsweredLaw → (world : World) (call : Call) (states : List State) (bad : Place) → HoldAll early_rules call → AreRight world (in_call_order call) states
+    → rule_event late.Listed world.table call.moment (in_call_order call) states ≡ Some (events.Unread bad) → MayBeUnread world call bad
 may_be_unread law world call states bad early right h =
-    let u = unread_at law world call.moment (in_chain call) states bad right h in
+    let u = unread_at law world call.moment (in_call_order call) states bad right h in
     record { early = early; at = u.at; here = u.here; is = u.is; stands = u.stands; name = u.name; named = u.named; before = u.before }
 
 -- ---- unasked, at a certificate
@@ -169,11 +169,11 @@ open_by world moment one others bad (Some event) later holds here below h =
     record { at = 0; here = one; is = refl; opened = here h; before = refl }
 
 open_at : AnsweredLaw → (world : World) (moment : ℕ) (readings : List Reading) (states : List State) (bad : Place) → AreRight world readings states
-    → told_by late.Asked world.table moment readings states ≡ Some (events.Unasked bad) → OpenAt world moment readings bad
+    → rule_event late.Asked world.table moment readings states ≡ Some (events.Unasked bad) → OpenAt world moment readings bad
 open_at law world moment [] states bad right h = absurd cc
 open_at law world moment (one ∷ others) [] bad right h = absurd right
 open_at law world moment (one ∷ others) (state ∷ states) bad right h =
-    open_by world moment one others bad (at_rule late.Asked world.table moment one state) (told_by late.Asked world.table moment others states)
+    open_by world moment one others bad (at_rule late.Asked world.table moment one state) (rule_event late.Asked world.table moment others states)
     (one_holds law world late.Asked moment one state right.0) (open_here world moment one state bad right.0) (open_at law world moment others states bad right.1) h
 
 -- ---- no rule but 15 leaves a signature open
@@ -188,11 +188,11 @@ answered_or : (a b : Option Event) → IsAnswered a → IsAnswered b → IsAnswe
 answered_or None b first later = later
 answered_or (Some event) b first later = first
 
-definite_answered : (n field : ℕ) (said : Told) → IsDefinite said → IsAnswered (event_of n field said)
-definite_answered n field told.Holds d = tt
-definite_answered n field (told.Broken part) d = tt
-definite_answered n field told.Unknown d = tt
-definite_answered n field (told.Unasked part) d = d
+definite_answered : (n field : ℕ) (said : RuleResult) → IsDefinite said → IsAnswered (event_of n field said)
+definite_answered n field results.Holds d = tt
+definite_answered n field (results.Broken part) d = tt
+definite_answered n field results.Unknown d = tt
+definite_answered n field (results.Unasked part) d = d
 
 one_answered : (rule : LateRule) (table : Table) (moment : ℕ) (one : Reading) (state : State) → AsksNothing rule → IsAnswered (at_rule rule table moment one state)
 unfolding at_rule
@@ -202,11 +202,11 @@ one_answered rule table moment one no_chain nothing = definite_answered (number 
 one_answered rule table moment one long nothing = definite_answered (number rule) one.mark.field (tell_long rule) (unjudged_definite rule).1
 one_answered rule table moment one unread nothing = tt
 
-told_answered : (rule : LateRule) (table : Table) (moment : ℕ) (readings : List Reading) (states : List State) → AsksNothing rule → IsAnswered (told_by rule table moment readings states)
-told_answered rule table moment [] states nothing = tt
-told_answered rule table moment (one ∷ others) [] nothing = tt
-told_answered rule table moment (one ∷ others) (state ∷ states) nothing =
-    answered_or _ _ (one_answered rule table moment one state nothing) (told_answered rule table moment others states nothing)
+rule_event_answered : (rule : LateRule) (table : Table) (moment : ℕ) (readings : List Reading) (states : List State) → AsksNothing rule → IsAnswered (rule_event rule table moment readings states)
+rule_event_answered rule table moment [] states nothing = tt
+rule_event_answered rule table moment (one ∷ others) [] nothing = tt
+rule_event_answered rule table moment (one ∷ others) (state ∷ states) nothing =
+    answered_or _ _ (one_answered rule table moment one state nothing) (rule_event_answered rule table moment others states nothing)
 
 passed_over : (a b : Option Event) (bad : Place) → IsAnswered a → option_or a b ≡ Some (events.Unasked bad) → (a ≡ None) × (b ≡ Some (events.Unasked bad))
 passed_over None b bad answered h = (refl, h)
@@ -216,7 +216,7 @@ passed_over (Some (events.Unasked other)) b bad answered h = absurd answered
 
 -- what rules 10 to 15 make of the PASSporTs
 abbrev tells : World → Call → List State → LateRule → Option Event
-tells world call states rule = told_by rule world.table call.moment (in_chain call) states
+tells world call states rule = rule_event rule world.table call.moment (in_call_order call) states
 
 -- rules 10 to 14 make nothing of them, and 15 this
 record ComesTo (world : World) (call : Call) (states : List State) (event : Option Event) : Type 0 where
@@ -227,10 +227,10 @@ record ComesTo (world : World) (call : Call) (states : List State) (event : Opti
   authority : tells world call states late.Authority ≡ None
   asked : tells world call states late.Asked ≡ event
 
-open_comes : (world : World) (call : Call) (states : List State) (bad : Place) → first_rule rules_before world.table call.moment (in_chain call) states ≡ Some (events.Unasked bad)
+open_comes : (world : World) (call : Call) (states : List State) (bad : Place) → first_rule rules_before world.table call.moment (in_call_order call) states ≡ Some (events.Unasked bad)
     → ComesTo world call states (Some (events.Unasked bad))
 open_comes world call states bad h =
-    let answered = λ (rule : LateRule) (nothing : AsksNothing rule). told_answered rule world.table call.moment (in_chain call) states nothing in
+    let answered = λ (rule : LateRule) (nothing : AsksNothing rule). rule_event_answered rule world.table call.moment (in_call_order call) states nothing in
     let a = passed_over (tells world call states late.Listed) _ bad (answered late.Listed tt) h in
     let b = passed_over (tells world call states late.Profile) _ bad (answered late.Profile tt) a.1 in
     let c = passed_over (tells world call states late.Shape) _ bad (answered late.Shape tt) b.1 in
@@ -238,7 +238,7 @@ open_comes world call states bad h =
     let e = passed_over (tells world call states late.Authority) _ bad (answered late.Authority tt) d.1 in
     record { listing = a.0; profile = b.0; shape = c.0; dates = d.0; authority = e.0; asked = sym (or_none (tells world call states late.Asked)) ∙ e.1 }
 
-none_comes : (world : World) (call : Call) (states : List State) → first_rule rules_before world.table call.moment (in_chain call) states ≡ None → ComesTo world call states None
+none_comes : (world : World) (call : Call) (states : List State) → first_rule rules_before world.table call.moment (in_call_order call) states ≡ None → ComesTo world call states None
 none_comes world call states h =
     let a = both_none (tells world call states late.Listed) _ h in
     let b = both_none (tells world call states late.Profile) _ a.1 in
@@ -247,17 +247,17 @@ none_comes world call states h =
     let e = both_none (tells world call states late.Authority) _ d.1 in
     record { listing = a.0; profile = b.0; shape = c.0; dates = d.0; authority = e.0; asked = sym (or_none (tells world call states late.Asked)) ∙ e.1 }
 
-chains_hold : AnsweredLaw → (world : World) (call : Call) (states : List State) (event : Option Event) → AreRight world (in_chain call) states → ComesTo world call states event
+chains_hold : AnsweredLaw → (world : World) (call : Call) (states : List State) (event : Option Event) → AreRight world (in_call_order call) states → ComesTo world call states event
     → HoldAll (certificate_rules world) call
 chains_hold law world call states event right comes = (
-  rule_holds law world late.Listed call.moment (in_chain call) states right comes.listing,
+  rule_holds law world late.Listed call.moment (in_call_order call) states right comes.listing,
   (
-    rule_holds law world late.Profile call.moment (in_chain call) states right comes.profile,
+    rule_holds law world late.Profile call.moment (in_call_order call) states right comes.profile,
     (
-      rule_holds law world late.Shape call.moment (in_chain call) states right comes.shape,
+      rule_holds law world late.Shape call.moment (in_call_order call) states right comes.shape,
       (
-        rule_holds law world late.Dates call.moment (in_chain call) states right comes.dates,
-        (rule_holds law world late.Authority call.moment (in_chain call) states right comes.authority, tt),
+        rule_holds law world late.Dates call.moment (in_call_order call) states right comes.dates,
+        (rule_holds law world late.Authority call.moment (in_call_order call) states right comes.authority, tt),
       ),
     ),
   ),
@@ -265,10 +265,10 @@ chains_hold law world call states event right comes = (
 
 -- ---- unasked
 
-open_chain : AnsweredLaw → (world : World) (call : Call) (states : List State) (bad : Place) → AreRight world (in_chain call) states
+open_chain : AnsweredLaw → (world : World) (call : Call) (states : List State) (bad : Place) → AreRight world (in_call_order call) states
     → ComesTo world call states (Some (events.Unasked bad)) → IsOpenAtChain world call bad
 open_chain law world call states bad right comes =
-    let o = open_at law world call.moment (in_chain call) states bad right comes.asked in
+    let o = open_at law world call.moment (in_call_order call) states bad right comes.asked in
     record {
       at = o.at;
       here = o.here;
@@ -282,25 +282,25 @@ open_chain law world call states bad right comes =
       certificates = o.opened.certificates;
     }
 
-open_passport : AnsweredLaw → (world : World) (call : Call) (states : List State) (bad : Place) → AreRight world (in_chain call) states
-    → ComesTo world call states None → IsOpenAt world.says (in_chain call) states bad → IsOpenAtPassport world call bad
+open_passport : AnsweredLaw → (world : World) (call : Call) (states : List State) (bad : Place) → AreRight world (in_call_order call) states
+    → ComesTo world call states None → IsOpenAt world.says (in_call_order call) states bad → IsOpenAtPassport world call bad
 open_passport law world call states bad right comes o = record {
   at = o.at;
   here = o.here;
   is = o.is;
   stands = o.place;
-  signed = rule_holds law world late.Asked call.moment (in_chain call) states right comes.asked;
-  before = genuine_before law world (in_chain call) states o.at right o.before;
+  signed = rule_holds law world late.Asked call.moment (in_call_order call) states right comes.asked;
+  before = genuine_before law world (in_call_order call) states o.at right o.before;
 }
 
-pub may_be_unasked : AnsweredLaw → (world : World) (call : Call) (states : List State) (bad : Place) → HoldAll early_rules call → AreRight world (in_chain call) states
-    → first_rule rules_before world.table call.moment (in_chain call) states ≡ Some (events.Unasked bad) → MayBeUnasked world call bad
+pub may_be_unasked : AnsweredLaw → (world : World) (call : Call) (states : List State) (bad : Place) → HoldAll early_rules call → AreRight world (in_call_order call) states
+    → first_rule rules_before world.table call.moment (in_call_order call) states ≡ Some (events.Unasked bad) → MayBeUnasked world call bad
 may_be_unasked law world call states bad early right h =
     let comes = open_comes world call states bad h in
     record { early = early; chains = chains_hold law world call states _ right comes; signatures = inl (open_chain law world call states bad right comes) }
 
-pub may_be_unasked_here : AnsweredLaw → (world : World) (call : Call) (states : List State) (bad : Place) → HoldAll early_rules call → AreRight world (in_chain call) states
-    → first_rule rules_before world.table call.moment (in_chain call) states ≡ None → IsOpenAt world.says (in_chain call) states bad → MayBeUnasked world call bad
+pub may_be_unasked_here : AnsweredLaw → (world : World) (call : Call) (states : List State) (bad : Place) → HoldAll early_rules call → AreRight world (in_call_order call) states
+    → first_rule rules_before world.table call.moment (in_call_order call) states ≡ None → IsOpenAt world.says (in_call_order call) states bad → MayBeUnasked world call bad
 may_be_unasked_here law world call states bad early right h o =
     let comes = none_comes world call states h in
     record { early = early; chains = chains_hold law world call states _ right comes; signatures = inr (open_passport law world call states bad right comes o) }

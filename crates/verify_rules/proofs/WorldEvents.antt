@@ -9,8 +9,8 @@ use Rattle.cert_store.specs.declared.judged.Asked.{Asked}
 use Rattle.cert_store.specs.declared.judged.Asked.TheVariants.{NotAsked, Yes, No, Failed}
 use Rattle.delegation.specs.Coverage.{Table}
 use Rattle.x509_profile.specs.View.{CertView}
-use Rattle.verify_rules.specs.Call.{Call, Reading, in_chain}
-use Rattle.verify_rules.specs.Late.{asking, at_asking, at_rule, by_answer, event_of, first_event, first_rule, is_signed_by, number, rules_after, rules_before, tell, told_by, unless_signed}
+use Rattle.verify_rules.specs.Call.{Call, Reading, in_call_order}
+use Rattle.verify_rules.specs.Late.{asking, at_asking, at_rule, by_answer, event_of, first_event, first_rule, is_signed_by, number, rules_after, rules_before, tell, rule_event, unless_signed}
 use Rattle.verify_rules.specs.Rules.{Rule, each, first, or_later, refusal}
 use Rattle.verify_rules.specs.States.{State, have, no_chain, long, unread}
 use Rattle.verify_rules.specs.World.{World, asking_rule, broken_by, content_of, forged, forged_by, late_rule, late_rules, part_at, truth_by, truth_for, truth_of, truths, unless_good}
@@ -18,11 +18,11 @@ use Rattle.verify_rules.specs.declared.late.Event.{Event}
 use Rattle.verify_rules.specs.declared.late.Event.TheVariants as events
 use Rattle.verify_rules.specs.declared.late.LateRule.{LateRule}
 use Rattle.verify_rules.specs.declared.late.LateRule.TheVariants as late
-use Rattle.verify_rules.specs.declared.late.Told.{Told}
-use Rattle.verify_rules.specs.declared.late.Told.TheVariants as told
+use Rattle.verify_rules.specs.declared.late.RuleResult.{RuleResult}
+use Rattle.verify_rules.specs.declared.late.RuleResult.TheVariants as results
 use Rattle.verify_rules.specs.declared.refusal.Place.{Place}
 use Rattle.verify_rules.specs.declared.refusal.Refusal.{Refusal}
-use Rattle.verify_rules.proofs.ToldLaws.{IsDefinite, judged_definite, unjudged_definite}
+use Rattle.verify_rules.proofs.ResultLaws.{IsDefinite, judged_definite, unjudged_definite}
 
 -- what the rules on a chain say leaves no question unanswered
 abbrev pub AnsweredLaw : Type 0
@@ -76,11 +76,11 @@ abbrev pub refused_event : Option Refusal → Option Event
 refused_event None = None
 refused_event (Some refused) = Some (events.Refused refused)
 
-event_is : (n field : ℕ) (said : Told) → IsDefinite said → event_of n field said ≡ broken_event n (part_at field said)
-event_is n field told.Holds d = refl
-event_is n field (told.Broken part) d = refl
-event_is n field told.Unknown d = absurd d
-event_is n field (told.Unasked part) d = absurd d
+event_is : (n field : ℕ) (said : RuleResult) → IsDefinite said → event_of n field said ≡ broken_event n (part_at field said)
+event_is n field results.Holds d = refl
+event_is n field (results.Broken part) d = refl
+event_is n field results.Unknown d = absurd d
+event_is n field (results.Unasked part) d = absurd d
 
 -- ---- one PASSporT
 
@@ -111,12 +111,12 @@ joined : (n : ℕ) (a b : Option Place) → option_or (broken_event n a) (broken
 joined n None b = refl
 joined n (Some bad) b = refl
 
-pub told_is : AnsweredLaw → (world : World) (rule : LateRule) (moment : ℕ) (readings : List Reading)
-    → told_by rule world.table moment readings (truths world readings) ≡ broken_event (number rule) (each (broken_by world rule moment) readings)
-told_is law world rule moment [] = refl
-told_is law world rule moment (one ∷ others) =
-    ap (λ x. option_or x (told_by rule world.table moment others (truths world others))) (rule_is law world rule moment one)
-    ∙ ap (option_or (broken_event (number rule) (broken_by world rule moment one))) (told_is law world rule moment others)
+pub rule_event_is : AnsweredLaw → (world : World) (rule : LateRule) (moment : ℕ) (readings : List Reading)
+    → rule_event rule world.table moment readings (truths world readings) ≡ broken_event (number rule) (each (broken_by world rule moment) readings)
+rule_event_is law world rule moment [] = refl
+rule_event_is law world rule moment (one ∷ others) =
+    ap (λ x. option_or x (rule_event rule world.table moment others (truths world others))) (rule_is law world rule moment one)
+    ∙ ap (option_or (broken_event (number rule) (broken_by world rule moment one))) (rule_event_is law world rule moment others)
     ∙ joined (number rule) (broken_by world rule moment one) (each (broken_by world rule moment) others)
 
 pub asking_is : AnsweredLaw → (world : World) (readings : List Reading) → asking world.says readings (truths world readings) ≡ broken_event 16 (each (forged world) readings)
@@ -133,12 +133,12 @@ later_or n None later = refl
 later_or n (Some bad) later = refl
 
 rules_are : AnsweredLaw → (world : World) (call : Call) (rules : List LateRule)
-    → first_rule rules world.table call.moment (in_chain call) (truths world (in_chain call)) ≡ refused_event (first (map (late_rule world) rules) call)
+    → first_rule rules world.table call.moment (in_call_order call) (truths world (in_call_order call)) ≡ refused_event (first (map (late_rule world) rules) call)
 rules_are law world call [] = refl
 rules_are law world call (rule ∷ rules) =
-    ap (λ x. option_or x (first_rule rules world.table call.moment (in_chain call) (truths world (in_chain call)))) (told_is law world rule call.moment (in_chain call))
-    ∙ ap (option_or (broken_event (number rule) (each (broken_by world rule call.moment) (in_chain call)))) (rules_are law world call rules)
-    ∙ later_or (number rule) (each (broken_by world rule call.moment) (in_chain call)) (first (map (late_rule world) rules) call)
+    ap (λ x. option_or x (first_rule rules world.table call.moment (in_call_order call) (truths world (in_call_order call)))) (rule_event_is law world rule call.moment (in_call_order call))
+    ∙ ap (option_or (broken_event (number rule) (each (broken_by world rule call.moment) (in_call_order call)))) (rules_are law world call rules)
+    ∙ later_or (number rule) (each (broken_by world rule call.moment) (in_call_order call)) (first (map (late_rule world) rules) call)
 
 behind : (n : ℕ) (bad : Option Place) (a b : Option Refusal) → or_later n bad (option_or a b) ≡ option_or (or_later n bad a) b
 behind n None a b = refl
@@ -156,15 +156,15 @@ both_refused (Some refused) b = refl
 
 -- the first event over what there is to know is the first broken rule of 10 to 17
 pub late_first : AnsweredLaw → (world : World) (call : Call)
-    → first_event world.says world.table call.moment (in_chain call) (truths world (in_chain call)) ≡ refused_event (first (late_rules world) call)
+    → first_event world.says world.table call.moment (in_call_order call) (truths world (in_call_order call)) ≡ refused_event (first (late_rules world) call)
 late_first law world call =
     let before : Option Refusal = first (map (late_rule world) rules_before) call in
     let after : Option Refusal = first (map (late_rule world) rules_after) call in
-    let behind_it : Option Event = first_rule rules_after world.table call.moment (in_chain call) (truths world (in_chain call)) in
-    let asked : Option Event = asking world.says (in_chain call) (truths world (in_chain call)) in
-    let forgery : Option Place = each (forged world) (in_chain call) in
+    let behind_it : Option Event = first_rule rules_after world.table call.moment (in_call_order call) (truths world (in_call_order call)) in
+    let asked : Option Event = asking world.says (in_call_order call) (truths world (in_call_order call)) in
+    let forgery : Option Place = each (forged world) (in_call_order call) in
     ap (λ x. option_or x (option_or asked behind_it)) (rules_are law world call rules_before)
     ∙ ap (option_or (refused_event before))
-    (ap (λ x. option_or x behind_it) (asking_is law world (in_chain call)) ∙ ap (option_or (broken_event 16 forgery)) (rules_are law world call rules_after) ∙ later_or 16 forgery after)
+    (ap (λ x. option_or x behind_it) (asking_is law world (in_call_order call)) ∙ ap (option_or (broken_event 16 forgery)) (rules_are law world call rules_after) ∙ later_or 16 forgery after)
     ∙ both_refused before (or_later 16 forgery after)
     ∙ ap refused_event (sym (first_append (map (late_rule world) rules_before) (asking_rule world ∷ map (late_rule world) rules_after) call))

@@ -8,7 +8,7 @@ use Rattle.delegation.specs.Coverage.{Table}
 use Rattle.cert_store.specs.ChainMap.{listed}
 use Rattle.cert_store.specs.Judged.{JudgedAs, JudgedView, judged_of}
 use Rattle.cert_store.specs.Rules.{Says}
-use Rattle.verify_rules.specs.Call.{Call, Reading, in_chain}
+use Rattle.verify_rules.specs.Call.{Call, Reading, in_call_order}
 use Rattle.verify_rules.specs.Rules.{early_rules}
 use Rattle.verify_rules.specs.Screened.{IsScreenedBy, ScreenedView, digest_in, last_of, last_of_call, screened_by, screened_of, ticket_of}
 use Rattle.verify_rules.specs.States.{State, have, long, no_chain, unread}
@@ -16,7 +16,7 @@ use Rattle.verify_rules.specs.World.{AreRight, IsJudgedBy, IsRight, World, truth
 
 -- ---- screened
 
-readings_are : (call : Call) (screened : ScreenedView) → screened ≡ screened_of call → screened.readings ≡ in_chain call
+readings_are : (call : Call) (screened : ScreenedView) → screened ≡ screened_of call → screened.readings ≡ in_call_order call
 unfolding screened_by
 readings_are call screened is = ap (λ (x : ScreenedView). x.readings) is
 

@@ -3,7 +3,7 @@ use Rattle.std.proofs.Common.{◌≡◌, inl, inr, ℕ, List, Option, Some, None
 use Rattle.std.specs.Option.{option_or}
 use Rattle.cert_store.specs.Rules.{Says}
 use Rattle.delegation.specs.Coverage.{Table}
-use Rattle.verify_rules.specs.Call.{Call, Reading, in_chain}
+use Rattle.verify_rules.specs.Call.{Call, Reading, in_call_order}
 use Rattle.verify_rules.specs.Late.{first_event}
 use Rattle.verify_rules.specs.Rules.{early_rules, first}
 use Rattle.verify_rules.specs.States.{State}
@@ -43,14 +43,14 @@ some_refused (Some refused) given (inl same) = cc
 some_refused (Some refused) given (inr aside) = absurd aside
 
 -- the first broken rule of 10 to 17 agrees with the event over what is known of the chains
-late_agrees : AnsweredLaw → (world : World) (call : Call) (states : List State) (event : Option Event) → AreRight world (in_chain call) states
-    → first_event world.says world.table call.moment (in_chain call) states ≡ event → Agrees (refused_event (first (late_rules world) call)) event
+late_agrees : AnsweredLaw → (world : World) (call : Call) (states : List State) (event : Option Event) → AreRight world (in_call_order call) states
+    → first_event world.says world.table call.moment (in_call_order call) states ≡ event → Agrees (refused_event (first (late_rules world) call)) event
 late_agrees law world call states event right is =
     subst (λ x. Agrees x event) (late_first law world call)
-    (subst (Agrees (first_event world.says world.table call.moment (in_chain call) _)) is (first_agrees world call.moment (in_chain call) states right))
+    (subst (Agrees (first_event world.says world.table call.moment (in_call_order call) _)) is (first_agrees world call.moment (in_call_order call) states right))
 
-verdict_by : AnsweredLaw → (world : World) (call : Call) (states : List State) (faults faults_now : ℕ) (verdict : Verdict) → first early_rules call ≡ None → AreRight world (in_chain call) states
-    → IsVerdict world.says world.table call.moment (in_chain call) states faults faults_now verdict → VerdictOf world call verdict
+verdict_by : AnsweredLaw → (world : World) (call : Call) (states : List State) (faults faults_now : ℕ) (verdict : Verdict) → first early_rules call ≡ None → AreRight world (in_call_order call) states
+    → IsVerdict world.says world.table call.moment (in_call_order call) states faults faults_now verdict → VerdictOf world call verdict
 verdict_by law world call states faults faults_now Passed early right h =
     first_late world call early ∙ none_refused (first (late_rules world) call) (late_agrees law world call states _ right h)
 verdict_by law world call states faults faults_now (Refused refused) early right h =

@@ -24,27 +24,27 @@ use Rattle.verify_rules.specs.declared.late.Event.{Event}
 use Rattle.verify_rules.specs.declared.late.Event.TheVariants as events
 use Rattle.verify_rules.specs.declared.late.LateRule.{LateRule}
 use Rattle.verify_rules.specs.declared.late.LateRule.TheVariants as late
-use Rattle.verify_rules.specs.declared.late.Told.{Told}
-use Rattle.verify_rules.specs.declared.late.Told.TheVariants as told
+use Rattle.verify_rules.specs.declared.late.RuleResult.{RuleResult}
+use Rattle.verify_rules.specs.declared.late.RuleResult.TheVariants as results
 
 -- ---- what a rule says of one PASSporT: it holds; it is broken at this part, a certificate's number or 0; nothing, since the chain isn't
 -- known; or nothing, since the provider failed at the signature of this certificate
 
-abbrev pub by_part : Option ℕ → Told
-by_part None = told.Holds
-by_part (Some part) = told.Broken part
+abbrev pub by_part : Option ℕ → RuleResult
+by_part None = results.Holds
+by_part (Some part) = results.Broken part
 
-abbrev pub or_broken : Bool → Told
-or_broken true = told.Holds
-or_broken false = told.Broken 0
+abbrev pub or_broken : Bool → RuleResult
+or_broken true = results.Holds
+or_broken false = results.Broken 0
 
 -- ---- rule 15, by how the signatures of the chain were answered for (RFC 5280, section 6.1.3)
 
-abbrev pub by_answer : Asked → Told
-by_answer NotAsked = told.Holds
-by_answer Yes = told.Holds
-by_answer (No part) = told.Broken part
-by_answer (Failed part) = told.Unasked part
+abbrev pub by_answer : Asked → RuleResult
+by_answer NotAsked = results.Holds
+by_answer Yes = results.Holds
+by_answer (No part) = results.Broken part
+by_answer (Failed part) = results.Unasked part
 
 -- ---- rule 16, the signature of the PASSporT under the leaf's key (RFC 8224, section 6.2)
 
@@ -90,8 +90,8 @@ number late.Asked = 15
 number late.Covers = 17
 
 -- of a chain that was judged
-abbrev pub tell_judged : LateRule → Table → ℕ → Reading → JudgedView → Told
-tell_judged late.Listed table moment one judged = told.Holds
+abbrev pub tell_judged : LateRule → Table → ℕ → Reading → JudgedView → RuleResult
+tell_judged late.Listed table moment one judged = results.Holds
 tell_judged late.Profile table moment one judged = by_part judged.profile
 tell_judged late.Shape table moment one judged = by_part judged.shape
 tell_judged late.Dates table moment one judged = by_part (out_of_date judged moment)
@@ -100,39 +100,39 @@ tell_judged late.Asked table moment one judged = by_answer judged.asked
 tell_judged late.Covers table moment one judged = or_broken (covers_leaf table one.passport (slice_get judged.certificates 0))
 
 -- rule 10 alone looks at a chain that isn't there (RFC 8224, section 6.2.2)
-abbrev pub tell_missing : LateRule → Told
-tell_missing late.Listed = told.Broken 0
-tell_missing late.Profile = told.Holds
-tell_missing late.Shape = told.Holds
-tell_missing late.Dates = told.Holds
-tell_missing late.Authority = told.Holds
-tell_missing late.Asked = told.Holds
-tell_missing late.Covers = told.Holds
+abbrev pub tell_missing : LateRule → RuleResult
+tell_missing late.Listed = results.Broken 0
+tell_missing late.Profile = results.Holds
+tell_missing late.Shape = results.Holds
+tell_missing late.Dates = results.Holds
+tell_missing late.Authority = results.Holds
+tell_missing late.Asked = results.Holds
+tell_missing late.Covers = results.Holds
 
 -- rule 11 alone looks at one whose file is too long (the limit is this project's own)
-abbrev pub tell_long : LateRule → Told
-tell_long late.Listed = told.Holds
-tell_long late.Profile = told.Broken 0
-tell_long late.Shape = told.Holds
-tell_long late.Dates = told.Holds
-tell_long late.Authority = told.Holds
-tell_long late.Asked = told.Holds
-tell_long late.Covers = told.Holds
+abbrev pub tell_long : LateRule → RuleResult
+tell_long late.Listed = results.Holds
+tell_long late.Profile = results.Broken 0
+tell_long late.Shape = results.Holds
+tell_long late.Dates = results.Holds
+tell_long late.Authority = results.Holds
+tell_long late.Asked = results.Holds
+tell_long late.Covers = results.Holds
 
 -- of a chain that isn't known no rule says anything
-abbrev pub tell : LateRule → Table → ℕ → Reading → State → Told
+abbrev pub tell : LateRule → Table → ℕ → Reading → State → RuleResult
 tell rule table moment one (have judged) = tell_judged rule table moment one judged
 tell rule table moment one no_chain = tell_missing rule
 tell rule table moment one long = tell_long rule
-tell rule table moment one unread = told.Unknown
+tell rule table moment one unread = results.Unknown
 
 -- ---- the first event: a rule is broken, a chain isn't known, or whether a certificate is signed isn't known
 
-abbrev pub event_of : ℕ → ℕ → Told → Option Event
-event_of rule field told.Holds = None
-event_of rule field (told.Broken part) = Some (events.Refused (refusal rule (place field part)))
-event_of rule field told.Unknown = Some (events.Unread (place field 0))
-event_of rule field (told.Unasked part) = Some (events.Unasked (place field part))
+abbrev pub event_of : ℕ → ℕ → RuleResult → Option Event
+event_of rule field results.Holds = None
+event_of rule field (results.Broken part) = Some (events.Refused (refusal rule (place field part)))
+event_of rule field results.Unknown = Some (events.Unread (place field 0))
+event_of rule field (results.Unasked part) = Some (events.Unasked (place field part))
 
 -- what a rule makes of one PASSporT
 unfoldable pub at_rule : LateRule → Table → ℕ → Reading → State → Option Event
@@ -155,8 +155,8 @@ first_of at [] states = None
 first_of at (one ∷ others) [] = None
 first_of at (one ∷ others) (state ∷ states) = option_or (at one state) (first_of at others states)
 
-abbrev pub told_by : LateRule → Table → ℕ → List Reading → List State → Option Event
-told_by rule table moment readings states = first_of (at_rule rule table moment) readings states
+abbrev pub rule_event : LateRule → Table → ℕ → List Reading → List State → Option Event
+rule_event rule table moment readings states = first_of (at_rule rule table moment) readings states
 
 abbrev pub asking : Says → List Reading → List State → Option Event
 asking says readings states = first_of (at_asking says) readings states
@@ -164,7 +164,7 @@ asking says readings states = first_of (at_asking says) readings states
 -- the first of these rules that makes something of them
 abbrev pub first_rule : List LateRule → Table → ℕ → List Reading → List State → Option Event
 first_rule [] table moment readings states = None
-first_rule (rule ∷ rules) table moment readings states = option_or (told_by rule table moment readings states) (first_rule rules table moment readings states)
+first_rule (rule ∷ rules) table moment readings states = option_or (rule_event rule table moment readings states) (first_rule rules table moment readings states)
 
 -- those before rule 16, and those behind it
 abbrev pub rules_before : List LateRule

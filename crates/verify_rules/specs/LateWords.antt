@@ -13,7 +13,7 @@ use Rattle.cert_store.specs.Words.{IsAuthorized, IsSigned, IsValid}
 use Rattle.passport_claims.specs.declared.kind.Attest.TheVariants as levels
 use Rattle.passport_claims.specs.declared.kind.Kind.{Kind}
 use Rattle.passport_claims.specs.declared.kind.Kind.TheVariants as kinds
-use Rattle.verify_rules.specs.Call.{Call, Reading, in_chain}
+use Rattle.verify_rules.specs.Call.{Call, Reading, in_call_order}
 use Rattle.verify_rules.specs.Words.{Each}
 use Rattle.verify_rules.specs.World.{World}
 use Rattle.verify_rules.specs.declared.verdict.Verdict.{Verdict}
@@ -115,11 +115,11 @@ MeansLate number P (Unasked bad) = number < 15 → P
 
 -- each of rules 10 to 17, of each PASSporT in the order in which the call went
 pub record SaysLateWords (world : World) (call : Call) (verdict : Verdict) : Type 0 where
-  pub files : MeansLate 10 (Each (IsListed world) (in_chain call)) verdict
-  pub profile : MeansLate 11 (Each (IsInProfile world) (in_chain call)) verdict
-  pub paths : MeansLate 12 (Each (IsAnchored world) (in_chain call)) verdict
-  pub dates : MeansLate 13 (Each (IsInDate world call.moment) (in_chain call)) verdict
-  pub authority : MeansLate 14 (Each (HasAuthority world) (in_chain call)) verdict
-  pub certificates : MeansLate 15 (Each (IsCertified world) (in_chain call)) verdict
-  pub signatures : MeansLate 16 (Each (IsGenuine world) (in_chain call)) verdict
-  pub coverage : MeansLate 17 (Each (IsCovered world) (in_chain call)) verdict
+  pub files : MeansLate 10 (Each (IsListed world) (in_call_order call)) verdict
+  pub profile : MeansLate 11 (Each (IsInProfile world) (in_call_order call)) verdict
+  pub paths : MeansLate 12 (Each (IsAnchored world) (in_call_order call)) verdict
+  pub dates : MeansLate 13 (Each (IsInDate world call.moment) (in_call_order call)) verdict
+  pub authority : MeansLate 14 (Each (HasAuthority world) (in_call_order call)) verdict
+  pub certificates : MeansLate 15 (Each (IsCertified world) (in_call_order call)) verdict
+  pub signatures : MeansLate 16 (Each (IsGenuine world) (in_call_order call)) verdict
+  pub coverage : MeansLate 17 (Each (IsCovered world) (in_call_order call)) verdict

@@ -11,7 +11,7 @@ use Rattle.sip_message.specs.Accessors.{is_invite}
 use Rattle.sip_message.specs.Message.{MessageView}
 use Rattle.sip_message.specs.declared.fault.FormFault.{FormFault}
 use Rattle.passport_claims.specs.Passport.{is_text}
-use Rattle.verify_rules.specs.Call.{Call, IdentityField, Reading, facts, fields_of, in_chain, in_message, is_absent, judged_fields, originating, read_field, turn_of, values_of}
+use Rattle.verify_rules.specs.Call.{Call, IdentityField, Reading, facts, fields_of, in_call_order, in_message, is_absent, judged_fields, originating, read_field, turn_of, values_of}
 use Rattle.verify_rules.specs.declared.facts.Facts.{Facts}
 use Rattle.verify_rules.specs.declared.refusal.Place.{Place}
 use Rattle.verify_rules.specs.declared.refusal.Refusal.{Refusal}
@@ -136,7 +136,7 @@ abbrev pub rule_8 : Rule
 rule_8 = record { number = 8; broken = λ call. no_order (in_message call) (turn_of (facts call) (in_message call)) }
 
 abbrev pub rule_9 : Rule
-rule_9 = record { number = 9; broken = λ call. each (stale call.settings.window call.moment) (in_chain call) }
+rule_9 = record { number = 9; broken = λ call. each (stale call.settings.window call.moment) (in_call_order call) }
 
 -- those on what the PASSporTs say, on the Identity fields, and on all that the call itself says
 abbrev pub chain_rules : List Rule

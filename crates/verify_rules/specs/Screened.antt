@@ -4,7 +4,7 @@ use Rattle.std.specs.List.{slice_get}
 use Rattle.std.specs.Option.{option_map}
 use Rattle.passport_claims.specs.Links.{IsOneOf}
 use Rattle.passport_claims.specs.Passport.{ClaimsView}
-use Rattle.verify_rules.specs.Call.{Call, Reading, in_chain, reading}
+use Rattle.verify_rules.specs.Call.{Call, Reading, in_call_order, reading}
 use Rattle.verify_rules.specs.Rules.{HoldAll, IsFirst, Rule, first}
 use Rattle.verify_rules.specs.declared.readings.Mark.{Mark}
 use Rattle.verify_rules.specs.declared.refusal.ScreenFault.{ScreenFault}
@@ -36,15 +36,15 @@ unfoldable pub screened_by : ℕ → List Reading → ScreenedView
 screened_by window readings = record { readings = readings; last = iat_or_none (last_of readings) + window }
 
 abbrev pub screened_of : Call → ScreenedView
-screened_of call = screened_by call.settings.window (in_chain call)
+screened_of call = screened_by call.settings.window (in_call_order call)
 
 -- the ticket by which a call is known again: the digest of its last PASSporT
 abbrev pub ticket_of : Call → Option (List ℕ)
-ticket_of call = option_map digest_in (last_of (in_chain call))
+ticket_of call = option_map digest_in (last_of (in_call_order call))
 
 -- the last second at which a call is fresh: the iat of its last PASSporT, and the window
 abbrev pub last_of_call : Call → ℕ
-last_of_call call = iat_or_none (last_of (in_chain call)) + call.settings.window
+last_of_call call = iat_or_none (last_of (in_call_order call)) + call.settings.window
 
 -- ---- how they are kept
 

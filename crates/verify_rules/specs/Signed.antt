@@ -7,13 +7,13 @@ use Rattle.passport_json.specs.Signed.{payload_in}
 use Rattle.passport_json.specs.Signing.{Ticket}
 use Rattle.passport_json.specs.Token.{read_token}
 use Rattle.passport_json.specs.View.{TokenView}
-use Rattle.verify_rules.specs.Call.{Call, IdentityField, Reading, facts, fields_of, given_to_compact, in_chain, judged_fields, mark_of}
+use Rattle.verify_rules.specs.Call.{Call, IdentityField, Reading, facts, fields_of, given_to_compact, in_call_order, judged_fields, mark_of}
 use Rattle.verify_rules.specs.Screened.{last_of, last_of_call, ticket_of}
 
 -- The last PASSporT is that of one of the judged fields, whose text is a token for the message; and this was signed as it.
 pub record IsSigned (call : Call) (signing : List ℕ) : Type 0 where
   pub one : Reading
-  pub last : last_of (in_chain call) ≡ Some one
+  pub last : last_of (in_call_order call) ≡ Some one
   pub field : IdentityField
   pub at : ℕ
   pub judged : slice_get (judged_fields (fields_of call)) at ≡ Some field

@@ -7,7 +7,7 @@ use Rattle.cert_store.specs.Rules.{Says}
 use Rattle.cert_store.specs.declared.judged.Asked.TheVariants.{Failed}
 use Rattle.delegation.specs.Coverage.{Table}
 use Rattle.verify_rules.specs.Call.{Reading}
-use Rattle.verify_rules.specs.Late.{asking, first_event, first_rule, rules_before, told_by}
+use Rattle.verify_rules.specs.Late.{asking, first_event, first_rule, rules_before, rule_event}
 use Rattle.verify_rules.specs.Rules.{place}
 use Rattle.verify_rules.specs.States.{State, have, no_chain, long, unread}
 use Rattle.verify_rules.specs.declared.late.Event.{Event}
@@ -46,7 +46,7 @@ pub record IsOpenAt (says : Says) (readings : List Reading) (states : List State
 abbrev pub IsVerdict : Says → Table → ℕ → List Reading → List State → ℕ → ℕ → Verdict → Type 0
 IsVerdict says table moment readings states faults faults_now Passed = first_event says table moment readings states ≡ None
 IsVerdict says table moment readings states faults faults_now (Refused refused) = first_event says table moment readings states ≡ Some (events.Refused refused)
-IsVerdict says table moment readings states faults faults_now (Unread bad) = told_by late.Listed table moment readings states ≡ Some (events.Unread bad)
+IsVerdict says table moment readings states faults faults_now (Unread bad) = rule_event late.Listed table moment readings states ≡ Some (events.Unread bad)
 IsVerdict says table moment readings states faults faults_now (Unasked bad) =
     (first_rule rules_before table moment readings states ≡ Some (events.Unasked bad))
     ⊎ ((first_rule rules_before table moment readings states ≡ None) × Rose faults faults_now × IsOpenAt says readings states bad)

@@ -9,7 +9,7 @@ use Rattle.passport_json.specs.Token.{TokenText}
 use Rattle.passport_json.specs.View.{TokenView}
 use Rattle.sip_message.specs.Head.{Head}
 use Rattle.sip_message.specs.Message.{MessageView}
-use Rattle.verify_rules.specs.Call.{Call, IdentityField, Reading, called_by, facts, fields_of, in_chain, in_message, judged_fields, given_to_compact, mark_of, passports_of, values_of}
+use Rattle.verify_rules.specs.Call.{Call, IdentityField, Reading, called_by, facts, fields_of, in_call_order, in_message, judged_fields, given_to_compact, mark_of, passports_of, values_of}
 use Rattle.verify_rules.specs.Screened.{ScreenedView}
 use Rattle.verify_rules.specs.declared.facts.Facts.{Facts}
 use Rattle.verify_rules.specs.declared.refusal.ScreenFault.{ScreenFault}
@@ -109,4 +109,4 @@ pub record SaysWords (bytes : List ℕ) (call : Call) (result : Result ScreenedV
   pub read : SpeaksOfRead call result
   pub calling : Means 7 (Each (IsFrom (facts call).calling) (in_message call)) result
   pub order : Means 8 (CallHasOrder call) result
-  pub fresh : Means 9 (Each (IsFresh call.settings.window call.moment) (in_chain call)) result
+  pub fresh : Means 9 (Each (IsFresh call.settings.window call.moment) (in_call_order call)) result

@@ -8,14 +8,14 @@ use Rattle.cert_store.specs.Asking.{IsOpen}
 use Rattle.cert_store.specs.ChainMap.{listed}
 use Rattle.cert_store.specs.Judged.{JudgedAs, JudgedView, judged_of}
 use Rattle.cert_store.specs.Rules.{Says}
-use Rattle.verify_rules.specs.Call.{Call, Reading, in_chain}
+use Rattle.verify_rules.specs.Call.{Call, Reading, in_call_order}
 use Rattle.verify_rules.specs.Late.{is_signed_by, number, rules_after, rules_before, tell}
 use Rattle.verify_rules.specs.Rules.{HoldAll, Rule, early_rules, each, first, place}
 use Rattle.verify_rules.specs.States.{State, have, no_chain, long, unread}
 use Rattle.verify_rules.specs.declared.late.LateRule.{LateRule}
 use Rattle.verify_rules.specs.declared.late.LateRule.TheVariants as late
-use Rattle.verify_rules.specs.declared.late.Told.{Told}
-use Rattle.verify_rules.specs.declared.late.Told.TheVariants as told
+use Rattle.verify_rules.specs.declared.late.RuleResult.{RuleResult}
+use Rattle.verify_rules.specs.declared.late.RuleResult.TheVariants as results
 use Rattle.verify_rules.specs.declared.refusal.Place.{Place}
 use Rattle.verify_rules.specs.declared.refusal.Refusal.{Refusal}
 use Rattle.verify_rules.specs.declared.verdict.Verdict.{Verdict}
@@ -62,18 +62,18 @@ truths world readings = map (truth_for world) readings
 -- ---- the rules over the world, as rules of a call
 
 -- where a rule is broken by what it says of a PASSporT whose field has this number
-abbrev pub part_at : ℕ → Told → Option Place
-part_at field told.Holds = None
-part_at field (told.Broken part) = Some (place field part)
-part_at field told.Unknown = None
-part_at field (told.Unasked part) = None
+abbrev pub part_at : ℕ → RuleResult → Option Place
+part_at field results.Holds = None
+part_at field (results.Broken part) = Some (place field part)
+part_at field results.Unknown = None
+part_at field (results.Unasked part) = None
 
 -- where a PASSporT breaks one of rules 10 to 15 or rule 17
 unfoldable pub broken_by : World → LateRule → ℕ → Reading → Option Place
 broken_by world rule moment one = part_at one.mark.field (tell rule world.table moment one (truth_for world one))
 
 abbrev pub late_rule : World → LateRule → Rule
-late_rule world rule = record { number = number rule; broken = λ call. each (broken_by world rule call.moment) (in_chain call) }
+late_rule world rule = record { number = number rule; broken = λ call. each (broken_by world rule call.moment) (in_call_order call) }
 
 abbrev pub unless_good : ℕ → Bool → Option Place
 unless_good field true = None
@@ -90,7 +90,7 @@ unfoldable pub forged : World → Reading → Option Place
 forged world one = forged_by world one (truth_for world one)
 
 abbrev pub asking_rule : World → Rule
-asking_rule world = record { number = 16; broken = λ call. each (forged world) (in_chain call) }
+asking_rule world = record { number = 16; broken = λ call. each (forged world) (in_call_order call) }
 
 -- those that ask for no signature before the first that does
 abbrev pub unsigned_rules : List LateRule
@@ -131,7 +131,7 @@ AreRight world (one ∷ others) (state ∷ states) = IsRight world one.passport.
 -- The call breaks none of rules 1 to 9; these are its PASSporTs and its moment; and the codes and the signatures are those of the world.
 pub record IsJudgedBy (world : World) (call : Call) (table : Table) (says : Says) (moment : ℕ) (readings : List Reading) : Type 0 where
   pub early : first early_rules call ≡ None
-  pub in_order : readings ≡ in_chain call
+  pub in_order : readings ≡ in_call_order call
   pub now : moment ≡ call.moment
   pub grants : table ≡ world.table
   pub answers : says ≡ world.says
@@ -143,21 +143,21 @@ pub record MayBeUnread (world : World) (call : Call) (bad : Place) : Type 0 wher
   pub early : HoldAll early_rules call
   pub at : ℕ
   pub here : Reading
-  pub is : slice_get (in_chain call) at ≡ Some here
+  pub is : slice_get (in_call_order call) at ≡ Some here
   pub stands : bad ≡ place here.mark.field 0
   pub name : List ℕ
   pub named : listed world.chains here.passport.x5u ≡ Some name
-  pub before : each (broken_by world late.Listed call.moment) (take at (in_chain call)) ≡ None
+  pub before : each (broken_by world late.Listed call.moment) (take at (in_call_order call)) ≡ None
 
 -- The place is that of a certificate; rule 15 holds for each PASSporT before, and for each certificate before it in its chain.
 pub record IsOpenAtChain (world : World) (call : Call) (bad : Place) : Type 0 where
   pub at : ℕ
   pub here : Reading
-  pub is : slice_get (in_chain call) at ≡ Some here
+  pub is : slice_get (in_call_order call) at ≡ Some here
   pub part : ℕ
   pub some : 1 ≤ part
   pub stands : bad ≡ place here.mark.field part
-  pub before : each (broken_by world late.Asked call.moment) (take at (in_chain call)) ≡ None
+  pub before : each (broken_by world late.Asked call.moment) (take at (in_call_order call)) ≡ None
   pub truth : JudgedView
   pub known : truth_for world here ≡ have truth
   pub certificates : IsOpen part truth.asked
@@ -166,10 +166,10 @@ pub record IsOpenAtChain (world : World) (call : Call) (bad : Place) : Type 0 wh
 pub record IsOpenAtPassport (world : World) (call : Call) (bad : Place) : Type 0 where
   pub at : ℕ
   pub here : Reading
-  pub is : slice_get (in_chain call) at ≡ Some here
+  pub is : slice_get (in_call_order call) at ≡ Some here
   pub stands : bad ≡ place here.mark.field 0
-  pub signed : each (broken_by world late.Asked call.moment) (in_chain call) ≡ None
-  pub before : each (forged world) (take at (in_chain call)) ≡ None
+  pub signed : each (broken_by world late.Asked call.moment) (in_call_order call) ≡ None
+  pub before : each (forged world) (take at (in_call_order call)) ≡ None
 
 -- Rules 1 to 14 hold; and 15 up to some certificate, or 15 wholly and 16 up to some PASSporT.
 pub record MayBeUnasked (world : World) (call : Call) (bad : Place) : Type 0 where

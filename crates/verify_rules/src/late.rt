@@ -32,7 +32,7 @@ pub(crate) enum LateRule {
 
 /// What a rule says of one PASSporT.
 #[derive(Clone, Copy)]
-pub(crate) enum Told {
+pub(crate) enum RuleResult {
     /// It holds.
     Holds,
     /// It is broken at the certificate of this number, or at 0 where none is meant.
@@ -77,23 +77,29 @@ impl LateRule {
         moment: u64,
         one: &Taken<'_>,
         state: ChainState<'_>,
-    ) -> Told
+    ) -> RuleResult
         ensures { result ≡ tell self table.now moment (taken_seen one.now) (seen state.entry) }
     {
         match state {
             ChainState::Have(judged) => self.tell_judged(table, moment, one, judged),
             ChainState::NoChain => self.tell_missing(),
             ChainState::Long => self.tell_long(),
-            ChainState::Unread => Told::Unknown,
+            ChainState::Unread => RuleResult::Unknown,
         }
     }
 
     /// What it says where the chain was judged.
-    fn tell_judged(self, table: &CodeTable, moment: u64, one: &Taken<'_>, judged: &Judged) -> Told
+    fn tell_judged(
+        self,
+        table: &CodeTable,
+        moment: u64,
+        one: &Taken<'_>,
+        judged: &Judged,
+    ) -> RuleResult
         ensures { result ≡ tell_judged self table.now moment (taken_seen one.now) judged.now }
     {
         match self {
-            LateRule::Listed => Told::Holds,
+            LateRule::Listed => RuleResult::Holds,
             LateRule::Profile => by_part(judged.profile()),
             LateRule::Shape => by_part(judged.shape()),
             LateRule::Dates => by_part(judged.out_of_date(moment)),
@@ -104,60 +110,64 @@ impl LateRule {
     }
 
     /// What it says where there is no chain.
-    fn tell_missing(self) -> Told
+    fn tell_missing(self) -> RuleResult
         ensures { result ≡ tell_missing self }
     {
         match self {
-            LateRule::Listed => Told::Broken(0),
+            LateRule::Listed => RuleResult::Broken(0),
             LateRule::Profile
             | LateRule::Shape
             | LateRule::Dates
             | LateRule::Authority
             | LateRule::Asked
-            | LateRule::Covers => Told::Holds,
+            | LateRule::Covers => RuleResult::Holds,
         }
     }
 
     /// What it says where the chain's file is too long.
-    fn tell_long(self) -> Told
+    fn tell_long(self) -> RuleResult
         ensures { result ≡ tell_long self }
     {
         match self {
-            LateRule::Profile => Told::Broken(0),
+            LateRule::Profile => RuleResult::Broken(0),
             LateRule::Listed
             | LateRule::Shape
             | LateRule::Dates
             | LateRule::Authority
             | LateRule::Asked
-            | LateRule::Covers => Told::Holds,
+            | LateRule::Covers => RuleResult::Holds,
         }
     }
 }
 
 /// Broken at the part, where there is one.
-fn by_part(part: Option<u8>) -> Told
+fn by_part(part: Option<u8>) -> RuleResult
     ensures { result ≡ by_part part }
 {
     match part {
-        Some(part) => Told::Broken(part),
-        None => Told::Holds,
+        Some(part) => RuleResult::Broken(part),
+        None => RuleResult::Holds,
     }
 }
 
 /// Broken where a signature isn't good.
-fn by_answer(asked: Asked) -> Told
+fn by_answer(asked: Asked) -> RuleResult
     ensures { result ≡ by_answer asked }
 {
     match asked {
-        Asked::NotAsked | Asked::Yes => Told::Holds,
-        Asked::No { part } => Told::Broken(part),
-        Asked::Failed { part } => Told::Unasked(part),
+        Asked::NotAsked | Asked::Yes => RuleResult::Holds,
+        Asked::No { part } => RuleResult::Broken(part),
+        Asked::Failed { part } => RuleResult::Unasked(part),
     }
 }
 
 /// Broken unless it holds.
-fn or_broken(holds: bool) -> Told
+fn or_broken(holds: bool) -> RuleResult
     ensures { result ≡ or_broken holds }
 {
-    if holds { Told::Holds } else { Told::Broken(0) }
+    if holds {
+        RuleResult::Holds
+    } else {
+        RuleResult::Broken(0)
+    }
 }

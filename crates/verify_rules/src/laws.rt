@@ -10,7 +10,7 @@ ghost use Rattle.cert_store.specs.Judged.{JudgedAs, JudgedView, judged_of};
 ghost use Rattle.cert_store.specs.Rules.{Says};
 ghost use Rattle.passport_claims.specs.declared.kind.Kind.{Kind};
 ghost use Rattle.verify_rules.specs.AllWords.{SaysRules};
-ghost use Rattle.verify_rules.specs.Call.{Call, Reading, call_of, in_chain};
+ghost use Rattle.verify_rules.specs.Call.{Call, Reading, call_of, in_call_order};
 ghost use Rattle.verify_rules.specs.Late.{covers_kind};
 ghost use Rattle.verify_rules.specs.LateWords.{CoversKind, SaysLateWords};
 ghost use Rattle.verify_rules.specs.Rules.{HoldAll, Rule, each, early_rules, first};
@@ -112,7 +112,7 @@ pub fn words_law()
 /// the call and of the signatures of its PASSporTs.
 pub fn provider_law()
     ensures certificates { (world : World) (other : Says) (call : Call) → first (certificate_rules (with_says world other)) call ≡ first (certificate_rules world) call }
-    ensures signatures { (world : World) (other : Says) (call : Call) → truths (with_says world other) (in_chain call) ≡ truths world (in_chain call)
-        → each (forged (with_says world other)) (in_chain call) ≡ each (forged world) (in_chain call)
+    ensures signatures { (world : World) (other : Says) (call : Call) → truths (with_says world other) (in_call_order call) ≡ truths world (in_call_order call)
+        → each (forged (with_says world other)) (in_call_order call) ≡ each (forged world) (in_call_order call)
         → first (signature_rules (with_says world other)) call ≡ first (signature_rules world) call }
 {}

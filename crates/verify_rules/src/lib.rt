@@ -6,6 +6,7 @@ mod asking;
 mod chains;
 mod codes;
 mod early;
+mod events;
 mod facts;
 mod fields;
 mod late;
@@ -16,7 +17,6 @@ mod readings;
 mod refusal;
 mod screened;
 mod settings;
-mod told;
 mod turns;
 mod verdict;
 

@@ -8,11 +8,11 @@ ghost use Rattle.verify_rules.specs.World.{AreRight, HoldsBytes, IsJudgedBy, Ver
 
 use crate::asking::ask;
 use crate::chains::Chains;
+use crate::events::first_rule;
 use crate::late::{Event, LateRule};
 use crate::laws::late_words_law;
 use crate::refusal::{Place, Refusal};
 use crate::screened::Screened;
-use crate::told::first_rule;
 use cert_store::judged_law;
 use stir_outside::Provider;
 use tn_auth_list::CodeTable;

@@ -13,7 +13,7 @@ use Rattle.verify_service.specs.Chains.{world_by}
 use Rattle.verify_service.specs.Judging.{ComesOf, EachComesOf, EachFoundWhere, EachHasSigned, EachHasTicket, HasSigned, HasTicket, IsFound, IsFoundWhere, call_in}
 use Rattle.verify_service.specs.Rows.{row_of, rows_of}
 use Rattle.verify_service.specs.declared.finding.Finding.{Finding}
-use Rattle.verify_service.specs.declared.materials.World.{World as Materials}
+use Rattle.cert_store.specs.declared.world.World.{World as Materials}
 use Rattle.verify_service.specs.declared.outcome.Outcome.{Outcome}
 use Rattle.verify_service.proofs.ListLaws.{each_at, each_more, take_item}
 use Rattle.verify_service.proofs.SettleLaws.{rows_more}

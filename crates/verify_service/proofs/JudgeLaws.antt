@@ -26,7 +26,7 @@ use Rattle.verify_service.specs.Chains.{AreRightWhere, is_failed, is_unasked, is
 use Rattle.verify_service.specs.Judging.{IsFound, IsFoundWhere, IsKnownBy, IsOfVerdict, call_in, last_second, ticket_or_none}
 use Rattle.verify_service.specs.declared.finding.Finding.{Finding}
 use Rattle.verify_service.specs.declared.finding.Finding.TheVariants as found
-use Rattle.verify_service.specs.declared.materials.World.{World as Materials}
+use Rattle.cert_store.specs.declared.world.World.{World as Materials}
 use Rattle.stir_outside.proofs.CountLaws.{rose_then, then_rose}
 
 false_is_not_true : false ≡ true → ⊥

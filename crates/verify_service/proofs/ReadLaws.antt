@@ -14,7 +14,7 @@ use Rattle.verify_rules.specs.World.{World, AreRight, IsRight}
 use Rattle.verify_service.specs.Chains.{AreRightWhere, IsOfBytes, IsRightWhere, state_of, world_by}
 use Rattle.verify_service.specs.declared.chains.CallChain.{CallChain}
 use Rattle.verify_service.specs.declared.chains.CallChain.TheVariants as kept
-use Rattle.verify_service.specs.declared.materials.World.{World as Materials}
+use Rattle.cert_store.specs.declared.world.World.{World as Materials}
 
 pub right_unlisted : (told : Option Files) (materials : Materials) (says : Says) (x5u : List ℕ)
     → ((world : World) (x5u : List ℕ) → listed world.chains x5u ≡ None → IsRight world x5u no_chain)

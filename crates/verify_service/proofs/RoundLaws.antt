@@ -13,10 +13,10 @@ use Rattle.verify_rules.specs.World.{World}
 use Rattle.verify_rules.specs.declared.settings.Settings.{Settings}
 use Rattle.verify_service.specs.Judging.{ComesOf, EachComesOf, EachFoundWhere, EachHasSigned, HasSigned, IsFound, IsJudged, call_in}
 use Rattle.verify_service.specs.Rows.{EachOwed, IsOwed, passes, rows_of}
-use Rattle.verify_service.specs.Service.{AreJudged, IsToldSame, ServiceView, first_moment_of, world_of}
+use Rattle.verify_service.specs.Service.{AreJudged, IsSameConfig, ServiceView, first_moment_of, world_of}
 use Rattle.verify_service.specs.declared.finding.Finding.{Finding}
 use Rattle.verify_service.specs.declared.finding.Finding.TheVariants as found
-use Rattle.verify_service.specs.declared.materials.World.{World as Materials}
+use Rattle.cert_store.specs.declared.world.World.{World as Materials}
 use Rattle.verify_service.specs.declared.outcome.Outcome.{Outcome}
 use Rattle.verify_service.specs.declared.outcome.Outcome.TheVariants.{Valid, Refused, Replay, Unread, Unasked}
 use Rattle.x509_profile.specs.View.{CertView}
@@ -52,7 +52,7 @@ by_parts : (chains chains_now : Files) (anchors anchors_now : List CertView) (ta
 by_parts chains chains_now anchors anchors_now table table_now one two three = cc
 
 -- what is judged by is what the service was told
-pub materials_same : (service now : ServiceView) (materials : Materials) → IsToldSame service now → materials.chains ≡ now.chains → materials.anchors ≡ now.anchors
+pub materials_same : (service now : ServiceView) (materials : Materials) → IsSameConfig service now → materials.chains ≡ now.chains → materials.anchors ≡ now.anchors
     → materials.table ≡ now.table → materials ≡ materials_of service
 materials_same service now materials told chains anchors table =
     by_parts materials.chains service.chains materials.anchors service.anchors materials.table service.table (chains ∙ told.chains) (anchors ∙ told.anchors) (table ∙ told.table)

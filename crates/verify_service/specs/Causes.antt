@@ -4,7 +4,7 @@ use Rattle.std.specs.List.{list_any}
 use Rattle.std.specs.Str.{bytes_eq}
 use Rattle.call_log.specs.Entry.{Entry}
 use Rattle.stir_outside.specs.Count.{AtMost, Rose}
-use Rattle.verify_rules.specs.Call.{Call, Reading, in_chain}
+use Rattle.verify_rules.specs.Call.{Call, Reading, in_call_order}
 use Rattle.verify_rules.specs.declared.refusal.Place.{Place}
 use Rattle.verify_rules.specs.declared.settings.Settings.{Settings}
 use Rattle.verify_service.specs.Judging.{call_in}
@@ -21,7 +21,7 @@ x5u_in (one ∷ others) bad = if one.mark.field == bad.field then one.passport.x
 
 -- the x5u of the PASSporT at this place
 unfoldable pub x5u_at : Call → Place → List ℕ
-x5u_at call bad = x5u_in (in_chain call) bad
+x5u_at call bad = x5u_in (in_call_order call) bad
 
 -- a text joins others, unless it is one of them
 abbrev pub joined : List ℕ → List (List ℕ) → List (List ℕ)

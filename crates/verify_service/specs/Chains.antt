@@ -10,7 +10,7 @@ use Rattle.verify_rules.specs.States.{State, have, no_chain, long, unread}
 use Rattle.verify_rules.specs.World.{World, AreRight, IsRight}
 use Rattle.verify_service.specs.declared.chains.CallChain.{CallChain}
 use Rattle.verify_service.specs.declared.chains.CallChain.TheVariants as kept
-use Rattle.verify_service.specs.declared.materials.World.{World as Materials}
+use Rattle.cert_store.specs.declared.world.World.{World as Materials}
 
 abbrev pub state_of : CallChain → State
 state_of (kept.Have judged) = have judged

@@ -13,7 +13,7 @@ use Rattle.verify_rules.specs.declared.verdict.Verdict.TheVariants as verdicts
 use Rattle.verify_service.specs.Chains.{world_by}
 use Rattle.verify_service.specs.declared.finding.Finding.{Finding}
 use Rattle.verify_service.specs.declared.finding.Finding.TheVariants as found
-use Rattle.verify_service.specs.declared.materials.World.{World as Materials}
+use Rattle.cert_store.specs.declared.world.World.{World as Materials}
 use Rattle.verify_service.specs.declared.outcome.Outcome.{Outcome}
 use Rattle.verify_service.specs.declared.outcome.Outcome.TheVariants.{Valid, Refused, Replay, Unread, Unasked}
 

@@ -12,7 +12,7 @@ use Rattle.stir_outside.specs.Files.{Files as ShelfFiles}
 use Rattle.verify_rules.specs.World.{World}
 use Rattle.verify_rules.specs.declared.settings.Settings.{Settings}
 use Rattle.verify_service.specs.Judging.{EachJudged}
-use Rattle.verify_service.specs.declared.materials.World.{World as Materials}
+use Rattle.cert_store.specs.declared.world.World.{World as Materials}
 use Rattle.verify_service.specs.declared.outcome.Outcome.{Outcome}
 use Rattle.x509_profile.specs.View.{CertView}
 
@@ -85,7 +85,7 @@ first_moment_of (entry ∷ entries) = entry.moment
 -- ---- what a round leaves
 
 -- What a service is told stays.
-pub record IsToldSame (service now : ServiceView) : Type 0 where
+pub record IsSameConfig (service now : ServiceView) : Type 0 where
   pub settings : now.settings ≡ service.settings
   pub chains : now.chains ≡ service.chains
   pub anchors : now.anchors ≡ service.anchors

@@ -9,10 +9,10 @@ ghost use Rattle.verify_service.specs.Judging.{EachFoundWhere, EachHasSigned, Ea
 
 use crate::chains::CallChains;
 use crate::finding::{Finding, Pass};
-use crate::materials::World;
 use crate::reading::read_chains;
 use crate::worker::Worker;
 use call_log::Call;
+use cert_store::World;
 use std::alloc::{AllocError, Global};
 use stir_outside::{Gate, Provider, Shelf};
 use verify_rules::{
@@ -23,7 +23,7 @@ use verify_rules::{
 pub(crate) fn judge_all<S: Shelf, P: Provider, G: Gate>(
     alloc: Global,
     settings: &Settings,
-    materials: &World,
+    world: &World,
     shelf: &mut S,
     worker: &mut Worker<P, G>,
     calls: &[Call],
@@ -32,7 +32,7 @@ pub(crate) fn judge_all<S: Shelf, P: Provider, G: Gate>(
     ensures counted { IfOk result (λ findings. vec_len findings ≡ length calls.now) }
     ensures tickets { IfOk result (λ findings. EachHasTicket settings.now calls.now findings.items) }
     ensures signed { IfOk result (λ findings. EachHasSigned settings.now calls.now findings.items) }
-    ensures found { IfOk result (λ findings. EachFoundWhere (S.files shelf.old) materials.now (P.says worker.old.provider) settings.now calls.now findings.items) }
+    ensures found { IfOk result (λ findings. EachFoundWhere (S.files shelf.old) world.now (P.says worker.old.provider) settings.now calls.now findings.items) }
 
     // As many are set aside at most as faults were counted.
     ensures unread { IfOk result (λ findings. AreCounted found_unread findings.items (S.counts shelf.old).faults (S.counts shelf.new).faults) }
@@ -50,7 +50,7 @@ pub(crate) fn judge_all<S: Shelf, P: Provider, G: Gate>(
         let finding = judge_call(
             alloc,
             settings,
-            materials,
+            world,
             shelf,
             &mut worker.provider,
             &mut worker.chains,
@@ -66,7 +66,7 @@ pub(crate) fn judge_all<S: Shelf, P: Provider, G: Gate>(
 pub fn judge_call<S: Shelf, P: Provider>(
     alloc: Global,
     settings: &Settings,
-    materials: &World,
+    world: &World,
     shelf: &mut S,
     provider: &mut P,
     chains: &mut CallChains,
@@ -75,7 +75,7 @@ pub fn judge_call<S: Shelf, P: Provider>(
     requires window { settings.now.window ≤ 86400 }
     ensures ticket { IfOk result (HasTicket (call_in settings.now call.now)) }
     ensures signed { IfOk result (HasSigned (call_in settings.now call.now)) }
-    ensures found { IfOk result (IsFoundWhere (S.files shelf.old) materials.now (P.says provider.old) (call_in settings.now call.now)) }
+    ensures found { IfOk result (IsFoundWhere (S.files shelf.old) world.now (P.says provider.old) (call_in settings.now call.now)) }
     ensures unread { IfOk result (λ finding. HasCauseIf (found_unread finding) (S.counts shelf.old).faults (S.counts shelf.new).faults) }
     ensures unasked { IfOk result (λ finding. HasCauseIf (found_unasked finding) (P.faults provider.old) (P.faults provider.new)) }
     ensures same_files { S.files shelf.new ≡ S.files shelf.old }
@@ -88,7 +88,7 @@ pub fn judge_call<S: Shelf, P: Provider>(
     match screen(alloc, call.message(), call.moment(), settings) {
         Ok(screened) => judge_screened(
             alloc,
-            materials,
+            world,
             shelf,
             provider,
             chains,
@@ -105,7 +105,7 @@ pub fn judge_call<S: Shelf, P: Provider>(
 /// Judges a call that was screened: reads its chains, and tries the rules that look at them.
 fn judge_screened<S: Shelf, P: Provider>(
     alloc: Global,
-    materials: &World,
+    world: &World,
     shelf: &mut S,
     provider: &mut P,
     chains: &mut CallChains,
@@ -115,7 +115,7 @@ fn judge_screened<S: Shelf, P: Provider>(
     ensures ticket { (call : RuledCall) → IsScreenedBy early_rules call (Ok screened.now) → IfOk result (HasTicket call) }
     ensures signed { (call : RuledCall) → IsScreenedBy early_rules call (Ok screened.now) → IfOk result (HasSigned call) }
     ensures found { (call : RuledCall) → IsScreenedBy early_rules call (Ok screened.now) → moment ≡ call.moment
-        → IfOk result (IsFoundWhere (S.files shelf.old) materials.now (P.says provider.old) call) }
+        → IfOk result (IsFoundWhere (S.files shelf.old) world.now (P.says provider.old) call) }
     ensures unread { IfOk result (λ finding. HasCauseIf (found_unread finding) (S.counts shelf.old).faults (S.counts shelf.new).faults) }
     ensures unasked { IfOk result (λ finding. HasCauseIf (found_unasked finding) (P.faults provider.old) (P.faults provider.new)) }
     ensures same_files { S.files shelf.new ≡ S.files shelf.old }
@@ -125,8 +125,8 @@ fn judge_screened<S: Shelf, P: Provider>(
     ensures faults { P.faults provider.old ≤ P.faults provider.new }
 {
     screened_law();
-    read_chains(alloc, materials, shelf, provider, screened, chains)?;
-    let verdict = finish(screened, &*chains, moment, &materials.table, provider);
+    read_chains(alloc, world, shelf, provider, screened, chains)?;
+    let verdict = finish(screened, &*chains, moment, &world.table, provider);
     Ok(finding_of(verdict, screened))
 }
 

@@ -14,7 +14,7 @@ ghost use Rattle.verify_rules.specs.declared.refusal.ScreenFault.{ScreenFault};
 ghost use Rattle.verify_rules.specs.declared.settings.Settings.{Settings};
 ghost use Rattle.verify_service.specs.Chains.{AreRightWhere, IsRightWhere};
 ghost use Rattle.verify_service.specs.Judging.{call_in};
-ghost use Rattle.verify_service.specs.declared.materials.World.{World as Materials};
+ghost use Rattle.cert_store.specs.declared.world.World.{World as Materials};
 
 use verify_rules::right_law;
 

@@ -7,8 +7,7 @@ ghost use Rattle.verify_service.specs.Causes.{HasCauseIf};
 ghost use Rattle.verify_service.specs.Chains.{AreRightWhere, IsOfBytes, IsRightWhere, is_unasked, is_unread, state_of};
 
 use crate::chains::{CallChain, CallChains};
-use crate::materials::World;
-use cert_store::judge_chain;
+use cert_store::{World, judge_chain};
 use std::alloc::{AllocError, Global};
 use stir_outside::{Provider, Shelf, ShelfFault};
 use verify_rules::{Screened, right_law};
@@ -19,14 +18,14 @@ const MOST_BYTES: usize = 49_152;
 /// Reads and judges the chain of each PASSporT of a call, in the order in which the call went, in place of those that there were.
 pub(crate) fn read_chains<S: Shelf, P: Provider>(
     alloc: Global,
-    materials: &World,
+    world: &World,
     shelf: &mut S,
     provider: &mut P,
     screened: &Screened,
     chains: &mut CallChains,
 ) -> Result<(), AllocError>
     ensures counted { OnOk result (length chains.new ≡ length screened.now.readings) }
-    ensures right { OnOk result (AreRightWhere (S.files shelf.old) materials.now (P.says provider.old) screened.now.readings chains.new) }
+    ensures right { OnOk result (AreRightWhere (S.files shelf.old) world.now (P.says provider.old) screened.now.readings chains.new) }
 
     // A chain isn't known, or has a question that failed, only where a fault was counted.
     ensures unread { OnOk result (HasCauseIf (list_any is_unread chains.new) (S.counts shelf.old).faults (S.counts shelf.new).faults) }
@@ -42,7 +41,7 @@ pub(crate) fn read_chains<S: Shelf, P: Provider>(
     chains.clear();
     'passports: for i in 0..screened.count() {
         let x5u = screened.passport(i).x5u();
-        let chain = chain_of(alloc, materials, shelf, provider, x5u)?;
+        let chain = chain_of(alloc, world, shelf, provider, x5u)?;
         chains.push(chain)?;
     }
     Ok(())
@@ -51,12 +50,12 @@ pub(crate) fn read_chains<S: Shelf, P: Provider>(
 /// What is known of the chain of this x5u (RFC 7515, section 4.1.5).
 fn chain_of<S: Shelf, P: Provider>(
     alloc: Global,
-    materials: &World,
+    world: &World,
     shelf: &mut S,
     provider: &mut P,
     x5u: &[u8],
 ) -> Result<CallChain, AllocError>
-    ensures right { IfOk result (λ chain. IsRightWhere (S.files shelf.old) materials.now (P.says provider.old) x5u.now (state_of chain)) }
+    ensures right { IfOk result (λ chain. IsRightWhere (S.files shelf.old) world.now (P.says provider.old) x5u.now (state_of chain)) }
     ensures unread { IfOk result (λ chain. HasCauseIf (is_unread (state_of chain)) (S.counts shelf.old).faults (S.counts shelf.new).faults) }
     ensures unasked { IfOk result (λ chain. HasCauseIf (is_unasked (state_of chain)) (P.faults provider.old) (P.faults provider.new)) }
     ensures same_files { S.files shelf.new ≡ S.files shelf.old }
@@ -66,8 +65,8 @@ fn chain_of<S: Shelf, P: Provider>(
     ensures faults { P.faults provider.old ≤ P.faults provider.new }
 {
     right_law();
-    match materials.chains.file(x5u) {
-        Some(name) => chain_in(alloc, materials, shelf, provider, name),
+    match world.chains.file(x5u) {
+        Some(name) => chain_in(alloc, world, shelf, provider, name),
         None => Ok(CallChain::NoChain),
     }
 }
@@ -75,13 +74,13 @@ fn chain_of<S: Shelf, P: Provider>(
 /// What is known of the chain in the file of this name, which the chain map lists. `AllocError` is the only error.
 pub fn chain_in<S: Shelf, P: Provider>(
     alloc: Global,
-    materials: &World,
+    world: &World,
     shelf: &mut S,
     provider: &mut P,
     name: &str,
 ) -> Result<CallChain, AllocError>
-    ensures right { (x5u : List ℕ) → listed materials.now.chains x5u ≡ Some name.now
-        → IfOk result (λ chain. IsRightWhere (S.files shelf.old) materials.now (P.says provider.old) x5u (state_of chain)) }
+    ensures right { (x5u : List ℕ) → listed world.now.chains x5u ≡ Some name.now
+        → IfOk result (λ chain. IsRightWhere (S.files shelf.old) world.now (P.says provider.old) x5u (state_of chain)) }
     ensures unread { IfOk result (λ chain. HasCauseIf (is_unread (state_of chain)) (S.counts shelf.old).faults (S.counts shelf.new).faults) }
     ensures unasked { IfOk result (λ chain. HasCauseIf (is_unasked (state_of chain)) (P.faults provider.old) (P.faults provider.new)) }
     ensures same_files { S.files shelf.new ≡ S.files shelf.old }
@@ -92,7 +91,7 @@ pub fn chain_in<S: Shelf, P: Provider>(
 {
     right_law();
     match shelf.read(alloc, name, MOST_BYTES) {
-        Ok(bytes) => judged(alloc, materials, provider, bytes.as_slice()),
+        Ok(bytes) => judged(alloc, world, provider, bytes.as_slice()),
         Err(fault) => match fault {
             ShelfFault::Missing => Ok(CallChain::NoChain),
             ShelfFault::Long => Ok(CallChain::Long),
@@ -105,16 +104,16 @@ pub fn chain_in<S: Shelf, P: Provider>(
 /// The chain that these bytes are.
 fn judged<P: Provider>(
     alloc: Global,
-    materials: &World,
+    world: &World,
     provider: &mut P,
     bytes: &[u8],
 ) -> Result<CallChain, AllocError>
-    ensures judged { IfOk result (IsOfBytes materials.now (P.says provider.old) bytes.now) }
+    ensures judged { IfOk result (IsOfBytes world.now (P.says provider.old) bytes.now) }
     ensures unasked { IfOk result (λ chain. HasCauseIf (is_unasked (state_of chain)) (P.faults provider.old) (P.faults provider.new)) }
     ensures same_says { P.says provider.new ≡ P.says provider.old }
     ensures same_signs { P.signs provider.new ≡ P.signs provider.old }
     ensures faults { P.faults provider.old ≤ P.faults provider.new }
 {
-    let judged = judge_chain(alloc, bytes, &materials.anchors, &materials.table, provider)?;
+    let judged = judge_chain(alloc, bytes, &world.anchors, &world.table, provider)?;
     Ok(CallChain::Have(judged))
 }

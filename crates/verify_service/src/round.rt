@@ -6,7 +6,7 @@ ghost use Rattle.stir_outside.specs.Count.{NotRisen};
 ghost use Rattle.stir_outside.specs.Files.{CountsGoOn};
 ghost use Rattle.verify_service.specs.Causes.{NoneUnasked, NoneUnread, UnaskedIsCounted, UnreadIsCounted};
 ghost use Rattle.verify_service.specs.Rows.{EachOwed, held, rows_of};
-ghost use Rattle.verify_service.specs.Service.{AreJudged, Follow, IsPurged, IsToldSame, last_moment_of, last_number};
+ghost use Rattle.verify_service.specs.Service.{AreJudged, Follow, IsPurged, IsSameConfig, last_moment_of, last_number};
 
 use crate::judge::judge_all;
 use crate::outcome::Outcome;
@@ -57,7 +57,7 @@ impl Service {
             → IfOk result (λ outcomes. NoneUnasked outcomes.items) }
 
         // What the service was told stays, and where memory was wanting its past is only purged.
-        ensures told { IsToldSame self.old self.new }
+        ensures config { IsSameConfig self.old self.new }
         ensures number { self.new.number ≡ last_number self.old.number calls.now }
         ensures moment { self.new.moment ≡ last_moment_of self.old.moment calls.now }
         ensures wanting { IfErr result (λ _. IsPurged calls.now (held self.old.past) (held self.new.past)) }
@@ -92,7 +92,7 @@ impl Service {
         ensures unasked { IfOk result (λ outcomes. UnaskedIsCounted self.old.settings calls.now (P.faults worker.old.provider) (P.faults worker.new.provider) outcomes.items) }
         ensures quiet_shelf { NotRisen (S.counts shelf.old).faults (S.counts shelf.new).faults → IfOk result (λ outcomes. NoneUnread outcomes.items) }
         ensures quiet { NotRisen (P.faults worker.old.provider) (P.faults worker.new.provider) → IfOk result (λ outcomes. NoneUnasked outcomes.items) }
-        ensures told { IsToldSame self.old self.new }
+        ensures config { IsSameConfig self.old self.new }
         ensures number { self.new.number ≡ last_number self.old.number calls.now }
         ensures moment { self.new.moment ≡ last_moment_of self.old.moment calls.now }
         ensures wanting { IfErr result (λ _. IsPurged calls.now (held self.old.past) (held self.new.past)) }
@@ -107,14 +107,14 @@ impl Service {
         self.begin(calls);
         self.past.reserve(calls.len())?;
         let outcomes = vec![in alloc; Outcome::Valid; calls.len()]?;
-        let findings = judge_all(alloc, &self.settings, &self.materials, shelf, worker, calls)?;
+        let findings = judge_all(alloc, &self.settings, &self.world, shelf, worker, calls)?;
         Ok(settle_all(&mut self.past, calls, findings.as_slice(), outcomes))
     }
 
     /// Purges the past by the first call, and takes over number and moment of the last.
     fn begin(&mut self, calls: &[Call])
         requires follow { Follow self.old.number self.old.moment calls.now }
-        ensures told { IsToldSame self.old self.new }
+        ensures config { IsSameConfig self.old self.new }
         ensures number { self.new.number ≡ last_number self.old.number calls.now }
         ensures moment { self.new.moment ≡ last_moment_of self.old.moment calls.now }
         ensures purged { IsPurged calls.now (held self.old.past) (held self.new.past) }

@@ -2,8 +2,8 @@
 ghost use Rattle.std.specs.Prelude.{◌≡◌, ◌≤◌, ◌↔◌, IfOk, IsTrue};
 ghost use Rattle.verify_service.specs.Service.{Follow, IsNew, all_follow, follows_on};
 
-use crate::materials::World;
 use call_log::Call;
+use cert_store::World;
 use replay_desk::Past;
 use std::alloc::{AllocError, Global};
 use std::marker::Model;
@@ -22,7 +22,7 @@ const LAST_MOMENT: u64 = 253_402_300_799;
 #[derive(Drop)]
 pub struct Service {
     pub(crate) settings: Settings,
-    pub(crate) materials: World,
+    pub(crate) world: World,
     pub(crate) past: Past,
     pub(crate) number: u32,
     pub(crate) moment: u64,
@@ -36,9 +36,9 @@ impl Model for Service {
 
     ghost view = { λ s. record {
       settings = s.settings;
-      chains = s.materials.chains;
-      anchors = s.materials.anchors;
-      table = s.materials.table;
+      chains = s.world.chains;
+      anchors = s.world.anchors;
+      table = s.world.table;
       past = s.past;
       number = s.number;
       moment = s.moment;
@@ -55,7 +55,7 @@ impl Service {
     {
         Ok(Service {
             settings,
-            materials: world,
+            world,
             past: Past::new(alloc),
             number: 0,
             moment: 0,

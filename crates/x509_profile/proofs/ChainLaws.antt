@@ -14,8 +14,8 @@ use Rattle.x509_profile.specs.Cert.{Cert}
 use Rattle.x509_profile.specs.Read.{read_certificate}
 use Rattle.x509_profile.specs.View.{CertView}
 use Rattle.x509_profile.specs.Chain.{AreCerts, BeginsWithCerts, Chain, EndsAt, EndsWhereRefused, GivesChain, HasNoFront, RefusedCertificate, Whole, certificates_from, certificates_in, ended, front, joined, refused_at}
-use Rattle.x509_profile.specs.declared.chain.ChainFault.{ChainFault}
-use Rattle.x509_profile.specs.declared.chain.ChainFault.TheVariants.{At, Memory}
+use Rattle.x509_profile.specs.declared.chain.CertChainFault.{CertChainFault}
+use Rattle.x509_profile.specs.declared.chain.CertChainFault.TheVariants.{At, Memory}
 use Rattle.x509_profile.proofs.CertLaws.{cert_again, cert_found, whole_is}
 
 -- ---- one certificate
@@ -144,7 +144,7 @@ ends_whole bytes refused e = record {
 
 -- ---- the same of an answer that refuses
 
-pub answer_ends : {X : Type 0} (seen : X → List CertView) (bytes : List ℕ) (r : Result X ChainFault) → AllBytes bytes → GivesChain seen r (certificates_in bytes) → EndsWhereRefused bytes r
+pub answer_ends : {X : Type 0} (seen : X → List CertView) (bytes : List ℕ) (r : Result X CertChainFault) → AllBytes bytes → GivesChain seen r (certificates_in bytes) → EndsWhereRefused bytes r
 answer_ends seen bytes (Ok x) typed e = tt
 answer_ends seen bytes (Err (At number place)) typed e =
     let ends = chain_ends bytes (refused_at number place) typed e in

@@ -8,8 +8,8 @@ use Rattle.der_reader.specs.declared.part.Fault.{Fault}
 use Rattle.x509_profile.specs.Cert.{Cert}
 use Rattle.x509_profile.specs.Read.{read_certificate}
 use Rattle.x509_profile.specs.View.{CertView}
-use Rattle.x509_profile.specs.declared.chain.ChainFault.{ChainFault}
-use Rattle.x509_profile.specs.declared.chain.ChainFault.TheVariants.{At, Memory}
+use Rattle.x509_profile.specs.declared.chain.CertChainFault.{CertChainFault}
+use Rattle.x509_profile.specs.declared.chain.CertChainFault.TheVariants.{At, Memory}
 
 -- each is the certificate that its own bytes are
 abbrev pub AreCerts : List CertView → Type 0
@@ -92,16 +92,16 @@ certificates_in bytes = certificates_from bytes 6 [] bytes
 -- ---- how clauses see an answer
 
 -- a fault other than want of memory
-abbrev pub refused_seen : ChainFault → Option RefusedCertificate
+abbrev pub refused_seen : CertChainFault → Option RefusedCertificate
 refused_seen (At number place) = Some (refused_at number place)
 refused_seen Memory = None
 
 -- the certificates, or the first that is refused; want of memory is free
-abbrev pub GivesChain : {X : Type 0} → (X → List CertView) → Result X ChainFault → Result (List CertView) RefusedCertificate → Type 0
+abbrev pub GivesChain : {X : Type 0} → (X → List CertView) → Result X CertChainFault → Result (List CertView) RefusedCertificate → Type 0
 GivesChain seen result read = given.Gives refused_seen seen result read
 
 -- what is refused stands where the whole certificates end, and is one more than they
-abbrev pub EndsWhereRefused : {X : Type 0} → List ℕ → Result X ChainFault → Type 0
+abbrev pub EndsWhereRefused : {X : Type 0} → List ℕ → Result X CertChainFault → Type 0
 EndsWhereRefused bytes (Ok certificates) = ⊤
 EndsWhereRefused bytes (Err (At number place)) = EndsAt bytes (refused_at number place) × Whole bytes (number - 1) × (number ≤ 7)
 EndsWhereRefused bytes (Err Memory) = ⊤

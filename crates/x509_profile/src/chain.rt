@@ -16,7 +16,7 @@ const MOST_CERTIFICATES: usize = 6;
 
 /// Why bytes aren't read as a chain of certificates.
 #[derive(Clone, Copy, Debug, PartialEq, Eq)]
-pub enum ChainFault {
+pub enum CertChainFault {
     /// The first certificate that is refused, or a seventh one.
     At {
         /// Which certificate it is, from 1, the leaf's; at most 7.
@@ -28,50 +28,50 @@ pub enum ChainFault {
     Memory,
 }
 
-impl From<AllocError> for ChainFault {
+impl From<AllocError> for CertChainFault {
     ghost use Rattle.std.specs.Prelude.{◌≡◌};
-    ghost use Rattle.x509_profile.specs.declared.chain.ChainFault.TheVariants.{Memory};
+    ghost use Rattle.x509_profile.specs.declared.chain.CertChainFault.TheVariants.{Memory};
 
     ghost from_gives = { λ _ fault. fault ≡ Memory };
 
-    fn from(_refused: AllocError) -> ChainFault {
-        ChainFault::Memory
+    fn from(_refused: AllocError) -> CertChainFault {
+        CertChainFault::Memory
     }
 }
 
-impl<T: Drop> From<AllocFailed<T>> for ChainFault {
+impl<T: Drop> From<AllocFailed<T>> for CertChainFault {
     ghost use Rattle.std.specs.Prelude.{◌≡◌};
-    ghost use Rattle.x509_profile.specs.declared.chain.ChainFault.TheVariants.{Memory};
+    ghost use Rattle.x509_profile.specs.declared.chain.CertChainFault.TheVariants.{Memory};
 
     ghost from_gives = { λ _ fault. fault ≡ Memory };
 
-    fn from(_refused: AllocFailed<T>) -> ChainFault {
-        ChainFault::Memory
+    fn from(_refused: AllocFailed<T>) -> CertChainFault {
+        CertChainFault::Memory
     }
 }
 
-impl fmt::Display for ChainFault {
+impl fmt::Display for CertChainFault {
     fn fmt<W: fmt::Write>(&self, f: &mut fmt::Formatter<W>) -> fmt::Result {
         match self {
-            ChainFault::At { number, place } => {
+            CertChainFault::At { number, place } => {
                 write!(
                     f,
                     "certificate {number}, at byte {place}, is none of the chain"
                 )
             }
-            ChainFault::Memory => f.write_str("out of memory"),
+            CertChainFault::Memory => f.write_str("out of memory"),
         }
     }
 }
 
-impl Error for ChainFault {}
+impl Error for CertChainFault {}
 
 /// The certificates that the bytes are, one after another without anything between, the leaf's first: at most six.
 ///
 /// That a chain is so written, and that it has at most six certificates, is this project's own rule. The fault is the first
 /// certificate that isn't one of the profile, or a seventh. No bytes are no certificates.
 #[tactic(auto, using(crate::proofs::ChainLaws::chain_again, crate::proofs::ChainLaws::chain_found, crate::proofs::ChainLaws::answer_ends))]
-pub fn read_chain(alloc: Global, bytes: &[u8]) -> Result<Vec<Certificate>, ChainFault>
+pub fn read_chain(alloc: Global, bytes: &[u8]) -> Result<Vec<Certificate>, CertChainFault>
     // The certificates, or which is refused and where.
     ensures exact { GivesChain (λ certificates. certificates.items) result (certificates_in bytes.now) }
 
@@ -90,7 +90,7 @@ pub fn read_chain(alloc: Global, bytes: &[u8]) -> Result<Vec<Certificate>, Chain
 
 /// The certificates that the bytes are, or the first that is refused.
 #[tactic(auto, using(crate::proofs::ChainLaws::one_more, crate::proofs::ChainLaws::none_more), unfolding(crate::specs::Chain::certificates_in))]
-fn certificates_of(alloc: Global, bytes: &[u8]) -> Result<Vec<Certificate>, ChainFault>
+fn certificates_of(alloc: Global, bytes: &[u8]) -> Result<Vec<Certificate>, CertChainFault>
     ensures { GivesChain (λ certificates. certificates.items) result (certificates_in bytes.now) }
 {
     let mut certificates = Vec::new(alloc);
@@ -102,13 +102,13 @@ fn certificates_of(alloc: Global, bytes: &[u8]) -> Result<Vec<Certificate>, Chai
                 left = behind;
             }
             Err(CertFault::At { .. }) => break,
-            Err(CertFault::Memory) => return Err(ChainFault::Memory),
+            Err(CertFault::Memory) => return Err(CertChainFault::Memory),
         }
     }
     if left.is_empty() {
         return Ok(certificates);
     }
-    Err(ChainFault::At {
+    Err(CertChainFault::At {
         number: certificates.len() as u8 + 1,
         place: bytes.len() - left.len(),
     })

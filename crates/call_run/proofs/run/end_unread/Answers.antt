@@ -1,6 +1,6 @@
 -- The lines were made, or memory was wanting for them.
 use Rattle.std.proofs.Common.{◌≡◌, ◌++◌, inl, inr, subst, rules}
-use Rattle.log_run.specs.Ending.{EndsAs, memory_line}
+use Rattle.stir_outside.specs.Ending.{EndsAs, memory_line}
 use Rattle.call_run.specs.Ending.{unread_line}
 use Rattle.call_run.proofs.run.end_unread.Goals as goal
 

@@ -1,6 +1,7 @@
 -- The line of the place was made, or memory was wanting for it.
 use Rattle.std.proofs.Common.{◌≡◌, inl, inr, subst, rules}
-use Rattle.log_run.specs.Ending.{EndsAs, memory_line, refused_line}
+use Rattle.log_run.specs.Ending.{refused_line}
+use Rattle.stir_outside.specs.Ending.{EndsAs, memory_line}
 use Rattle.log_run.proofs.run.refuse.Goals as goal
 
 pub returns-in-Ok : goal.returns-in-Ok

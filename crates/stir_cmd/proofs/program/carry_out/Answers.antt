@@ -7,4 +7,4 @@ use Rattle.stir_cmd.proofs.program.carry_out.Goals as goal
 
 pub returns-in-Err-Memory-clause-outcome : goal.returns-in-Err-Memory-clause-outcome
 returns-in-Err-Memory-clause-outcome g c =
-    wanting (order_of (texts c.args.words.now)) _ _ _ (record { counts = refl; left = refl; reads = refl }) c.end_with-in-Err-Memory.ensures
+    wanting (order_of (texts c.args.words.now)) _ _ _ (record { counts = refl; left = refl; read_faults = refl }) c.end_with-in-Err-Memory.ensures

@@ -3,8 +3,8 @@ use Rattle.std.proofs.lemmas.Grind.{common_steps}
 use Rattle.clap.specs.Simple.{app_of}
 use Rattle.clap.specs.Walk.{rule_of}
 use Rattle.stir_words.specs.Seen.{known_of}
-use Rattle.stir_words.specs.Told.{app_for}
-use Rattle.stir_words.proofs.ToldTable.{one_more}
+use Rattle.stir_words.specs.ClapRules.{app_for}
+use Rattle.stir_words.proofs.ClapTable.{one_more}
 use Rattle.stir_words.proofs.clap_options.command_for.Goals as goal
 
 pub loop-row-preserved : goal.loop-row-preserved

@@ -1,8 +1,8 @@
 use Rattle.std.proofs.Common.{◌≡◌, drop, map}
 use Rattle.clap.specs.Simple.{app_of}
 use Rattle.stir_words.specs.Seen.{known_of}
-use Rattle.stir_words.specs.Told.{app_for}
-use Rattle.stir_words.proofs.ToldTable.{with_all}
+use Rattle.stir_words.specs.ClapRules.{app_for}
+use Rattle.stir_words.proofs.ClapTable.{with_all}
 use Rattle.stir_words.proofs.clap_options.command_for.Given as goal
 
 -- with what is left of the table the command has the whole of it

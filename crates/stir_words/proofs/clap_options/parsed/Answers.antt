@@ -1,7 +1,7 @@
 use Rattle.std.proofs.Common.{rules, map}
 use Rattle.clap.specs.Simple.{app_of}
 use Rattle.stir_words.specs.Seen.{known_of, texts}
-use Rattle.stir_words.proofs.ToldLaws.{found_here, refused_here}
+use Rattle.stir_words.proofs.ClapLaws.{found_here, refused_here}
 use Rattle.stir_words.proofs.clap_options.parsed.Goals as goal
 
 pub returns-in-Ok-try_get_matches_from : goal.returns-in-Ok-try_get_matches_from

@@ -21,9 +21,9 @@ calls-preserved g c =
       signed = subst (λ (fs : List Finding). EachHasSigned c.args.settings.now (take (c.calls.call-index + 1) c.args.calls.now) fs) (sym pushed)
           (signed_next c.args.settings.now c.args.calls.now c.calls.call-index c.call-item.result c.call-item.result c.calls.findings.items c.in_ok-finding.finding within c.call-item.is
           c.calls.invariant.signed c.in_ok-finding.ensures.signed);
-      found = subst (λ (fs : List Finding). EachFoundWhere (g.S.Shelf.files c.args.shelf.now) c.args.materials.now (g.P.Provider.says c.args.worker.now.provider) c.args.settings.now
+      found = subst (λ (fs : List Finding). EachFoundWhere (g.S.Shelf.files c.args.shelf.now) c.args.world.now (g.P.Provider.says c.args.worker.now.provider) c.args.settings.now
           (take (c.calls.call-index + 1) c.args.calls.now) fs) (sym pushed)
-          (found_next (g.S.Shelf.files c.args.shelf.now) (g.S.Shelf.files c.calls.shelf) c.args.materials.now (g.P.Provider.says c.args.worker.now.provider)
+          (found_next (g.S.Shelf.files c.args.shelf.now) (g.S.Shelf.files c.calls.shelf) c.args.world.now (g.P.Provider.says c.args.worker.now.provider)
           (g.P.Provider.says c.calls.worker.provider) c.args.settings.now c.args.calls.now c.calls.call-index c.call-item.result c.call-item.result c.calls.findings.items c.in_ok-finding.finding
           c.calls.invariant.same_files c.calls.invariant.same_says within c.call-item.is c.calls.invariant.found c.in_ok-finding.ensures.found);
       unread = subst (λ (fs : List Finding). AreCounted found_unread fs (g.S.Shelf.counts c.args.shelf.now).faults (g.S.Shelf.counts c.judge_call.new.shelf).faults) (sym pushed)

@@ -10,7 +10,7 @@ invariant-calls g l = record {
   counted : vec_len l.findings ≡ l.call-index;
   tickets : EachHasTicket l.settings (take l.call-index l.calls) l.findings.items;
   signed : EachHasSigned l.settings (take l.call-index l.calls) l.findings.items;
-  found : EachFoundWhere (g.S.Shelf.files l.fn.shelf) l.materials (g.P.Provider.says l.fn.worker.provider) l.settings (take l.call-index l.calls) l.findings.items;
+  found : EachFoundWhere (g.S.Shelf.files l.fn.shelf) l.world (g.P.Provider.says l.fn.worker.provider) l.settings (take l.call-index l.calls) l.findings.items;
   unread : AreCounted found_unread l.findings.items (g.S.Shelf.counts l.fn.shelf).faults (g.S.Shelf.counts l.shelf).faults;
   unasked : AreCounted found_unasked l.findings.items (g.P.Provider.faults l.fn.worker.provider) (g.P.Provider.faults l.worker.provider);
   same_files : g.S.Shelf.files l.shelf ≡ g.S.Shelf.files l.fn.shelf;

@@ -23,7 +23,7 @@ returns-in-Ok-clause-found g c = c.judge_screened.ensures.found (call_in c.args.
     (moment_in c.args.settings.now c.args.call.now c.moment-in-Ok.result c.moment-in-Ok.ensures)
 
 pub returns-in-Refused-clause-found : goal.returns-in-Refused-clause-found
-returns-in-Refused-clause-found g c = refused_where (g.S.Shelf.files c.args.shelf.now) c.args.materials.now (g.P.Provider.says c.args.provider.now) (call_in c.args.settings.now c.args.call.now)
+returns-in-Refused-clause-found g c = refused_where (g.S.Shelf.files c.args.shelf.now) c.args.world.now (g.P.Provider.says c.args.provider.now) (call_in c.args.settings.now c.args.call.now)
     c.in-Refused.refusal c.screened_law.ensures.refused
     (screened_call c.args.settings.now c.args.call.now c.moment.result c.message.result.now (Err (faults.Refused c.in-Refused.refusal)) c.message.ensures c.moment.ensures
     (subst (λ (fault : ScreenFault). IsScreenedBy early_rules (call_of c.args.settings.now c.moment.result c.message.result.now) (Err fault)) c.in-Refused.is c.in-Err.ensures.exact))

@@ -7,10 +7,10 @@ use Rattle.verify_service.proofs.judge.judge_screened.Goals as goal
 
 pub returns-clause-found : goal.returns-clause-found
 returns-clause-found g c = λ call passed now.
-    found_where (g.S.Shelf.files c.args.shelf.now) c.args.materials.now (g.P.Provider.says c.args.provider.now) call c.args.screened.now c.read_chains.new.chains c.args.moment
+    found_where (g.S.Shelf.files c.args.shelf.now) c.args.world.now (g.P.Provider.says c.args.provider.now) call c.args.screened.now c.read_chains.new.chains c.args.moment
     c.finish-verdict.result c.finding_of.result c.screened_law.ensures.judged
     (λ world ruled by right. c.finish-verdict.ensures.right world ruled
-    (subst (λ (s : Says). IsJudgedBy world ruled c.args.materials.now.table s c.args.moment c.args.screened.now.readings) (sym c.in_ok-read_chains.ensures.same_says) by) right)
+    (subst (λ (s : Says). IsJudgedBy world ruled c.args.world.now.table s c.args.moment c.args.screened.now.readings) (sym c.in_ok-read_chains.ensures.same_says) by) right)
     passed now c.in_ok-read_chains.ensures.right c.finding_of.ensures.same
 
 pub returns-clause-unread : goal.returns-clause-unread

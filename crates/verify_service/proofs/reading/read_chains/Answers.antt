@@ -19,9 +19,9 @@ passports-preserved g c =
     record {
       end = c.passports.invariant.end;
       counted = ap length pushed ∙ length_push c.passports.chains state ∙ ap (λ n. n + 1) c.passports.invariant.counted;
-      right = subst (λ (states : List State). AreRightWhere (g.S.Shelf.files c.args.shelf.now) c.args.materials.now (g.P.Provider.says c.args.provider.now)
+      right = subst (λ (states : List State). AreRightWhere (g.S.Shelf.files c.args.shelf.now) c.args.world.now (g.P.Provider.says c.args.provider.now)
           (take (c.passports.i + 1) c.args.screened.now.readings) states) (sym pushed)
-          (right_next (g.S.Shelf.files c.args.shelf.now) (g.S.Shelf.files c.passports.shelf) c.args.materials.now (g.P.Provider.says c.args.provider.now) (g.P.Provider.says c.passports.provider)
+          (right_next (g.S.Shelf.files c.args.shelf.now) (g.S.Shelf.files c.passports.shelf) c.args.world.now (g.P.Provider.says c.args.provider.now) (g.P.Provider.says c.passports.provider)
           c.args.screened.now.readings c.passports.chains c.passports.i c.passport.result.now c.x5u-x5u.result.now state c.right_law.ensures.more c.passports.invariant.same_files
           c.passports.invariant.same_says c.passports.invariant.right within c.passport.ensures c.x5u-x5u.ensures c.in_ok-chain.ensures.right);
       unread = subst (λ (states : List State). HasCauseIf (list_any is_unread states) (g.S.Shelf.counts c.args.shelf.now).faults (g.S.Shelf.counts c.chain_of.new.shelf).faults) (sym pushed)

@@ -10,7 +10,7 @@ abbrev pub invariant-passports : goal.invariant-passports
 invariant-passports g l = record {
   end : l.i-end ≡ length l.screened.readings;
   counted : length l.chains ≡ l.i;
-  right : AreRightWhere (g.S.Shelf.files l.fn.shelf) l.materials (g.P.Provider.says l.fn.provider) (take l.i l.screened.readings) l.chains;
+  right : AreRightWhere (g.S.Shelf.files l.fn.shelf) l.world (g.P.Provider.says l.fn.provider) (take l.i l.screened.readings) l.chains;
   unread : HasCauseIf (list_any is_unread l.chains) (g.S.Shelf.counts l.fn.shelf).faults (g.S.Shelf.counts l.shelf).faults;
   unasked : HasCauseIf (list_any is_unasked l.chains) (g.P.Provider.faults l.fn.provider) (g.P.Provider.faults l.provider);
   same_files : g.S.Shelf.files l.shelf ≡ g.S.Shelf.files l.fn.shelf;

@@ -2,7 +2,7 @@
 use Rattle.std.proofs.Common.{Result, IfErr, OnOk, refl, sym, subst, string_bytes}
 use Rattle.call_run.specs.Answer.{AnswerView}
 use Rattle.call_run.specs.Answering.{Adds, StopsBy}
-use Rattle.call_run.specs.declared.stop.AnswerStop.{AnswerStop}
+use Rattle.call_run.specs.declared.stop.AnswerError.{AnswerError}
 use Rattle.single_calls.specs.Asker.{AskerView, BehindAsked, StopsAsking}
 use Rattle.single_calls.specs.Reading.{lines}
 use Rattle.single_calls.proofs.AskerLaws.{adds, stops_so}
@@ -14,8 +14,8 @@ returns-clause-adds g c =
     let before : AskerView = record { settings = c.self.inside.settings; materials = c.self.inside.world; written = c.self.inside.written } in
     let now : AskerView = record { settings = c.self.inside.settings; materials = c.self.inside.world; written = c.ask_call.new.written } in
     let P : AskerView → Type 0 = λ a.
-    OnOk {T = AnswerView} {E = AnswerStop} c.match-ask_call.result (Adds (BehindAsked a (g.S.Shelf.files c.args.shelf.now)) (BehindAsked now (g.S.Shelf.files c.ask_call.new.shelf)) c.args.call.now) in
-    let Q : Result AnswerView AnswerStop → Type 0 = λ r.
+    OnOk {T = AnswerView} {E = AnswerError} c.match-ask_call.result (Adds (BehindAsked a (g.S.Shelf.files c.args.shelf.now)) (BehindAsked now (g.S.Shelf.files c.ask_call.new.shelf)) c.args.call.now) in
+    let Q : Result AnswerView AnswerError → Type 0 = λ r.
     OnOk r (Adds (BehindAsked before (g.S.Shelf.files c.args.shelf.now)) (BehindAsked now (g.S.Shelf.files c.ask_call.new.shelf)) c.args.call.now) in
     subst P c.self.view_is (elim c.match-ask_call.branch [
       | in-Ok w ↦ subst Q (sym w.result-is) (adds before now (g.S.Shelf.files c.args.shelf.now) (g.S.Shelf.files c.ask_call.new.shelf) c.args.call.now
@@ -28,9 +28,9 @@ pub returns-clause-stopped : goal.returns-clause-stopped
 returns-clause-stopped g c =
     let before : AskerView = record { settings = c.self.inside.settings; materials = c.self.inside.world; written = c.self.inside.written } in
     let P : AskerView → Type 0 = λ a.
-    IfErr {T = AnswerView} {E = AnswerStop} c.match-ask_call.result (StopsBy (BehindAsked a (g.S.Shelf.files c.args.shelf.now)) (StopsAsking a (g.S.Shelf.files c.args.shelf.now)) c.args.call.now
+    IfErr {T = AnswerView} {E = AnswerError} c.match-ask_call.result (StopsBy (BehindAsked a (g.S.Shelf.files c.args.shelf.now)) (StopsAsking a (g.S.Shelf.files c.args.shelf.now)) c.args.call.now
     (g.S.Shelf.counts c.args.shelf.now).faults (g.S.Shelf.counts c.ask_call.new.shelf).faults) in
-    let Q : Result AnswerView AnswerStop → Type 0 = λ r.
+    let Q : Result AnswerView AnswerError → Type 0 = λ r.
     IfErr r (StopsBy (BehindAsked before (g.S.Shelf.files c.args.shelf.now)) (StopsAsking before (g.S.Shelf.files c.args.shelf.now)) c.args.call.now
     (g.S.Shelf.counts c.args.shelf.now).faults (g.S.Shelf.counts c.ask_call.new.shelf).faults) in
     subst P c.self.view_is (elim c.match-ask_call.branch [

@@ -16,15 +16,15 @@ pub returns-clause-judged : goal.returns-clause-judged
 returns-clause-judged g c =
     let each : EachComesOf c.in_ok-findings.findings.items c.settle_all.result.items =
     subst (λ (fs : List Finding). EachComesOf fs c.settle_all.result.items) c.as_slice.ensures.value c.settle_all.ensures.same in
-    judged_round (g.S.Shelf.files c.args.shelf.now) c.args.self.now c.self.inside.settings c.self.inside.materials (g.P.Provider.says c.args.worker.now.provider) c.args.calls.now
-    c.in_ok-findings.findings.items c.settle_all.result.items (ap (λ (s : ServiceView). s.settings) c.self.view_is ∙ c.begin.ensures.told.settings)
-    (materials_same c.args.self.now c.begin.new.self c.self.inside.materials c.begin.ensures.told (ap (λ (s : ServiceView). s.chains) c.self.view_is)
+    judged_round (g.S.Shelf.files c.args.shelf.now) c.args.self.now c.self.inside.settings c.self.inside.world (g.P.Provider.says c.args.worker.now.provider) c.args.calls.now
+    c.in_ok-findings.findings.items c.settle_all.result.items (ap (λ (s : ServiceView). s.settings) c.self.view_is ∙ c.begin.ensures.config.settings)
+    (materials_same c.args.self.now c.begin.new.self c.self.inside.world c.begin.ensures.config (ap (λ (s : ServiceView). s.chains) c.self.view_is)
     (ap (λ (s : ServiceView). s.anchors) c.self.view_is) (ap (λ (s : ServiceView). s.table) c.self.view_is))
     c.in_ok-findings.ensures.found each
 
 pub returns-clause-settled : goal.returns-clause-settled
 returns-clause-settled g c =
-    let settings : c.self.inside.settings ≡ c.args.self.now.settings = ap (λ (s : ServiceView). s.settings) c.self.view_is ∙ c.begin.ensures.told.settings in
+    let settings : c.self.inside.settings ≡ c.args.self.now.settings = ap (λ (s : ServiceView). s.settings) c.self.view_is ∙ c.begin.ensures.config.settings in
     let found : EachHasTicket c.args.self.now.settings c.args.calls.now c.in_ok-findings.findings.items =
     subst (λ (s : Settings). EachHasTicket s c.args.calls.now c.in_ok-findings.findings.items) settings c.in_ok-findings.ensures.tickets in
     let tickets : EachHasTicket c.args.self.now.settings c.args.calls.now c.as_slice.result.now =
@@ -44,7 +44,7 @@ pub returns-clause-owed : goal.returns-clause-owed
 returns-clause-owed g c =
     let each : EachComesOf c.in_ok-findings.findings.items c.settle_all.result.items =
     subst (λ (fs : List Finding). EachComesOf fs c.settle_all.result.items) c.as_slice.ensures.value c.settle_all.ensures.same in
-    let settings : c.self.inside.settings ≡ c.args.self.now.settings = ap (λ (s : ServiceView). s.settings) c.self.view_is ∙ c.begin.ensures.told.settings in
+    let settings : c.self.inside.settings ≡ c.args.self.now.settings = ap (λ (s : ServiceView). s.settings) c.self.view_is ∙ c.begin.ensures.config.settings in
     let signed : EachHasSigned c.args.self.now.settings c.args.calls.now c.in_ok-findings.findings.items =
     subst (λ (s : Settings). EachHasSigned s c.args.calls.now c.in_ok-findings.findings.items) settings c.in_ok-findings.ensures.signed in
     owed_round c.args.self.now.settings c.args.calls.now c.in_ok-findings.findings.items c.settle_all.result.items signed each

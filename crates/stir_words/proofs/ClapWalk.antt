@@ -11,8 +11,8 @@ use Rattle.lists.proofs.Bytes.{same_bytes}
 use Rattle.stir_words.specs.Options.{Joined, Options, Pair, Parted}
 use Rattle.stir_words.specs.Table.{Known, are_known, has, is_known}
 use Rattle.stir_words.proofs.TableLaws.{and_true}
-use Rattle.stir_words.proofs.ToldTable.{by_id, long_is_id, missing, named, no_id, row, row_has, rules, shape_for}
-use Rattle.stir_words.proofs.ToldWords.{IsPlain, Says, plain_value, says_alone, says_joined}
+use Rattle.stir_words.proofs.ClapTable.{by_id, long_is_id, missing, named, no_id, row, row_has, rules, shape_for}
+use Rattle.stir_words.proofs.ClapWords.{IsPlain, Says, plain_value, says_alone, says_joined}
 
 -- no kind of error
 abbrev pub quiet : Kinds → Bool

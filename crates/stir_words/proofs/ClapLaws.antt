@@ -16,13 +16,13 @@ use Rattle.clap.specs.declared.parser.matches.ArgMatches.{ArgMatches}
 use Rattle.clap.proofs.WalkLemmas.{first_value-rows}
 use Rattle.stir_words.specs.Options.{Options, Pair, are_options, options_in, pairs_of}
 use Rattle.stir_words.specs.Table.{Known, accepts, are_known, given_by, has, has_required}
-use Rattle.stir_words.specs.Told.{IsParsed, app_for, values_in}
+use Rattle.stir_words.specs.ClapRules.{IsParsed, app_for, values_in}
 use Rattle.stir_words.specs.declared.fault.WordsFault.{WordsFault}
 use Rattle.stir_words.specs.declared.fault.WordsFault.TheVariants as faults
 use Rattle.stir_words.proofs.OptionLaws.{options_are}
 use Rattle.stir_words.proofs.OrderLaws.{all_found}
-use Rattle.stir_words.proofs.ToldTable.{built_is, ready, row, row_first, row_given, rules, shape_for, simple_and_free}
-use Rattle.stir_words.proofs.ToldWalk.{all_quiet, and_assoc, quiet, quiet_or, walks}
+use Rattle.stir_words.proofs.ClapTable.{built_is, ready, row, row_first, row_given, rules, shape_for, simple_and_free}
+use Rattle.stir_words.proofs.ClapWalk.{all_quiet, and_assoc, quiet, quiet_or, walks}
 
 -- ---- behind the words
 
@@ -114,12 +114,12 @@ level_quiet table words =
     ∙ ap (λ (r : List Row). quiet faults && (quiet left && quiet (check_fault (shape_for table) r false))) (finished_is (settled (rules table) end).rows table)
     ∙ sym (and_assoc (quiet faults) (quiet left) (quiet (check_fault (shape_for table) (settled (rules table) end).rows false)))
 
-record Told (table : List Known) (words : List Text) (pairs : List Pair) : Type 0 where
+record ReadByClap (table : List Known) (words : List Text) (pairs : List Pair) : Type 0 where
   taken : quiet (fault_of (app_for table) words) ≡ accepts table pairs
   rows : accepts table pairs ≡ true → matches_of (app_for table) words ≡ map row pairs
 
-told_by : (table : List Known) (words : List Text) (pairs : List Pair) (t : Bool) → are_known table [] pairs ≡ t → Options words pairs → Told table words pairs
-told_by table words pairs true known o =
+read_by_clap_by : (table : List Known) (words : List Text) (pairs : List Pair) (t : Bool) → are_known table [] pairs ≡ t → Options words pairs → ReadByClap table words pairs
+read_by_clap_by table words pairs true known o =
     let w = walks table pairs words nothing_held [] o (record { quiet_now = refl; settles = refl }) in
     let end = w.finds known in
     let whole : accepts table pairs ≡ has_required table pairs = rw known refl in
@@ -130,7 +130,7 @@ told_by table words pairs true known o =
           ∙ check_quiet table pairs ∙ sym whole;
       rows = λ is. rows_are table words ∙ ap (λ (h : Held). h.rows) end;
     }
-told_by table words pairs false known o =
+read_by_clap_by table words pairs false known o =
     let w = walks table pairs words nothing_held [] o (record { quiet_now = refl; settles = refl }) in
     let refused : accepts table pairs ≡ false = rw known refl in
     record {
@@ -140,9 +140,9 @@ told_by table words pairs false known o =
       rows = λ is. let bad : true ≡ false = sym is ∙ refused in absurd cc;
     }
 
-told : (table : List Known) (words : List Text) → are_options words ≡ true → Told table words (options_in words)
-told table words are =
-    told_by table words (options_in words) (are_known table [] (options_in words)) refl ((options_are words (options_in words)).0 (all_found (pairs_of words) are))
+read_by_clap : (table : List Known) (words : List Text) → are_options words ≡ true → ReadByClap table words (options_in words)
+read_by_clap table words are =
+    read_by_clap_by table words (options_in words) (are_known table [] (options_in words)) refl ((options_are words (options_in words)).0 (all_found (pairs_of words) are))
 
 -- ---- as the code has it
 
@@ -153,7 +153,7 @@ among k (x ∷ xs) is = refl
 pub found_here : (table : List Known) (a : App) (words : List Text) (matches : ArgMatches) → are_options words ≡ true → a ≡ app_for table
     → (is_simple_and_free a ≡ true → fault_of a words ≡ []) → HasMatchesOf a words matches → IsParsed table (options_in words) (Ok matches)
 found_here table a words matches are is no_fault has_matches =
-    let t = told table words are in
+    let t = read_by_clap table words are in
     let simple : is_simple_and_free a ≡ true = ap is_simple_and_free is ∙ simple_and_free table in
     let parts = and_parts (is_simple a) (is_free_app (built a)) simple in
     let taken : accepts table (options_in words) ≡ true = sym t.taken ∙ ap (λ (b : App). quiet (fault_of b words)) (sym is) ∙ ap quiet (no_fault simple) in
@@ -167,7 +167,7 @@ pub refused_here : (table : List Known) (a : App) (words : List Text) (error : E
     → IsParsed table (options_in words) (Err fault)
 refused_here table a words error faults.Memory are is kinds memory = tt
 refused_here table a words error faults.Refused are is kinds memory =
-    let t = told table words are in
+    let t = read_by_clap table words are in
     let simple : is_simple_and_free a ≡ true = ap is_simple_and_free is ∙ simple_and_free table in
     refused_by (kinds simple) (t.taken)
   where

@@ -1,7 +1,7 @@
 -- The status with which the program ends (this project's own rule).
 use Rattle.std.specs.Prelude.{ℕ}
-use Rattle.stir_words.specs.declared.status.Status.{Status}
-use Rattle.stir_words.specs.declared.status.Status.TheVariants.{Done, NotAllValid, Words, Read, Write, Input, Memory}
+use Rattle.stir_outside.specs.declared.status.Status.{Status}
+use Rattle.stir_outside.specs.declared.status.Status.TheVariants.{Done, NotAllValid, Words, Read, Write, Input, Memory}
 
 abbrev pub status_number : Status → ℕ
 status_number Done = 0

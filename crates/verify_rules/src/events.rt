@@ -1,11 +1,11 @@
 //! The first that rules make of the PASSporTs of a call, in the order in which it went.
 ghost use Rattle.std.specs.Prelude.{◌≡◌, length};
-ghost use Rattle.verify_rules.specs.Late.{at_rule, first_rule, told_by};
+ghost use Rattle.verify_rules.specs.Late.{at_rule, first_rule, rule_event};
 ghost use Rattle.verify_rules.specs.Seen.{taken_seen};
 ghost use Rattle.verify_rules.specs.States.{seen};
 
 use crate::chains::{ChainState, Chains};
-use crate::late::{Event, LateRule, Told};
+use crate::late::{Event, LateRule, RuleResult};
 use crate::readings::Taken;
 use crate::refusal::{Place, Refusal};
 use crate::screened::Screened;
@@ -24,7 +24,7 @@ pub(crate) fn first_rule<C: Chains>(
     ensures { result ≡ first_rule rules.now table.now moment screened.now.readings (C.states chains.now) }
 {
     for rule in rules {
-        if let Some(event) = told_by(*rule, screened, chains, moment, table) {
+        if let Some(event) = rule_event(*rule, screened, chains, moment, table) {
             return Some(event);
         }
     }
@@ -32,8 +32,8 @@ pub(crate) fn first_rule<C: Chains>(
 }
 
 /// The first that this rule makes of them.
-#[tactic(auto, using(crate::proofs::LateSteps::told_more, crate::proofs::LateSteps::told_here, crate::proofs::LateSteps::told_done))]
-fn told_by<C: Chains>(
+#[tactic(auto, using(crate::proofs::LateSteps::rule_event_more, crate::proofs::LateSteps::rule_event_here, crate::proofs::LateSteps::rule_event_done))]
+fn rule_event<C: Chains>(
     rule: LateRule,
     screened: &Screened,
     chains: &C,
@@ -41,11 +41,11 @@ fn told_by<C: Chains>(
     table: &CodeTable,
 ) -> Option<Event>
     requires one_each { length (C.states chains.now) ≡ length screened.now.readings }
-    ensures { result ≡ told_by rule table.now moment screened.now.readings (C.states chains.now) }
+    ensures { result ≡ rule_event rule table.now moment screened.now.readings (C.states chains.now) }
 {
     'passports: for i in 0..screened.count() {
         let one = screened.taken(i);
-        if let Some(event) = told_at(rule, &one, chains.state(i), moment, table) {
+        if let Some(event) = event_at(rule, &one, chains.state(i), moment, table) {
             return Some(event);
         }
     }
@@ -54,7 +54,7 @@ fn told_by<C: Chains>(
 
 /// What it makes of one of them.
 #[tactic(auto, unfolding(crate::specs::Late::at_rule))]
-fn told_at(
+fn event_at(
     rule: LateRule,
     one: &Taken<'_>,
     state: ChainState<'_>,
@@ -65,12 +65,12 @@ fn told_at(
 {
     let field = one.mark.field;
     match rule.tell(table, moment, one, state) {
-        Told::Holds => None,
-        Told::Broken(part) => Some(Event::Refused(Refusal {
+        RuleResult::Holds => None,
+        RuleResult::Broken(part) => Some(Event::Refused(Refusal {
             rule: rule.number(),
             place: Place::new(field, u32::from(part)),
         })),
-        Told::Unknown => Some(Event::Unread(Place::new(field, 0))),
-        Told::Unasked(part) => Some(Event::Unasked(Place::new(field, u32::from(part)))),
+        RuleResult::Unknown => Some(Event::Unread(Place::new(field, 0))),
+        RuleResult::Unasked(part) => Some(Event::Unasked(Place::new(field, u32::from(part)))),
     }
 }

@@ -1,6 +1,6 @@
 //! The status with which the program ends.
 ghost use Rattle.std.specs.Prelude.{◌≡◌, ◌≤◌};
-ghost use Rattle.stir_words.specs.Status.{status_number};
+ghost use Rattle.stir_outside.specs.Status.{status_number};
 
 /// How the program ends.
 #[derive(Clone, Copy, Debug, PartialEq, Eq)]

@@ -12,18 +12,18 @@ use Rattle.clap.specs.declared.parser.matches.ValueSource.TheVariants.{CommandLi
 use Rattle.lists.proofs.Bytes.{bytes_same}
 use Rattle.stir_words.specs.Options.{Pair}
 use Rattle.stir_words.specs.Table.{Known, get, has, is_known}
-use Rattle.stir_words.specs.Told.{app_for, told}
+use Rattle.stir_words.specs.ClapRules.{app_for, rule_for}
 
 -- ---- the rules
 
 -- an option as clap keeps it
 abbrev pub ready : Known → Rule
-ready known = with_index 1 (filled (told known))
+ready known = with_index 1 (filled (rule_for known))
 
 abbrev pub rules : List Known → List Rule
 rules table = map ready table
 
-filled_all : (n : ℕ) (table : List Known) → filled_from n (map told table) ≡ rules table
+filled_all : (n : ℕ) (table : List Known) → filled_from n (map rule_for table) ≡ rules table
 filled_all n [] = refl
 filled_all n (known ∷ table) = ap (λ (rest : List Rule). ready known ∷ rest) (filled_all n table)
 
@@ -33,9 +33,9 @@ shape_for table = record (new_shape (codes "stir")) { rules = rules table; no_bi
 pub built_is : (table : List Known) → ◌≡◌ {A = App} (built (app_for table)) (record { top = shape_for table; subs = [] })
 built_is table = ap (λ (found : List Rule). record { top = record (shape_for table) { rules = found }; subs = [] }) (filled_all 1 table)
 
-told_simple : (table : List Known) → list_all (λ (rule : Rule). rule.is_simple) (map told table) ≡ true
-told_simple [] = refl
-told_simple (known ∷ table) = told_simple table
+rules_simple : (table : List Known) → list_all (λ (rule : Rule). rule.is_simple) (map rule_for table) ≡ true
+rules_simple [] = refl
+rules_simple (known ∷ table) = rules_simple table
 
 ready_simple : (table : List Known) → list_all (λ (rule : Rule). rule.is_simple) (rules table) ≡ true
 ready_simple [] = refl
@@ -55,7 +55,7 @@ simple_by buildable a = (buildable && (is_ready a.top && list_all is_ready_leaf 
 pub simple_and_free : (table : List Known) → is_simple_and_free (app_for table) ≡ true
 simple_and_free table =
     ap (simple_by (is_buildable (app_for table))) (built_is table)
-    ∙ rw (told_simple table, ready_simple table, none_early _ table, ready_free table) refl
+    ∙ rw (rules_simple table, ready_simple table, none_early _ table, ready_free table) refl
 
 -- ---- looking for an option
 
@@ -149,13 +149,13 @@ missing name change more (pair ∷ pairs) h = missing_here (bytes_eq pair.name n
 
 -- the command with these options more
 abbrev pub with_all : App → List Known → App
-with_all a table = record a { top = record a.top { rules = a.top.rules ++ map told table } }
+with_all a table = record a { top = record a.top { rules = a.top.rules ++ map rule_for table } }
 
-pub one_more : (old now whole : App) (rule : Rule) (known : Known) (table : List Known) → with_all old (known ∷ table) ≡ whole → now ≡ with_rule old rule → rule ≡ told known
+pub one_more : (old now whole : App) (rule : Rule) (known : Known) (table : List Known) → with_all old (known ∷ table) ≡ whole → now ≡ with_rule old rule → rule ≡ rule_for known
     → with_all now table ≡ whole
 one_more old now whole rule known table e added is =
     ap (λ (a : App). with_all a table) added ∙ ap (λ (r : Rule). with_all (with_rule old r) table) is
-    ∙ ap (λ (found : List Rule). record old { top = record old.top { rules = found } }) (append_assoc old.top.rules (told known ∷ []) (map told table)) ∙ e
+    ∙ ap (λ (found : List Rule). record old { top = record old.top { rules = found } }) (append_assoc old.top.rules (rule_for known ∷ []) (map rule_for table)) ∙ e
 
-pub all_told : (now whole : App) → with_all now [] ≡ whole → now ≡ whole
-all_told now whole e = ap (λ (found : List Rule). record now { top = record now.top { rules = found } }) (sym (append-nil now.top.rules)) ∙ e
+pub all_added : (now whole : App) → with_all now [] ≡ whole → now ≡ whole
+all_added now whole e = ap (λ (found : List Rule). record now { top = record now.top { rules = found } }) (sym (append-nil now.top.rules)) ∙ e

@@ -1,5 +1,5 @@
 //! What calls are judged by.
-use cert_store::ChainMap;
+use crate::map::ChainMap;
 use delegation::Anchors;
 use tn_auth_list::CodeTable;
 

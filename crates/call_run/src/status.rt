@@ -2,7 +2,7 @@
 
 /// What the lines of a call come to.
 #[derive(Clone, Copy, Debug, PartialEq, Eq)]
-pub enum Finding {
+pub enum CallStatus {
     /// Nothing is wrong with the call.
     Well,
     /// The call breaks a rule.

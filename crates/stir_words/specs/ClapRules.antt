@@ -11,12 +11,12 @@ use Rattle.stir_words.specs.declared.fault.WordsFault.{WordsFault}
 use Rattle.stir_words.specs.declared.fault.WordsFault.TheVariants.{Refused, Memory}
 
 -- an option takes one value, and its name is its long name
-abbrev pub told : Known → Rule
-told known = record (new_rule known.name) { long = Some known.name; action = Some Set; required = known.required }
+abbrev pub rule_for : Known → Rule
+rule_for known = record (new_rule known.name) { long = Some known.name; action = Some Set; required = known.required }
 
 -- a command with these options: no name of a program stands before the words, and none of the options is for help
 abbrev pub app_for : List Known → App
-app_for table = record { top = record (new_shape (codes "stir")) { rules = map told table; no_binary_name = true; disable_help_flag = true }; subs = [] }
+app_for table = record { top = record (new_shape (codes "stir")) { rules = map rule_for table; no_binary_name = true; disable_help_flag = true }; subs = [] }
 
 -- the values that were found
 abbrev pub values_in : ArgMatches → Given

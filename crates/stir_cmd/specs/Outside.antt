@@ -8,13 +8,13 @@ pub record Outside : Type 0 where
   pub files : Option Files
   pub counts : Counts
   pub left : Option (List ℕ)
-  pub reads : ℕ
+  pub read_faults : ℕ
   pub written : Option (List ℕ)
-  pub writes : ℕ
+  pub write_faults : ℕ
 
 abbrev pub outside : Option Files → Counts → Option (List ℕ) → ℕ → Option (List ℕ) → ℕ → Outside
 outside files counts left reads written writes =
-    record { files = files; counts = counts; left = left; reads = reads; written = written; writes = writes }
+    record { files = files; counts = counts; left = left; read_faults = reads; written = written; write_faults = writes }
 
 -- it holds of the files and of the bytes that were left, where both are told
 abbrev pub IfTold : Option Files → Option (List ℕ) → (Files → List ℕ → Type 0) → Type 0
@@ -26,4 +26,4 @@ IfTold (Some files) (Some bytes) P = P files bytes
 pub record IsUntouched (before now : Outside) : Type 0 where
   pub counts : now.counts ≡ before.counts
   pub left : now.left ≡ before.left
-  pub reads : now.reads ≡ before.reads
+  pub read_faults : now.read_faults ≡ before.read_faults

@@ -9,15 +9,15 @@ use Rattle.verify_rules.specs.declared.late.Event.{Event}
 use Rattle.verify_rules.specs.declared.late.Event.TheVariants as events
 use Rattle.verify_rules.specs.declared.late.LateRule.{LateRule}
 use Rattle.verify_rules.specs.declared.late.LateRule.TheVariants as late
-use Rattle.verify_rules.specs.declared.late.Told.{Told}
-use Rattle.verify_rules.specs.declared.late.Told.TheVariants as told
+use Rattle.verify_rules.specs.declared.late.RuleResult.{RuleResult}
+use Rattle.verify_rules.specs.declared.late.RuleResult.TheVariants as results
 
 -- the rule holds, or it is broken
-abbrev pub IsDefinite : Told → Type 0
-IsDefinite told.Holds = ⊤
-IsDefinite (told.Broken part) = ⊤
-IsDefinite told.Unknown = ⊥
-IsDefinite (told.Unasked part) = ⊥
+abbrev pub IsDefinite : RuleResult → Type 0
+IsDefinite results.Holds = ⊤
+IsDefinite (results.Broken part) = ⊤
+IsDefinite results.Unknown = ⊥
+IsDefinite (results.Unasked part) = ⊥
 
 part_definite : (part : Option ℕ) → IsDefinite (by_part part)
 part_definite None = tt
@@ -62,8 +62,8 @@ IsSetAside (Some (events.Refused refused)) = ⊥
 IsSetAside (Some (events.Unread bad)) = ⊤
 IsSetAside (Some (events.Unasked bad)) = ⊤
 
-pub definite_event : (n field : ℕ) (said : Told) → IsDefinite said → IsSetAside (event_of n field said) → ⊥
-definite_event n field told.Holds d aside = aside
-definite_event n field (told.Broken part) d aside = aside
-definite_event n field told.Unknown d aside = d
-definite_event n field (told.Unasked part) d aside = d
+pub definite_event : (n field : ℕ) (said : RuleResult) → IsDefinite said → IsSetAside (event_of n field said) → ⊥
+definite_event n field results.Holds d aside = aside
+definite_event n field (results.Broken part) d aside = aside
+definite_event n field results.Unknown d aside = d
+definite_event n field (results.Unasked part) d aside = d
