@@ -24,12 +24,9 @@ use base64::engine::general_purpose::URL_SAFE_NO_PAD;
 use identity_header::Field;
 use passport_claims::{Kind, Passport};
 use passport_json::token_bytes_law;
-use sip_message::{MessageFault, with_field};
+use sip_message::{MOST_BYTES, MessageFault, with_field};
 use std::alloc::{AllocError, Global};
 use text_grammar::uri_law;
-
-/// How many bytes a message may have.
-const MOST_BYTES: usize = 65_535;
 
 /// How many bytes a type of a PASSporT adds to the field: `;ppt=shaken` or `;ppt=div`.
 fn type_size(kind: &Kind) -> usize

@@ -13,6 +13,8 @@ use Rattle.call_run.specs.Answer.{AnswerView, all_well, texts_of, unread_in}
 use Rattle.call_run.specs.Answering.{AreAnswered}
 use Rattle.call_run.specs.Ending.{EndsBy, unread_line}
 use Rattle.call_run.specs.Running.{RunEnd, RunsOut, at}
+use Rattle.stir_outside.specs.declared.sink.Sink.{Ghosts as SinkOf}
+use Rattle.stir_outside.specs.declared.source.Source.{Ghosts as SourceOf}
 
 -- what stands around a run: what is left of the log, how often files of certificates couldn't be read, and the streams
 pub record RunState : Type 0 where
@@ -22,6 +24,10 @@ pub record RunState : Type 0 where
 
 abbrev pub run_state : Option (List ℕ) → ℕ → ℕ → Option (List ℕ) → ℕ → RunState
 run_state left faults reads written writes = record { left = left; faults = faults; streams = streams reads written writes }
+
+-- of a source, a sink and a shelf whose reads failed so often
+abbrev pub run_state_of : {I O : Type 0} → SourceOf I → SinkOf O → ℕ → I → O → RunState
+run_state_of bytes lines faults input sink = run_state (bytes.left input) faults (bytes.faults input) (lines.written sink) (lines.faults sink)
 
 -- what a run came to: how its calls ended, and how the run ended then
 pub record LogRan (answered : List Entry → Entry → AnswerView → Type 0) (stops : List Entry → Entry → List ℕ → List ℕ → Type 0) (before now : RunState) (status : ℕ) : Type 0 where

@@ -3,6 +3,7 @@ use Rattle.std.specs.Prelude.{◌≡◌, ⊤, ℕ, ◌≤◌, Bool, ◌&&◌, Li
 use Rattle.std.specs.Io.KnownBytes.{Appends}
 use Rattle.call_log.specs.Entry.{Entry}
 use Rattle.call_log.specs.Log.{Passed}
+use Rattle.call_log.specs.Reads.{LogState, left_to}
 use Rattle.call_log.specs.declared.fault.LogFault.{LogFault}
 use Rattle.log_run.specs.Reading.{ReadCalls}
 use Rattle.log_run.specs.Running.{BehindBy, GoodBy, SourceRose, Streams, StreamsStay}
@@ -14,6 +15,7 @@ use Rattle.call_run.specs.declared.ends.RunError.{RunError}
 use Rattle.call_run.specs.declared.ends.RunError.TheVariants as error
 use Rattle.call_run.specs.declared.stop.AnswerError.{AnswerError}
 use Rattle.call_run.specs.declared.stop.AnswerError.TheVariants.{Unread, Memory as WantOfMemory}
+use Rattle.stir_outside.specs.declared.source.Source.{Ghosts as SourceOf}
 
 -- how far a run has come: how far the log was read, what is left of it, how often a file of certificates couldn't be read, and whether all
 -- is well so far
@@ -25,6 +27,10 @@ pub record At : Type 0 where
 
 abbrev pub at : Passed → Option (List ℕ) → ℕ → Bool → At
 at passed left faults all_good = record { passed = passed; left = left; faults = faults; all_good = all_good }
+
+-- of a reader and its source
+abbrev pub at_of : {I : Type 0} → SourceOf I → ℕ → Bool → LogState → I → At
+at_of bytes faults all_good reader input = at reader.passed (left_to reader (bytes.left input)) faults all_good
 
 -- The calls were read, and each was answered behind the first ones and those before it. Lines say `unread` at most as often as the count of
 -- failed reads rose by, unless it stands at its last value.

@@ -1,12 +1,11 @@
 //! The calls of a log: each is read, answered and written of before the next.
 ghost use Rattle.std.specs.Prelude.{◌≡◌, ◌+◌, ◌≤◌, [], length, Ok, IfOk};
 ghost use Rattle.call_log.specs.Entry.{most_message_length};
-ghost use Rattle.call_log.specs.Reads.{left_to};
 ghost use Rattle.call_run.specs.Answering.{Implies, IncludedIn};
-ghost use Rattle.call_run.specs.Running.{RunsOut, at};
+ghost use Rattle.call_run.specs.Running.{RunsOut, at_of};
 ghost use Rattle.call_run.specs.Steps.{AnsweredCall, From, RanCall};
 ghost use Rattle.call_run.specs.declared.ends.Next.TheVariants.{More};
-ghost use Rattle.log_run.specs.Running.{streams};
+ghost use Rattle.log_run.specs.Running.{streams_of};
 ghost use Rattle.log_run.specs.Steps.{ReadsOn};
 ghost use Rattle.text_grammar.specs.Moment.{last_second};
 
@@ -59,10 +58,10 @@ fn run_call<A: Answerer, S: Shelf, I: Source, O: Sink>(
 ) -> Result<Next, RunError>
     requires reads_on { ReadsOn reader.old }
     ensures ran { RanCall (A.answered answerer.old (S.files shelf.old)) (A.behind answerer.old (S.files shelf.old)) (A.behind answerer.new (S.files shelf.new)) (A.stops answerer.old (S.files shelf.old))
-        (at reader.old.passed (left_to reader.old (I.left input.old)) (S.counts shelf.old).faults all_good.old)
-        (at reader.new.passed (left_to reader.new (I.left input.new)) (S.counts shelf.new).faults all_good.new)
-        (streams (I.faults input.old) (O.written sink.old) (O.faults sink.old))
-        (streams (I.faults input.new) (O.written sink.new) (O.faults sink.new)) result }
+        (at_of I.Source (S.counts shelf.old).faults all_good.old reader.old input.old)
+        (at_of I.Source (S.counts shelf.new).faults all_good.new reader.new input.new)
+        (streams_of I.Source O.Sink input.old sink.old)
+        (streams_of I.Source O.Sink input.new sink.new) result }
     ensures reads_on { result ≡ Ok More → ReadsOn reader.new }
     ensures none_ahead { IfOk result (λ next. reader.new.ahead ≡ []) }
     ensures more { result ≡ Ok More → reader.new.passed.count ≡ reader.old.passed.count + 1 }
@@ -96,10 +95,10 @@ pub(crate) fn run_calls<A: Answerer, S: Shelf, I: Source, O: Sink>(
     requires reads_on { ReadsOn reader.old }
     requires first { A.behind answerer.old (S.files shelf.old) [] }
     ensures ran { RunsOut (A.answered answerer.old (S.files shelf.old)) (A.stops answerer.old (S.files shelf.old)) []
-        (at reader.old.passed (left_to reader.old (I.left input.old)) (S.counts shelf.old).faults all_good.old)
-        (at reader.new.passed (left_to reader.new (I.left input.new)) (S.counts shelf.new).faults all_good.new)
-        (streams (I.faults input.old) (O.written sink.old) (O.faults sink.old))
-        (streams (I.faults input.new) (O.written sink.new) (O.faults sink.new)) result }
+        (at_of I.Source (S.counts shelf.old).faults all_good.old reader.old input.old)
+        (at_of I.Source (S.counts shelf.new).faults all_good.new reader.new input.new)
+        (streams_of I.Source O.Sink input.old sink.old)
+        (streams_of I.Source O.Sink input.new sink.new) result }
     ensures none_ahead { IfOk result (λ fault. reader.new.ahead ≡ []) }
     ensures same_files { S.files shelf.new ≡ S.files shelf.old }
     ensures shelf_stays { (S.counts shelf.old).faults ≤ (S.counts shelf.new).faults }

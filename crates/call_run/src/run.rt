@@ -1,6 +1,6 @@
 //! A run over a whole log: its calls, and the last line.
 ghost use Rattle.std.specs.Prelude.{◌≡◌, ◌≤◌, ◌++◌, ℕ, [], string_bytes};
-ghost use Rattle.call_run.specs.Clauses.{AnswersLog, Fails, HasCauses, HasEnded, IsComplete, LogRan, Refuses, run_state};
+ghost use Rattle.call_run.specs.Clauses.{AnswersLog, Fails, HasCauses, HasEnded, IsComplete, LogRan, Refuses, run_state_of};
 ghost use Rattle.call_run.specs.Ending.{EndsBy, EndsStopped, EndsUnread, unread_line};
 
 use crate::answerer::Answerer;
@@ -27,26 +27,26 @@ pub fn answer_log<A: Answerer, S: Shelf, I: Source, O: Sink>(
 ) -> u8
     requires { A.behind answerer.old (S.files shelf.old) [] }
     ensures ran { LogRan (A.answered answerer.old (S.files shelf.old)) (A.stops answerer.old (S.files shelf.old))
-        (run_state (I.left input.old) (S.counts shelf.old).faults (I.faults input.old) (O.written sink.old) (O.faults sink.old))
-        (run_state (I.left input.new) (S.counts shelf.new).faults (I.faults input.new) (O.written sink.new) (O.faults sink.new)) result }
+        (run_state_of I.Source O.Sink (S.counts shelf.old).faults input.old sink.old)
+        (run_state_of I.Source O.Sink (S.counts shelf.new).faults input.new sink.new) result }
     // The lines of the calls of the log are what was written.
     ensures answers { AnswersLog (A.answered answerer.old (S.files shelf.old))
-        (run_state (I.left input.old) (S.counts shelf.old).faults (I.faults input.old) (O.written sink.old) (O.faults sink.old))
-        (run_state (I.left input.new) (S.counts shelf.new).faults (I.faults input.new) (O.written sink.new) (O.faults sink.new)) result }
+        (run_state_of I.Source O.Sink (S.counts shelf.old).faults input.old sink.old)
+        (run_state_of I.Source O.Sink (S.counts shelf.new).faults input.new sink.new) result }
     ensures ended { HasEnded
-        (run_state (I.left input.new) (S.counts shelf.new).faults (I.faults input.new) (O.written sink.new) (O.faults sink.new)) result }
+        (run_state_of I.Source O.Sink (S.counts shelf.new).faults input.new sink.new) result }
     ensures refuses { Refuses (A.answered answerer.old (S.files shelf.old))
-        (run_state (I.left input.old) (S.counts shelf.old).faults (I.faults input.old) (O.written sink.old) (O.faults sink.old))
-        (run_state (I.left input.new) (S.counts shelf.new).faults (I.faults input.new) (O.written sink.new) (O.faults sink.new)) result }
+        (run_state_of I.Source O.Sink (S.counts shelf.old).faults input.old sink.old)
+        (run_state_of I.Source O.Sink (S.counts shelf.new).faults input.new sink.new) result }
     ensures fails { Fails (A.answered answerer.old (S.files shelf.old)) (A.stops answerer.old (S.files shelf.old))
-        (run_state (I.left input.old) (S.counts shelf.old).faults (I.faults input.old) (O.written sink.old) (O.faults sink.old))
-        (run_state (I.left input.new) (S.counts shelf.new).faults (I.faults input.new) (O.written sink.new) (O.faults sink.new)) result }
+        (run_state_of I.Source O.Sink (S.counts shelf.old).faults input.old sink.old)
+        (run_state_of I.Source O.Sink (S.counts shelf.new).faults input.new sink.new) result }
     ensures causes { HasCauses (A.answered answerer.old (S.files shelf.old)) (A.stops answerer.old (S.files shelf.old))
-        (run_state (I.left input.old) (S.counts shelf.old).faults (I.faults input.old) (O.written sink.old) (O.faults sink.old))
-        (run_state (I.left input.new) (S.counts shelf.new).faults (I.faults input.new) (O.written sink.new) (O.faults sink.new)) result }
+        (run_state_of I.Source O.Sink (S.counts shelf.old).faults input.old sink.old)
+        (run_state_of I.Source O.Sink (S.counts shelf.new).faults input.new sink.new) result }
     ensures complete { IsComplete (A.stops answerer.old (S.files shelf.old))
-        (run_state (I.left input.old) (S.counts shelf.old).faults (I.faults input.old) (O.written sink.old) (O.faults sink.old))
-        (run_state (I.left input.new) (S.counts shelf.new).faults (I.faults input.new) (O.written sink.new) (O.faults sink.new)) result }
+        (run_state_of I.Source O.Sink (S.counts shelf.old).faults input.old sink.old)
+        (run_state_of I.Source O.Sink (S.counts shelf.new).faults input.new sink.new) result }
     ensures same_files { S.files shelf.new ≡ S.files shelf.old }
     ensures shelf_stays { (S.counts shelf.old).faults ≤ (S.counts shelf.new).faults }
 {
@@ -64,8 +64,8 @@ fn run_log<A: Answerer, S: Shelf, I: Source, O: Sink>(
 ) -> u8
     requires { A.behind answerer.old (S.files shelf.old) [] }
     ensures ran { LogRan (A.answered answerer.old (S.files shelf.old)) (A.stops answerer.old (S.files shelf.old))
-        (run_state (I.left input.old) (S.counts shelf.old).faults (I.faults input.old) (O.written sink.old) (O.faults sink.old))
-        (run_state (I.left input.new) (S.counts shelf.new).faults (I.faults input.new) (O.written sink.new) (O.faults sink.new)) result }
+        (run_state_of I.Source O.Sink (S.counts shelf.old).faults input.old sink.old)
+        (run_state_of I.Source O.Sink (S.counts shelf.new).faults input.new sink.new) result }
     ensures same_files { S.files shelf.new ≡ S.files shelf.old }
     ensures shelf_stays { (S.counts shelf.old).faults ≤ (S.counts shelf.new).faults }
 {

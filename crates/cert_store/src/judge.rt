@@ -16,10 +16,7 @@ use delegation::{Anchors, shape};
 use std::alloc::{AllocError, Global};
 use stir_outside::Provider;
 use tn_auth_list::CodeTable;
-use x509_profile::{CertChainFault, Certificate, read_chain};
-
-/// The most bytes that a chain may have: six certificates of 8,192.
-const MOST_BYTES: usize = 49_152;
+use x509_profile::{CertChainFault, Certificate, MOST_CHAIN_BYTES, read_chain};
 
 /// What the rules on a chain say of these bytes, which are to be certificates one after another, the leaf's first.
 ///
@@ -76,7 +73,7 @@ fn judge_bytes<P: Provider>(
     ensures same_says { P.says provider.new ≡ P.says provider.old }
     ensures same_signs { P.signs provider.new ≡ P.signs provider.old }
 {
-    if bytes.len() > MOST_BYTES {
+    if bytes.len() > MOST_CHAIN_BYTES {
         return Ok(outside_profile(alloc, 0));
     }
     match read_chain(alloc, bytes) {

@@ -16,6 +16,8 @@ use Rattle.stir_outside.specs.Count.{NotRisen, Rose}
 use Rattle.stir_outside.specs.Told.{AppendsFront}
 use Rattle.verify_service.specs.Report.{report}
 use Rattle.verify_service.specs.declared.outcome.Outcome.{Outcome}
+use Rattle.stir_outside.specs.declared.sink.Sink.{Ghosts as SinkOf}
+use Rattle.stir_outside.specs.declared.source.Source.{Ghosts as SourceOf}
 
 -- what stands around a run: what is left of the log, how the judge stands, and the streams
 pub record RunState : Type 0 where
@@ -25,6 +27,10 @@ pub record RunState : Type 0 where
 
 abbrev pub run_state : Option (List ℕ) → Standing → ℕ → Option (List ℕ) → ℕ → RunState
 run_state left standing reads written writes = record { left = left; standing = standing; streams = streams reads written writes }
+
+-- of a source, a sink and a judge that stands so
+abbrev pub run_state_of : {I O : Type 0} → SourceOf I → SinkOf O → Standing → I → O → RunState
+run_state_of bytes lines standing input sink = run_state (bytes.left input) standing (bytes.faults input) (lines.written sink) (lines.faults sink)
 
 -- what a run came to: how its rounds ended, and how the run ended then
 pub record LogRan (judged : Entry → Outcome → Type 0) (bench : Bench) (before now : RunState) (status : ℕ) : Type 0 where

@@ -2,6 +2,7 @@
 use Rattle.std.specs.Prelude.{◌≡◌, ℕ, ◌≤◌, Bool, ◌&&◌, List, Option}
 use Rattle.call_log.specs.Entry.{Entry}
 use Rattle.call_log.specs.Log.{Passed}
+use Rattle.call_log.specs.Reads.{LogState, left_to}
 use Rattle.log_run.specs.AllValid.{all_valid}
 use Rattle.log_run.specs.Bench.{Bench, Standing}
 use Rattle.log_run.specs.Reading.{ReadCalls}
@@ -11,6 +12,7 @@ use Rattle.stir_outside.specs.Count.{AtMost, NotRisen}
 use Rattle.verify_service.specs.Causes.{NoneUnasked, NoneUnread}
 use Rattle.verify_service.specs.Rows.{IsOwed}
 use Rattle.verify_service.specs.declared.outcome.Outcome.{Outcome}
+use Rattle.stir_outside.specs.declared.source.Source.{Ghosts as SourceOf}
 
 -- how far a run has come: how far the log was read, what is left of it, how the judge stands, and whether all calls so far are valid
 pub record At : Type 0 where
@@ -21,6 +23,10 @@ pub record At : Type 0 where
 
 abbrev pub at : Passed → Option (List ℕ) → Standing → Bool → At
 at passed left standing all_good = record { passed = passed; left = left; standing = standing; all_good = all_good }
+
+-- of a reader and its source
+abbrev pub at_of : {I : Type 0} → SourceOf I → Standing → Bool → LogState → I → At
+at_of bytes standing all_good reader input = at reader.passed (left_to reader (bytes.left input)) standing all_good
 
 -- Calls were set aside only for faults that were counted: for certificates, at most as many pairs of a round and a text as the count of
 -- failed reads rose by, unless it stands at its last value.

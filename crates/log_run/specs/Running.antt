@@ -17,6 +17,8 @@ use Rattle.stir_outside.specs.Count.{Rose}
 use Rattle.stir_outside.specs.Told.{AppendsFront}
 use Rattle.verify_service.specs.Report.{report}
 use Rattle.verify_service.specs.declared.outcome.Outcome.{Outcome}
+use Rattle.stir_outside.specs.declared.sink.Sink.{Ghosts as SinkOf}
+use Rattle.stir_outside.specs.declared.source.Source.{Ghosts as SourceOf}
 
 -- how often reads of the log failed, what was written, and how often writes failed
 pub record Streams : Type 0 where
@@ -26,6 +28,10 @@ pub record Streams : Type 0 where
 
 abbrev pub streams : ℕ → Option (List ℕ) → ℕ → Streams
 streams reads written writes = record { read_faults = reads; written = written; write_faults = writes }
+
+-- of a source and a sink
+abbrev pub streams_of : {I O : Type 0} → SourceOf I → SinkOf O → I → O → Streams
+streams_of bytes lines input sink = streams (bytes.faults input) (lines.written sink) (lines.faults sink)
 
 -- neither count of failures fell
 pub record StreamsStay (before now : Streams) : Type 0 where

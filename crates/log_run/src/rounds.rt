@@ -1,9 +1,8 @@
 //! The rounds of a log: each is read, judged and reported before the next.
 ghost use Rattle.std.specs.Prelude.{◌≡◌, ◌+◌, ◌≤◌, ◌<◌, ◌&&◌, ℕ, [], length, vec_len, None, Ok, Err, IfOk};
-ghost use Rattle.call_log.specs.Reads.{left_to};
 ghost use Rattle.log_run.specs.Bench.{Implies, Moves};
-ghost use Rattle.log_run.specs.Judged.{at};
-ghost use Rattle.log_run.specs.Running.{RanRound, RunsOut, streams};
+ghost use Rattle.log_run.specs.Judged.{at_of};
+ghost use Rattle.log_run.specs.Running.{RanRound, RunsOut, streams_of};
 ghost use Rattle.log_run.specs.Steps.{JudgedRound, ReadsOn, StandsBy, first_number};
 ghost use Rattle.log_run.specs.declared.ends.Next.TheVariants.{More};
 ghost use Rattle.verify_service.specs.Service.{EachFollows};
@@ -79,10 +78,10 @@ fn run_round<R: Threads + Sync, J: Judge, S: Shelf, I: Source, O: Sink>(
     requires reads_on { ReadsOn reader.old }
     requires stands { StandsBy reader.old.passed (J.standing judge.old (S.counts shelf.old).faults) }
     ensures ran { RanRound (J.judged judge.old (S.files shelf.old)) (J.bench judge.old)
-        (at reader.old.passed (left_to reader.old (I.left input.old)) (J.standing judge.old (S.counts shelf.old).faults) all_good.old)
-        (at reader.new.passed (left_to reader.new (I.left input.new)) (J.standing judge.new (S.counts shelf.new).faults) all_good.new)
-        (streams (I.faults input.old) (O.written sink.old) (O.faults sink.old))
-        (streams (I.faults input.new) (O.written sink.new) (O.faults sink.new)) result }
+        (at_of I.Source (J.standing judge.old (S.counts shelf.old).faults) all_good.old reader.old input.old)
+        (at_of I.Source (J.standing judge.new (S.counts shelf.new).faults) all_good.new reader.new input.new)
+        (streams_of I.Source O.Sink input.old sink.old)
+        (streams_of I.Source O.Sink input.new sink.new) result }
     ensures reads_on { result ≡ Ok More → ReadsOn reader.new }
     ensures stands { result ≡ Ok More → StandsBy reader.new.passed (J.standing judge.new (S.counts shelf.new).faults) }
     ensures none_ahead { IfOk result (λ next. reader.new.ahead ≡ []) }
@@ -120,10 +119,10 @@ pub(crate) fn run_rounds<R: Threads + Sync, J: Judge, S: Shelf, I: Source, O: Si
     requires reads_on { ReadsOn reader.old }
     requires stands { StandsBy reader.old.passed (J.standing judge.old (S.counts shelf.old).faults) }
     ensures ran { RunsOut (J.judged judge.old (S.files shelf.old)) (J.bench judge.old)
-        (at reader.old.passed (left_to reader.old (I.left input.old)) (J.standing judge.old (S.counts shelf.old).faults) all_good.old)
-        (at reader.new.passed (left_to reader.new (I.left input.new)) (J.standing judge.new (S.counts shelf.new).faults) all_good.new)
-        (streams (I.faults input.old) (O.written sink.old) (O.faults sink.old))
-        (streams (I.faults input.new) (O.written sink.new) (O.faults sink.new)) result }
+        (at_of I.Source (J.standing judge.old (S.counts shelf.old).faults) all_good.old reader.old input.old)
+        (at_of I.Source (J.standing judge.new (S.counts shelf.new).faults) all_good.new reader.new input.new)
+        (streams_of I.Source O.Sink input.old sink.old)
+        (streams_of I.Source O.Sink input.new sink.new) result }
     ensures none_ahead { IfOk result (λ fault. reader.new.ahead ≡ []) }
     ensures same_files { S.files shelf.new ≡ S.files shelf.old }
     ensures shelf_stays { (S.counts shelf.old).faults ≤ (S.counts shelf.new).faults }

@@ -1,6 +1,6 @@
 //! A run over a whole log: its rounds, and the last line.
 ghost use Rattle.std.specs.Prelude.{◌≡◌, ◌≤◌, ℕ};
-ghost use Rattle.log_run.specs.Clauses.{Fails, HasCauses, HasEnded, Headline, IsComplete, LogRan, Refuses, run_state};
+ghost use Rattle.log_run.specs.Clauses.{Fails, HasCauses, HasEnded, Headline, IsComplete, LogRan, Refuses, run_state_of};
 ghost use Rattle.log_run.specs.Ending.{EndsAtFault, EndsBy, EndsRefused, failed_line, refused_line, report_status};
 ghost use Rattle.log_run.specs.Steps.{StandsAtFirst};
 ghost use Rattle.stir_outside.specs.Status.{status_number};
@@ -29,25 +29,25 @@ pub fn judge_log<R: Threads + Sync, J: Judge, S: Shelf, I: Source, O: Sink>(
 ) -> u8
     requires { StandsAtFirst (J.standing judge.old (S.counts shelf.old).faults) }
     ensures ran { LogRan (J.judged judge.old (S.files shelf.old)) (J.bench judge.old)
-        (run_state (I.left input.old) (J.standing judge.old (S.counts shelf.old).faults) (I.faults input.old) (O.written sink.old) (O.faults sink.old))
-        (run_state (I.left input.new) (J.standing judge.new (S.counts shelf.new).faults) (I.faults input.new) (O.written sink.new) (O.faults sink.new)) result }
+        (run_state_of I.Source O.Sink (J.standing judge.old (S.counts shelf.old).faults) input.old sink.old)
+        (run_state_of I.Source O.Sink (J.standing judge.new (S.counts shelf.new).faults) input.new sink.new) result }
     ensures headline { Headline (J.judged judge.old (S.files shelf.old)) (J.bench judge.old)
-        (run_state (I.left input.old) (J.standing judge.old (S.counts shelf.old).faults) (I.faults input.old) (O.written sink.old) (O.faults sink.old))
-        (run_state (I.left input.new) (J.standing judge.new (S.counts shelf.new).faults) (I.faults input.new) (O.written sink.new) (O.faults sink.new)) result }
+        (run_state_of I.Source O.Sink (J.standing judge.old (S.counts shelf.old).faults) input.old sink.old)
+        (run_state_of I.Source O.Sink (J.standing judge.new (S.counts shelf.new).faults) input.new sink.new) result }
     ensures ended { HasEnded
-        (run_state (I.left input.new) (J.standing judge.new (S.counts shelf.new).faults) (I.faults input.new) (O.written sink.new) (O.faults sink.new)) result }
+        (run_state_of I.Source O.Sink (J.standing judge.new (S.counts shelf.new).faults) input.new sink.new) result }
     ensures refuses { Refuses (J.judged judge.old (S.files shelf.old)) (J.bench judge.old)
-        (run_state (I.left input.old) (J.standing judge.old (S.counts shelf.old).faults) (I.faults input.old) (O.written sink.old) (O.faults sink.old))
-        (run_state (I.left input.new) (J.standing judge.new (S.counts shelf.new).faults) (I.faults input.new) (O.written sink.new) (O.faults sink.new)) result }
+        (run_state_of I.Source O.Sink (J.standing judge.old (S.counts shelf.old).faults) input.old sink.old)
+        (run_state_of I.Source O.Sink (J.standing judge.new (S.counts shelf.new).faults) input.new sink.new) result }
     ensures fails { Fails (J.judged judge.old (S.files shelf.old)) (J.bench judge.old)
-        (run_state (I.left input.old) (J.standing judge.old (S.counts shelf.old).faults) (I.faults input.old) (O.written sink.old) (O.faults sink.old))
-        (run_state (I.left input.new) (J.standing judge.new (S.counts shelf.new).faults) (I.faults input.new) (O.written sink.new) (O.faults sink.new)) result }
+        (run_state_of I.Source O.Sink (J.standing judge.old (S.counts shelf.old).faults) input.old sink.old)
+        (run_state_of I.Source O.Sink (J.standing judge.new (S.counts shelf.new).faults) input.new sink.new) result }
     ensures causes { HasCauses (J.judged judge.old (S.files shelf.old)) (J.bench judge.old)
-        (run_state (I.left input.old) (J.standing judge.old (S.counts shelf.old).faults) (I.faults input.old) (O.written sink.old) (O.faults sink.old))
-        (run_state (I.left input.new) (J.standing judge.new (S.counts shelf.new).faults) (I.faults input.new) (O.written sink.new) (O.faults sink.new)) result }
+        (run_state_of I.Source O.Sink (J.standing judge.old (S.counts shelf.old).faults) input.old sink.old)
+        (run_state_of I.Source O.Sink (J.standing judge.new (S.counts shelf.new).faults) input.new sink.new) result }
     ensures complete { IsComplete
-        (run_state (I.left input.old) (J.standing judge.old (S.counts shelf.old).faults) (I.faults input.old) (O.written sink.old) (O.faults sink.old))
-        (run_state (I.left input.new) (J.standing judge.new (S.counts shelf.new).faults) (I.faults input.new) (O.written sink.new) (O.faults sink.new)) result }
+        (run_state_of I.Source O.Sink (J.standing judge.old (S.counts shelf.old).faults) input.old sink.old)
+        (run_state_of I.Source O.Sink (J.standing judge.new (S.counts shelf.new).faults) input.new sink.new) result }
     ensures same_files { S.files shelf.new ≡ S.files shelf.old }
     ensures shelf_stays { (S.counts shelf.old).faults ≤ (S.counts shelf.new).faults }
 {
@@ -68,8 +68,8 @@ fn run_log<R: Threads + Sync, J: Judge, S: Shelf, I: Source, O: Sink>(
 ) -> u8
     requires { StandsAtFirst (J.standing judge.old (S.counts shelf.old).faults) }
     ensures ran { LogRan (J.judged judge.old (S.files shelf.old)) (J.bench judge.old)
-        (run_state (I.left input.old) (J.standing judge.old (S.counts shelf.old).faults) (I.faults input.old) (O.written sink.old) (O.faults sink.old))
-        (run_state (I.left input.new) (J.standing judge.new (S.counts shelf.new).faults) (I.faults input.new) (O.written sink.new) (O.faults sink.new)) result }
+        (run_state_of I.Source O.Sink (J.standing judge.old (S.counts shelf.old).faults) input.old sink.old)
+        (run_state_of I.Source O.Sink (J.standing judge.new (S.counts shelf.new).faults) input.new sink.new) result }
     ensures same_files { S.files shelf.new ≡ S.files shelf.old }
     ensures shelf_stays { (S.counts shelf.old).faults ≤ (S.counts shelf.new).faults }
 {

@@ -18,4 +18,4 @@ mod value;
 pub use added::{is_addable, is_field_value, with_field};
 pub use fault::{FormFault, MessageFault};
 pub use laws::{added_field_law, head_law};
-pub use message::Message;
+pub use message::{MOST_BYTES, Message};

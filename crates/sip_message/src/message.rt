@@ -24,8 +24,8 @@ use std::alloc::Global;
 use std::marker::Model;
 use tn_values::{Local, Number};
 
-/// The most bytes of a message.
-pub(crate) const MOST_BYTES: usize = 65_535;
+/// The most bytes of a message (this project's own limit).
+pub const MOST_BYTES: usize = 65_535;
 
 /// The kind of a fault of the size.
 pub(crate) const SIZE: u8 = 1;

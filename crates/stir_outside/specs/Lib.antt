@@ -9,4 +9,5 @@ pub mod Memory
 pub mod Provided
 pub mod Shelf
 pub mod Status
+pub mod Stays
 pub mod Told

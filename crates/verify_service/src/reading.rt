@@ -11,9 +11,7 @@ use cert_store::{World, judge_chain};
 use std::alloc::{AllocError, Global};
 use stir_outside::{Provider, Shelf, ShelfFault};
 use verify_rules::{Screened, right_law};
-
-/// The most bytes that the file of a chain may have: six certificates of 8,192.
-const MOST_BYTES: usize = 49_152;
+use x509_profile::MOST_CHAIN_BYTES;
 
 /// Reads and judges the chain of each PASSporT of a call, in the order in which the call went, in place of those that there were.
 pub(crate) fn read_chains<S: Shelf, P: Provider>(
@@ -90,7 +88,7 @@ pub fn chain_in<S: Shelf, P: Provider>(
     ensures faults { P.faults provider.old ≤ P.faults provider.new }
 {
     right_law();
-    match shelf.read(alloc, name, MOST_BYTES) {
+    match shelf.read(alloc, name, MOST_CHAIN_BYTES) {
         Ok(bytes) => judged(alloc, world, provider, bytes.as_slice()),
         Err(fault) => match fault {
             ShelfFault::Missing => Ok(CallChain::NoChain),

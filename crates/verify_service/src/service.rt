@@ -7,13 +7,11 @@ use cert_store::World;
 use replay_desk::Past;
 use std::alloc::{AllocError, Global};
 use std::marker::Model;
+use text_grammar::LAST_SECOND;
 use verify_rules::Settings;
 
 /// The most calls of a round.
 const MOST_CALLS: usize = 256;
-
-/// The last second of the year 9999, in Unix time.
-const LAST_MOMENT: u64 = 253_402_300_799;
 
 /// Judges calls round by round: what it judges them by, and which calls passed before.
 ///
@@ -99,5 +97,5 @@ fn follows_on(number: u32, moment: u64, call: &Call) -> bool
     number < call.number()
         && call.number() < u32::MAX
         && moment <= call.moment()
-        && call.moment() <= LAST_MOMENT
+        && call.moment() <= LAST_SECOND
 }

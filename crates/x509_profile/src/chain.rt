@@ -14,6 +14,9 @@ use std::fmt;
 /// How many certificates a chain may have.
 const MOST_CERTIFICATES: usize = 6;
 
+/// The most bytes of a chain: six certificates of 8,192 (this project's own limit).
+pub const MOST_CHAIN_BYTES: usize = 49_152;
+
 /// Why bytes aren't read as a chain of certificates.
 #[derive(Clone, Copy, Debug, PartialEq, Eq)]
 pub enum CertChainFault {

@@ -14,6 +14,6 @@ mod signature;
 mod tbs;
 
 pub use certificate::Certificate;
-pub use chain::{CertChainFault, read_chain};
+pub use chain::{CertChainFault, MOST_CHAIN_BYTES, read_chain};
 pub use fault::CertFault;
 pub use laws::{certificate_law, chain_law};
