@@ -12,17 +12,18 @@ def message(number, method='INVITE', to='', rest=b''):
     return '\r\n'.join(lines).encode() + rest
 
 
-def udp(content):
-    return struct.pack('>HHHH', 5060, 5060, 8 + len(content), 0) + content
+def udp(content, port=5060):
+    return struct.pack('>HHHH', port, 5060, 8 + len(content), 0) + content
 
 
-def ipv4(content, identification=0, offset=0, more=False, protocol=17):
+def ipv4(content, identification=0, offset=0, more=False, protocol=17, host=1):
     flags = offset // 8 | (0x2000 if more else 0)
-    return struct.pack('>BBHHHBBH', 0x45, 0, 20 + len(content), identification, flags, 64, protocol, 0) + bytes([192, 0, 2, 1, 192, 0, 2, 2]) + content
+    addresses = bytes([192, 0, 2, host, 192, 0, 2, 2])
+    return struct.pack('>BBHHHBBH', 0x45, 0, 20 + len(content), identification, flags, 64, protocol, 0) + addresses + content
 
 
-def ipv6(content, header=17):
-    addresses = bytes.fromhex('20010db8') + bytes(12) + bytes.fromhex('20010db8') + bytes(11) + b'\1'
+def ipv6(content, header=17, host=0):
+    addresses = bytes.fromhex('20010db8') + bytes(11) + bytes([host]) + bytes.fromhex('20010db8') + bytes(11) + b'\1'
     return struct.pack('>IHBB', 6 << 28, len(content), header, 64) + addresses + content
 
 
@@ -36,16 +37,23 @@ def ethernet(packet, tags=b''):
 
 
 def pcap(frames, link, order='<', magic=0xA1B2C3D4):
-    """A capture of frames with their seconds; one with a length as a third part is captured up to there alone."""
+    """A capture of frames with their seconds, or their seconds and fractions; one with a length as a third part is captured up to there
+    alone."""
     data = struct.pack(order + 'IHHiIII', magic, 2, 4, 0, 0, 65535, link)
-    for second, frame, *most in frames:
+    for time, frame, *most in frames:
         kept = frame[:most[0]] if most else frame
-        data += struct.pack(order + 'IIII', second, 999, len(kept), len(frame)) + kept
+        second, fraction = time if isinstance(time, tuple) else (time, 999)
+        data += struct.pack(order + 'IIII', second, fraction, len(kept), len(frame)) + kept
     return data
 
 
 def log(calls):
     return b''.join(b'@%d %d\n%s' % (moment, len(data), data) for moment, data in calls)
+
+
+def sent(number, host=1, port=5060):
+    """A call in IPv4, sent from this host of the network and this port."""
+    return ipv4(udp(message(number), port), host=host)
 
 
 LONG = message(8, rest=b'x' * 3000)
@@ -83,6 +91,27 @@ FILES = {
                           (402, ipv4(udp(SHORT_NAMES))),
                           (403, ipv4(udp(message(2, to=';tag=9')))),
                           (404, ipv4(udp(NO_TAG)))], RAW),
+    # Call 1 exactly 32 seconds later, which is the last retransmission that there may be (RFC 3261, section 17.1.1.2), and once more 18 seconds
+    # later; call 2 a microsecond later than that, and a retransmission of this. Calls 3, 5 and 6 a second later: 3 from another address and from
+    # another port, 5 in IPv6 from another address, and 6 in IPv6 from the same one.
+    'retries.pcap': pcap([((500, 700000), sent(1)),
+                          ((500, 700001), sent(2)),
+                          ((500, 700002), sent(3)),
+                          ((501, 0), ipv6(udp(message(5)))),
+                          ((501, 0), ipv6(udp(message(6)))),
+                          ((501, 700002), sent(3, host=3)),
+                          ((501, 700003), sent(3, port=5061)),
+                          ((502, 0), ipv6(udp(message(5)), host=7)),
+                          ((502, 0), ipv6(udp(message(6)))),
+                          ((532, 700000), sent(1)),
+                          ((532, 700002), sent(2)),
+                          ((533, 700002), sent(2)),
+                          ((550, 700000), sent(1))], RAW),
+    # The same limit in nanoseconds.
+    'nanoseconds.pcap': pcap([((600, 999999998), sent(1)),
+                              ((600, 999999999), sent(2)),
+                              ((632, 999999998), sent(1)),
+                              ((633, 0), sent(2))], RAW, '>', 0xA1B23C4D),
 }
 FILES['cut-short.pcap'] = FILES['ethernet.pcap'][:-1]
 FILES['cut-in-header.pcap'] = FILES['ethernet.pcap'][:20]
@@ -92,6 +121,7 @@ FILES['loopback.pcap'] = pcap([], 0)
 FILES['one.sip'] = message(1)
 FILES['two.sip'] = message(2)
 FILES['list'] = b'; two calls\r\n500 two.sip\r\n499 one.sip\r\n'
+FILES['list-of-one-twice'] = b'499 one.sip\n500 one.sip\n'
 FILES['list-of-none'] = b'0499 one.sip\n'
 FILES['list-of-missing'] = b'499 missing.sip\n'
 
@@ -100,4 +130,8 @@ FILES['raw.log'] = log([(204, message(4)), (205, message(5)), (206, message(6))]
 FILES['fragments.log'] = log([(301, LONG), (302, message(7))])
 FILES['dialogs.log'] = log([(400, message(1)), (401, OTHER_CALL), (403, message(2, to=';tag=9')), (404, NO_TAG)])
 FILES['initial.log'] = log([(400, message(1)), (401, OTHER_CALL), (404, NO_TAG)])
+FILES['retries.log'] = log([(500, message(1)), (500, message(2)), (500, message(3)), (501, message(5)), (501, message(6)), (501, message(3)),
+                            (501, message(3)), (502, message(5)), (532, message(2)), (550, message(1))])
+FILES['nanoseconds.log'] = log([(600, message(1)), (600, message(2)), (633, message(2))])
+FILES['twice.log'] = log([(499, message(1)), (500, message(1))])
 FILES['list.log'] = log([(499, message(1)), (500, message(2))])

@@ -56,6 +56,7 @@ FILES = dict(captures.FILES) | {
     'chain-map': b'https://cert.example.org/a.pem made/shuffled.der\n',
     'odd-list': b'u odd.pem\n', 'odd-map': b'u odd.der\n', 'rsa-list': b'u rsa-leaf.pem\n', 'rsa-map': b'u rsa-leaf.der\n',
     'twice': b'u shuffled.pem\nu shuffled.pem\n',
+    'below/map': b'; names with .. and without\nu root.der\nv below/../root.pem\n', 'stdin': b'', 'a=b': b'',
     'cut-list': b'u chain-cut-short.pem\n', 'key-list': b'u key.pem\n',
 }
 
@@ -65,7 +66,9 @@ def in_folder():
     room = tempfile.TemporaryDirectory()
     shutil.copytree(HERE / 'files', room.name, dirs_exist_ok=True)
     for name, data in FILES.items():
-        pathlib.Path(room.name, name).write_bytes(data)
+        file = pathlib.Path(room.name, name)
+        file.parent.mkdir(exist_ok=True)
+        file.write_bytes(data)
     return room
 
 
