@@ -1,22 +1,22 @@
 -- What `show` answers to what was read, up to the limit, is its answer to all that the source had left; and what it promises, from what it came to.
 use Rattle.std.proofs.Common.{◌≡◌, ℕ, ◌<◌, ◌≤◌, ◌⊎◌, inl, inr, List, [], ◌++◌, length, nat_lt, Bool, true, false, Option, Some, None, Result, Ok, Err, IfSome, refl, sym, ◌∙◌, ap, subst, arith, append-nil, length-append}
-use Rattle.std.specs.Io.KnownBytes.{Appends, IsAtEnd}
+use Rattle.std.specs.Io.KnownBytes.{Appends, Consumes, IsAtEnd}
 use Rattle.std.proofs.lemmas.Bool.Decides.{nat_tests}
-use Rattle.stir_outside.specs.Ending.{EndsAs}
+use Rattle.stir_outside.specs.Ending.{EndsAs, memory_line}
 use Rattle.stir_outside.proofs.CountLaws.{not_rose}
 use Rattle.stir_outside.specs.Count.{NotRisen}
 use Rattle.stir_outside.specs.Told.{Takes}
-use Rattle.stir_words.specs.Order.{ShowCertificates}
 use Rattle.stir_outside.specs.Status.{status_number}
 use Rattle.x509_profile.specs.Chain.{Chain, RefusedCertificate, certificates_in}
 use Rattle.x509_profile.specs.View.{CertView}
 use Rattle.stir_cmd.specs.Answer.{Reply, fault_status, long_input, shown, shown_reply, status_of, text_of}
-use Rattle.stir_cmd.specs.Outside.{Outside}
-use Rattle.stir_cmd.specs.Causes.{AnswersChain, AnswersNoChain, ShowComplete, Showing}
-use Rattle.stir_cmd.specs.Showing.{HasReason, IsAnswerTo, IsNoChain, Showed, Shows, TakesAtMost}
+use Rattle.stir_cmd.specs.Outside.{IsUntouched, Outside}
+use Rattle.stir_cmd.specs.Showing.{AnswersChain, AnswersNoChain, HasReason, IsAnswerTo, IsNoChain, ShowComplete, Showed, Showing, Shows, TakesAtMost, show_course}
+use Rattle.stir_cmd.specs.Stopping.{Ends}
 use Rattle.stir_cmd.specs.declared.answer.ShowFault.{ShowFault}
 use Rattle.stir_cmd.specs.declared.answer.ShowFault.TheVariants.{Read, Memory}
-use Rattle.stir_cmd.proofs.StatusCauses.{CausesOf, at_done, at_input, at_memory, at_read, at_write}
+use Rattle.stir_cmd.proofs.Keeps.{CausesIn, KeepsAll}
+use Rattle.stir_cmd.proofs.StatusCauses.{at_done, at_input, at_memory, at_read, at_write}
 
 pub takes_at_most : (left left_now : Option (List ℕ)) (bytes : List ℕ) → Takes left left_now [] bytes → length bytes ≤ 49153 → TakesAtMost 49153 left left_now
 takes_at_most left left_now bytes t short = record { taken = t.taken; from_front = t.from_front; limited = omega (arith, ap length t.behind) }
@@ -141,12 +141,13 @@ refused_of : (left : Option (List ℕ)) (status : ℕ) → StatusOf left status 
 refused_of None status s e = tt
 refused_of (Some bytes) status s e = s.refused e
 
-answered : (before now : Outside) (status : ℕ) → (status ≡ 0) ⊎ (status ≡ 5) → (status ≡ 5 → IfSome before.left IsNoChain) → CausesOf (Some ShowCertificates) before now status
+answered : (before now : Outside) (status : ℕ) → (status ≡ 0) ⊎ (status ≡ 5) → (status ≡ 5 → IfSome before.left IsNoChain) → CausesIn show_course before now status
 answered before now status (inl e) refused = at_done status (omega (arith, e)) e
 answered before now status (inr e) refused = at_input status e (refused e)
 
 causes_by : ReadsChain → (before now : Outside) (status : ℕ) (outcome : Result Reply ShowFault) → HasReason before.left before.read_faults now.read_faults outcome
-    → EndsAs before.written now.written before.write_faults now.write_faults status (text_of outcome) (status_number (status_of outcome)) → CausesOf (Some ShowCertificates) before now status
+    → EndsAs before.written now.written before.write_faults now.write_faults status (text_of outcome) (status_number (status_of outcome)) → CausesIn show_course before now status
+unfolding memory_line
 causes_by law before now status (Ok reply) reason (inl ends) =
     let s = subst (StatusOf before.left) (sym ends.0) (status_of_answer law before.left reply reason) in
     answered before now status (each_of before.left status s) (refused_of before.left status s)
@@ -155,7 +156,7 @@ causes_by law before now status (Err Memory) reason (inl ends) = at_memory statu
 causes_by law before now status outcome reason (inr ends) =
     at_write status ends.0 (record { rose = ends.1; line = text_of outcome; says = (outcome, reason, refl); front = ends.2 })
 
-pub causes : ReadsChain → (before now : Outside) (status : ℕ) → Showing before now status → CausesOf (Some ShowCertificates) before now status
+causes : ReadsChain → (before now : Outside) (status : ℕ) → Showing before now status → CausesIn show_course before now status
 causes law before now status showing = causes_by law before now status showing.ran.outcome showing.ran.reason showing.ran.ends
 
 -- ---- which status comes
@@ -196,13 +197,43 @@ no_chain_by law before now status bytes (Err Read) reason (inl ends) shown reads
 no_chain_by law before now status bytes (Err Memory) reason (inl ends) shown reads writes = inr ends.0
 no_chain_by law before now status bytes outcome reason (inr ends) shown reads writes = absurd (not_rose before.write_faults now.write_faults writes ends.1)
 
-no_chain_answered : ReadsChain → (before now : Outside) (status : ℕ) → Showing before now status → (status ≤ 1 → Showed before.left before.written now.written) → AnswersNoChain before now status
-no_chain_answered law before now status showing showed bytes told none reads writes =
+no_chain_answered : ReadsChain → (before now : Outside) (status : ℕ) → Showing before now status → AnswersNoChain before now status
+no_chain_answered law before now status showing bytes told none reads writes =
     no_chain_by law before now status bytes showing.ran.outcome (subst (λ (x : Option (List ℕ)). HasReason x before.read_faults now.read_faults showing.ran.outcome) told showing.ran.reason)
-    showing.ran.ends (λ e. let s = showed (omega (arith, e)) in none_shown bytes before.left s.text told none s.shows) reads writes
+    showing.ran.ends (λ e. let s = showing.shown_so (omega (arith, e)) in none_shown bytes before.left s.text told none s.shows) reads writes
 
-pub complete : ReadsChain → (before now : Outside) (status : ℕ) → Showing before now status → (status ≤ 1 → Showed before.left before.written now.written) → ShowComplete before now status
-complete law before now status showing showed = record {
-  chain = chain law before now status showing;
-  no_chain = no_chain_answered law before now status showing showed;
+-- ---- the promises
+
+nothing_taken : (left : Option (List ℕ)) → Consumes left left []
+nothing_taken None = tt
+nothing_taken (Some bytes) = refl
+
+took_none : (left left_now : Option (List ℕ)) → left_now ≡ left → TakesAtMost 49153 left left_now
+took_none left left_now same =
+    record { taken = []; from_front = subst (λ (now : Option (List ℕ)). Consumes left now []) (sym same) (nothing_taken left); limited = omega arith }
+
+-- the line of memory was written, or a front of it, and the status is neither 0 nor 1
+short_high : (before now : Outside) (status : ℕ) → Ends before now status memory_line 6 → status ≤ 1 → ⊥
+short_high before now status (inl ends) low = omega (arith, ends.0, low)
+short_high before now status (inr ends) low = omega (arith, ends.0, low)
+
+wanting : (before now : Outside) (status : ℕ) → IsUntouched before now → Ends before now status memory_line 6 → Showing before now status
+unfolding memory_line
+wanting before now status untouched ends = record {
+  counts = untouched.counts;
+  limited = took_none before.left now.left untouched.left;
+  ran = record { outcome = Err Memory; reason = tt; ends = ends };
+  ended = λ low. absurd (short_high before now status ends low);
+  shown_so = λ low. absurd (short_high before now status ends low);
+}
+
+pub keeps_all : ReadsChain → KeepsAll show_course
+keeps_all law = record {
+  keeps = record {
+    causes = causes law;
+    answers = λ before now status showing. record { chain = chain law before now status showing; no_chain = no_chain_answered law before now status showing };
+    through = λ before now status showing low. showing.ended low;
+    says = λ before now status showing low. showing.shown_so low;
+  };
+  wanting = wanting;
 }

@@ -7,12 +7,13 @@ use Rattle.auth_service.specs.declared.fault.SignFault.{SignFault}
 use Rattle.stir_files.specs.declared.signing.SigningMaterials.{SigningMaterials}
 use Rattle.stir_outside.proofs.CountLaws.{not_rose}
 use Rattle.stir_cmd.specs.Outside.{Outside}
-use Rattle.stir_cmd.specs.Signing.{AnswersCall, AnswersMessage, BySigningFiles, EndsOrShort, HasReason, IsAll, IsInput, IsWritten, MessageFailed, RanBySigningFiles, RanMessage, RanSign, RefusedMessage, SignCommand, SignComplete, SignDone, SignEnded, SignFailed, SignShort, SignThrough, SignUnwritten, SignedMessage, Told, Wrote, files_named, reason_line, reason_status, signed_by, status_for}
-use Rattle.stir_cmd.specs.Stopping.{AnswersFault, FileRefused, Front, IsQuiet}
+use Rattle.stir_cmd.specs.Signing.{AnswersMessage, EndsOrShort, HasReason, IsAll, IsInput, IsWritten, MessageFailed, RanMessage, RefusedMessage, SignCommand, SignThrough, SignedMessage, Told, Wrote, message_course, reason_line, reason_status, sign_course, sign_over, signed_by, status_for}
+use Rattle.stir_cmd.specs.Stopping.{Front}
 use Rattle.stir_cmd.specs.declared.sign.Unsigned.{Unsigned}
 use Rattle.stir_cmd.specs.declared.sign.Unsigned.TheVariants.{Read, Memory, Fault}
-use Rattle.stir_cmd.proofs.StatusCauses.{CauseOf, at_done, at_memory, at_read, at_write}
-use Rattle.stir_cmd.proofs.StopLaws.{early_causes, early_fault, early_high, early_six, no_such}
+use Rattle.stir_cmd.proofs.Keeps.{CausesIn, Keeps, KeepsAll}
+use Rattle.stir_cmd.proofs.OverFilesLaws.{over_keeps}
+use Rattle.stir_cmd.proofs.StatusCauses.{at_done, at_memory, at_read, at_write}
 
 -- ---- how the run over a message ended
 
@@ -61,28 +62,12 @@ message_cause order materials before now status ran = by_what ran.came
 
 -- ---- the causes
 
--- the same run, with another thing that is said of it
-saying : (command : SignCommand) (before now : Outside) (status : ℕ) (Says : SigningMaterials → Type 0) (ran : RanBySigningFiles command before now status) → Says ran.materials
-    → BySigningFiles command before now Says
-saying command before now status Says ran says = record { materials = ran.materials; stands = ran.stands; no_fault = ran.no_fault; says = says }
-
-abbrev SignCauses : Type 0 → SignCommand → Outside → Outside → ℕ → Type 0
-SignCauses Words command before now status =
-    CauseOf (SignEnded command before now status) Words (SignFailed command before now) (SignUnwritten command before now) (FileRefused (files_named command) before now) (SignShort command before now) status
-
-of_message : {Words : Type 0} (command : SignCommand) (before now : Outside) (status : ℕ) (ran : RanBySigningFiles command before now status) → MessageCause command.order ran.materials before now status
-    → SignCauses Words command before now status
-of_message command before now status ran (Signs e was) = at_done status (omega (arith, e)) (inl (e, saying command before now status _ ran was))
-of_message command before now status ran (Refuses e was) = at_done status (omega (arith, e)) (inr (e, saying command before now status _ ran was))
-of_message command before now status ran (Fails e failed) = at_read status e (inr failed)
-of_message command before now status ran (Unwritten e front) = at_write status e (inr (saying command before now status _ ran front))
-of_message command before now status ran (Wants e reported) = at_memory status e (inr reported)
-
--- each status with its cause; 5 is for a named file alone
-pub causes : {Words : Type 0} (command : SignCommand) (before now : Outside) (status : ℕ) → RanSign command before now status → SignCauses Words command before now status
-causes command before now status (inl ran) = of_message command before now status ran (message_cause command.order ran.materials before now status ran.says)
-causes command before now status (inr early) =
-    early_causes (files_named command) before now status (λ failed. inl failed) (λ front. inl front) (λ refused. refused) (λ short. inl short) early
+causes_by : (order : OrderView) (materials : SigningMaterials) (before now : Outside) (status : ℕ) → MessageCause order materials before now status → CausesIn (message_course order materials) before now status
+causes_by order materials before now status (Signs e was) = at_done status (omega (arith, e)) (inl (e, was))
+causes_by order materials before now status (Refuses e was) = at_done status (omega (arith, e)) (inr (e, was))
+causes_by order materials before now status (Fails e failed) = at_read status e failed
+causes_by order materials before now status (Unwritten e front) = at_write status e front
+causes_by order materials before now status (Wants e reported) = at_memory status e reported
 
 -- ---- which status comes
 
@@ -93,33 +78,14 @@ for_told order materials left taken bytes known result all told gives =
     let same : bytes ≡ known = subst (λ (x : Option (List ℕ)). IsAll x taken bytes) told all in
     ap (λ x. status_for (signed_by order materials x)) (sym same) ∙ ap status_for gives
 
-message_status : (command : SignCommand) (before now : Outside) (status : ℕ) (bytes : List ℕ) (ran : RanBySigningFiles command before now status)
-    → MessageCause command.order ran.materials before now status → before.left ≡ Some bytes → IsQuiet before now → AnswersCall command before.files bytes status ⊎ (status ≡ 6)
-message_status command before now status bytes ran (Signs e m) told q = inl (record {
-  materials = ran.materials;
-  stands = ran.stands;
-  answered = e ∙ sym (for_told command.order ran.materials before.left m.was.input.taken m.was.bytes bytes (Ok m.out) m.was.input.all told m.was.gave.gives);
-})
-message_status command before now status bytes ran (Refuses e m) told q = inl (record {
-  materials = ran.materials;
-  stands = ran.stands;
-  answered = e ∙ sym (for_told command.order ran.materials before.left m.was.input.taken m.was.bytes bytes (Err m.fault) m.was.input.all told m.was.refuses.gives);
-})
-message_status command before now status bytes ran (Fails e m) told q = absurd (not_rose before.read_faults now.read_faults q.read_faults m.rose)
-message_status command before now status bytes ran (Unwritten e m) told q = absurd (not_rose before.write_faults now.write_faults q.write_faults m.rose)
-message_status command before now status bytes ran (Wants e m) told q = inr e
-
-message : (command : SignCommand) (before now : Outside) (status : ℕ) → RanSign command before now status → AnswersMessage command before now status
-message command before now status (inl ran) files bytes told none left q =
-    message_status command before now status bytes ran (message_cause command.order ran.materials before now status ran.says) left q
-message command before now status (inr early) files bytes told none left q = inr (early_six (files_named command) before now status files early told none q)
-
-fault : (command : SignCommand) (before now : Outside) (status : ℕ) → RanSign command before now status → AnswersFault (files_named command) before now status
-fault command before now status (inl ran) files stop told found q = absurd (no_such (files_named command) before.files files stop told ran.no_fault found)
-fault command before now status (inr early) files stop told found q = early_fault (files_named command) before now status early files stop told found q
-
-pub complete : (command : SignCommand) (before now : Outside) (status : ℕ) → RanSign command before now status → SignComplete command before now status
-complete command before now status ran = record { message = message command before now status ran; fault = fault command before now status ran }
+answers_by : (order : OrderView) (materials : SigningMaterials) (before now : Outside) (status : ℕ) → MessageCause order materials before now status → AnswersMessage order materials before now status
+answers_by order materials before now status (Signs e m) bytes told q =
+    inl (e ∙ sym (for_told order materials before.left m.was.input.taken m.was.bytes bytes (Ok m.out) m.was.input.all told m.was.gave.gives))
+answers_by order materials before now status (Refuses e m) bytes told q =
+    inl (e ∙ sym (for_told order materials before.left m.was.input.taken m.was.bytes bytes (Err m.fault) m.was.input.all told m.was.refuses.gives))
+answers_by order materials before now status (Fails e m) bytes told q = absurd (not_rose before.read_faults now.read_faults q.read_faults m.rose)
+answers_by order materials before now status (Unwritten e m) bytes told q = absurd (not_rose before.write_faults now.write_faults q.write_faults m.rose)
+answers_by order materials before now status (Wants e m) bytes told q = inr e
 
 -- ---- how much was read, and what was written
 
@@ -130,27 +96,29 @@ at_end_or_long before now status bytes e input = by_through input.through
     by_through (inl ended) = inl ended
     by_through (inr more) = inr (e, record { taken = input.taken; from_front = input.from_front; more = more })
 
-message_through : (order : OrderView) (materials : SigningMaterials) (before now : Outside) (status : ℕ) → MessageCause order materials before now status → status ≤ 1 → SignThrough before now status
-message_through order materials before now status (Signs e m) low = inl m.was.ended
-message_through order materials before now status (Refuses e m) low = at_end_or_long before now status m.was.bytes e m.was.input
-message_through order materials before now status (Fails e m) low = absurd (omega (arith, e, low))
-message_through order materials before now status (Unwritten e m) low = absurd (omega (arith, e, low))
-message_through order materials before now status (Wants e m) low = absurd (omega (arith, e, low))
+through_by : (order : OrderView) (materials : SigningMaterials) (before now : Outside) (status : ℕ) → MessageCause order materials before now status → status ≤ 1 → SignThrough before now status
+through_by order materials before now status (Signs e m) low = inl m.was.ended
+through_by order materials before now status (Refuses e m) low = at_end_or_long before now status m.was.bytes e m.was.input
+through_by order materials before now status (Fails e m) low = absurd (omega (arith, e, low))
+through_by order materials before now status (Unwritten e m) low = absurd (omega (arith, e, low))
+through_by order materials before now status (Wants e m) low = absurd (omega (arith, e, low))
 
-pub through : (command : SignCommand) (before now : Outside) (status : ℕ) → RanSign command before now status → status ≤ 1 → SignThrough before now status
-through command before now status (inl ran) low =
-    message_through command.order ran.materials before now status (message_cause command.order ran.materials before now status ran.says) low
-through command before now status (inr early) low = absurd (omega (arith, low, early_high (files_named command) before now status early))
+says_by : (order : OrderView) (materials : SigningMaterials) (before now : Outside) (status : ℕ) → MessageCause order materials before now status → status ≡ 0 → SignedMessage order materials before now
+says_by order materials before now status (Signs e m) none = m
+says_by order materials before now status (Refuses e m) none = absurd (omega (arith, e, none))
+says_by order materials before now status (Fails e m) none = absurd (omega (arith, e, none))
+says_by order materials before now status (Unwritten e m) none = absurd (omega (arith, e, none))
+says_by order materials before now status (Wants e m) none = absurd (omega (arith, e, none))
 
-message_signed : (command : SignCommand) (before now : Outside) (status : ℕ) (ran : RanBySigningFiles command before now status) → MessageCause command.order ran.materials before now status
-    → status ≡ 0 → SignDone command before now
-message_signed command before now status ran (Signs e m) none = saying command before now status _ ran m
-message_signed command before now status ran (Refuses e m) none = absurd (omega (arith, e, none))
-message_signed command before now status ran (Fails e m) none = absurd (omega (arith, e, none))
-message_signed command before now status ran (Unwritten e m) none = absurd (omega (arith, e, none))
-message_signed command before now status ran (Wants e m) none = absurd (omega (arith, e, none))
+-- ---- the promises
 
-pub signed : (command : SignCommand) (before now : Outside) (status : ℕ) → RanSign command before now status → status ≡ 0 → SignDone command before now
-signed command before now status (inl ran) none =
-    message_signed command before now status ran (message_cause command.order ran.materials before now status ran.says) none
-signed command before now status (inr early) none = absurd (omega (arith, none, early_high (files_named command) before now status early))
+keeps : (order : OrderView) (materials : SigningMaterials) → Keeps (message_course order materials)
+keeps order materials = record {
+  causes = λ before now status ran. causes_by order materials before now status (message_cause order materials before now status ran);
+  answers = λ before now status ran. answers_by order materials before now status (message_cause order materials before now status ran);
+  through = λ before now status ran low. through_by order materials before now status (message_cause order materials before now status ran) low;
+  says = λ before now status ran low. says_by order materials before now status (message_cause order materials before now status ran);
+}
+
+pub keeps_all : (command : SignCommand) → KeepsAll (sign_course command)
+keeps_all command = over_keeps (sign_over command) (keeps command.order)

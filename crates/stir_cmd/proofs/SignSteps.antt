@@ -23,18 +23,18 @@ use Rattle.stir_files.specs.declared.signing.HolderMaterials.{HolderMaterials}
 use Rattle.stir_files.specs.declared.signing.SigningMaterials.{SigningMaterials}
 use Rattle.stir_files.specs.Stop.{Truly}
 use Rattle.stir_outside.specs.Count.{Rose}
-use Rattle.stir_outside.specs.Files.{Counts, Files}
+use Rattle.stir_outside.specs.Files.{Counts, CountsGoOn, Files}
 use Rattle.stir_outside.specs.Held.{held_signs}
 use Rattle.stir_outside.specs.Told.{Takes}
 use Rattle.stir_words.specs.Order.{DivertingView, HolderNames, IsDiverting, IsSigning, SigningView}
 use Rattle.stir_cmd.specs.Outside.{Outside, outside}
 use Rattle.stir_cmd.specs.Showing.{TakesAtMost}
 use Rattle.stir_cmd.specs.SignCode.{outcome_of}
-use Rattle.stir_cmd.specs.Signing.{EndsOrShort, GivesMessage, HasLine, HasList, HasReason, IsAll, IsInput, RanMessage, RanSign, GivesFault, GivesWhy, SignCommand, WasRefused, WasSigned, diverting_command, files_named, holder_by, reason_line, reason_status, signing_command}
-use Rattle.stir_cmd.specs.Stopping.{EndsEarly, HaveNoFault}
+use Rattle.stir_cmd.specs.Signing.{EndsOrShort, GivesMessage, HasLine, HasList, HasReason, IsAll, IsInput, RanMessage, GivesFault, GivesWhy, SignCommand, WasRefused, WasSigned, diverting_command, files_named, holder_by, reason_line, reason_status, sign_course, sign_over, signing_command}
+use Rattle.stir_cmd.specs.Stopping.{EndsEarly}
 use Rattle.stir_cmd.specs.declared.sign.Unsigned.{Unsigned}
 use Rattle.stir_cmd.specs.declared.sign.Unsigned.TheVariants.{Read, Memory, Fault}
-use Rattle.stir_cmd.proofs.StopSteps.{no_fault}
+use Rattle.stir_cmd.proofs.OverFilesSteps.{goes_on}
 
 abbrev Signs : Type 0
 Signs = List ℕ → List ℕ → Option (List ℕ)
@@ -198,20 +198,17 @@ same_stands command files answers names materials same_answers same_holder stand
 -- the files were read
 pub from_files : (command : SignCommand) (answers : List ℕ) (names : Option HolderNames) (materials : SigningMaterials) (files files_now : Option Files) (counts counts_now : Counts)
     (left left_now : Option (List ℕ)) (reads reads_now : ℕ) (written written_now : Option (List ℕ)) (writes writes_now status : ℕ) → answers ≡ command.answers → names ≡ command.holder
-    → SigningOf files answers names materials → Truly files (signing_files answers names) (Ok materials)
+    → files_now ≡ files → CountsGoOn counts counts_now → SigningOf files answers names materials → Truly files (signing_files answers names) (Ok materials)
     → RanMessage command.order materials left left_now reads reads_now written written_now writes writes_now status
-    → RanSign command (outside files counts left reads written writes) (outside files_now counts_now left_now reads_now written_now writes_now) status
-from_files command answers names materials files files_now counts counts_now left left_now reads reads_now written written_now writes writes_now status same_answers same_holder stands truly ran =
-    inl (record {
-      materials = materials;
-      stands = same_stands command files answers names materials same_answers same_holder stands;
-      no_fault = subst (λ (x : List NamedFile). HaveNoFault files x) (same_named command answers names same_answers same_holder) (no_fault files (signing_files answers names) materials truly);
-      says = ran;
-    })
+    → (sign_course command).Came (outside files counts left reads written writes) (outside files_now counts_now left_now reads_now written_now writes_now) status
+from_files command answers names materials files files_now counts counts_now left left_now reads reads_now written written_now writes writes_now status same_answers same_holder same goes stands truly ran =
+    goes_on (sign_over command) materials files files_now counts counts_now left reads written writes (outside files_now counts_now left_now reads_now written_now writes_now) status
+    (same_stands command files answers names materials same_answers same_holder stands)
+    (subst (λ (x : List NamedFile). Truly files x (Ok materials)) (same_named command answers names same_answers same_holder) truly) same goes (omega arith) ran
 
 -- one of them stopped it
 pub from_stop : (command : SignCommand) (answers : List ℕ) (names : Option HolderNames) (before now : Outside) (status : ℕ) → answers ≡ command.answers → names ≡ command.holder
-    → EndsEarly (signing_files answers names) before now status → RanSign command before now status
+    → EndsEarly (signing_files answers names) before now status → (sign_course command).Came before now status
 from_stop command answers names before now status same_answers same_holder early =
     inr (subst (λ (x : List NamedFile). EndsEarly x before now status) (same_named command answers names same_answers same_holder) early)
 

@@ -11,17 +11,18 @@ use Rattle.auth_service.specs.Outcome.{IsSigned}
 use Rattle.auth_service.specs.Signed.{signed}
 use Rattle.auth_service.specs.declared.fault.SignFault.{SignFault}
 use Rattle.auth_service.specs.declared.fault.SignFault.TheVariants as faults
-use Rattle.stir_files.specs.Named.{NamedFile, first_fault}
+use Rattle.stir_files.specs.Named.{NamedFile}
 use Rattle.stir_files.specs.Signing.{SigningOf, signing_files}
 use Rattle.stir_files.specs.declared.signing.HolderMaterials.{HolderMaterials}
 use Rattle.stir_files.specs.declared.signing.SigningMaterials.{SigningMaterials}
 use Rattle.stir_outside.specs.Count.{Rose}
-use Rattle.stir_outside.specs.Files.{Files}
 use Rattle.stir_outside.specs.Held.{held_signs}
 use Rattle.stir_words.specs.Order.{DivertingView, HolderNames, SigningView}
 use Rattle.stir_cmd.specs.Outside.{Outside}
 use Rattle.stir_cmd.specs.Showing.{TakesAtMost}
-use Rattle.stir_cmd.specs.Stopping.{AnswersFault, Early, EndsEarly, FileFailed, FileRefused, Front, HaveNoFault, IsEarly, IsQuiet}
+use Rattle.stir_cmd.specs.Course.{Course}
+use Rattle.stir_cmd.specs.OverFiles.{OverFiles, over_files}
+use Rattle.stir_cmd.specs.Stopping.{Front, IsQuiet}
 use Rattle.stir_cmd.specs.declared.sign.Unsigned.{Unsigned}
 use Rattle.stir_cmd.specs.declared.sign.Unsigned.TheVariants.{Read, Memory, Fault}
 
@@ -181,22 +182,7 @@ pub record RanMessage (order : OrderView) (materials : SigningMaterials) (left l
   pub came : Wrote order materials left left_now written written_now writes writes_now status
       ⊎ Told order materials left left_now reads reads_now written written_now writes writes_now status
 
--- the files were read, and this is said by what they say
-pub record BySigningFiles (command : SignCommand) (before now : Outside) (Says : SigningMaterials → Type 0) : Type 0 where
-  pub materials : SigningMaterials
-  pub stands : SigningOf before.files command.answers command.holder materials
-  pub no_fault : HaveNoFault before.files (files_named command)
-  pub says : Says materials
-
-abbrev pub RanBySigningFiles : SignCommand → Outside → Outside → ℕ → Type 0
-RanBySigningFiles command before now status = BySigningFiles command before now (λ materials.
-    RanMessage command.order materials before.left now.left before.read_faults now.read_faults before.written now.written before.write_faults now.write_faults status)
-
--- what `sign` or `divert` came to
-abbrev pub RanSign : SignCommand → Outside → Outside → ℕ → Type 0
-RanSign command before now status = RanBySigningFiles command before now status ⊎ EndsEarly (files_named command) before now status
-
--- ---- the causes
+-- ---- the causes, behind the files
 
 -- 0: the message was signed, and what is signed of it was written
 pub record SignedMessage (order : OrderView) (materials : SigningMaterials) (before now : Outside) : Type 0 where
@@ -204,45 +190,23 @@ pub record SignedMessage (order : OrderView) (materials : SigningMaterials) (bef
   pub was : WasSigned order materials before.left now.left out
   pub reported : Appends before.written now.written out
 
-abbrev pub SignDone : SignCommand → Outside → Outside → Type 0
-SignDone command before now = BySigningFiles command before now (λ materials. SignedMessage command.order materials before now)
-
 -- 1: one of the faults 1 to 4, of the whole input or of more bytes than a message may have, and its line was written
 pub record RefusedMessage (order : OrderView) (materials : SigningMaterials) (before now : Outside) : Type 0 where
   pub fault : SignFault
   pub was : WasRefused order materials before.left now.left fault
   pub reported : Appends before.written now.written (fault_line order.key fault)
 
-abbrev pub SignRefused : SignCommand → Outside → Outside → Type 0
-SignRefused command before now = BySigningFiles command before now (λ materials. RefusedMessage command.order materials before now)
-
--- 3: a named file or the input couldn't be read
+-- 3: the input couldn't be read
 pub record MessageFailed (before now : Outside) : Type 0 where
   pub rose : Rose before.read_faults now.read_faults
   pub reported : Appends before.written now.written failed_line
 
-abbrev pub SignFailed : SignCommand → Outside → Outside → Type 0
-SignFailed command before now = FileFailed (files_named command) before now ⊎ MessageFailed before now
-
--- 4: the output couldn't be written: the line that ends the run before the input is read; or the message, or the line that says why there is none
+-- 4: the output couldn't be written: the message, or the line that says why there is none
 abbrev pub IsWritten : OrderView → SigningMaterials → Outside → Outside → List ℕ → Type 0
 IsWritten order materials before now line =
     (line ≡ memory_line)
     ⊎ (WasSigned order materials before.left now.left line
     ⊎ ((why : Unsigned) × HasReason order materials before.left now.left before.read_faults now.read_faults why × (line ≡ reason_line order.key why)))
-
-abbrev pub SignUnwritten : SignCommand → Outside → Outside → Type 0
-SignUnwritten command before now =
-    Front before now (IsEarly (files_named command) before now)
-    ⊎ BySigningFiles command before now (λ materials. Front before now (IsWritten command.order materials before now))
-
--- 6: memory was wanting, and a line says so
-abbrev pub SignShort : SignCommand → Outside → Outside → Type 0
-SignShort command before now = Early (files_named command) before now ⊎ Appends before.written now.written memory_line
-
--- 0 and 1
-abbrev pub SignEnded : SignCommand → Outside → Outside → ℕ → Type 0
-SignEnded command before now status = ((status ≡ 0) × SignDone command before now) ⊎ ((status ≡ 1) × SignRefused command before now)
 
 -- the input was read to its end; or the message wasn't signed, and more bytes were taken than a message may have
 pub record IsTooLong (left left_now : Option (List ℕ)) : Type 0 where
@@ -253,24 +217,40 @@ pub record IsTooLong (left left_now : Option (List ℕ)) : Type 0 where
 abbrev pub SignThrough : Outside → Outside → ℕ → Type 0
 SignThrough before now status = IsAtEnd now.left ⊎ ((status ≡ 1) × IsTooLong before.left now.left)
 
--- ---- which status comes
-
 -- 0 where a message is written, and 1 where a fault comes
 abbrev pub status_for : Result (List ℕ) SignFault → ℕ
 status_for (Ok out) = 0
 status_for (Err fault) = 1
 
--- the status is that of what the call gives for the bytes by what the files say
-pub record AnswersCall (command : SignCommand) (files : Option Files) (bytes : List ℕ) (status : ℕ) : Type 0 where
-  pub materials : SigningMaterials
-  pub stands : SigningOf files command.answers command.holder materials
-  pub answered : status ≡ status_for (signed_by command.order materials bytes)
+-- Where the bytes of the input are told, the status is that of what the call gives for them.
+abbrev pub AnswersMessage : OrderView → SigningMaterials → Outside → Outside → ℕ → Type 0
+AnswersMessage order materials before now status =
+    (bytes : List ℕ) → before.left ≡ Some bytes → IsQuiet before now → (status ≡ status_for (signed_by order materials bytes)) ⊎ (status ≡ 6)
 
--- Where the files have no fault and the bytes of the input are told, the status is that of what the call gives; and else a file is refused.
-abbrev pub AnswersMessage : SignCommand → Outside → Outside → ℕ → Type 0
-AnswersMessage command before now status = (files : Files) (bytes : List ℕ) → before.files ≡ Some files → first_fault files (files_named command) ≡ None → before.left ≡ Some bytes
-    → IsQuiet before now → AnswersCall command before.files bytes status ⊎ (status ≡ 6)
+-- ---- the whole
 
-pub record SignComplete (command : SignCommand) (before now : Outside) (status : ℕ) : Type 0 where
-  pub message : AnswersMessage command before now status
-  pub fault : AnswersFault (files_named command) before now status
+-- 5 is for a named file alone
+abbrev pub message_course : OrderView → SigningMaterials → Course
+message_course order materials = record {
+  Came = λ before now status. RanMessage order materials before.left now.left before.read_faults now.read_faults before.written now.written before.write_faults now.write_faults status;
+  Done = λ before now status. ((status ≡ 0) × SignedMessage order materials before now) ⊎ ((status ≡ 1) × RefusedMessage order materials before now);
+  Unread = MessageFailed;
+  Unwritten = λ before now. Front before now (IsWritten order materials before now);
+  Refused = λ before now. ⊥;
+  Short = λ before now. Appends before.written now.written memory_line;
+  Answers = AnswersMessage order materials;
+  Through = SignThrough;
+  Says = λ before now status. status ≡ 0 → SignedMessage order materials before now;
+}
+
+abbrev pub sign_over : SignCommand → OverFiles
+sign_over command = record {
+  named = files_named command;
+  Read = SigningMaterials;
+  Stands = λ files materials. SigningOf files command.answers command.holder materials;
+  course = message_course command.order;
+}
+
+-- what `sign` and `divert` promise
+abbrev pub sign_course : SignCommand → Course
+sign_course command = over_files (sign_over command)

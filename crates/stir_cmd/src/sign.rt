@@ -11,19 +11,16 @@ ghost use Rattle.auth_service.specs.Signed.{signed};
 ghost use Rattle.stir_outside.specs.Count.{Rose};
 ghost use Rattle.stir_outside.specs.Held.{held_signs};
 ghost use Rattle.stir_words.specs.Seen.{holder_view};
-ghost use Rattle.stir_cmd.specs.Outside.{outside};
+ghost use Rattle.stir_cmd.specs.Outside.{outside_of};
 ghost use Rattle.stir_cmd.specs.Showing.{TakesAtMost};
 ghost use Rattle.stir_cmd.specs.SignCode.{command_of, outcome_of, unread_by, unsigned_by};
-ghost use Rattle.stir_cmd.specs.Signing.{EndsOrShort, GivesMessage, GivesWhy, HasLine, HasList, HasReason, IsDecided, RanMessage, RanSign, WasSigned, fault_line, holder_by, reason_line, reason_status, unsigned_line};
+ghost use Rattle.stir_cmd.specs.Signing.{EndsOrShort, GivesMessage, GivesWhy, HasLine, HasList, HasReason, IsDecided, RanMessage, WasSigned, fault_line, holder_by, reason_line, reason_status, sign_course, unsigned_line};
 
 use crate::verify::end_at;
 use auth_service::{DivertOrder, Holder, SignFault, SignOrder, divert, sign};
 use std::alloc::{AllocError, Global};
 use stir_files::{SigningMaterials, read_signing};
-use stir_outside::{
-    ReadFault, Shelf, Sink, Source, Status, SteadyProvider, end_with, memory_line, read_up_to,
-    write_whole,
-};
+use stir_outside::{ReadFault, Shelf, Sink, Source, Status, SteadyProvider, end_with, memory_line, read_up_to, write_whole};
 use stir_words::{Diverting, HolderFiles, Signing};
 use tn_auth_list::AuthList;
 use x509_profile::Certificate;
@@ -131,9 +128,9 @@ pub(crate) fn sign_message<S: Shelf, I: Source, O: Sink>(
     sink: &mut O,
 ) -> u8
     requires { IsTrue (is_order (command_of command.now).order) }
-    ensures ran { RanSign (command_of command.now)
-        (outside (S.files shelf.old) (S.counts shelf.old) (I.left input.old) (I.faults input.old) (O.written sink.old) (O.faults sink.old))
-        (outside (S.files shelf.new) (S.counts shelf.new) (I.left input.new) (I.faults input.new) (O.written sink.new) (O.faults sink.new)) result }
+    ensures ran { (sign_course (command_of command.now)).Came
+        (outside_of S.Shelf I.Source O.Sink shelf.old input.old sink.old)
+        (outside_of S.Shelf I.Source O.Sink shelf.new input.new sink.new) result }
     ensures same_files { S.files shelf.new ≡ S.files shelf.old }
 {
     match read_signing(alloc, shelf, command.answers(), command.holder()) {
