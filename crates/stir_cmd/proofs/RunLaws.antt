@@ -6,11 +6,11 @@ use Rattle.stir_words.specs.Order.{AskBy, DivertBy, ExplainBy, OrderView, ShowCe
 use Rattle.stir_cmd.specs.Outside.{Outside}
 use Rattle.stir_cmd.specs.Causes.{HasCauses, IsComplete, IsRefusal, IsSaid, IsThrough, Ran, RanOrShort, course_of, no_course}
 use Rattle.stir_cmd.specs.Headline.{Headline}
-use Rattle.stir_cmd.specs.Showing.{Showing}
+use Rattle.stir_cmd.specs.Input.{CameInput}
+use Rattle.stir_cmd.specs.Showing.{show_answering}
 use Rattle.stir_cmd.specs.Signing.{diverting_command, signing_command}
 use Rattle.stir_cmd.proofs.ExplainedLaws as explaining
 use Rattle.stir_cmd.proofs.Keeps.{KeepsAll}
-use Rattle.stir_cmd.proofs.ShowLaws.{ReadsChain}
 use Rattle.stir_cmd.proofs.ShowLaws as showing
 use Rattle.stir_cmd.proofs.SignLaws as signing
 use Rattle.stir_cmd.proofs.StatusCauses.{CauseOf, at_memory, at_words, at_write}
@@ -21,15 +21,14 @@ use Rattle.stir_cmd.proofs.VerifyLaws as verifying
 
 -- the laws of the crates below on which they rest
 pub record Laws : Type 0 where
-  pub chain : ReadsChain
   pub texts : explaining.TextsLaw
   pub well : explaining.WellLaw
 
-pub laws : ReadsChain → explaining.TextsLaw → explaining.WellLaw → Laws
-laws chain texts well = record { chain = chain; texts = texts; well = well }
+pub laws : explaining.TextsLaw → explaining.WellLaw → Laws
+laws texts well = record { texts = texts; well = well }
 
 keeps_all : Laws → (order : OrderView) → KeepsAll (course_of order)
-keeps_all laws ShowCertificates = showing.keeps_all laws.chain
+keeps_all laws ShowCertificates = showing.keeps_all
 keeps_all laws (VerifyBy judging) = verifying.keeps_all judging
 keeps_all laws (ExplainBy judging) = explaining.explain_keeps judging
 keeps_all laws (AskBy words) = explaining.ask_keeps laws.texts laws.well words
@@ -43,7 +42,7 @@ ran laws None before now status (inr short) = inr short
 ran laws (Some order) before now status (inr short) = (keeps_all laws order).wanting before now status short.untouched short.ends
 
 -- certificates were shown
-pub ran_show : (order : Option OrderView) (before now : Outside) (status : ℕ) → order ≡ Some ShowCertificates → Showing before now status → RanOrShort order before now status
+pub ran_show : (order : Option OrderView) (before now : Outside) (status : ℕ) → order ≡ Some ShowCertificates → CameInput show_answering before now status → RanOrShort order before now status
 ran_show order before now status is shown = subst (λ (x : Option OrderView). RanOrShort x before now status) (sym is) (inl shown)
 
 -- ---- no command

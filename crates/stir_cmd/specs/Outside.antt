@@ -23,6 +23,23 @@ outside files counts left reads written writes =
 abbrev pub outside_of : {S I O : Type 0} → ShelfOf S → SourceOf I → SinkOf O → S → I → O → Outside
 outside_of files bytes lines shelf input sink = outside (files.files shelf) (files.counts shelf) (bytes.left input) (bytes.faults input) (lines.written sink) (lines.faults sink)
 
+-- of these the input and the output
+pub record Io : Type 0 where
+  pub left : Option (List ℕ)
+  pub read_faults : ℕ
+  pub written : Option (List ℕ)
+  pub write_faults : ℕ
+
+abbrev pub io : Option (List ℕ) → ℕ → Option (List ℕ) → ℕ → Io
+io left reads written writes = record { left = left; read_faults = reads; written = written; write_faults = writes }
+
+abbrev pub io_in : Outside → Io
+io_in stands = io stands.left stands.read_faults stands.written stands.write_faults
+
+-- of a source and a sink
+abbrev pub io_of : {I O : Type 0} → SourceOf I → SinkOf O → I → O → Io
+io_of bytes lines input sink = io (bytes.left input) (bytes.faults input) (lines.written sink) (lines.faults sink)
+
 -- it holds of the files and of the bytes that were left, where both are told
 abbrev pub IfTold : Option Files → Option (List ℕ) → (Files → List ℕ → Type 0) → Type 0
 IfTold None left P = ⊤

@@ -10,10 +10,10 @@ use crate::verify::end_at;
 use call_run::{Answerer, answer_log};
 use single_calls::{Asker, Explainer};
 use std::alloc::Global;
-use stir_files::{World, Materials, read_world, read_materials};
+use stir_files::{Materials, read_materials, read_world};
 use stir_outside::{Shelf, Sink, Source};
 use stir_words::{Asking, Judging};
-use verify_service::World;
+use cert_store::World;
 
 /// Reads the named files, and says of each call of the log which rules it meets, up to the first that it breaks; where a file can't be had, it
 /// says so.
@@ -65,16 +65,6 @@ pub(crate) fn ask<S: Shelf, I: Source, O: Sink>(
 {
     match read_world(alloc, shelf, asking) {
         Ok(world) => {
-            let World {
-                chains,
-                anchors,
-                table,
-            } = world;
-            let world = World {
-                chains,
-                anchors,
-                table,
-            };
             let mut asker = Asker::new(alloc, settings_of(&asking.settings), world);
             answer_calls(alloc, &mut asker, shelf, input, sink)
         }

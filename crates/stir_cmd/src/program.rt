@@ -22,7 +22,6 @@ use std::alloc::Global;
 use std::thread::Threads;
 use stir_outside::{Shelf, Sink, Source, Status, end_with, memory_line};
 use stir_words::{Order, WordsFault};
-use x509_profile::chain_law;
 
 /// The program: takes the words after its name, reads the named files and the input, writes what the command says, and gives the status with
 /// which the program ends.
@@ -79,7 +78,6 @@ pub fn run<R: Threads + Sync, S: Shelf, I: Source, O: Sink>(
         (outside_of S.Shelf I.Source O.Sink shelf.new input.new sink.new) result }
     ensures same_files { S.files shelf.new ≡ S.files shelf.old }
 {
-    chain_law();
     asks_law();
     agreement_law();
     carry_out(rt, alloc, words, shelf, input, sink)
