@@ -141,8 +141,8 @@ impl InputCommand for MessageCommand<'_, '_> {
     }
 
     fn refuse(&self, alloc: Global) -> Result<Answer, AllocError> {
-        let line = String::from_str(alloc, "sign fault 1\n")?;
-        Ok(Answer::of_text(line, Status::NotAllValid))
+        let text = String::from_str(alloc, "sign fault 1\n")?;
+        Ok(Answer::of_text(text, Status::NotAllValid))
     }
 }
 
