@@ -10,21 +10,20 @@ use Rattle.log_run.specs.Ending.{report_status}
 use Rattle.single_calls.specs.Asker.{AskedBy, AskerView, asking_world}
 use Rattle.single_calls.specs.Asks.{Asks}
 use Rattle.single_calls.specs.Explainer.{ExplainedBy, Explains, IsExplained}
-use Rattle.stir_files.specs.World.{WorldOf}
-use Rattle.stir_files.specs.Materials.{MaterialsOf}
 use Rattle.cert_store.specs.declared.world.World.{World as WorldRead}
 use Rattle.stir_files.specs.declared.materials.Materials.{Materials}
 use Rattle.stir_outside.specs.Count.{AtMost, last_count}
 use Rattle.stir_outside.specs.Files.{Files}
-use Rattle.stir_words.specs.Order.{AskBy, AskingView, ExplainBy, JudgingView}
+use Rattle.stir_words.specs.Order.{AskingView, JudgingView}
 use Rattle.verify_rules.specs.World.{World}
 use Rattle.verify_rules.specs.declared.settings.Settings.{Settings}
 use Rattle.stir_cmd.specs.Outside.{IfTold, Outside}
 use Rattle.stir_cmd.specs.Calls.{settings_by, world_by}
-use Rattle.stir_cmd.specs.Explained.{Asked, AskedLog, EachCall, Explained, ExplainedLog}
-use Rattle.stir_cmd.specs.Singly.{RanSingly, around_calls}
-use Rattle.stir_cmd.specs.Ways.{ask_way, asker_by, explain_way, explainer_by}
-use Rattle.stir_cmd.proofs.SinglyLaws.{over_log}
+use Rattle.stir_cmd.specs.Explained.{AskedLog, EachCall, ExplainedLog, ask_course, ask_over, asker_by, explain_course, explain_over, explainer_by}
+use Rattle.stir_cmd.specs.Singly.{calls_at}
+use Rattle.stir_cmd.proofs.Keeps.{KeepsAll}
+use Rattle.stir_cmd.proofs.OverFilesLaws.{over_keeps}
+use Rattle.stir_cmd.proofs.SinglyLaws.{keeps}
 
 -- ---- each call by itself
 
@@ -52,43 +51,31 @@ each_explains world settings (call ∷ calls) (answer ∷ answers) faults faults
     let none = none_unread (found_unread answer.finding) (unread_in answers) faults faults_now most same below in
     (explains world settings call answer each.0 none.0, each_explains world settings calls answers faults faults_now each.1 none.1 same below)
 
-at_most_from : (events before mid now : ℕ) → before ≤ mid → AtMost events mid now → AtMost events before now
-at_most_from events before mid now h (inl most) = inl (omega (arith, h, most))
-at_most_from events before mid now h (inr full) = inr full
-
 -- ---- explain
 
-explained_log : (judging : JudgingView) (files : Files) (bytes : List ℕ) (before now : Outside) (status faults : ℕ) (materials : Materials) → MaterialsOf (Some files) judging materials → before.counts.faults ≤ faults
-    → WholeAnswer (ExplainedBy (explainer_by (settings_by judging.settings) materials) (Some files)) (around_calls before faults) (around_calls now now.counts.faults) bytes status → ExplainedLog judging files bytes before now status
-explained_log judging files bytes before now status faults materials stands low whole =
+explained_told : (settings : Settings) (materials : Materials) (before now : Outside) (status : ℕ) (files : Option Files) (left : Option (List ℕ))
+    → IfSome left (λ bytes. WholeAnswer (ExplainedBy (explainer_by settings materials) files) (calls_at before) (calls_at now) bytes status)
+    → IfTold files left (λ told bytes. ExplainedLog settings materials told bytes before now status)
+explained_told settings materials before now status None left whole = tt
+explained_told settings materials before now status (Some files) None whole = tt
+explained_told settings materials before now status (Some files) (Some bytes) whole =
     let world = world_by materials files in
-    let settings = settings_by judging.settings in
     let each = each_of (IsExplained world settings) [] whole.calls whole.answers whole.are_answered.each in
-    let most = at_most_from (unread_in whole.answers) before.counts.faults faults now.counts.faults low whole.are_answered.unread in
     record {
-      materials = materials;
-      stands = stands;
       calls = whole.calls;
       answers = whole.answers;
       log = whole.log;
       each = each;
-      unread = most;
-      quiet = λ same below. each_explains world settings whole.calls whole.answers before.counts.faults now.counts.faults each most same below;
+      unread = whole.are_answered.unread;
+      quiet = λ same below. each_explains world settings whole.calls whole.answers before.counts.faults now.counts.faults each whole.are_answered.unread same below;
       reported = whole.reported;
       said = whole.said;
     }
 
-explained_told : (judging : JudgingView) (before now : Outside) (status faults : ℕ) (materials : Materials) (files : Option Files) (left : Option (List ℕ)) → MaterialsOf files judging materials → before.counts.faults ≤ faults
-    → IfSome left (λ bytes. WholeAnswer (ExplainedBy (explainer_by (settings_by judging.settings) materials) files) (around_calls before faults) (around_calls now now.counts.faults) bytes status)
-    → IfTold files left (λ told bytes. ExplainedLog judging told bytes before now status)
-explained_told judging before now status faults materials None left stands low whole = tt
-explained_told judging before now status faults materials (Some files) None stands low whole = tt
-explained_told judging before now status faults materials (Some files) (Some bytes) stands low whole = explained_log judging files bytes before now status faults materials stands low whole
-
-pub explained : (judging : JudgingView) (before now : Outside) (status : ℕ) → RanSingly (explain_way judging before.files) before now status → Explained (Some (ExplainBy judging)) before now status
-explained judging before now status ran = λ low.
-    let log = over_log (explain_way judging before.files) before now status ran low in
-    explained_told judging before now status log.faults log.read before.files before.left log.stands log.low (log.says.answers low)
+pub explain_keeps : (judging : JudgingView) → KeepsAll (explain_course judging)
+explain_keeps judging =
+    let settings = settings_by judging.settings in
+    over_keeps (explain_over judging) (λ materials. keeps _ _ _ (λ before now status ran low. explained_told settings materials before now status before.files before.left (ran.answers low)))
 
 -- ---- ask
 
@@ -100,27 +87,22 @@ TextsLaw = (asker : AskerView) (files : Files) (calls : List Entry) (answers : L
 abbrev pub WellLaw : Type 0
 WellLaw = (asker : AskerView) (told : Option Files) (calls : List Entry) (answers : List AnswerView) → AreAnswered (AskedBy asker told) [] calls answers → all_well answers ≡ true
 
-asked_log : TextsLaw → (words : AskingView) (files : Files) (bytes : List ℕ) (before now : Outside) (status faults : ℕ) (world : WorldRead) → WorldOf (Some files) words world
-    → WholeAnswer (AskedBy (asker_by (settings_by words.settings) world) (Some files)) (around_calls before faults) (around_calls now now.counts.faults) bytes status → AskedLog words files bytes before now
-asked_log texts words files bytes before now status faults world stands whole = record {
-  world = world;
-  stands = stands;
+asked_told : TextsLaw → (settings : Settings) (world : WorldRead) (before now : Outside) (status : ℕ) (files : Option Files) (left : Option (List ℕ))
+    → IfSome left (λ bytes. WholeAnswer (AskedBy (asker_by settings world) files) (calls_at before) (calls_at now) bytes status)
+    → IfTold files left (λ told bytes. AskedLog settings world told bytes before now)
+asked_told texts settings world before now status None left whole = tt
+asked_told texts settings world before now status (Some files) None whole = tt
+asked_told texts settings world before now status (Some files) (Some bytes) whole = record {
   calls = whole.calls;
   log = whole.log;
-  reported = subst (λ (text : List ℕ). Appends before.written now.written text) (texts (asker_by (settings_by words.settings) world) files whole.calls whole.answers whole.are_answered.each) whole.reported;
+  reported = subst (λ (text : List ℕ). Appends before.written now.written text) (texts (asker_by settings world) files whole.calls whole.answers whole.are_answered.each) whole.reported;
 }
 
-asked_told : TextsLaw → (words : AskingView) (before now : Outside) (status faults : ℕ) (world : WorldRead) (files : Option Files) (left : Option (List ℕ)) → WorldOf files words world
-    → IfSome left (λ bytes. WholeAnswer (AskedBy (asker_by (settings_by words.settings) world) files) (around_calls before faults) (around_calls now now.counts.faults) bytes status)
-    → IfTold files left (λ told bytes. AskedLog words told bytes before now)
-asked_told texts words before now status faults world None left stands whole = tt
-asked_told texts words before now status faults world (Some files) None stands whole = tt
-asked_told texts words before now status faults world (Some files) (Some bytes) stands whole = asked_log texts words files bytes before now status faults world stands whole
-
-pub asked : TextsLaw → WellLaw → (words : AskingView) (before now : Outside) (status : ℕ) → RanSingly (ask_way words before.files) before now status → Asked (Some (AskBy words)) before now status
-asked texts well words before now status ran = λ low.
-    let log = over_log (ask_way words before.files) before now status ran low in
-    let done = log.says.causes.done low in (
-      done.said ∙ ap report_status (well (asker_by (settings_by words.settings) log.read) before.files done.calls done.answers done.are_answered.each),
-      asked_told texts words before now status log.faults log.read before.files before.left log.stands (log.says.answers low),
-    )
+pub ask_keeps : TextsLaw → WellLaw → (words : AskingView) → KeepsAll (ask_course words)
+ask_keeps texts well words =
+    let settings = settings_by words.settings in
+    over_keeps (ask_over words) (λ world. keeps _ _ _ (λ before now status ran low.
+        let done = ran.causes.done low in (
+          done.said ∙ ap report_status (well (asker_by settings world) before.files done.calls done.answers done.are_answered.each),
+          asked_told texts settings world before now status before.files before.left (ran.answers low),
+        )))

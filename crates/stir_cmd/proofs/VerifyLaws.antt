@@ -1,10 +1,9 @@
 -- What `verify` promises, from what it came to.
-use Rattle.std.proofs.Common.{◌≡◌, ℕ, ◌≤◌, inl, inr, List, Option, Some, None, IfSome, refl, sym, ◌∙◌, subst, arith}
-use Rattle.std.specs.Io.KnownBytes.{IsAtEnd}
+use Rattle.std.proofs.Common.{◌≡◌, ℕ, ◌≤◌, List, Option, Some, None, IfSome, refl, sym, ◌∙◌, subst, arith}
 use Rattle.log_run.specs.Bench.{Standing}
 use Rattle.log_run.specs.Clauses as log
 use Rattle.log_run.specs.Rounds.{Round, unread_pairs}
-use Rattle.stir_files.specs.Materials.{MaterialsOf, files_of}
+use Rattle.stir_files.specs.Materials.{MaterialsOf}
 use Rattle.stir_files.specs.declared.materials.Materials.{Materials}
 use Rattle.stir_outside.proofs.CountLaws.{not_risen_behind, then_at_most}
 use Rattle.stir_outside.specs.Count.{AtMost, NotRisen}
@@ -13,12 +12,10 @@ use Rattle.stir_words.specs.Order.{JudgingView, VerifyBy}
 use Rattle.verify_rules.specs.declared.settings.Settings.{Settings}
 use Rattle.stir_cmd.specs.Outside.{IfTold, Outside}
 use Rattle.stir_cmd.specs.Calls.{AnswersBy, bench_by, settings_by}
-use Rattle.stir_cmd.specs.Causes.{AnswersPart, AnswersWhole, VerifyComplete}
 use Rattle.stir_cmd.specs.Headline.{AreJudged, Headline, Verified}
-use Rattle.stir_cmd.specs.Stopping.{AnswersFault}
-use Rattle.stir_cmd.specs.Verifying.{ByFiles, RanLog, RanVerify, run_state_by}
-use Rattle.stir_cmd.proofs.StatusCauses.{CausesOf}
-use Rattle.stir_cmd.proofs.StopLaws.{early_causes, early_fault, early_high, early_six, no_such}
+use Rattle.stir_cmd.specs.Verifying.{ByService, LogSays, run_state_by, judging_course, verify_course, verify_over}
+use Rattle.stir_cmd.proofs.Keeps.{CausesIn, Keeps, KeepsAll}
+use Rattle.stir_cmd.proofs.OverFilesLaws.{behind_files, over_keeps}
 
 -- ---- how the log's run is seen from the whole run
 
@@ -57,67 +54,46 @@ told_by judging before now status (Some files) (Some bytes) materials standing s
   said = whole.said;
 }
 
-pub headline : (judging : JudgingView) (before now : Outside) (status : ℕ) → RanVerify judging before now status → Headline (Some (VerifyBy judging)) before now status
-headline judging before now status (inl ran) =
-    λ low. told_by judging before now status before.files before.left ran.materials ran.standing ran.standing_now ran.stands ran.shelf ran.shelf_stays ran.shelf_now ran.provider ran.provider_now (ran.says.headline low)
-headline judging before now status (inr early) = λ low. absurd (omega (arith, low, early_high (files_of judging) before now status early))
+pub headline : (judging : JudgingView) (before now : Outside) (status : ℕ) → (verify_course judging).Came before now status → Headline (Some (VerifyBy judging)) before now status
+headline judging before now status came = λ low.
+    let b = behind_files (verify_over judging) before now status came low in
+    let by = b.says in
+    told_by judging before now status before.files before.left b.read by.standing by.standing_now b.stands (omega (arith, b.go_on.faults.never_falls, by.shelf)) by.shelf_stays by.shelf_now by.provider by.provider_now
+    (by.says.headline low)
 
-pub ended : (judging : JudgingView) (before now : Outside) (status : ℕ) → RanVerify judging before now status → status ≤ 1 → IsAtEnd now.left
-ended judging before now status (inl ran) low = ran.says.ended low
-ended judging before now status (inr early) low = absurd (omega (arith, low, early_high (files_of judging) before now status early))
-
--- ---- the causes
+-- ---- the promises
 
 -- the run over the log, with another thing that is said of it
-saying : (judging : JudgingView) (before now : Outside) (status : ℕ) (Says : Materials → log.RunState → log.RunState → Type 0) (ran : RanLog judging before now status)
-    → Says ran.materials (run_state_by before ran.standing) (run_state_by now ran.standing_now) → ByFiles judging before now Says
-saying judging before now status Says ran says = record {
-  materials = ran.materials;
-  stands = ran.stands;
-  no_fault = ran.no_fault;
-  standing = ran.standing;
-  standing_now = ran.standing_now;
-  shelf = ran.shelf;
-  shelf_stays = ran.shelf_stays;
-  shelf_now = ran.shelf_now;
-  provider = ran.provider;
-  provider_now = ran.provider_now;
+saying : (before now : Outside) (P Q : log.RunState → log.RunState → Type 0) (by : ByService before now P) → Q (run_state_by before by.standing) (run_state_by now by.standing_now) → ByService before now Q
+saying before now P Q by says = record {
+  standing = by.standing;
+  standing_now = by.standing_now;
+  shelf = by.shelf;
+  shelf_stays = by.shelf_stays;
+  shelf_now = by.shelf_now;
+  provider = by.provider;
+  provider_now = by.provider_now;
   says = says;
 }
 
-of_log : (judging : JudgingView) (before now : Outside) (status : ℕ) → RanLog judging before now status → CausesOf (Some (VerifyBy judging)) before now status
-of_log judging before now status ran = record {
-  known = ran.says.causes.known;
-  done = λ h. saying judging before now status _ ran (ran.says.causes.done h);
-  words = λ h. absurd (ran.says.causes.no_words h);
-  read = λ h. inr (saying judging before now status _ ran (ran.says.fails h));
-  write = λ h. inr (saying judging before now status _ ran (ran.says.causes.sink_failed h));
-  input = λ h. inr (saying judging before now status _ ran (ran.says.refuses h));
-  memory = λ h. inr (saying judging before now status _ ran (ran.says.causes.short h));
+keeps : (settings : Settings) (materials : Materials) → Keeps (judging_course settings materials)
+keeps settings materials = record {
+  causes = λ before now status by. record {
+    known = by.says.causes.known;
+    done = λ h. saying before now _ _ by (by.says.causes.done h);
+    words = λ h. by.says.causes.no_words h;
+    read = λ h. saying before now _ _ by (by.says.fails h);
+    write = λ h. saying before now _ _ by (by.says.causes.sink_failed h);
+    input = λ h. saying before now _ _ by (by.says.refuses h);
+    memory = λ h. saying before now _ _ by (by.says.causes.short h);
+  };
+  answers = λ before now status by. record {
+    whole = λ bytes calls left log q. by.says.complete.whole bytes calls left log q.read_faults q.write_faults;
+    part = λ bytes rest calls left log some q. by.says.complete.faulty bytes rest calls left log some q.read_faults q.write_faults;
+  };
+  through = λ before now status by low. by.says.ended low;
+  says = λ before now status by low. tt;
 }
 
-pub causes : (judging : JudgingView) (before now : Outside) (status : ℕ) → RanVerify judging before now status → CausesOf (Some (VerifyBy judging)) before now status
-causes judging before now status (inl ran) = of_log judging before now status ran
-causes judging before now status (inr early) =
-    early_causes (files_of judging) before now status (λ failed. inl failed) (λ front. inl front) (λ refused. inl refused) (λ short. inl short) early
-
--- ---- which status comes
-
-whole : (judging : JudgingView) (before now : Outside) (status : ℕ) → RanVerify judging before now status → AnswersWhole judging before now status
-whole judging before now status (inl ran) files bytes calls told none left log q = ran.says.complete.whole bytes calls left log q.read_faults q.write_faults
-whole judging before now status (inr early) files bytes calls told none left log q = inr (early_six (files_of judging) before now status files early told none q)
-
-part : (judging : JudgingView) (before now : Outside) (status : ℕ) → RanVerify judging before now status → AnswersPart judging before now status
-part judging before now status (inl ran) files bytes rest calls told none left log some q = ran.says.complete.faulty bytes rest calls left log some q.read_faults q.write_faults
-part judging before now status (inr early) files bytes rest calls told none left log some q = inr (early_six (files_of judging) before now status files early told none q)
-
-fault : (judging : JudgingView) (before now : Outside) (status : ℕ) → RanVerify judging before now status → AnswersFault (files_of judging) before now status
-fault judging before now status (inl ran) files stop told found q = absurd (no_such (files_of judging) before.files files stop told ran.no_fault found)
-fault judging before now status (inr early) files stop told found q = early_fault (files_of judging) before now status early files stop told found q
-
-pub complete : (judging : JudgingView) (before now : Outside) (status : ℕ) → RanVerify judging before now status → VerifyComplete judging before now status
-complete judging before now status ran = record {
-  whole = whole judging before now status ran;
-  fault = fault judging before now status ran;
-  part = part judging before now status ran;
-}
+pub keeps_all : (judging : JudgingView) → KeepsAll (verify_course judging)
+keeps_all judging = over_keeps (verify_over judging) (keeps (settings_by judging.settings))

@@ -16,31 +16,20 @@ use Rattle.cert_store.specs.declared.world.World.{World as Told}
 use Rattle.stir_cmd.specs.Outside.{Outside, outside}
 use Rattle.stir_cmd.specs.Calls.{settings_by}
 use Rattle.stir_cmd.specs.Standing.{materials_by, standing_by}
-use Rattle.stir_cmd.specs.Verifying.{LogSays, RanBy, RanVerify, run_state_by}
-use Rattle.stir_cmd.proofs.StopSteps.{no_fault}
+use Rattle.stir_cmd.specs.Verifying.{LogSays, RanBy, run_state_by, judging_course, verify_course, verify_over}
+use Rattle.stir_cmd.proofs.OverFilesSteps.{goes_on, short_behind}
 
 -- ---- the files were read
 
 pub from_files : (judging : JudgingView) (materials : Materials) (settings : Settings) (files files_now : Option Files) (counts counts_now : Counts) (left : Option (List ℕ)) (reads : ℕ) (written : Option (List ℕ)) (writes : ℕ)
     (now : Outside) (status : ℕ) → MaterialsOf files judging materials → Truly files (files_of judging) (Ok materials) → files_now ≡ files → CountsGoOn counts counts_now
-    → settings ≡ settings_by judging.settings → RanBy materials settings (outside files_now counts_now left reads written writes) now status
-    → RanVerify judging (outside files counts left reads written writes) now status
-from_files judging materials settings files files_now counts counts_now left reads written writes now status stands truly same goes given (inl log) = inl (record {
-  materials = materials;
-  stands = stands;
-  no_fault = no_fault files (files_of judging) materials truly;
-  standing = log.standing;
-  standing_now = log.standing_now;
-  shelf = omega (arith, goes.faults.never_falls, log.shelf);
-  shelf_stays = log.shelf_stays;
-  shelf_now = log.shelf_now;
-  provider = log.provider;
-  provider_now = log.provider_now;
-  says = subst (λ (x : Settings). LogSays materials x files (run_state_by (outside files counts left reads written writes) log.standing) (run_state_by now log.standing_now) status) given
-      (subst (λ (x : Option Files). LogSays materials settings x (run_state_by (outside files counts left reads written writes) log.standing) (run_state_by now log.standing_now) status) same log.says);
-})
-from_files judging materials settings files files_now counts counts_now left reads written writes now status stands truly same goes given (inr none) =
-    inr (inr (record { stays = record { left = none.stays.left; read_faults = none.stays.read_faults }; ends = none.ends }))
+    → settings ≡ settings_by judging.settings → counts_now.faults ≤ now.counts.faults → RanBy settings materials (outside files_now counts_now left reads written writes) now status
+    → (verify_course judging).Came (outside files counts left reads written writes) now status
+from_files judging materials settings files files_now counts counts_now left reads written writes now status stands truly same goes given stay (inl by) =
+    goes_on (verify_over judging) materials files files_now counts counts_now left reads written writes now status stands truly same goes stay
+    (subst (λ (x : Settings). (judging_course x materials).Came (outside files_now counts_now left reads written writes) now status) given by)
+from_files judging materials settings files files_now counts counts_now left reads written writes now status stands truly same goes given stay (inr none) =
+    short_behind (verify_over judging) files files_now counts counts_now left reads written writes now status none
 
 -- ---- a new service stands at first
 
@@ -63,7 +52,7 @@ pub log_by : (settings : Settings) (materials : Materials) (service : ServiceVie
     → IsNew settings (record { chains = materials.chains; anchors = materials.anchors; table = materials.table }) service → before.counts.faults ≤ standing_now.shelf → standing_now.shelf ≡ now.counts.faults
     → standing_now.provider ≡ 0
     → LogSays (materials_by service materials.answers) service.settings before.files (run_state_by before (standing_by service before.counts.faults)) (run_state_by now standing_now) status
-    → RanBy materials settings before now status
+    → RanBy settings materials before now status
 log_by settings materials service before now standing_now status new stays shelf_now provider says = inl (record {
   standing = standing_by service before.counts.faults;
   standing_now = standing_now;

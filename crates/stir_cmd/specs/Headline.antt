@@ -10,7 +10,7 @@ use Rattle.stir_files.specs.Materials.{MaterialsOf}
 use Rattle.stir_files.specs.declared.materials.Materials.{Materials}
 use Rattle.stir_outside.specs.Count.{AtMost, NotRisen}
 use Rattle.stir_outside.specs.Files.{Files}
-use Rattle.stir_words.specs.Order.{AskBy, DivertBy, ExplainBy, JudgingView, OrderView, ShowCertificates, SignBy, VerifyBy}
+use Rattle.stir_words.specs.Order.{JudgingView, OrderView, VerifyBy}
 use Rattle.verify_rules.specs.declared.settings.Settings.{Settings}
 use Rattle.verify_service.specs.Causes.{NoneUnasked, NoneUnread}
 use Rattle.verify_service.specs.Report.{report}
@@ -42,10 +42,5 @@ pub record Verified (judging : JudgingView) (files : Files) (bytes : List ℕ) (
   pub said : status ≡ report_status (all_valid (outcomes_in rounds))
 
 abbrev pub Headline : Option OrderView → Outside → Outside → ℕ → Type 0
-Headline None before now status = Unit {0}
-Headline (Some ShowCertificates) before now status = Unit {0}
-Headline (Some (SignBy words)) before now status = Unit {0}
-Headline (Some (DivertBy words)) before now status = Unit {0}
-Headline (Some (ExplainBy judging)) before now status = Unit {0}
-Headline (Some (AskBy words)) before now status = Unit {0}
 Headline (Some (VerifyBy judging)) before now status = status ≤ 1 → IfTold before.files before.left (λ files bytes. Verified judging files bytes before now status)
+Headline other before now status = Unit {0}

@@ -1,7 +1,8 @@
--- The command `verify`: what it came to. A named file can't be had; or the log was judged by what the files say; or memory was wanting between.
-use Rattle.std.specs.Prelude.{◌≡◌, ◌⊎◌, ℕ, ◌≤◌, Option}
+-- The command `verify`: the log is judged by what four files say.
+use Rattle.std.specs.Prelude.{◌≡◌, ◌⊎◌, ℕ, ◌≤◌, Option, IfSome}
+use Rattle.std.specs.Io.KnownBytes.{IsAtEnd}
 use Rattle.log_run.specs.Bench.{Standing}
-use Rattle.log_run.specs.Clauses.{RunState, Fails, HasCauses, HasEnded, Headline, IsComplete, LogRan, Refuses, run_state}
+use Rattle.log_run.specs.Clauses.{RunState, DoneReport, FailedReport, Fails, FrontReport, HasCauses, HasEnded, Headline, IsComplete, LogRan, PartReport, Refuses, ShortReport, run_state}
 use Rattle.stir_files.specs.Materials.{MaterialsOf, files_of}
 use Rattle.stir_files.specs.declared.materials.Materials.{Materials}
 use Rattle.stir_outside.specs.Files.{Files}
@@ -9,9 +10,10 @@ use Rattle.stir_words.specs.Order.{JudgingView}
 use Rattle.verify_rules.specs.declared.settings.Settings.{Settings}
 use Rattle.stir_cmd.specs.Outside.{Outside}
 use Rattle.stir_cmd.specs.Calls.{AnswersBy, bench_by, settings_by}
-use Rattle.stir_cmd.specs.Stopping.{EndsEarly, HaveNoFault, NoMemory}
-
--- ---- the log was judged
+use Rattle.stir_cmd.specs.Course.{Course}
+use Rattle.stir_cmd.specs.OverFiles.{OverFiles, over_files}
+use Rattle.stir_cmd.specs.OverLog.{AnswersBytes}
+use Rattle.stir_cmd.specs.Stopping.{NoMemory}
 
 -- what stands around the run over the log
 abbrev pub run_state_by : Outside → Standing → RunState
@@ -27,27 +29,8 @@ pub record LogSays (materials : Materials) (settings : Settings) (files : Option
   pub causes : HasCauses (AnswersBy materials settings files) (bench_by settings) before now status
   pub complete : IsComplete before now status
 
--- The files were read, and this is said of a run over the log by what they say. The shelf's failed reads are counted from behind the named
--- files on, and the provider never fails.
-pub record ByFiles (judging : JudgingView) (before now : Outside) (Says : Materials → RunState → RunState → Type 0) : Type 0 where
-  pub materials : Materials
-  pub stands : MaterialsOf before.files judging materials
-  pub no_fault : HaveNoFault before.files (files_of judging)
-  pub standing : Standing
-  pub standing_now : Standing
-  pub shelf : before.counts.faults ≤ standing.shelf
-  pub shelf_stays : standing.shelf ≤ standing_now.shelf
-  pub shelf_now : standing_now.shelf ≡ now.counts.faults
-  pub provider : standing.provider ≡ 0
-  pub provider_now : standing_now.provider ≡ 0
-  pub says : Says materials (run_state_by before standing) (run_state_by now standing_now)
-
-abbrev pub RanLog : JudgingView → Outside → Outside → ℕ → Type 0
-RanLog judging before now status =
-    ByFiles judging before now (λ materials stands stands_now. LogSays materials (settings_by judging.settings) before.files stands stands_now status)
-
--- the same of what was read of the files, from behind the reading on
-pub record LogBy (materials : Materials) (settings : Settings) (before now : Outside) (status : ℕ) : Type 0 where
+-- A service judged, and this is said of its run. Its failed reads are the shelf's, and its provider never fails.
+pub record ByService (before now : Outside) (Says : RunState → RunState → Type 0) : Type 0 where
   pub standing : Standing
   pub standing_now : Standing
   pub shelf : standing.shelf ≡ before.counts.faults
@@ -55,13 +38,33 @@ pub record LogBy (materials : Materials) (settings : Settings) (before now : Out
   pub shelf_now : standing_now.shelf ≡ now.counts.faults
   pub provider : standing.provider ≡ 0
   pub provider_now : standing_now.provider ≡ 0
-  pub says : LogSays materials settings before.files (run_state_by before standing) (run_state_by now standing_now) status
+  pub says : Says (run_state_by before standing) (run_state_by now standing_now)
 
-abbrev pub RanBy : Materials → Settings → Outside → Outside → ℕ → Type 0
-RanBy materials settings before now status = LogBy materials settings before now status ⊎ NoMemory before now status
+-- what it says of the log is the headline
+abbrev pub judging_course : Settings → Materials → Course
+judging_course settings materials = record {
+  Came = λ before now status. ByService before now (λ b n. LogSays materials settings before.files b n status);
+  Done = λ before now status. ByService before now (λ b n. DoneReport (AnswersBy materials settings before.files) (bench_by settings) b n status);
+  Unread = λ before now. ByService before now (λ b n. FailedReport (AnswersBy materials settings before.files) (bench_by settings) b n);
+  Unwritten = λ before now. ByService before now (λ b n. FrontReport (AnswersBy materials settings before.files) (bench_by settings) b n);
+  Refused = λ before now. ByService before now (λ b n. IfSome b.left (PartReport (AnswersBy materials settings before.files) (bench_by settings) b n));
+  Short = λ before now. ByService before now (λ b n. ShortReport (AnswersBy materials settings before.files) (bench_by settings) b n);
+  Answers = AnswersBytes;
+  Through = λ before now status. IsAtEnd now.left;
+  Says = λ before now status. Unit {0};
+}
 
--- ---- the whole
+-- memory may be wanting for the service, before the input is begun
+abbrev pub RanBy : Settings → Materials → Outside → Outside → ℕ → Type 0
+RanBy settings materials before now status = (judging_course settings materials).Came before now status ⊎ NoMemory before now status
 
--- what `verify` came to
-abbrev pub RanVerify : JudgingView → Outside → Outside → ℕ → Type 0
-RanVerify judging before now status = RanLog judging before now status ⊎ EndsEarly (files_of judging) before now status
+abbrev pub verify_over : JudgingView → OverFiles
+verify_over judging = record {
+  named = files_of judging;
+  Read = Materials;
+  Stands = λ files materials. MaterialsOf files judging materials;
+  course = judging_course (settings_by judging.settings);
+}
+
+abbrev pub verify_course : JudgingView → Course
+verify_course judging = over_files (verify_over judging)

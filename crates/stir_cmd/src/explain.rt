@@ -1,19 +1,19 @@
 //! The commands `explain` and `ask`, which answer the calls of a log one by one.
-ghost use Rattle.std.specs.Prelude.{◌≡◌, []};
-ghost use Rattle.stir_cmd.specs.Outside.{outside};
-ghost use Rattle.stir_cmd.specs.Singly.{CallsBy, RanSingly};
-ghost use Rattle.stir_cmd.specs.Ways.{ask_way, explain_way};
+ghost use Rattle.std.specs.Prelude.{◌≡◌, ◌≤◌, []};
+ghost use Rattle.stir_cmd.specs.Outside.{outside_of};
+ghost use Rattle.stir_cmd.specs.Explained.{ask_course, explain_course};
+ghost use Rattle.stir_cmd.specs.Singly.{LogAnswers, calls_at};
 ghost use Rattle.stir_words.specs.Seen.{asking_view, judging_view};
 
 use crate::settings::settings_of;
 use crate::verify::end_at;
 use call_run::{Answerer, answer_log};
-use cert_store::World;
 use single_calls::{Asker, Explainer};
 use std::alloc::Global;
 use stir_files::{Materials, read_materials, read_world};
 use stir_outside::{Shelf, Sink, Source};
 use stir_words::{Asking, Judging};
+use cert_store::World;
 
 /// Reads the named files, and says of each call of the log which rules it meets, up to the first that it breaks; where a file can't be had, it
 /// says so.
@@ -24,9 +24,9 @@ pub(crate) fn explain<S: Shelf, I: Source, O: Sink>(
     input: &mut I,
     sink: &mut O,
 ) -> u8
-    ensures ran { RanSingly (explain_way (judging_view judging.now) (S.files shelf.old))
-        (outside (S.files shelf.old) (S.counts shelf.old) (I.left input.old) (I.faults input.old) (O.written sink.old) (O.faults sink.old))
-        (outside (S.files shelf.new) (S.counts shelf.new) (I.left input.new) (I.faults input.new) (O.written sink.new) (O.faults sink.new)) result }
+    ensures ran { (explain_course (judging_view judging.now)).Came
+        (outside_of S.Shelf I.Source O.Sink shelf.old input.old sink.old)
+        (outside_of S.Shelf I.Source O.Sink shelf.new input.new sink.new) result }
     ensures same_files { S.files shelf.new ≡ S.files shelf.old }
 {
     match read_materials(alloc, shelf, judging) {
@@ -58,9 +58,9 @@ pub(crate) fn ask<S: Shelf, I: Source, O: Sink>(
     input: &mut I,
     sink: &mut O,
 ) -> u8
-    ensures ran { RanSingly (ask_way (asking_view asking.now) (S.files shelf.old))
-        (outside (S.files shelf.old) (S.counts shelf.old) (I.left input.old) (I.faults input.old) (O.written sink.old) (O.faults sink.old))
-        (outside (S.files shelf.new) (S.counts shelf.new) (I.left input.new) (I.faults input.new) (O.written sink.new) (O.faults sink.new)) result }
+    ensures ran { (ask_course (asking_view asking.now)).Came
+        (outside_of S.Shelf I.Source O.Sink shelf.old input.old sink.old)
+        (outside_of S.Shelf I.Source O.Sink shelf.new input.new sink.new) result }
     ensures same_files { S.files shelf.new ≡ S.files shelf.old }
 {
     match read_world(alloc, shelf, asking) {
@@ -81,9 +81,10 @@ fn answer_calls<A: Answerer, S: Shelf, I: Source, O: Sink>(
     sink: &mut O,
 ) -> u8
     requires { A.behind answerer.old (S.files shelf.old) [] }
-    ensures ran { CallsBy (A.answered answerer.old (S.files shelf.old)) (A.stops answerer.old (S.files shelf.old))
-        (outside (S.files shelf.old) (S.counts shelf.old) (I.left input.old) (I.faults input.old) (O.written sink.old) (O.faults sink.old))
-        (outside (S.files shelf.new) (S.counts shelf.new) (I.left input.new) (I.faults input.new) (O.written sink.new) (O.faults sink.new)) result }
+    ensures ran { LogAnswers (A.answered answerer.old (S.files shelf.old)) (A.stops answerer.old (S.files shelf.old))
+        (calls_at (outside_of S.Shelf I.Source O.Sink shelf.old input.old sink.old))
+        (calls_at (outside_of S.Shelf I.Source O.Sink shelf.new input.new sink.new)) result }
+    ensures shelf_stays { (S.counts shelf.old).faults ≤ (S.counts shelf.new).faults }
     ensures same_files { S.files shelf.new ≡ S.files shelf.old }
 {
     answer_log(alloc, answerer, shelf, input, sink)

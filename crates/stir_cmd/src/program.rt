@@ -1,17 +1,14 @@
 //! The top call.
-ghost use Rattle.std.specs.Prelude.{◌≡◌, ◌≤◌, List, Some};
-ghost use Rattle.std.specs.Io.KnownBytes.{IsAtEnd};
-ghost use Rattle.stir_cmd.specs.Outside.{outside};
-ghost use Rattle.stir_cmd.specs.Causes.{HasCauses, IsComplete, IsThrough, Ran, Signed};
-ghost use Rattle.stir_cmd.specs.Explained.{Asked, Explained};
+ghost use Rattle.std.specs.Prelude.{◌≡◌, ◌≤◌, List};
+ghost use Rattle.stir_cmd.specs.Outside.{outside_of};
+ghost use Rattle.stir_cmd.specs.Causes.{HasCauses, IsComplete, IsSaid, IsThrough, Ran, RanOrShort};
 ghost use Rattle.stir_cmd.specs.Headline.{Headline};
-ghost use Rattle.stir_cmd.specs.Showing.{Showed};
 ghost use Rattle.call_log.specs.Entry.{Entry};
 ghost use Rattle.cert_store.specs.Questions.{AgreeOn};
 ghost use Rattle.cert_store.specs.Rules.{Says};
 ghost use Rattle.single_calls.specs.Agreement.{JudgedAlike};
 ghost use Rattle.single_calls.specs.Asks.{asked_of};
-ghost use Rattle.stir_words.specs.Order.{ShowCertificates, order_of};
+ghost use Rattle.stir_words.specs.Order.{order_of};
 ghost use Rattle.stir_words.specs.Seen.{texts};
 ghost use Rattle.verify_rules.specs.World.{World};
 ghost use Rattle.verify_rules.specs.declared.settings.Settings.{Settings};
@@ -25,7 +22,6 @@ use std::alloc::Global;
 use std::thread::Threads;
 use stir_outside::{Shelf, Sink, Source, Status, end_with, memory_line};
 use stir_words::{Order, WordsFault};
-use x509_profile::chain_law;
 
 /// The program: takes the words after its name, reads the named files and the input, writes what the command says, and gives the status with
 /// which the program ends.
@@ -40,7 +36,6 @@ use x509_profile::chain_law;
 /// of certificates that `ask` needs or the input couldn't be read; 4 where the output couldn't be written; 5 where a named file is missing or
 /// too long, a file or the input is outside its grammar, or the certificate of a holder has no list; and 6 for want of memory. The first of
 /// these in the order of reading decides.
-#[tactic(auto, using(crate::proofs::RunLaws::ended))]
 pub fn run<R: Threads + Sync, S: Shelf, I: Source, O: Sink>(
     rt: &R,
     alloc: Global,
@@ -51,55 +46,44 @@ pub fn run<R: Threads + Sync, S: Shelf, I: Source, O: Sink>(
 ) -> u8
     // What came of the words: they are refused, or want memory; certificates are shown, a message is signed, or a log is judged.
     ensures outcome { Ran (order_of (texts words.now))
-        (outside (S.files shelf.old) (S.counts shelf.old) (I.left input.old) (I.faults input.old) (O.written sink.old) (O.faults sink.old))
-        (outside (S.files shelf.new) (S.counts shelf.new) (I.left input.new) (I.faults input.new) (O.written sink.new) (O.faults sink.new)) result }
+        (outside_of S.Shelf I.Source O.Sink shelf.old input.old sink.old)
+        (outside_of S.Shelf I.Source O.Sink shelf.new input.new sink.new) result }
 
     // Each call of the log gets the code of the first rule that it breaks; one that breaks none is valid, save that each last PASSporT lets
     // exactly one such call pass and refuses the others as replays of it.
     ensures headline { Headline (order_of (texts words.now))
-        (outside (S.files shelf.old) (S.counts shelf.old) (I.left input.old) (I.faults input.old) (O.written sink.old) (O.faults sink.old))
-        (outside (S.files shelf.new) (S.counts shelf.new) (I.left input.new) (I.faults input.new) (O.written sink.new) (O.faults sink.new)) result }
+        (outside_of S.Shelf I.Source O.Sink shelf.old input.old sink.old)
+        (outside_of S.Shelf I.Source O.Sink shelf.new input.new sink.new) result }
+    // Where the status is 0 or 1, the input was read to its end, or is a message that is too long; and what was written is what the command says
+    // in the words of its subject: of `explain` the rules that each call of the log meets, up to the first that it breaks; of `ask` what is asked
+    // for its calls; of `sign` and `divert` the message with a new Identity field, which is read as the PASSporT that the words ask for and the
+    // key's signature; of `show` the lines of the certificates.
     ensures ended { result ≤ 1 → IsThrough (order_of (texts words.now))
-        (outside (S.files shelf.old) (S.counts shelf.old) (I.left input.old) (I.faults input.old) (O.written sink.old) (O.faults sink.old))
-        (outside (S.files shelf.new) (S.counts shelf.new) (I.left input.new) (I.faults input.new) (O.written sink.new) (O.faults sink.new)) result }
+        (outside_of S.Shelf I.Source O.Sink shelf.old input.old sink.old)
+        (outside_of S.Shelf I.Source O.Sink shelf.new input.new sink.new) result }
+    ensures says { result ≤ 1 → IsSaid (order_of (texts words.now))
+        (outside_of S.Shelf I.Source O.Sink shelf.old input.old sink.old)
+        (outside_of S.Shelf I.Source O.Sink shelf.new input.new sink.new) result }
 
-    // What `explain` writes are the rules that each call of the log meets, up to the first that it breaks; what `ask` writes is what is asked for
-    // its calls. Two providers of signatures that agree on all of that judge each of the calls alike.
-    ensures explained { Explained (order_of (texts words.now))
-        (outside (S.files shelf.old) (S.counts shelf.old) (I.left input.old) (I.faults input.old) (O.written sink.old) (O.faults sink.old))
-        (outside (S.files shelf.new) (S.counts shelf.new) (I.left input.new) (I.faults input.new) (O.written sink.new) (O.faults sink.new)) result }
-    ensures asked { Asked (order_of (texts words.now))
-        (outside (S.files shelf.old) (S.counts shelf.old) (I.left input.old) (I.faults input.old) (O.written sink.old) (O.faults sink.old))
-        (outside (S.files shelf.new) (S.counts shelf.new) (I.left input.new) (I.faults input.new) (O.written sink.new) (O.faults sink.new)) result }
+    // Two providers of signatures that agree on all that `ask` writes judge each of the calls alike.
     ensures alike { (world : World) (settings : Settings) (says other : Says) (calls : List Entry) → AgreeOn says other (asked_of world settings calls)
         → JudgedAlike world settings says other calls }
 
     // Each status has its cause, and where nothing fails outside the status is the one that the words, the files and the input ask for.
     ensures causes { HasCauses (order_of (texts words.now))
-        (outside (S.files shelf.old) (S.counts shelf.old) (I.left input.old) (I.faults input.old) (O.written sink.old) (O.faults sink.old))
-        (outside (S.files shelf.new) (S.counts shelf.new) (I.left input.new) (I.faults input.new) (O.written sink.new) (O.faults sink.new)) result }
+        (outside_of S.Shelf I.Source O.Sink shelf.old input.old sink.old)
+        (outside_of S.Shelf I.Source O.Sink shelf.new input.new sink.new) result }
     ensures complete { IsComplete (order_of (texts words.now))
-        (outside (S.files shelf.old) (S.counts shelf.old) (I.left input.old) (I.faults input.old) (O.written sink.old) (O.faults sink.old))
-        (outside (S.files shelf.new) (S.counts shelf.new) (I.left input.new) (I.faults input.new) (O.written sink.new) (O.faults sink.new)) result }
+        (outside_of S.Shelf I.Source O.Sink shelf.old input.old sink.old)
+        (outside_of S.Shelf I.Source O.Sink shelf.new input.new sink.new) result }
     ensures same_files { S.files shelf.new ≡ S.files shelf.old }
-
-    // Where `show` ends with 0, the input is a chain of certificates, and their lines were written.
-    ensures showed { (order_of (texts words.now) ≡ Some ShowCertificates) → result ≡ 0 → Showed (I.left input.old) (O.written sink.old) (O.written sink.new) }
-
-    // Where `sign` or `divert` ends with 0, the message that the input is was written with a new Identity field, which is read as the PASSporT
-    // that the words ask for and the key's signature.
-    ensures signed { result ≡ 0 → Signed (order_of (texts words.now))
-        (outside (S.files shelf.old) (S.counts shelf.old) (I.left input.old) (I.faults input.old) (O.written sink.old) (O.faults sink.old))
-        (outside (S.files shelf.new) (S.counts shelf.new) (I.left input.new) (I.faults input.new) (O.written sink.new) (O.faults sink.new)) }
 {
-    chain_law();
     asks_law();
     agreement_law();
     carry_out(rt, alloc, words, shelf, input, sink)
 }
 
 /// Carries out what the words order.
-#[tactic(auto, using(crate::proofs::RunLaws::wanting_high))]
 fn carry_out<R: Threads + Sync, S: Shelf, I: Source, O: Sink>(
     rt: &R,
     alloc: Global,
@@ -108,12 +92,10 @@ fn carry_out<R: Threads + Sync, S: Shelf, I: Source, O: Sink>(
     input: &mut I,
     sink: &mut O,
 ) -> u8
-    ensures outcome { Ran (order_of (texts words.now))
-        (outside (S.files shelf.old) (S.counts shelf.old) (I.left input.old) (I.faults input.old) (O.written sink.old) (O.faults sink.old))
-        (outside (S.files shelf.new) (S.counts shelf.new) (I.left input.new) (I.faults input.new) (O.written sink.new) (O.faults sink.new)) result }
+    ensures outcome { RanOrShort (order_of (texts words.now))
+        (outside_of S.Shelf I.Source O.Sink shelf.old input.old sink.old)
+        (outside_of S.Shelf I.Source O.Sink shelf.new input.new sink.new) result }
     ensures same_files { S.files shelf.new ≡ S.files shelf.old }
-    ensures showed { (order_of (texts words.now) ≡ Some ShowCertificates) → result ≤ 1 → Showed (I.left input.old) (O.written sink.old) (O.written sink.new) }
-    ensures shown_whole { (order_of (texts words.now) ≡ Some ShowCertificates) → result ≤ 1 → IsAtEnd (I.left input.new) }
 {
     match Order::of(alloc, words) {
         Ok(Order::Verify(judging)) => verify(rt, alloc, &judging, shelf, input, sink),

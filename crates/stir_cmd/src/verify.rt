@@ -1,8 +1,8 @@
 //! The command `verify`: the judgement of the calls of a log.
 ghost use Rattle.std.specs.Prelude.{◌≡◌, ◌≤◌};
-ghost use Rattle.stir_cmd.specs.Outside.{outside};
+ghost use Rattle.stir_cmd.specs.Outside.{outside_of};
 ghost use Rattle.stir_cmd.specs.Stopping.{EndsAtStop};
-ghost use Rattle.stir_cmd.specs.Verifying.{RanBy, RanVerify};
+ghost use Rattle.stir_cmd.specs.Verifying.{RanBy, verify_course};
 ghost use Rattle.stir_files.specs.Stop.{stop_of};
 ghost use Rattle.stir_words.specs.Seen.{judging_view};
 
@@ -26,9 +26,9 @@ pub(crate) fn verify<R: Threads + Sync, S: Shelf, I: Source, O: Sink>(
     input: &mut I,
     sink: &mut O,
 ) -> u8
-    ensures ran { RanVerify (judging_view judging.now)
-        (outside (S.files shelf.old) (S.counts shelf.old) (I.left input.old) (I.faults input.old) (O.written sink.old) (O.faults sink.old))
-        (outside (S.files shelf.new) (S.counts shelf.new) (I.left input.new) (I.faults input.new) (O.written sink.new) (O.faults sink.new)) result }
+    ensures ran { (verify_course (judging_view judging.now)).Came
+        (outside_of S.Shelf I.Source O.Sink shelf.old input.old sink.old)
+        (outside_of S.Shelf I.Source O.Sink shelf.new input.new sink.new) result }
     ensures same_files { S.files shelf.new ≡ S.files shelf.old }
 {
     match read_materials(alloc, shelf, judging) {
@@ -56,9 +56,10 @@ fn judge_by<R: Threads + Sync, S: Shelf, I: Source, O: Sink>(
     sink: &mut O,
 ) -> u8
     requires window { settings.window ≤ 86400 }
-    ensures ran { RanBy materials settings
-        (outside (S.files shelf.old) (S.counts shelf.old) (I.left input.old) (I.faults input.old) (O.written sink.old) (O.faults sink.old))
-        (outside (S.files shelf.new) (S.counts shelf.new) (I.left input.new) (I.faults input.new) (O.written sink.new) (O.faults sink.new)) result }
+    ensures ran { RanBy settings materials
+        (outside_of S.Shelf I.Source O.Sink shelf.old input.old sink.old)
+        (outside_of S.Shelf I.Source O.Sink shelf.new input.new sink.new) result }
+    ensures shelf_stays { (S.counts shelf.old).faults ≤ (S.counts shelf.new).faults }
     ensures same_files { S.files shelf.new ≡ S.files shelf.old }
 {
     let Materials {

@@ -1,6 +1,6 @@
 -- The lines were made, or memory was wanting for them.
 use Rattle.std.proofs.Common.{◌≡◌, ◌++◌, inl, inr, subst, rules}
-use Rattle.stir_outside.specs.Ending.{EndsAs, memory_line}
+use Rattle.stir_outside.specs.Ending.{EndsAs}
 use Rattle.call_run.specs.Ending.{unread_line}
 use Rattle.call_run.proofs.run.end_unread.Goals as goal
 
@@ -11,5 +11,4 @@ returns-in-Ok g c =
     inl (subst (λ text. EndsAs (g.O.Sink.written c.args.sink.now) (g.O.Sink.written c.end_with.new.sink) (g.O.Sink.faults c.args.sink.now) (g.O.Sink.faults c.end_with.new.sink) c.end_with.result text 3) line c.end_with.ensures)
 
 pub returns-in-Err : goal.returns-in-Err
-unfolding memory_line
-returns-in-Err g c = inr c.end_with-in-Err.ensures
+returns-in-Err g c = inr (rw c.memory_line.ensures at c.end_with-in-Err.ensures)

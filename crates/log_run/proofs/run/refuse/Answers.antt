@@ -1,7 +1,7 @@
 -- The line of the place was made, or memory was wanting for it.
 use Rattle.std.proofs.Common.{◌≡◌, inl, inr, subst, rules}
 use Rattle.log_run.specs.Ending.{refused_line}
-use Rattle.stir_outside.specs.Ending.{EndsAs, memory_line}
+use Rattle.stir_outside.specs.Ending.{EndsAs}
 use Rattle.log_run.proofs.run.refuse.Goals as goal
 
 pub returns-in-Ok : goal.returns-in-Ok
@@ -11,5 +11,4 @@ returns-in-Ok g c =
     inl (subst (λ text. EndsAs (g.O.Sink.written c.args.sink.now) (g.O.Sink.written c.end_with.new.sink) (g.O.Sink.faults c.args.sink.now) (g.O.Sink.faults c.end_with.new.sink) c.end_with.result text 5) line c.end_with.ensures)
 
 pub returns-in-Err : goal.returns-in-Err
-unfolding memory_line
-returns-in-Err g c = inr c.end_with-in-Err.ensures
+returns-in-Err g c = inr (rw c.memory_line.ensures at c.end_with-in-Err.ensures)

@@ -1,13 +1,12 @@
 -- The files were read and what is asked was said, or a file stopped it.
 use Rattle.std.proofs.Common.{inr, ap, ◌∙◌}
-use Rattle.single_calls.specs.Asker.{AskedBy, AskerView, StopsAsking}
-use Rattle.stir_files.specs.World.{WorldOf, world_files}
+use Rattle.single_calls.specs.Asker.{AskedBy, StopsAsking}
 use Rattle.cert_store.specs.declared.world.World.{World}
 use Rattle.stir_words.specs.Seen.{asking_view}
 use Rattle.verify_rules.specs.declared.settings.Settings.{Settings}
-use Rattle.stir_cmd.specs.Calls.{settings_by}
-use Rattle.stir_cmd.specs.Ways.{asker_by}
-use Rattle.stir_cmd.proofs.SinglySteps.{behind_none, from_read}
+use Rattle.stir_cmd.specs.Explained.{ask_over, asker_by}
+use Rattle.stir_cmd.proofs.OverFilesSteps.{goes_on}
+use Rattle.stir_cmd.proofs.SinglySteps.{as_viewed, behind_none}
 use Rattle.stir_cmd.proofs.StopSteps.{stopped}
 use Rattle.stir_cmd.proofs.explain.ask.Goals as goal
 
@@ -16,11 +15,9 @@ answer_calls-requires g c = behind_none _ _ c.new-asker.result _ c.new-asker.ens
 
 pub returns-in-Ok-clause-ran : goal.returns-in-Ok-clause-ran
 returns-in-Ok-clause-ran g c =
-    let words = asking_view c.args.asking.now in
-    let files = g.S.Shelf.files c.args.shelf.now in
-    from_read AskerView World (world_files words) (WorldOf files words) (asker_by (settings_by words.settings)) AskedBy StopsAsking c.in-Ok.world c.new-asker.result _ _ _ _ _ _ _ _ _ _
-    (c.new-asker.ensures ∙ ap (λ (s : Settings). asker_by s c.in-Ok.world) c.settings_of.ensures.exact)
-    c.in-Ok.ensures.read c.in-Ok.ensures.truly c.read_world.ensures.same c.read_world.ensures.go_on c.answer_calls.ensures.ran
+    goes_on (ask_over (asking_view c.args.asking.now)) c.in-Ok.world _ _ _ _ _ _ _ _ _ _ c.in-Ok.ensures.read c.in-Ok.ensures.truly c.read_world.ensures.same c.read_world.ensures.go_on
+    c.answer_calls.ensures.shelf_stays
+    (as_viewed AskedBy StopsAsking c.new-asker.result _ _ _ _ _ (c.new-asker.ensures ∙ ap (λ (s : Settings). asker_by s c.in-Ok.world) c.settings_of.ensures.exact) c.answer_calls.ensures.ran)
 
 pub returns-in-Err-clause-ran : goal.returns-in-Err-clause-ran
 returns-in-Err-clause-ran g c =
