@@ -1,13 +1,14 @@
-"""Prints the lines of crates/vectors on messages that are signed, and what they must answer.
+"""Prints the lines on messages that are signed, and what they must answer.
 
-    signing.py          prints the lines of `stdin`
-    signing.py answers  prints the lines of `stdout`
+    signing.py CRATE          prints the lines of the `stdin` of `vectors` or `vectors_runs`
+    signing.py CRATE answers  prints the lines of its `stdout`
 
 The messages are put together by RFC 3261, section 7, the PASSporTs by RFC 8225, RFC 8588 and RFC 8946, the digests by FIPS 180-4. The
 lines name what `stdin` defines in front of them: START, FIELDS, INFO and INVITE.
 """
 
 import hashlib
+import sys
 
 import columns
 from calls import IAT, ORIGID, base64url, header, link, payload, shaken, sorted_json
@@ -70,20 +71,26 @@ HOP = START % 4 + FIELDS + QUOTED + LENGTH
 ONCE = HOP + line_of(DIV, "div", "div", ZEROS)
 
 
-def rows():
-    """Each line with what it answers; comments and definitions answer themselves."""
+def comment(text):
+    return (f"# {text}", f"# {text}")
 
-    def comment(text):
-        return (f"# {text}", f"# {text}")
 
-    def define(name, words):
-        return (f"{name} = {words}", f"{name} =")
+def define(name, words):
+    return (f"{name} = {words}", f"{name} =")
 
-    def answers_of(*signed):
-        return " \\n ".join(f"sign\\sk1\\s{digest(text)}\\s {'128*0' if signature == ZEROS else '64*01'}" for text, signature in signed)
 
+def answers_of(*signed):
+    return " \\n ".join(f"sign\\sk1\\s{digest(text)}\\s {'128*0' if signature == ZEROS else '64*01'}" for text, signature in signed)
+
+
+# Two messages that come out: the text that was signed, the type of the PASSporT and the signature.
+COME_OUT = ((SHAKEN, "shaken", ZEROS), (BASE, None, ONES))
+
+
+def rows_of_parts():
+    """Each line of `vectors` with what it answers; comments and definitions answer themselves."""
     yield ("", "")
-    yield comment("signing: messages with one more header field, and such as are signed (RFC 8224, section 4.1; RFC 8946, section 4.1)")
+    yield comment("signing: messages with one more header field, and what is signed of a PASSporT (RFC 8224, section 4.1; RFC 8225, section 8)")
     yield ("", "")
     yield comment("A header field put into a message: its name, its value, and the words of the message. It stands in the last line of the head. `name` and")
     yield comment("`value` answer what can't be added; a message's own fault comes before the size of what would come out.")
@@ -110,7 +117,18 @@ def rows():
     yield (f"signing.text base $INFO {IAT} 12155551212 12125551213", BASE)
     yield (f"signing.text div 12125551213 {INFO % 'div'} {IAT} 12155551212 12125551214", DIV)
     yield ("", "")
+    yield comment("What comes out where such a message is signed: its fields are read again.")
+    for text, ppt, signature in COME_OUT:
+        value = (line_of(text, "passport", ppt, signature))[len("Identity: ") : -2].decode()
+        yield (f"identity.read {value}", f"ok {text}.{base64url(signature)} {INFO % 'passport'} alg=ES256" + (f" ppt={ppt}" if ppt else ""))
 
+
+def rows_of_runs():
+    """Each line of `vectors_runs` with what it answers."""
+    yield ("", "")
+    yield comment("signing: messages that are signed (RFC 8224, section 4.1; RFC 8946, section 4.1)")
+    yield ("", "")
+    origid = ORIGID % 0
     yield comment("A message that is signed: its form (`base`, `compact`, or the attestation and the identifier of the call), the key, the URI, the second, the local")
     yield comment("numbering, the holder's entries (`-` for no holder), the code table, the answers, which calls of the provider fail, and the message. The answer tells")
     yield comment("how often the provider was asked, and the message that comes out, or the fault with the digest that it carries.")
@@ -140,11 +158,9 @@ def rows():
     yield comment("To decides, and not the request URI.")
     moved = "INVITE\\ssip:+12125551219@example.net\\sSIP/2.0\\r\\n $FIELDS \\r\\n"
     yield sign("base", moved, written(START % 9 + FIELDS, BASE, None, ONES))
-    yield comment("What comes out is judged; its fields, its token and its claims are read again.")
-    for form, text, ppt, signature in (("shaken", SHAKEN, "shaken", ZEROS), ("base", BASE, None, ONES)):
-        value = (line_of(text, "passport", ppt, signature))[len("Identity: ") : -2].decode()
+    yield comment("What comes out is judged.")
+    for text, ppt, signature in COME_OUT:
         message = escaped(PLAIN + line_of(text, "passport", ppt, signature) + b"\r\n")
-        yield (f"identity.read {value}", f"ok {text}.{base64url(signature)} {INFO % 'passport'} alg=ES256" + (f" ppt={ppt}" if ppt else ""))
         yield (f"rules.screen 1 10 60 {IAT} {message}", f"screened 1 {IAT + 60} x:{digest(text)}")
         yield (f"rules.screen 1 10 60 {IAT + 61} {message}", "refused 403 9 1 0")
     yield (f"rules.screen 1 10 60 {IAT} {escaped(DATED + compact + crlf())}", f"screened 1 {IAT + 60} x:{digest(BASE)}")
@@ -227,4 +243,4 @@ def crlf():
 
 
 if __name__ == "__main__":
-    columns.write(rows())
+    columns.write({"vectors": rows_of_parts, "vectors_runs": rows_of_runs}[sys.argv[1]]())

@@ -1,6 +1,5 @@
-//! Providers that fail on command, the answers file's at its listed calls and one written here, and one that never fails.
+//! A provider that fails on command, and that of an answers file which never fails.
 
-use std::test::Fail;
 use stir_outside::{Answers, Failed, Provider};
 
 const DIGEST: [u8; 32] = [0x0C; 32];
@@ -63,27 +62,6 @@ fn answered<P: Provider + Send>(provider: &mut P) -> [bool; 3] {
     let second = provider.sign(b"a", &DIGEST).is_ok();
     let third = provider.confirm(&key(0xAC), &DIGEST, &SIGNATURE).is_ok();
     [first, second, third]
-}
-
-#[test]
-fn fails_at_the_listed_calls_of_either_kind(rt: HostRuntime) -> Result<(), Fail> {
-    let alloc = rt.alloc();
-    let answers = Answers::read(alloc, b"").ok().expect(&rt, "answers");
-    let rows: [(&[u64], [bool; 3]); 4] = [
-        (&[], [true, true, true]),
-        (&[2], [true, false, true]),
-        (&[3, 1, 3], [false, true, false]),
-        (&[0, 4], [true, true, true]),
-    ];
-    for (failing, wanted) in rows {
-        let mut provider = answers.provider(failing)?;
-        assert!(rt; answered(&mut provider) == wanted, "{failing:?}");
-        assert!(rt; provider.asks() == 3, "{failing:?}");
-    }
-    let mut provider = answers.provider(&[3, 1, 3])?;
-    let _ = answered(&mut provider);
-    assert!(rt; provider.faults() == 2);
-    Ok(())
 }
 
 #[test]

@@ -87,18 +87,6 @@ fn a_chain_map_has_fifty_thousand_lines(rt: HostRuntime) -> Result<(), Fail> {
     Ok(())
 }
 
-#[test]
-fn a_chain_map_counts_lines_that_are_passed_over(rt: HostRuntime) -> Result<(), Fail> {
-    let mut text = String::new(rt.alloc());
-    for _ in 0..MAP_LINES {
-        text.push_str("\r\n")?;
-    }
-    assert_eq!(rt; bad_line_of_map(rt.alloc(), text.as_str()), 0);
-    text.push_str("a b")?;
-    assert_eq!(rt; bad_line_of_map(rt.alloc(), text.as_str()), 50_001);
-    Ok(())
-}
-
 /// How many lines of answers are read: together some 67 million bytes, as many as the program takes.
 const ANSWER_LINES: u32 = 200_000;
 

@@ -1,4 +1,4 @@
-//! Tests of what neither the table of vectors nor the cases of the built program can show: memory forms that fail on command, the
+//! Tests of what neither the tables of vectors nor the cases of the built program can show: memory forms that fail on command, the
 //! adapters over real files and streams, and files of as many lines as the program takes. No code of the product stands here.
 #![tactic(auto)]
 

@@ -1,11 +1,8 @@
 //! Answers files and the provider over one: the calls of `stir_outside` about them.
 
-use crate::answer::{Answer, line, word};
-use crate::chains::{answers_of, numbers_of};
-use crate::table::Unread;
-use crate::words::joined;
 use std::alloc::Global;
 use stir_outside::{AnswerFault, AnswerProvider, Answers, Provider};
+use vector_table::{Answer, Unread, answers_of, joined, line, numbers_of, word};
 
 /// What a call answers.
 pub fn answer(alloc: Global, call: &str, words: &[&[u8]]) -> Result<String, Unread> {

@@ -1,10 +1,12 @@
 //! Authority lists and code tables: the calls of `tn_auth_list`.
 
-use crate::answer::{Answer, fault, line, or_none, shown, word};
-use crate::numbers::{number_of, ordering, put_span, span_of};
-use crate::table::{Unread, number, text};
+use crate::numbers::{ordering, put_span};
 use std::alloc::Global;
 use tn_auth_list::{AuthList, Code, CodeTable, Entry, Grant, ListFault, TableFault};
+use vector_table::{
+    Answer, Unread, code_of, entries_of, fault, line, number, number_of, or_none, shown, table_of,
+    text, word,
+};
 
 /// What a call answers.
 pub fn answer(alloc: Global, call: &str, words: &[&[u8]]) -> Result<String, Unread> {
@@ -91,11 +93,6 @@ fn compared(alloc: Global, words: &[&[u8]]) -> Result<String, Unread> {
     word(alloc, ordering(code_of(left)?.cmp(&code_of(right)?)))
 }
 
-/// The code that a word is.
-fn code_of(text: &[u8]) -> Result<Code, Unread> {
-    Code::new(text).ok_or(Unread::Value)
-}
-
 /// The entries of a list in DER, or the fault.
 fn read(alloc: Global, words: &[&[u8]]) -> Result<String, Unread> {
     let [bytes] = words else {
@@ -138,39 +135,6 @@ fn write(alloc: Global, words: &[&[u8]]) -> Result<String, Unread> {
     Answer::new(alloc).hex(written.as_slice()).line()
 }
 
-/// The list of entries `=NUMBER`, `START+COUNT` and `CODE`, with commas between.
-pub fn list_of(alloc: Global, words: &[u8]) -> Result<AuthList, Unread> {
-    AuthList::build(entries_of(alloc, words)?).ok_or(Unread::Value)
-}
-
-/// Entries as those of [`list_of`].
-fn entries_of(alloc: Global, words: &[u8]) -> Result<Vec<Entry>, Unread> {
-    let mut entries = Vec::new(alloc);
-    for word in text(words)?.split(',') {
-        put_entry_of(word, &mut entries)?;
-    }
-    Ok(entries)
-}
-
-/// Puts the entry that a word is behind others; an empty word is none.
-fn put_entry_of(word: &str, entries: &mut Vec<Entry>) -> Result<(), Unread> {
-    if !word.is_empty() {
-        entries.push(entry_of(word)?)?;
-    }
-    Ok(())
-}
-
-/// The entry that a word is.
-fn entry_of(word: &str) -> Result<Entry, Unread> {
-    if let Some(number) = word.strip_prefix('=') {
-        return Ok(Entry::Single(number_of(number.as_bytes())?));
-    }
-    match word.split_once('+') {
-        Some((start, count)) => Ok(Entry::Range(span_of(start, count)?)),
-        None => Ok(Entry::Code(code_of(word.as_bytes())?)),
-    }
-}
-
 /// `ok`, or the first bad line of a code table.
 fn table(alloc: Global, words: &[&[u8]]) -> Result<String, Unread> {
     let [text] = words else {
@@ -182,18 +146,6 @@ fn table(alloc: Global, words: &[&[u8]]) -> Result<String, Unread> {
     match CodeTable::read(alloc, text) {
         Ok(_) => word(alloc, "ok"),
         Err(TableFault::Line { line: bad }) => line(alloc, bad),
-        Err(TableFault::Memory) => Err(Unread::Memory),
-    }
-}
-
-/// The code table that a text is.
-pub fn table_of(alloc: Global, text: &[u8]) -> Result<CodeTable, Unread> {
-    if text.len() >= 4_000_000_000 {
-        return Err(Unread::Value);
-    }
-    match CodeTable::read(alloc, text) {
-        Ok(table) => Ok(table),
-        Err(TableFault::Line { .. }) => Err(Unread::Value),
         Err(TableFault::Memory) => Err(Unread::Memory),
     }
 }

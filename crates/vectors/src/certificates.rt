@@ -1,11 +1,10 @@
 //! Certificates and chains of them: the calls of `x509_profile`.
 
-use crate::answer::{Answer, fault, ok, word};
 use crate::authority::put_entries;
-use crate::table::{Unread, number};
 use std::alloc::Global;
 use tn_auth_list::AuthList;
-use x509_profile::{CertFault, Certificate, CertChainFault, read_chain};
+use vector_table::{Answer, Unread, fault, number, ok, word};
+use x509_profile::{CertChainFault, CertFault, Certificate, read_chain};
 
 /// What a call answers.
 pub fn answer(alloc: Global, call: &str, words: &[&[u8]]) -> Result<String, Unread> {

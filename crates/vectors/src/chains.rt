@@ -1,14 +1,14 @@
 //! Chain maps and the rules on a chain: the calls of `cert_store`.
 
-use crate::answer::{Answer, line, or_none, word};
-use crate::authority::table_of;
-use crate::paths::anchors_of;
-use crate::table::{Unread, number, text};
 use cert_store::{Asked, ChainMap, Judged, MapFault, Question, judge_chain};
 use delegation::Anchors;
 use std::alloc::{AllocError, Global};
 use stir_outside::{AnswerFault, AnswerProvider, Answers};
 use tn_auth_list::CodeTable;
+use vector_table::{
+    Answer, Unread, anchors_of, answers_of, line, map_of, number, numbers_of, or_none, table_of,
+    text, word,
+};
 
 /// What a call answers.
 pub fn answer(alloc: Global, call: &str, words: &[&[u8]]) -> Result<String, Unread> {
@@ -170,35 +170,6 @@ fn put_asked(answer: Answer, asked: Asked) -> Answer {
     }
 }
 
-/// Numbers with commas between.
-pub fn numbers_of(alloc: Global, words: &[u8]) -> Result<Vec<u64>, Unread> {
-    let mut numbers = Vec::new(alloc);
-    for word in text(words)?.split(',') {
-        put_number(word, &mut numbers)?;
-    }
-    Ok(numbers)
-}
-
-/// Puts the number that a word is behind others; an empty word is none.
-fn put_number(word: &str, numbers: &mut Vec<u64>) -> Result<(), Unread> {
-    if !word.is_empty() {
-        numbers.push(number(word.as_bytes())?)?;
-    }
-    Ok(())
-}
-
-/// The answers that a text holds.
-pub fn answers_of(alloc: Global, text: &[u8]) -> Result<Answers, Unread> {
-    if text.len() >= 4_000_000_000 {
-        return Err(Unread::Value);
-    }
-    match Answers::read(alloc, text) {
-        Ok(answers) => Ok(answers),
-        Err(AnswerFault::Line { .. }) => Err(Unread::Value),
-        Err(AnswerFault::Memory) => Err(Unread::Memory),
-    }
-}
-
 /// `ok`, or the first bad line of a chain map.
 fn map(alloc: Global, words: &[&[u8]]) -> Result<String, Unread> {
     let [text] = words else {
@@ -210,18 +181,6 @@ fn map(alloc: Global, words: &[&[u8]]) -> Result<String, Unread> {
     match ChainMap::read(alloc, text) {
         Ok(_) => word(alloc, "ok"),
         Err(MapFault::Line { line: bad }) => line(alloc, bad),
-        Err(MapFault::Memory) => Err(Unread::Memory),
-    }
-}
-
-/// The chain map that a text is.
-pub fn map_of(alloc: Global, text: &[u8]) -> Result<ChainMap, Unread> {
-    if text.len() >= 4_000_000_000 {
-        return Err(Unread::Value);
-    }
-    match ChainMap::read(alloc, text) {
-        Ok(map) => Ok(map),
-        Err(MapFault::Line { .. }) => Err(Unread::Value),
         Err(MapFault::Memory) => Err(Unread::Memory),
     }
 }

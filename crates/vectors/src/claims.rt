@@ -1,14 +1,13 @@
 //! The claims of a PASSporT: the calls of `passport_claims`.
 
-use crate::answer::{Answer, word};
-use crate::numbers::{number_of, put_numbers};
-use crate::table::{Unread, number, text};
+use crate::numbers::put_numbers;
 use crate::tokens::put_value;
 use passport_claims::{Attest, ClaimFault, Kind, Passport};
 use passport_json::{Token, View, signing_input};
 use std::alloc::Global;
 use text_grammar::is_uri;
 use tn_values::Number;
+use vector_table::{Answer, Unread, number, number_of, text, word};
 
 /// What a call answers.
 pub fn answer(alloc: Global, call: &str, words: &[&[u8]]) -> Result<String, Unread> {
@@ -145,22 +144,12 @@ fn diverted(div: &[u8]) -> Result<Kind, Unread> {
 
 /// `shaken` with an attestation and an identifier of 36 bytes.
 fn shaken(attest: &[u8], origid: &[u8]) -> Result<Kind, Unread> {
-    let attest = attest_of(attest)?;
+    let attest = Attest::of(text(attest)?).ok_or(Unread::Value)?;
     match origid.split_first_chunk::<36>() {
         Some((origid, [])) => Ok(Kind::Shaken {
             attest,
             origid: *origid,
         }),
-        _ => Err(Unread::Value),
-    }
-}
-
-/// The attestation of this letter.
-pub fn attest_of(letter: &[u8]) -> Result<Attest, Unread> {
-    match letter {
-        b"A" => Ok(Attest::A),
-        b"B" => Ok(Attest::B),
-        b"C" => Ok(Attest::C),
         _ => Err(Unread::Value),
     }
 }

@@ -1,10 +1,9 @@
 //! DER elements: the calls of `der_reader`.
 
-use crate::answer::{Answer, fault, word};
-use crate::table::{Unread, number};
 use der_reader::{Der, DerFault, put};
 use std::alloc::Global;
 use std::fmt::Display;
+use vector_table::{Answer, Unread, fault, number, word};
 
 /// What a call answers.
 pub fn answer(alloc: Global, call: &str, words: &[&[u8]]) -> Result<String, Unread> {

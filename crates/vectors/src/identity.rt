@@ -1,10 +1,8 @@
 //! Identity values: the calls of `identity_header`.
 
-use crate::answer::{Answer, word};
-use crate::table::Unread;
-use crate::words::joined;
 use identity_header::{Field, FieldFault};
 use std::alloc::{AllocError, Global};
+use vector_table::{Answer, Unread, joined, word};
 
 /// A length that no value may reach.
 const TOO_LONG: usize = 4_000_000_000;

@@ -1,13 +1,9 @@
 //! Logs of calls, from a source that gives one byte a read: the calls of `call_log`.
 
-use crate::answer::Answer;
-use crate::chains::numbers_of;
-use crate::devices::Drip;
-use crate::table::Unread;
-use crate::words::joined;
 use call_log::{Call, LogFault, LogReader};
 use std::alloc::Global;
 use stir_outside::SourceMem;
+use vector_table::{Answer, Drip, Unread, joined, numbers_of};
 
 /// What a call answers.
 pub fn answer(alloc: Global, call: &str, words: &[&[u8]]) -> Result<String, Unread> {

@@ -1,8 +1,8 @@
 //! Reads a table of cases from its standard input, makes the call that each line names, and writes one line with what
-//! the call answers. The head of `stdin` says how a line is written.
+//! the call answers. The head of `stdin` says how a line is written. The calls are those of the crates that read: files,
+//! certificates, messages, tokens and words.
 #![tactic(auto)]
 
-mod answer;
 mod answers;
 mod authority;
 mod certificates;
@@ -10,7 +10,6 @@ mod chains;
 mod claims;
 mod commands;
 mod der;
-mod devices;
 mod identity;
 mod log;
 mod messages;
@@ -18,109 +17,53 @@ mod numbers;
 mod order;
 mod outside;
 mod paths;
-mod rounds;
-mod rules;
-mod runs;
 mod signing;
-mod table;
 mod text;
 mod tokens;
-mod verdicts;
-mod words;
 
-use answer::Answer;
-use std::alloc::{AllocError, Global};
-use std::io;
+use std::alloc::Global;
 use std::process::ExitCode;
-use std::thread::Threads;
-use table::{Line, Names, Unread};
+use vector_table::{Names, Step, TableError, Unread, next_step, slices};
 
-/// The status where a line can't be read.
-const UNREAD: u8 = 2;
-/// The status where the table can't be taken in or an answer can't be written.
-const FAILED: u8 = 3;
-
+/// Answers a table, and says why where it can't be answered to its end.
 fn main(rt: HostRuntime) -> ExitCode {
-    match run(&rt, &rt) {
+    match run(&rt) {
         Ok(()) => ExitCode::SUCCESS,
-        Err(Stop::Unread(number, reason)) => {
-            let reason = reason.reason();
-            let _ = eprintln!(rt; "line {number} can't be read: {reason}");
-            ExitCode::from(UNREAD)
-        }
-        Err(Stop::Failed(error)) => {
+        Err(error) => {
             let _ = eprintln!(rt; "{error}");
-            ExitCode::from(FAILED)
+            ExitCode::from(error.status())
         }
-    }
-}
-
-/// Why a run ends before the table does.
-#[derive(Drop)]
-enum Stop {
-    /// The line of this number can't be read.
-    Unread(u64, Unread),
-    /// The table wasn't given, or an answer wasn't taken.
-    Failed(io::Error),
-}
-
-impl From<io::Error> for Stop {
-    fn from(error: io::Error) -> Stop {
-        Stop::Failed(error)
     }
 }
 
 /// Answers each line of the table.
-fn run<T: Threads + Sync>(rt: &HostRuntime, threads: &T) -> Result<(), Stop> {
+fn run(rt: &HostRuntime) -> Result<(), TableError> {
     let mut names = Names::new(rt.alloc());
     let mut number: u64 = 0;
     for line in rt.lines(rt.alloc()) {
         let line = line?;
         number = number.saturating_add(1);
-        match answered(threads, rt.alloc(), &mut names, line.as_str()) {
+        match answered(rt.alloc(), &mut names, line.as_str()) {
             Ok(text) => rt.println(text.as_str())?,
-            Err(reason) => return Err(Stop::Unread(number, reason)),
+            Err(reason) => return Err(TableError::Line(number, reason)),
         }
     }
     Ok(())
 }
 
 /// What is written for a line.
-fn answered<T: Threads + Sync>(
-    threads: &T,
-    alloc: Global,
-    names: &mut Names,
-    line: &str,
-) -> Result<String, Unread> {
-    match Line::of(line)? {
-        Line::Comment => Ok(String::from_str(alloc, line)?),
-        Line::Definition { name, words } => {
-            names.define(alloc, name, words)?;
-            Answer::new(alloc).word(name).word("=").line()
-        }
-        Line::Call {
+fn answered(alloc: Global, names: &mut Names, line: &str) -> Result<String, Unread> {
+    match next_step(alloc, names, line)? {
+        Step::Write(text) => Ok(text),
+        Step::Call {
             subject,
             call,
             words,
         } => {
-            let arguments = names.arguments(alloc, words)?;
-            let words = slices(alloc, arguments.as_slice())?;
-            match subject {
-                "rounds" => rounds::answer(threads, alloc, call, words.as_slice()),
-                "runs" => runs::answer(threads, alloc, call, words.as_slice()),
-                _ => called(alloc, subject, call, words.as_slice()),
-            }
+            let words = slices(alloc, words.as_slice())?;
+            called(alloc, subject, call, words.as_slice())
         }
     }
-}
-
-/// The same words, to look into.
-fn slices(alloc: Global, words: &[Vec<u8>]) -> Result<Vec<&[u8]>, AllocError> {
-    let mut slices = Vec::new(alloc);
-    for word in words {
-        slices.push(word.as_slice())?;
-    }
-    Ok(slices)
 }
 
 /// What a call answers.
@@ -149,12 +92,13 @@ fn called_of_messages(
         "tokens" => tokens::answer(alloc, call, words),
         "claims" => claims::answer(alloc, call, words),
         "order" => order::answer(alloc, call, words),
-        _ => called_of_calls(alloc, subject, call, words),
+        "signing" => signing::answer(alloc, call, words),
+        _ => called_of_files(alloc, subject, call, words),
     }
 }
 
-/// What a call answers about calls, and what they are judged by.
-fn called_of_calls(
+/// What a call answers about chains, answers files, logs and the words of command lines.
+fn called_of_files(
     alloc: Global,
     subject: &str,
     call: &str,
@@ -165,9 +109,6 @@ fn called_of_calls(
         "answers" => answers::answer(alloc, call, words),
         "log" => log::answer(alloc, call, words),
         "outside" => outside::answer(alloc, call, words),
-        "rules" => rules::answer(alloc, call, words),
-        "verdicts" => verdicts::answer(alloc, call, words),
-        "signing" => signing::answer(alloc, call, words),
         "words" => commands::words(alloc, call, words),
         "files" => commands::files(alloc, call, words),
         _ => Err(Unread::Call),

@@ -1,12 +1,9 @@
 //! Heads of SIP requests: the calls of `sip_message`.
 
-use crate::answer::{Answer, fault, word};
-use crate::numbers::local_of;
-use crate::table::{Unread, number};
-use crate::words::joined;
 use sip_message::{FormFault, Message, MessageFault};
 use std::alloc::Global;
 use tn_values::Local;
+use vector_table::{Answer, Unread, fault, joined, local_of, number, word};
 
 /// What a call answers.
 pub fn answer(alloc: Global, call: &str, words: &[&[u8]]) -> Result<String, Unread> {

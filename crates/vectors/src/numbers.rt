@@ -1,10 +1,11 @@
 //! Numbers, the local numbering, spans and sets: the calls of `tn_values`.
 
-use crate::answer::{Answer, or_none, shown, word};
-use crate::table::{Unread, number, text};
 use std::alloc::Global;
 use std::cmp::Ordering;
 use tn_values::{Local, Number, NumberSet, Span};
+use vector_table::{
+    Answer, Unread, local_of, number, number_of, or_none, shown, span_of, text, word,
+};
 
 /// What a call answers.
 pub fn answer(alloc: Global, call: &str, words: &[&[u8]]) -> Result<String, Unread> {
@@ -73,16 +74,6 @@ fn read(alloc: Global, local: &Local, words: &[&[u8]]) -> Result<String, Unread>
         return Err(Unread::Call);
     };
     or_none(alloc, Number::read(text, local))
-}
-
-/// The number that a word is.
-pub fn number_of(digits: &[u8]) -> Result<Number, Unread> {
-    Number::exact(digits).ok_or(Unread::Value)
-}
-
-/// The local numbering of two words.
-pub fn local_of(country: &[u8], national: &[u8]) -> Result<Local, Unread> {
-    Local::new(country, number(national)?).ok_or(Unread::Value)
 }
 
 /// The country and the national length of a local numbering, or `none`.
@@ -185,10 +176,4 @@ fn put_member(word: &str, spans: &mut Vec<Span>, singles: &mut Vec<Number>) -> R
         None => singles.push(number_of(word.as_bytes())?)?,
     }
     Ok(())
-}
-
-/// The span of a start and a size.
-pub fn span_of(start: &str, size: &str) -> Result<Span, Unread> {
-    let size = number(size.as_bytes())?;
-    Span::new(number_of(start.as_bytes())?, size).ok_or(Unread::Value)
 }

@@ -3,13 +3,10 @@
 ghost use Rattle.std.specs.Prelude.{All, IfOk};
 ghost use Rattle.passport_claims.specs.Links.{IsLink};
 
-use crate::answer::{Answer, fault};
-use crate::numbers::number_of;
-use crate::table::{Unread, text};
-use crate::words::telephone;
 use passport_claims::{Kind, Order, Passport, chain};
 use std::alloc::Global;
 use tn_values::Number;
+use vector_table::{Answer, Unread, fault, number_of, telephone, text};
 
 /// What a call answers.
 pub fn answer(alloc: Global, call: &str, words: &[&[u8]]) -> Result<String, Unread> {

@@ -1,11 +1,8 @@
 //! The loops over a source that gives a byte a read and a sink that takes one a write: the calls of `stir_outside`.
 
-use crate::answer::Answer;
-use crate::chains::numbers_of;
-use crate::devices::{Drip, Trickle};
-use crate::table::{Unread, number};
 use std::alloc::Global;
 use stir_outside::{ReadFault, SinkMem, SourceMem, read_up_to, write_whole};
+use vector_table::{Answer, Drip, Trickle, Unread, number, numbers_of};
 
 /// What a call answers.
 pub fn answer(alloc: Global, call: &str, words: &[&[u8]]) -> Result<String, Unread> {

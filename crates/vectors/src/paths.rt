@@ -1,12 +1,11 @@
 //! Authorities, trust anchors and paths up to them: the calls of `delegation`.
 
-use crate::answer::{Answer, fault, ok, word};
-use crate::authority::{list_of, table_of};
-use crate::numbers::number_of;
-use crate::table::{Unread, number};
 use delegation::{AnchorFault, Anchors, Authority, PathFault, Shape, covers, shape, within};
 use std::alloc::Global;
 use tn_auth_list::AuthList;
+use vector_table::{
+    Answer, Unread, anchors_of, fault, list_of, number, number_of, ok, table_of, word,
+};
 use x509_profile::{Certificate, read_chain};
 
 /// What a call answers.
@@ -94,15 +93,6 @@ fn within_answer(alloc: Global, words: &[&[u8]]) -> Result<String, Unread> {
         alloc,
         within(alloc, &authority_of(&child), &authority_of(&parent), &table)?,
     )
-}
-
-/// The anchors that some bytes are.
-pub fn anchors_of(alloc: Global, bytes: &[u8]) -> Result<Anchors, Unread> {
-    match Anchors::read(alloc, bytes) {
-        Ok(anchors) => Ok(anchors),
-        Err(AnchorFault::At { .. }) => Err(Unread::Value),
-        Err(AnchorFault::Memory) => Err(Unread::Memory),
-    }
 }
 
 /// How many anchors there are, or the place of the first that is none.

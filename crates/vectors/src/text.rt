@@ -1,10 +1,9 @@
 //! Lines, words and decimal digits: the calls of `text_file` and `text_grammar`.
 
-use crate::answer::{Answer, or_none, word};
-use crate::table::{Unread, number};
 use std::alloc::Global;
 use text_file::{Line, Lines, Words, line_count, words_of};
 use text_grammar::{behind, cut, read_number};
+use vector_table::{Answer, Unread, number, or_none, word};
 
 /// What a call answers.
 pub fn answer(alloc: Global, call: &str, words: &[&[u8]]) -> Result<String, Unread> {

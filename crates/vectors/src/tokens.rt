@@ -1,12 +1,10 @@
 //! PASSporT tokens and their JSON texts: the calls of `passport_json`.
 
-use crate::answer::{Answer, word};
-use crate::table::{Unread, number, text};
-use crate::words::{given, joined, seconds, telephone};
 use passport_json::{Token, TokenFault, View, deterministic, is_writable, signing_input, ticket};
 use serde_json::Value;
 use std::alloc::Global;
 use text_grammar::is_uri;
+use vector_table::{Answer, Unread, given, joined, number, seconds, telephone, text, word};
 
 /// What a call answers.
 pub fn answer(alloc: Global, call: &str, words: &[&[u8]]) -> Result<String, Unread> {

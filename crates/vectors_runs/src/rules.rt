@@ -1,10 +1,7 @@
 //! Calls judged by rules 1 to 9: the calls of `verify_rules`.
 
-use crate::answer::{Answer, word};
-use crate::numbers::local_of;
-use crate::table::{Unread, number};
-use crate::words::joined;
 use std::alloc::Global;
+use vector_table::{Answer, Unread, joined, local_of, number, word};
 use verify_rules::{Place, Refusal, ScreenFault, Screened, Settings, code, screen};
 
 /// The most that a window may be, in seconds.

@@ -1,9 +1,7 @@
 //! The words of a call as what its parameters take.
 
-use crate::numbers::number_of;
-use crate::table::{Unread, number};
+use crate::table::{Unread, number, text};
 use std::alloc::Global;
-use tn_values::Number;
 
 /// The bytes of one word or more, put together.
 pub fn joined(alloc: Global, words: &[&[u8]]) -> Result<Vec<u8>, Unread> {
@@ -42,18 +40,19 @@ pub fn given(word: &[u8]) -> Option<&[u8]> {
     }
 }
 
-/// The number of seconds that a word is; none where it is `-`.
-pub fn seconds(word: &[u8]) -> Result<Option<u64>, Unread> {
-    match given(word) {
-        Some(word) => Ok(Some(number(word)?)),
-        None => Ok(None),
+/// Numbers with commas between.
+pub fn numbers_of(alloc: Global, words: &[u8]) -> Result<Vec<u64>, Unread> {
+    let mut numbers = Vec::new(alloc);
+    for word in text(words)?.split(',') {
+        put_number(word, &mut numbers)?;
     }
+    Ok(numbers)
 }
 
-/// The telephone number that a word is; none where it is `-`.
-pub fn telephone(word: &[u8]) -> Result<Option<Number>, Unread> {
-    match given(word) {
-        Some(word) => Ok(Some(number_of(word)?)),
-        None => Ok(None),
+/// Puts the number that a word is behind others; an empty word is none.
+fn put_number(word: &str, numbers: &mut Vec<u64>) -> Result<(), Unread> {
+    if !word.is_empty() {
+        numbers.push(number(word.as_bytes())?)?;
     }
+    Ok(())
 }

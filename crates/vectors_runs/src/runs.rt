@@ -1,14 +1,10 @@
 //! Runs of the program over files, a log and an output in memory, the log and the output a byte a call: `run` of `stir_cmd`.
 
-use crate::answer::Answer;
-use crate::chains::numbers_of;
-use crate::devices::{Drip, Trickle};
-use crate::table::{Unread, text};
-use crate::words::files_of;
 use std::alloc::Global;
 use std::thread::Threads;
 use stir_cmd::run;
 use stir_outside::{ShelfMem, SinkMem, SourceMem};
+use vector_table::{Answer, Drip, Trickle, Unread, files_of, numbers_of, text};
 
 /// What a call answers.
 pub fn answer<R: Threads + Sync>(

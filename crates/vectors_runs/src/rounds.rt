@@ -1,15 +1,11 @@
 //! Rounds of calls on one worker, over files in memory: the calls of `verify_service`.
 
-use crate::answer::Answer;
-use crate::authority::table_of;
-use crate::chains::{answers_of, map_of, numbers_of};
-use crate::numbers::local_of;
-use crate::paths::anchors_of;
-use crate::table::Unread;
-use crate::words::files_of;
 use std::alloc::Global;
 use std::thread::Threads;
 use stir_outside::{AnswerProvider, Gate, ShelfMem, SourceMem};
+use vector_table::{
+    Answer, Unread, anchors_of, answers_of, files_of, local_of, map_of, numbers_of, table_of,
+};
 use verify_rules::Settings;
 use verify_service::{Call, LogReader, Outcome, Service, Worker, World, report_line};
 

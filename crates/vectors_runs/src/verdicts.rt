@@ -1,20 +1,17 @@
 //! Calls judged by rules 10 to 17 over the chains of their PASSporTs: `screen` and then `finish` of `verify_rules`.
 ghost use Rattle.std.specs.Prelude.{◌≡◌};
 ghost use Rattle.verify_rules.specs.States.{seen};
-ghost use Rattle.vectors.specs.Known.{known_seen};
+ghost use Rattle.vectors_runs.specs.Known.{known_seen};
 
-use crate::answer::Answer;
-use crate::authority::table_of;
-use crate::chains::{answers_of, numbers_of};
-use crate::numbers::local_of;
-use crate::paths::anchors_of;
 use crate::rules::{put_place, put_refusal};
-use crate::table::{Unread, number};
 use cert_store::{Judged, judge_chain};
 use delegation::Anchors;
 use std::alloc::Global;
 use stir_outside::AnswerProvider;
 use tn_auth_list::CodeTable;
+use vector_table::{
+    Answer, Unread, anchors_of, answers_of, local_of, number, numbers_of, table_of,
+};
 use verify_rules::{ChainState, Chains, Screened, Settings, Verdict, finish, screen};
 
 /// What a call answers.
@@ -98,7 +95,7 @@ struct KnownChains {
 
 impl Chains for KnownChains {
     ghost use Rattle.std.specs.Prelude.{map};
-    ghost use Rattle.vectors.specs.Known.{known_seen};
+    ghost use Rattle.vectors_runs.specs.Known.{known_seen};
 
     ghost states = { λ chains. map known_seen chains.known.items };
 

@@ -1,0 +1,125 @@
+//! The words of a call as the values of the crates below: numbers, authority lists, and the files by which calls are judged.
+
+use crate::table::{Unread, number, text};
+use crate::words::given;
+use cert_store::{ChainMap, MapFault};
+use delegation::{AnchorFault, Anchors};
+use std::alloc::Global;
+use stir_outside::{AnswerFault, Answers};
+use tn_auth_list::{AuthList, Code, CodeTable, Entry, TableFault};
+use tn_values::{Local, Number, Span};
+
+/// The number that a word is.
+pub fn number_of(digits: &[u8]) -> Result<Number, Unread> {
+    Number::exact(digits).ok_or(Unread::Value)
+}
+
+/// The number of seconds that a word is; none where it is `-`.
+pub fn seconds(word: &[u8]) -> Result<Option<u64>, Unread> {
+    match given(word) {
+        Some(word) => Ok(Some(number(word)?)),
+        None => Ok(None),
+    }
+}
+
+/// The telephone number that a word is; none where it is `-`.
+pub fn telephone(word: &[u8]) -> Result<Option<Number>, Unread> {
+    match given(word) {
+        Some(word) => Ok(Some(number_of(word)?)),
+        None => Ok(None),
+    }
+}
+
+/// The local numbering of two words.
+pub fn local_of(country: &[u8], national: &[u8]) -> Result<Local, Unread> {
+    Local::new(country, number(national)?).ok_or(Unread::Value)
+}
+
+/// The span of a start and a size.
+pub fn span_of(start: &str, size: &str) -> Result<Span, Unread> {
+    let size = number(size.as_bytes())?;
+    Span::new(number_of(start.as_bytes())?, size).ok_or(Unread::Value)
+}
+
+/// The code that a word is.
+pub fn code_of(text: &[u8]) -> Result<Code, Unread> {
+    Code::new(text).ok_or(Unread::Value)
+}
+
+/// The list of entries `=NUMBER`, `START+COUNT` and `CODE`, with commas between.
+pub fn list_of(alloc: Global, words: &[u8]) -> Result<AuthList, Unread> {
+    AuthList::build(entries_of(alloc, words)?).ok_or(Unread::Value)
+}
+
+/// Entries as those of [`list_of`].
+pub fn entries_of(alloc: Global, words: &[u8]) -> Result<Vec<Entry>, Unread> {
+    let mut entries = Vec::new(alloc);
+    for word in text(words)?.split(',') {
+        put_entry_of(word, &mut entries)?;
+    }
+    Ok(entries)
+}
+
+/// Puts the entry that a word is behind others; an empty word is none.
+fn put_entry_of(word: &str, entries: &mut Vec<Entry>) -> Result<(), Unread> {
+    if !word.is_empty() {
+        entries.push(entry_of(word)?)?;
+    }
+    Ok(())
+}
+
+/// The entry that a word is.
+fn entry_of(word: &str) -> Result<Entry, Unread> {
+    if let Some(number) = word.strip_prefix('=') {
+        return Ok(Entry::Single(number_of(number.as_bytes())?));
+    }
+    match word.split_once('+') {
+        Some((start, count)) => Ok(Entry::Range(span_of(start, count)?)),
+        None => Ok(Entry::Code(code_of(word.as_bytes())?)),
+    }
+}
+
+/// The answers that a text holds.
+pub fn answers_of(alloc: Global, text: &[u8]) -> Result<Answers, Unread> {
+    if text.len() >= 4_000_000_000 {
+        return Err(Unread::Value);
+    }
+    match Answers::read(alloc, text) {
+        Ok(answers) => Ok(answers),
+        Err(AnswerFault::Line { .. }) => Err(Unread::Value),
+        Err(AnswerFault::Memory) => Err(Unread::Memory),
+    }
+}
+
+/// The code table that a text is.
+pub fn table_of(alloc: Global, text: &[u8]) -> Result<CodeTable, Unread> {
+    if text.len() >= 4_000_000_000 {
+        return Err(Unread::Value);
+    }
+    match CodeTable::read(alloc, text) {
+        Ok(table) => Ok(table),
+        Err(TableFault::Line { .. }) => Err(Unread::Value),
+        Err(TableFault::Memory) => Err(Unread::Memory),
+    }
+}
+
+/// The anchors that some bytes are.
+pub fn anchors_of(alloc: Global, bytes: &[u8]) -> Result<Anchors, Unread> {
+    match Anchors::read(alloc, bytes) {
+        Ok(anchors) => Ok(anchors),
+        Err(AnchorFault::At { .. }) => Err(Unread::Value),
+        Err(AnchorFault::Memory) => Err(Unread::Memory),
+    }
+}
+
+/// The chain map that a text is.
+pub fn map_of(alloc: Global, text: &[u8]) -> Result<ChainMap, Unread> {
+    if text.len() >= 4_000_000_000 {
+        return Err(Unread::Value);
+    }
+    match ChainMap::read(alloc, text) {
+        Ok(map) => Ok(map),
+        Err(MapFault::Line { .. }) => Err(Unread::Value),
+        Err(MapFault::Memory) => Err(Unread::Memory),
+    }
+}
