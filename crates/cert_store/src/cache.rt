@@ -1,5 +1,5 @@
 //! The cache of judged chains.
-ghost use Rattle.std.specs.Prelude.{◌≡◌, ◌≤◌, [], false, length, is_some, IfOk, OnOk, OnErr};
+ghost use Rattle.std.specs.Prelude.{◌≡◌, ◌≤◌, [], false, length, is_some, IfOk, IsOk, IsSome, OnOk, OnErr};
 ghost use Rattle.std.specs.Option.{option_copied};
 ghost use Rattle.cert_store.specs.Asking.{is_failed};
 ghost use Rattle.cert_store.specs.Holding.{AreAnswered, chain_of, put_in, touched};
@@ -61,11 +61,12 @@ impl Cache {
 
     /// Holds a chain for the x5u as the most recently used one, in place of the one that was held for it. If none was and the cache is full, the
     /// least recently used chain leaves. The provider must not have failed at a question of the chain: [`Judged::asked`] says whether it
-    /// did. `Memory` comes only if memory ran out, and then nothing changes.
+    /// did. `Memory` comes only if memory ran out, which it can't if a chain was held for the x5u; then nothing changes.
     pub fn put(&mut self, x5u: Vec<u8>, judged: Judged) -> Result<(), Memory>
         requires answered { is_failed judged.asked ≡ false }
         ensures put { OnOk result (self.new ≡ record self.old { entries = put_in x5u.items judged self.old }) }
         ensures refused { OnErr result (self.new ≡ self.old) }
+        ensures again { IsSome (chain_of x5u.items self.old.entries) → IsOk result }
     {
         match self.held.put(x5u, judged) {
             Ok(_) => Ok(()),
