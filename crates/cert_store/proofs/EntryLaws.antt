@@ -1,14 +1,14 @@
 -- The entries of the cache's map, as the list of chains that a contract sees: what is looked up, what goes first, what is put, and how many
 -- there are.
-use Rattle.std.proofs.Common.{◌≡◌, ℕ, zero, suc, ◌-◌, Bool, true, false, cond, List, [], ◌∷◌, length, map, take, is_some, Option, Some, None, refl, sym, ap, ◌∙◌, Vec}
+use Rattle.std.proofs.Common.{◌≡◌, ℕ, zero, suc, ◌-◌, Bool, true, false, cond, List, [], ◌∷◌, length, take, is_some, Option, Some, None, refl, sym, ap, ◌∙◌, Vec}
 use Rattle.std.specs.Cmp.Lexicographic.{bytes_decides}
 use Rattle.std.specs.Map.{lookup, lookup_entry, remove_entry}
 use Rattle.std.specs.Option.{option_map, option_map_or}
 use Rattle.std.specs.Str.{bytes_eq}
 use Rattle.std.specs.Vec.{vec_items}
-use Rattle.lru.specs.LruCache.{LruCache, lru_cache, promoted, put_entries}
+use Rattle.lru.specs.LruCache.{lru_cache, promoted, put_entries}
 use Rattle.lru.proofs.CallerLemmas.{Contains-lookup_entry}
-use Rattle.cert_store.specs.Holding.{Chains, Holding, chain_of, held_in, in_front, others_of, put_in, touched}
+use Rattle.cert_store.specs.Holding.{Chains, chain_of, held_in, in_front, put_in, touched}
 use Rattle.cert_store.specs.Judged.{JudgedView}
 
 abbrev Entries : Type 0 → Type 0

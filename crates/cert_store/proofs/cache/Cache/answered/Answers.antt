@@ -1,5 +1,5 @@
 -- There are no more chains than there may be.
-use Rattle.std.proofs.Common.{◌≤◌, length, sym, ap, ◌∙◌, subst, arith}
+use Rattle.std.proofs.Common.{◌≤◌, length, sym, subst}
 use Rattle.cert_store.specs.Holding.{Holding}
 use Rattle.cert_store.proofs.EntryLaws.{count_held}
 use Rattle.cert_store.proofs.cache.Cache.answered.Goals as goal

@@ -1,5 +1,5 @@
 -- What is held after a chain was put.
-use Rattle.std.proofs.Common.{◌≡◌, IsSome, Option, sym, ap, ◌∙◌, subst}
+use Rattle.std.proofs.Common.{IsSome, Option, sym, ap, ◌∙◌, subst}
 use Rattle.lru.specs.LruCache.{LruCache}
 use Rattle.cert_store.specs.Judged.{JudgedView}
 use Rattle.cert_store.specs.Holding.{AreAnswered, Chains, Holding, chain_of, held_in, put_in}

@@ -1,5 +1,5 @@
 -- What is held after a chain was used.
-use Rattle.std.proofs.Common.{◌≡◌, is_some, sym, ap, ◌∙◌, subst}
+use Rattle.std.proofs.Common.{is_some, sym, ap, ◌∙◌, subst}
 use Rattle.lru.specs.LruCache.{LruCache}
 use Rattle.cert_store.specs.Holding.{AreAnswered, Chains, Holding, chain_of, held_in, touched}
 use Rattle.cert_store.proofs.CacheLaws.{touched_answered}
