@@ -10,3 +10,5 @@ pub mod WordLaws
 pub mod JudgedWords
 pub mod TruthLaws
 pub mod QuestionLaws
+pub mod CacheLaws
+pub mod EntryLaws

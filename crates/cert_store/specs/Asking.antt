@@ -1,5 +1,5 @@
 -- What a provider's answers for a chain's signatures come to, as far as it answers, and what was asked of it.
-use Rattle.std.specs.Prelude.{◌≡◌, ◌≢◌, ⊤, ℕ, suc, ◌+◌, ◌-◌, ◌≤◌, List, [], ◌∷◌, take, count_by, is_some, Option, Some, None, if◌then◌else◌}
+use Rattle.std.specs.Prelude.{◌≡◌, ◌≢◌, ⊤, ℕ, suc, ◌+◌, ◌-◌, ◌≤◌, Bool, true, false, List, [], ◌∷◌, take, count_by, is_some, Option, Some, None, if◌then◌else◌}
 use Rattle.std.specs.List.{slice_get}
 use Rattle.stir_outside.specs.Count.{Rose, last_count}
 use Rattle.x509_profile.specs.View.{CertView}
@@ -70,6 +70,13 @@ pub record RoseBy (times before now : ℕ) : Type 0 where
   pub never_falls : before ≤ now
   pub most : now ≤ before + times
   pub exact : now ≢ last_count → now ≡ before + times
+
+-- the provider failed at a question
+abbrev pub is_failed : Asked → Bool
+is_failed NotAsked = false
+is_failed Yes = false
+is_failed (No part) = false
+is_failed (Failed part) = true
 
 -- a question failed only where the provider's count of faults rose
 abbrev pub FailedWithCause : ℕ → ℕ → Asked → Type 0

@@ -9,3 +9,4 @@ pub mod Judged
 pub mod Words
 pub mod Below
 pub mod Questions
+pub mod Holding

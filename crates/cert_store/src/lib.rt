@@ -3,10 +3,11 @@
 //!
 //! A [`ChainMap`] says which file has the certificates of which x5u. [`judge_chain`] judges the bytes of such a file once: all
 //! that depends on the bytes, the trust anchors, the code table and the signature provider alone. What depends on the moment of
-//! a call is asked of its answer, by [`Judged::out_of_date`].
+//! a call is asked of its answer, by [`Judged::out_of_date`]. A [`Cache`] keeps judged chains by their x5u.
 #![tactic(auto)]
 
 mod authority;
+mod cache;
 mod judge;
 mod judged;
 mod laws;
@@ -16,9 +17,10 @@ mod path;
 mod signatures;
 mod world;
 
+pub use cache::Cache;
 pub use judge::judge_chain;
 pub use judged::{Asked, Judged, Question};
-pub use laws::{judged_law, questions_law};
+pub use laws::{cache_law, judged_law, questions_law};
 pub use map::{ChainMap, MapFault};
 pub use world::World;
 /// Memory ran out.

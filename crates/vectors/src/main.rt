@@ -5,6 +5,7 @@
 
 mod answers;
 mod authority;
+mod cache;
 mod certificates;
 mod chains;
 mod claims;
@@ -106,6 +107,7 @@ fn called_of_files(
 ) -> Result<String, Unread> {
     match subject {
         "chains" => chains::answer(alloc, call, words),
+        "cache" => cache::answer(alloc, call, words),
         "answers" => answers::answer(alloc, call, words),
         "log" => log::answer(alloc, call, words),
         "outside" => outside::answer(alloc, call, words),

@@ -31,3 +31,4 @@ pub mod WorldEvents
 pub mod WorldLaws
 pub mod WorldVerdict
 pub mod ProviderLaws
+pub mod OneField

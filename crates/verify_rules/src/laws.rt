@@ -116,3 +116,9 @@ pub fn provider_law()
         → each (forged (with_says world other)) (in_call_order call) ≡ each (forged world) (in_call_order call)
         → first (signature_rules (with_says world other)) call ≡ first (signature_rules world) call }
 {}
+
+/// Two PASSporTs of a call that are read from one Identity field are one and the same.
+pub fn one_field_law()
+    ensures { (call : Call) (at other : ℕ) (one second : Reading) → slice_get (in_call_order call) at ≡ Some one → slice_get (in_call_order call) other ≡ Some second
+        → one.mark.field ≡ second.mark.field → one ≡ second }
+{}

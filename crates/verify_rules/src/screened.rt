@@ -54,11 +54,12 @@ impl Screened {
         screened
     }
 
-    /// How many PASSporTs were judged, at least one.
+    /// How many PASSporTs were judged: at least one, and at most nine.
     #[tactic(auto, using(crate::proofs::ScreenedLaws::turned_count))]
     pub fn count(&self) -> usize
         ensures count { result ≡ length self.now.readings }
         ensures some { 1 ≤ result }
+        ensures few { result ≤ 9 }
     {
         usize::from(self.links) + 1
     }

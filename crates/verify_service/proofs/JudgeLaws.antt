@@ -3,6 +3,7 @@ use Rattle.std.proofs.Common.{◌≡◌, ℕ, ◌≤◌, Bool, true, false, ◌�
 use Rattle.std.specs.List.{list_any}
 use Rattle.std.specs.Option.{option_map}
 use Rattle.std.proofs.lemmas.Map.Keys.{any_passes_from_place}
+use Rattle.cert_store.specs.Asking.{is_failed}
 use Rattle.cert_store.specs.Rules.{Says}
 use Rattle.delegation.specs.Coverage.{Table}
 use Rattle.stir_outside.specs.Count.{Rose}
@@ -22,7 +23,7 @@ use Rattle.verify_rules.specs.declared.refusal.ScreenFault.TheVariants as faults
 use Rattle.verify_rules.specs.declared.settings.Settings.{Settings}
 use Rattle.verify_rules.specs.declared.verdict.Verdict.{Verdict}
 use Rattle.verify_service.specs.Causes.{HasCauseIf, found_unasked, found_unread}
-use Rattle.verify_service.specs.Chains.{AreRightWhere, is_failed, is_unasked, is_unread, world_by}
+use Rattle.verify_service.specs.Chains.{AreRightWhere, is_unasked, is_unread, world_by}
 use Rattle.verify_service.specs.Judging.{IsFound, IsFoundWhere, IsKnownBy, IsOfVerdict, call_in, last_second, ticket_or_none}
 use Rattle.verify_service.specs.declared.finding.Finding.{Finding}
 use Rattle.verify_service.specs.declared.finding.Finding.TheVariants as found

@@ -1,10 +1,9 @@
 -- What is known of the chains of a call's PASSporTs, and that it is right where the shelf tells its files.
 use Rattle.std.specs.Prelude.{⊤, ℕ, Bool, true, false, List, Option, Some, None}
 use Rattle.stir_outside.specs.Files.{Files}
+use Rattle.cert_store.specs.Asking.{is_failed}
 use Rattle.cert_store.specs.Judged.{JudgedAs, judged_of}
 use Rattle.cert_store.specs.Rules.{Says}
-use Rattle.cert_store.specs.declared.judged.Asked.{Asked}
-use Rattle.cert_store.specs.declared.judged.Asked.TheVariants.{NotAsked, Yes, No, Failed}
 use Rattle.verify_rules.specs.Call.{Reading}
 use Rattle.verify_rules.specs.States.{State, have, no_chain, long, unread}
 use Rattle.verify_rules.specs.World.{World, AreRight, IsRight}
@@ -56,12 +55,6 @@ is_unread (have judged) = false
 is_unread no_chain = false
 is_unread long = false
 is_unread unread = true
-
-abbrev pub is_failed : Asked → Bool
-is_failed NotAsked = false
-is_failed Yes = false
-is_failed (No part) = false
-is_failed (Failed part) = true
 
 -- the provider failed at the signature of a certificate when the chain was judged
 abbrev pub is_unasked : State → Bool

@@ -1,0 +1,10 @@
+-- There are no more chains than there may be.
+use Rattle.std.proofs.Common.{◌≤◌, length, sym, subst}
+use Rattle.cert_store.specs.Holding.{Holding}
+use Rattle.cert_store.proofs.EntryLaws.{count_held}
+use Rattle.cert_store.proofs.cache.Cache.answered.Goals as goal
+
+pub returns-clause-few : goal.returns-clause-few
+returns-clause-few c =
+    let count = count_held c.self.inside.held.entries in
+    subst (λ (h : Holding). length h.entries ≤ h.capacity) c.self.view_is (subst (λ n. n ≤ c.self.inside.held.cap) (sym count) c.len.ensures.valid.1)
