@@ -1,21 +1,15 @@
--- The steps of reading one file after another.
-use Rattle.std.proofs.Common.{◌≡◌, ℕ, ◌≤◌, inl, inr, List, [], ◌∷◌, ◌++◌, length, Option, Some, None, Result, Err, refl, ◌∙◌, ap, subst}
+-- The steps of reading one file.
+use Rattle.std.proofs.Common.{◌≡◌, ℕ, ◌≤◌, List, length, Option, Some, None, Result, Err, ap, subst}
+use Rattle.std.specs.Option.{IsSomeAnd}
 use Rattle.stir_outside.proofs.CountLaws.{then_rose}
+use Rattle.stir_outside.specs.Count.{Rose}
 use Rattle.stir_outside.specs.Files.{Counts, CountsGoOn, Files, OfFile}
-use Rattle.stir_outside.specs.Held.{AnswersOf, Held}
-use Rattle.tn_auth_list.specs.Grant.{TableOf}
-use Rattle.tn_auth_list.specs.declared.table_groups.Held.{Held as Granted}
-use Rattle.x509_profile.specs.View.{CertView}
-use Rattle.cert_store.specs.ChainMap.{MapOf}
-use Rattle.cert_store.specs.Files.{Files as MapFiles}
-use Rattle.stir_words.specs.Order.{AskingView}
-use Rattle.stir_files.specs.World.{WorldOf, world_files}
-use Rattle.stir_files.specs.Named.{AnchorsOf, CausedBy, FaultSays, NamedFile, Passes, ReadOf, ShelfSays, Stop, StopsAt, anchor_file, answers_file, chain_map, code_table, refusal_of}
+use Rattle.stir_files.specs.Inputs.{Adds, HoldsFile, TakesIn, file_of}
+use Rattle.stir_files.specs.Named.{CausedBy, FaultSays, IsRefusal, NamedFile, ShelfSays, refusal_of}
 use Rattle.stir_files.specs.declared.fault.FileFault.{FileFault}
-use Rattle.cert_store.specs.declared.world.World.{World}
 use Rattle.stir_files.specs.declared.fault.FileFault.TheVariants.{Missing, Long, Failed, Refused, NoList, Memory}
-
--- ---- one file
+use Rattle.stir_files.specs.declared.input_file.InputFile.{InputFile}
+use Rattle.stir_files.specs.declared.inputs.Inputs.{Inputs}
 
 -- what a fault of the shelf says of a file
 pub shelf_says : (files : Option Files) (named : NamedFile) (fault : FileFault) → ShelfSays files named.name named.limit fault → FaultSays files named fault
@@ -26,15 +20,37 @@ shelf_says files named (Refused place) h = absurd h
 shelf_says files named NoList h = absurd h
 shelf_says files named Memory h = h
 
--- a content that was read and is refused
-pub refused_by : (files : Option Files) (named : NamedFile) (content : List ℕ) (place : ℕ) → length content ≤ named.limit → OfFile files named.name (λ held. held ≡ Some content)
-    → named.refused content ≡ Some (Refused place) → FaultSays files named (Refused place)
-refused_by files named content place short told refused = record { content = content; short = short; told = told; holds = refused }
-
 pub place_at : {X : Type 0} (read : Result X ℕ) (place : ℕ) → read ≡ Err place → refusal_of read ≡ Some (Refused place)
 place_at read place h = ap refusal_of h
 
--- ---- counts over several reads
+-- ---- a content that was read
+
+pub taken_in : (files : Option Files) (file : InputFile) (content : List ℕ) (before now : Inputs) → length content ≤ (file_of file).limit
+    → OfFile files (file_of file).name (λ held. held ≡ Some content) → TakesIn file content before now → Adds files file before now
+taken_in files file content before now short told takes = record {
+  holds = record { content = content; short = short; told = told; holds = takes.holds };
+  others = takes.others;
+}
+
+-- a content that was read and is refused
+pub refused_so : (files : Option Files) (named : NamedFile) (content : List ℕ) (fault : FileFault) → length content ≤ named.limit
+    → OfFile files named.name (λ held. held ≡ Some content) → IsRefusal (named.refused content) fault → FaultSays files named fault
+refused_so files named content Missing short told h = absurd h
+refused_so files named content Long short told h = absurd h
+refused_so files named content Failed short told h = tt
+refused_so files named content (Refused place) short told h = record { content = content; short = short; told = told; holds = h }
+refused_so files named content NoList short told h = record { content = content; short = short; told = told; holds = h }
+refused_so files named content Memory short told h = tt
+
+pub refused_caused : (before now : Counts) (refusal : Option FileFault) (fault : FileFault) → Rose before.reads now.reads → IsRefusal refusal fault → CausedBy before now fault
+refused_caused before now refusal Missing rose h = absurd h
+refused_caused before now refusal Long rose h = absurd h
+refused_caused before now refusal Failed rose h = absurd h
+refused_caused before now refusal (Refused place) rose h = rose
+refused_caused before now refusal NoList rose h = rose
+refused_caused before now refusal Memory rose h = tt
+
+-- ---- behind others
 
 pub caused_later : (before mid now : Counts) (fault : FileFault) → CountsGoOn before mid → CausedBy mid now fault → CausedBy before now fault
 caused_later before mid now Missing goes cause = then_rose before.misses mid.misses now.misses goes.misses.never_falls cause
@@ -44,74 +60,9 @@ caused_later before mid now (Refused place) goes cause = then_rose before.reads 
 caused_later before mid now NoList goes cause = then_rose before.reads mid.reads now.reads goes.reads.never_falls cause
 caused_later before mid now Memory goes cause = tt
 
--- ---- one file after another
+-- the shelf tells the same files
+pub adds_then : (files mid : Option Files) (file : InputFile) (before now : Inputs) → mid ≡ files → Adds mid file before now → Adds files file before now
+adds_then files mid file before now same adds = let Q : Option Files → Type 0 = λ x. Adds x file before now in subst Q same adds
 
--- a file that was read behind others, whose shelf tells the same files
-pub read_then : (files mid : Option Files) (named : NamedFile) (P : List ℕ → Type 0) → mid ≡ files → ReadOf mid named P → ReadOf files named P
-read_then files mid named P same read = let Q : Option Files → Type 0 = λ x. ReadOf x named P in subst Q same read
-
-says_then : (files mid : Option Files) (named : NamedFile) (fault : FileFault) → mid ≡ files → FaultSays mid named fault → FaultSays files named fault
+pub says_then : (files mid : Option Files) (named : NamedFile) (fault : FileFault) → mid ≡ files → FaultSays mid named fault → FaultSays files named fault
 says_then files mid named fault same says = let Q : Option Files → Type 0 = λ x. FaultSays x named fault in subst Q same says
-
-pub passes_by : (files : Option Files) (named : NamedFile) (P : List ℕ → Type 0) → ((content : List ℕ) → P content → named.refused content ≡ None) → ReadOf files named P → Passes files named
-passes_by files named P fits read = record { content = read.content; short = read.short; told = read.told; holds = fits read.content read.holds }
-
-pub map_passes : (files : Option Files) (name : List ℕ) (map : MapFiles) → ReadOf files (chain_map name) (λ content. MapOf content map) → Passes files (chain_map name)
-map_passes files name map read = passes_by files (chain_map name) (λ content. MapOf content map) (λ content m. ap refusal_of m.read) read
-
-pub anchors_pass : (files : Option Files) (name : List ℕ) (anchors : List CertView) → ReadOf files (anchor_file name) (λ content. AnchorsOf content anchors) → Passes files (anchor_file name)
-anchors_pass files name anchors read = passes_by files (anchor_file name) (λ content. AnchorsOf content anchors) (λ content a. ap refusal_of a.read) read
-
-pub table_passes : (files : Option Files) (name : List ℕ) (table : List (List ℕ × Granted)) → ReadOf files (code_table name) (λ content. TableOf content table) → Passes files (code_table name)
-table_passes files name table read = passes_by files (code_table name) (λ content. TableOf content table) (λ content t. ap refusal_of t.read) read
-
-pub answers_pass : (files : Option Files) (name : List ℕ) (held : Held) → ReadOf files (answers_file name) (λ content. AnswersOf content held) → Passes files (answers_file name)
-answers_pass files name held read = passes_by files (answers_file name) (λ content. AnswersOf content held) (λ content a. ap refusal_of a.read) read
-
--- ---- where the reading ends
-
-pub stop_chains : (files : Option Files) (chains anchors table : List ℕ) (fault : FileFault) → FaultSays files (chain_map chains) fault
-    → StopsAt files (chain_map chains ∷ anchor_file anchors ∷ code_table table ∷ []) (record { name = chains; fault = fault })
-stop_chains files chains anchors table fault says = inl (refl, says)
-
-pub stop_anchors : (files one : Option Files) (chains anchors table : List ℕ) (map : MapFiles) (fault : FileFault) → ReadOf files (chain_map chains) (λ content. MapOf content map)
-    → one ≡ files → FaultSays one (anchor_file anchors) fault
-    → StopsAt files (chain_map chains ∷ anchor_file anchors ∷ code_table table ∷ []) (record { name = anchors; fault = fault })
-stop_anchors files one chains anchors table map fault read same says =
-    inr (map_passes files chains map read, inl (refl, says_then files one (anchor_file anchors) fault same says))
-
-pub stop_table : (files one two : Option Files) (chains anchors table : List ℕ) (map : MapFiles) (trusted : List CertView) (fault : FileFault)
-    → ReadOf files (chain_map chains) (λ content. MapOf content map) → one ≡ files → ReadOf one (anchor_file anchors) (λ content. AnchorsOf content trusted)
-    → two ≡ one → FaultSays two (code_table table) fault
-    → StopsAt files (chain_map chains ∷ anchor_file anchors ∷ code_table table ∷ []) (record { name = table; fault = fault })
-stop_table files one two chains anchors table map trusted fault read same more again says =
-    inr (
-      map_passes files chains map read,
-      inr (
-        anchors_pass files anchors trusted (read_then files one (anchor_file anchors) _ same more),
-        inl (refl, says_then files two (code_table table) fault (again ∙ same) says),
-      ),
-    )
-
--- ---- files behind files
-
--- the reading ends there too where more files are named behind
-pub stop_more : (files : Option Files) (named others : List NamedFile) (stop : Stop) → StopsAt files named stop → StopsAt files (named ++ others) stop
-stop_more files [] others stop h = absurd h
-stop_more files (first ∷ rest) others stop (inl h) = inl h
-stop_more files (first ∷ rest) others stop (inr h) = inr (h.0, stop_more files rest others stop h.1)
-
--- the three files before have no fault
-pub stop_answers : (files mid : Option Files) (asking : AskingView) (world : World) (answers : List ℕ) (fault : FileFault) → WorldOf files asking world → mid ≡ files
-    → FaultSays mid (answers_file answers) fault → StopsAt files (world_files asking ++ answers_file answers ∷ []) (record { name = answers; fault = fault })
-stop_answers files mid asking world answers fault read same says =
-    inr (
-      map_passes files asking.chains world.chains read.chains,
-      inr (
-        anchors_pass files asking.anchors world.anchors read.anchors,
-        inr (
-          table_passes files asking.table world.table read.table,
-          inl (refl, says_then files mid (answers_file answers) fault same says),
-        ),
-      ),
-    )

@@ -3,17 +3,15 @@ use Rattle.std.proofs.Common.{◌≡◌, ℕ, ◌≤◌, ◌⊎◌, inl, inr, tr
 use Rattle.std.proofs.lemmas.Bool.Decides.{nat_tests}
 use Rattle.std.specs.Option.{option_map, option_or}
 use Rattle.stir_outside.specs.Files.{Files, IsLonger, file}
-use Rattle.stir_words.specs.Order.{AskingView, JudgingView}
-use Rattle.stir_files.specs.World.{WorldOf, world_files}
-use Rattle.cert_store.specs.declared.world.World.{World}
-use Rattle.stir_files.specs.Named.{FaultSays, IsOutside, NamedFile, Passes, Stop, StopsAt, anchor_file, answers_file, chain_map, code_table, fault_in, first_fault, stop_in}
-use Rattle.stir_files.specs.Materials.{MaterialsOf, files_of}
+use Rattle.stir_files.specs.Inputs.{Holds, file_of, files_named}
+use Rattle.stir_files.specs.Named.{FaultSays, IsOutside, NamedFile, Passes, Stop, StopsAt, fault_in, first_fault, stop_in}
 use Rattle.stir_files.specs.Stop.{Truly, stop_of}
 use Rattle.stir_files.specs.declared.fault.FileFault.{FileFault}
 use Rattle.stir_files.specs.declared.fault.FileFault.TheVariants.{Missing, Long, Failed, Refused, NoList, Memory}
-use Rattle.stir_files.specs.declared.materials.Materials.{Materials}
+use Rattle.stir_files.specs.declared.input_file.InputFile.{InputFile}
+use Rattle.stir_files.specs.declared.inputs.Inputs.{Inputs}
 use Rattle.stir_files.specs.declared.stop.FileError.{FileError}
-use Rattle.stir_files.proofs.FileSteps.{anchors_pass, answers_pass, map_passes, table_passes}
+use Rattle.stir_files.proofs.ListSteps.{passes}
 
 abbrev stop_at : NamedFile → FileFault → Stop
 stop_at named fault = record { name = named.name; fault = fault }
@@ -65,24 +63,17 @@ pub truly_stopped : (X : Type 0) (files : Option Files) (named : List NamedFile)
 truly_stopped X None named stop h = tt
 truly_stopped X (Some files) named stop h = told_stop files named (stop_of stop) h
 
--- behind the first three files, where they have no fault
-first_behind : (files : Files) (asking : AskingView) (world : World) (others : List NamedFile) → WorldOf (Some files) asking world → first_fault files (world_files asking ++ others) ≡ first_fault files others
-first_behind files asking world others g =
-    let table = code_table asking.table in
-    let anchors = anchor_file asking.anchors in
-    passed_on files (chain_map asking.chains) (anchors ∷ table ∷ others) (map_passes (Some files) asking.chains world.chains g.chains)
-    ∙ passed_on files anchors (table ∷ others) (anchors_pass (Some files) asking.anchors world.anchors g.anchors)
-    ∙ passed_on files table others (table_passes (Some files) asking.table world.table g.table)
+-- ---- all were read
 
-pub truly_world : (files : Option Files) (asking : AskingView) (world : World) → WorldOf files asking world → Truly files (world_files asking) (Ok world)
-truly_world None asking world g = tt
-truly_world (Some files) asking world g = first_behind files asking world [] g
+none_in : (files : Files) (named : List InputFile) (inputs : Inputs) → Holds (Some files) named inputs → first_fault files (files_named named) ≡ None
+none_in files [] inputs h = refl
+none_in files (file ∷ others) inputs h = passed_on files (file_of file) (files_named others) (passes (Some files) inputs file h.0) ∙ none_in files others inputs h.1
 
-pub truly_read : (files : Option Files) (judging : JudgingView) (materials : Materials) → MaterialsOf files judging materials → Truly files (files_of judging) (Ok materials)
-truly_read None judging materials m = tt
-truly_read (Some files) judging materials m =
-    let answers = answers_file judging.answers in
-    let asking : AskingView = record { chains = judging.chains; anchors = judging.anchors; table = judging.table; settings = judging.settings } in
-    let world : World = record { chains = materials.chains; anchors = materials.anchors; table = materials.table } in
-    first_behind files asking world (answers ∷ []) (record { chains = m.chains; anchors = m.anchors; table = m.table })
-    ∙ passed_on files answers [] (answers_pass (Some files) judging.answers materials.answers m.answers)
+pub truly_read : (files : Option Files) (named : List InputFile) (inputs : Inputs) → Holds files named inputs → Truly files (files_named named) (Ok inputs)
+truly_read None named inputs h = tt
+truly_read (Some files) named inputs h = none_in files named inputs h
+
+-- whatever is made of what was read
+pub truly_same : (X Y : Type 0) (files : Option Files) (named : List NamedFile) (x : X) (y : Y) → Truly files named (Ok x) → Truly files named (Ok y)
+truly_same X Y None named x y h = tt
+truly_same X Y (Some files) named x y h = h

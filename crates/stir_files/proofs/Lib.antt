@@ -1,4 +1,4 @@
 pub mod FileSteps
 pub mod FirstFault
 pub mod LeafSteps
-pub mod SigningSteps
+pub mod ListSteps

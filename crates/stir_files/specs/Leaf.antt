@@ -6,7 +6,7 @@ use Rattle.x509_profile.specs.Read.{read_certificate}
 use Rattle.x509_profile.specs.View.{CertView}
 use Rattle.stir_files.specs.Named.{NamedFile}
 use Rattle.stir_files.specs.declared.fault.FileFault.{FileFault}
-use Rattle.stir_files.specs.declared.fault.FileFault.TheVariants.{Missing, Long, Failed, Refused, NoList, Memory}
+use Rattle.stir_files.specs.declared.fault.FileFault.TheVariants.{Refused, NoList}
 
 abbrev pub unless_listed : Bool → Option FileFault
 unless_listed true = None
@@ -28,12 +28,3 @@ pub record LeafOf (content : List ℕ) (certificate : CertView) : Type 0 where
   pub text : Cert content certificate
   pub read : read_certificate content ≡ Ok certificate
   pub listed : is_some certificate.list ≡ true
-
--- the content is refused so, or memory was wanting
-abbrev pub IsRefusal : List ℕ → FileFault → Type 0
-IsRefusal content Missing = ⊥
-IsRefusal content Long = ⊥
-IsRefusal content Failed = ⊥
-IsRefusal content (Refused place) = refusal_in content ≡ Some (Refused place)
-IsRefusal content NoList = refusal_in content ≡ Some NoList
-IsRefusal content Memory = Unit {0}

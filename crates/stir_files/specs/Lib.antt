@@ -4,4 +4,5 @@ pub mod World
 pub mod Stop
 pub mod Materials
 pub mod Leaf
+pub mod Inputs
 pub mod Signing

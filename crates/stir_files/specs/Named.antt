@@ -85,6 +85,15 @@ FaultSays files named (Refused place) = ReadOf files named (λ content. named.re
 FaultSays files named NoList = ReadOf files named (λ content. named.refused content ≡ Some NoList)
 FaultSays files named Memory = Unit {0}
 
+-- a content is refused so, or memory was wanting
+abbrev pub IsRefusal : Option FileFault → FileFault → Type 0
+IsRefusal refusal Missing = ⊥
+IsRefusal refusal Long = ⊥
+IsRefusal refusal Failed = ⊥
+IsRefusal refusal (Refused place) = refusal ≡ Some (Refused place)
+IsRefusal refusal NoList = refusal ≡ Some NoList
+IsRefusal refusal Memory = Unit {0}
+
 -- what a fault of the shelf says of the file of that name and limit
 abbrev pub ShelfSays : Option Files → List ℕ → ℕ → FileFault → Type 0
 ShelfSays files name limit Missing = OfFile files name (λ held. held ≡ None)

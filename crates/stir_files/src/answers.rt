@@ -1,35 +1,24 @@
 //! The answers of the provider of signatures.
-ghost use Rattle.std.specs.Prelude.{◌≡◌, IfOk, IfErr};
-ghost use Rattle.stir_outside.specs.Files.{CountsGoOn};
-ghost use Rattle.stir_files.specs.Named.{CausedBy, FaultSays, ReadOf, answers_file};
+ghost use Rattle.std.specs.Prelude.{◌≤◌, IfOk, IfErr, length};
+ghost use Rattle.stir_outside.specs.AnswersText.{answer_rows};
 ghost use Rattle.stir_outside.specs.Held.{AnswersOf};
+ghost use Rattle.stir_files.specs.Named.{IsRefusal, refusal_of};
 
 use crate::fault::FileFault;
-use crate::shelf::read_file;
 use std::alloc::Global;
-use stir_outside::{AnswerFault, Answers, Shelf};
+use stir_outside::{AnswerFault, Answers};
 
 /// The most bytes of an answers file.
-const MOST_BYTES: usize = 67_108_864;
+pub(crate) const MOST_BYTES: usize = 67_108_864;
 
-/// Reads an answers file of that name, of at most 67,108,864 bytes; the place of a fault is the first bad line.
-#[tactic(auto, using(crate::proofs::FileSteps::shelf_says, crate::proofs::FileSteps::refused_by, crate::proofs::FileSteps::place_at))]
-pub fn read_answers<S: Shelf>(
-    alloc: Global,
-    shelf: &mut S,
-    name: &str,
-) -> Result<Answers, FileFault>
-    ensures same { S.files shelf.new ≡ S.files shelf.old }
-    ensures go_on { CountsGoOn (S.counts shelf.old) (S.counts shelf.new) }
-    ensures read { IfOk result (λ read. ReadOf (S.files shelf.old) (answers_file name.now) (λ content. AnswersOf content read)) }
-    ensures fault { IfErr result (FaultSays (S.files shelf.old) (answers_file name.now)) }
-    ensures cause { IfErr result (CausedBy (S.counts shelf.old) (S.counts shelf.new)) }
+/// The answers that the content is; the place of a fault is the first bad line.
+#[tactic(auto, using(crate::proofs::FileSteps::place_at))]
+pub(crate) fn read_answers(alloc: Global, content: &[u8]) -> Result<Answers, FileFault>
+    requires { length content.now ≤ MOST_BYTES }
+    ensures read { IfOk result (AnswersOf content.now) }
+    ensures refused { IfErr result (IsRefusal (refusal_of (answer_rows content.now))) }
 {
-    let bytes = match read_file(alloc, shelf, name, MOST_BYTES) {
-        Ok(bytes) => bytes,
-        Err(fault) => return Err(fault),
-    };
-    match Answers::read(alloc, bytes.as_slice()) {
+    match Answers::read(alloc, content) {
         Ok(answers) => Ok(answers),
         Err(AnswerFault::Line { line }) => Err(FileFault::Refused {
             place: u64::from(line),

@@ -1,19 +1,19 @@
 //! The four files of `verify`.
-ghost use Rattle.std.specs.Prelude.{◌≡◌, IfOk, IfErr};
+ghost use Rattle.std.specs.Prelude.{◌≡◌, ◌+◌, ◌≤◌, IfOk, IfErr};
 ghost use Rattle.stir_outside.specs.Files.{CountsGoOn};
 ghost use Rattle.stir_files.specs.Materials.{MaterialsOf, files_of};
 ghost use Rattle.stir_files.specs.Named.{CausedBy, StopsAt};
-ghost use Rattle.stir_files.specs.Stop.{IsReadInOrder, Truly, stop_of};
+ghost use Rattle.stir_files.specs.Stop.{Truly, stop_of};
 ghost use Rattle.stir_words.specs.Seen.{judging_view};
 
-use crate::answers::read_answers;
+use crate::input_file::InputFile;
+use crate::inputs::{Inputs, read_files};
 use crate::stop::FileError;
-use crate::world::read_world;
-use cert_store::{ChainMap, World};
+use cert_store::ChainMap;
 use delegation::Anchors;
 use std::alloc::Global;
 use stir_outside::{Answers, Shelf};
-use stir_words::{Asking, Judging};
+use stir_words::Judging;
 use tn_auth_list::CodeTable;
 
 /// What calls are judged by: what the four files say.
@@ -33,7 +33,7 @@ pub struct Materials {
 ///
 /// The chain map and the table have at most 16,777,216 bytes, the anchors 2,097,152 and the answers 67,108,864. The first event in this
 /// order decides: a file is missing, too long, can't be read, or is outside its grammar.
-#[tactic(auto, using(crate::proofs::FirstFault::truly_read, crate::proofs::FirstFault::truly_stopped))]
+#[tactic(auto, using(crate::proofs::FirstFault::truly_same, crate::proofs::FirstFault::truly_stopped))]
 pub fn read_materials<'a, S: Shelf>(
     alloc: Global,
     shelf: &mut S,
@@ -47,48 +47,26 @@ pub fn read_materials<'a, S: Shelf>(
     ensures cause { IfErr result (λ stop. CausedBy (S.counts shelf.old) (S.counts shelf.new) stop.fault) }
     // Where the shelf tells its files, the answer is their first fault, or none; a read that fails and want of memory are the outside's.
     ensures truly { Truly (S.files shelf.old) (files_of (judging_view judging.now)) result }
+    // Each file is read once at most.
+    ensures reads { (S.counts shelf.new).reads ≤ (S.counts shelf.old).reads + 4 }
 {
-    read_all(alloc, shelf, judging)
-}
-
-/// The first three files, and then the answers.
-#[tactic(auto, using(crate::proofs::FileSteps::read_then, crate::proofs::FileSteps::caused_later, stir_outside::proofs::CountLaws::go_on))]
-fn read_all<'a, S: Shelf>(
-    alloc: Global,
-    shelf: &mut S,
-    judging: &Judging<'a>,
-) -> Result<Materials, FileError<'a>>
-    ensures { IsReadInOrder (files_of (judging_view judging.now)) (MaterialsOf (S.files shelf.old) (judging_view judging.now))
-        (S.files shelf.old) (S.files shelf.new) (S.counts shelf.old) (S.counts shelf.new) result }
-{
-    let asking = Asking {
-        chains: judging.chains,
-        anchors: judging.anchors,
-        table: judging.table,
-        settings: judging.settings,
-    };
-    let world = match read_world(alloc, shelf, &asking) {
-        Ok(world) => world,
-        Err(stop) => return Err(stop),
-    };
-    let answers = match read_answers(alloc, shelf, judging.answers) {
-        Ok(answers) => answers,
-        Err(fault) => {
-            return Err(FileError {
-                name: judging.answers,
-                fault,
-            });
-        }
-    };
-    let World {
-        chains,
-        anchors,
-        table,
-    } = world;
-    Ok(Materials {
+    let named = [
+        InputFile::Chains(judging.chains),
+        InputFile::Anchors(judging.anchors),
+        InputFile::Table(judging.table),
+        InputFile::Answers(judging.answers),
+    ];
+    let Inputs {
         chains,
         anchors,
         table,
         answers,
+        ..
+    } = read_files(alloc, shelf, &named)?;
+    Ok(Materials {
+        chains: chains.unwrap(),
+        anchors: anchors.unwrap(),
+        table: table.unwrap(),
+        answers: answers.unwrap(),
     })
 }

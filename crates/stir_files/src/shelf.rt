@@ -1,5 +1,5 @@
 //! A file from the shelf.
-ghost use Rattle.std.specs.Prelude.{◌≡◌, ◌≤◌, Some, IfOk, IfErr, OnOk, vec_len};
+ghost use Rattle.std.specs.Prelude.{◌≡◌, ◌+◌, ◌≤◌, Some, IfOk, IfErr, OnOk, vec_len};
 ghost use Rattle.stir_outside.specs.Count.{Rose};
 ghost use Rattle.stir_outside.specs.Files.{CountsGoOn, OfFile};
 ghost use Rattle.stir_files.specs.Named.{CausedBy, ShelfSays};
@@ -19,7 +19,8 @@ pub(crate) fn read_file<S: Shelf>(
     ensures go_on { CountsGoOn (S.counts shelf.old) (S.counts shelf.new) }
     ensures within { IfOk result (λ bytes. vec_len bytes ≤ limit) }
     ensures found { IfOk result (λ bytes. OfFile (S.files shelf.old) name.now (λ held. held ≡ Some bytes.items)) }
-    ensures reads { OnOk result (Rose (S.counts shelf.old).reads (S.counts shelf.new).reads) }
+    ensures rose { OnOk result (Rose (S.counts shelf.old).reads (S.counts shelf.new).reads) }
+    ensures reads { (S.counts shelf.new).reads ≤ (S.counts shelf.old).reads + 1 }
     ensures fault { IfErr result (ShelfSays (S.files shelf.old) name.now limit) }
     ensures cause { IfErr result (CausedBy (S.counts shelf.old) (S.counts shelf.new)) }
 {

@@ -1,16 +1,15 @@
 //! The files of `sign` and `divert`.
-ghost use Rattle.std.specs.Prelude.{◌≡◌, [], ◌∷◌, Some, IfOk, IfErr};
+ghost use Rattle.std.specs.Prelude.{◌≡◌, ◌+◌, ◌≤◌, IfOk, IfErr};
 ghost use Rattle.std.specs.Option.{option_map};
 ghost use Rattle.stir_outside.specs.Files.{CountsGoOn};
 ghost use Rattle.stir_files.specs.Named.{CausedBy, StopsAt};
-ghost use Rattle.stir_files.specs.Signing.{HolderOf, SigningOf, holder_files, signing_files};
-ghost use Rattle.stir_files.specs.Stop.{IsReadInOrder, Truly, stop_of};
+ghost use Rattle.stir_files.specs.Signing.{SigningOf, signing_files};
+ghost use Rattle.stir_files.specs.Stop.{Truly, stop_of};
 ghost use Rattle.stir_words.specs.Seen.{holder_view};
 
-use crate::answers::read_answers;
-use crate::leaf::read_leaf;
+use crate::input_file::InputFile;
+use crate::inputs::{Inputs, read_files};
 use crate::stop::FileError;
-use crate::table::read_table;
 use std::alloc::Global;
 use stir_outside::{Answers, Shelf};
 use stir_words::HolderFiles;
@@ -40,7 +39,7 @@ pub struct SigningMaterials {
 ///
 /// The answers have at most 67,108,864 bytes, the certificate 8,192 and the table 16,777,216. The first event in this order decides: a file is
 /// missing, too long, can't be read, or is outside its grammar, or the certificate has no list.
-#[tactic(auto, using(crate::proofs::SigningSteps::truly_signing, crate::proofs::FirstFault::truly_stopped))]
+#[tactic(auto, using(crate::proofs::FirstFault::truly_same, crate::proofs::FirstFault::truly_stopped))]
 pub fn read_signing<'a, S: Shelf>(
     alloc: Global,
     shelf: &mut S,
@@ -55,72 +54,32 @@ pub fn read_signing<'a, S: Shelf>(
     ensures cause { IfErr result (λ stop. CausedBy (S.counts shelf.old) (S.counts shelf.new) stop.fault) }
     // Where the shelf tells its files, the answer is their first fault, or none; a read that fails and want of memory are the outside's.
     ensures truly { Truly (S.files shelf.old) (signing_files answers.entry.now (option_map holder_view holder.entry)) result }
+    // Each file is read once at most.
+    ensures reads { (S.counts shelf.new).reads ≤ (S.counts shelf.old).reads + 3 }
 {
-    read_in_order(alloc, shelf, answers, holder)
-}
-
-/// The answers, and behind them the files of the holder.
-#[tactic(auto, using(crate::proofs::SigningSteps::stop_here, crate::proofs::FileSteps::caused_later, stir_outside::proofs::CountLaws::go_on))]
-fn read_in_order<'a, S: Shelf>(
-    alloc: Global,
-    shelf: &mut S,
-    answers: &'a str,
-    holder: Option<HolderFiles<'a>>,
-) -> Result<SigningMaterials, FileError<'a>>
-    ensures { IsReadInOrder (signing_files answers.entry.now (option_map holder_view holder.entry)) (SigningOf (S.files shelf.old) answers.entry.now (option_map holder_view holder.entry))
-        (S.files shelf.old) (S.files shelf.new) (S.counts shelf.old) (S.counts shelf.new) result }
-{
-    let held = match read_answers(alloc, shelf, answers) {
-        Ok(held) => held,
-        Err(fault) => {
-            return Err(FileError {
-                name: answers,
-                fault,
-            });
-        }
-    };
     let Some(names) = holder else {
+        let Inputs { answers, .. } = read_files(alloc, shelf, &[InputFile::Answers(answers)])?;
         return Ok(SigningMaterials {
-            answers: held,
+            answers: answers.unwrap(),
             holder: None,
         });
     };
-    match read_holder(alloc, shelf, &names) {
-        Ok(holder) => Ok(SigningMaterials {
-            answers: held,
-            holder: Some(holder),
+    let named = [
+        InputFile::Answers(answers),
+        InputFile::Leaf(names.leaf),
+        InputFile::Table(names.table),
+    ];
+    let Inputs {
+        answers,
+        leaf,
+        table,
+        ..
+    } = read_files(alloc, shelf, &named)?;
+    Ok(SigningMaterials {
+        answers: answers.unwrap(),
+        holder: Some(HolderMaterials {
+            leaf: leaf.unwrap(),
+            table: table.unwrap(),
         }),
-        Err(stop) => Err(stop),
-    }
-}
-
-/// The files of the holder, one after another.
-#[tactic(auto, using(crate::proofs::SigningSteps::stop_here, crate::proofs::FileSteps::read_then, crate::proofs::FileSteps::caused_later, stir_outside::proofs::CountLaws::go_on))]
-fn read_holder<'a, S: Shelf>(
-    alloc: Global,
-    shelf: &mut S,
-    names: &HolderFiles<'a>,
-) -> Result<HolderMaterials, FileError<'a>>
-    ensures { IsReadInOrder (holder_files (Some (holder_view names.now))) (HolderOf (S.files shelf.old) (holder_view names.now))
-        (S.files shelf.old) (S.files shelf.new) (S.counts shelf.old) (S.counts shelf.new) result }
-{
-    let leaf = match read_leaf(alloc, shelf, names.leaf) {
-        Ok(leaf) => leaf,
-        Err(fault) => {
-            return Err(FileError {
-                name: names.leaf,
-                fault,
-            });
-        }
-    };
-    let table = match read_table(alloc, shelf, names.table) {
-        Ok(table) => table,
-        Err(fault) => {
-            return Err(FileError {
-                name: names.table,
-                fault,
-            });
-        }
-    };
-    Ok(HolderMaterials { leaf, table })
+    })
 }
