@@ -88,7 +88,11 @@ profile_is below anchors table says bytes judged typed j =
 
 path_in : Below → (chain anchors : List CertView) (shape : Result (Option ℕ) PathFault) → shape_of chain anchors ≡ shape → PathOf chain anchors (fault_place shape)
 path_in below chain anchors (Ok anchor) e = (anchor, below.path_found chain anchors anchor e)
-path_in below chain anchors (Err fault) e = λ anchor path. let k : Err fault ≡ Ok anchor = sym e ∙ below.path_again chain anchors anchor path in absurd (cc)
+path_in below chain anchors (Err fault) e = (
+  λ anchor path. let k : Err fault ≡ Ok anchor = sym e ∙ below.path_again chain anchors anchor path in absurd (cc),
+  fault.kind,
+  below.path_refused chain anchors fault e,
+)
 
 path_by : Below → (anchors : List CertView) (read : Result (List CertView) ℕ) → refused_place read ≡ None → PathOf (read_or_nothing read) anchors (place_in anchors read)
 path_by below anchors (Ok chain) e = path_in below chain anchors (shape_of chain anchors) refl

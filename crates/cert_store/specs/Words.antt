@@ -5,6 +5,7 @@ use Rattle.x509_profile.specs.View.{CertView}
 use Rattle.x509_profile.specs.Chain.{Chain, Whole}
 use Rattle.delegation.specs.Coverage.{Table, Within}
 use Rattle.delegation.specs.Path.{Path, is_listed, issuer_of}
+use Rattle.delegation.specs.PathFaults.{IsFirstFault}
 use Rattle.cert_store.specs.declared.judged.Asked.{Asked}
 use Rattle.cert_store.specs.declared.judged.Asked.TheVariants.{NotAsked, Yes, No, Failed}
 use Rattle.cert_store.specs.Judged.{JudgedView, out_of_date}
@@ -36,10 +37,10 @@ ProfileIs bytes judged = ProfileOf bytes judged.certificates judged.profile
 
 -- ---- rule 12
 
--- they are a path up to some anchor, or up to none
+-- they are a path up to some anchor; or up to none, and what is wrong with them first is at this place
 abbrev pub PathOf : List CertView → List CertView → Option ℕ → Type 0
 PathOf chain anchors None = (anchor : Option ℕ) × Path chain anchors anchor
-PathOf chain anchors (Some place) = (anchor : Option ℕ) → Path chain anchors anchor → ⊥
+PathOf chain anchors (Some place) = ((anchor : Option ℕ) → Path chain anchors anchor → ⊥) × (kind : ℕ) × IsFirstFault chain anchors kind place
 
 abbrev pub PathIs : List CertView → JudgedView → Type 0
 PathIs anchors judged = judged.profile ≡ None → PathOf judged.certificates anchors judged.shape

@@ -18,21 +18,21 @@ use Rattle.verify_rules.proofs.WorldVerdict.{first_late}
 -- ---- each rule on all PASSporTs, where those before it hold
 
 -- a rule of 10 to 17 holds
-abbrev Keeps : World → Call → LateRule → Type 0
+abbrev pub Keeps : World → Call → LateRule → Type 0
 Keeps world call rule = each (broken_by world rule call.moment) (in_call_order call) ≡ None
 
 -- what each rule means of all PASSporTs
-record Meanings (world : World) (call : Call) : Type 0 where
-  listing : Keeps world call late.Listed ↔ Each (IsListed world) (in_call_order call)
-  profile : Each (IsListed world) (in_call_order call) → Keeps world call late.Profile ↔ Each (IsInProfile world) (in_call_order call)
-  shape : Each (IsInProfile world) (in_call_order call) → Keeps world call late.Shape ↔ Each (IsAnchored world) (in_call_order call)
-  dates : Each (IsAnchored world) (in_call_order call) → Keeps world call late.Dates ↔ Each (IsInDate world call.moment) (in_call_order call)
-  authority : Each (IsAnchored world) (in_call_order call) → Keeps world call late.Authority ↔ Each (HasAuthority world) (in_call_order call)
-  asked : Each (HasAuthority world) (in_call_order call) → Keeps world call late.Asked ↔ Each (IsCertified world) (in_call_order call)
-  genuine : Each (IsInProfile world) (in_call_order call) → (each (forged world) (in_call_order call) ≡ None) ↔ Each (IsGenuine world) (in_call_order call)
-  covered : Each (IsInProfile world) (in_call_order call) → Keeps world call late.Covers ↔ Each (IsCovered world) (in_call_order call)
+pub record Meanings (world : World) (call : Call) : Type 0 where
+  pub listing : Keeps world call late.Listed ↔ Each (IsListed world) (in_call_order call)
+  pub profile : Each (IsListed world) (in_call_order call) → Keeps world call late.Profile ↔ Each (IsInProfile world) (in_call_order call)
+  pub shape : Each (IsInProfile world) (in_call_order call) → Keeps world call late.Shape ↔ Each (IsAnchored world) (in_call_order call)
+  pub dates : Each (IsAnchored world) (in_call_order call) → Keeps world call late.Dates ↔ Each (IsInDate world call.moment) (in_call_order call)
+  pub authority : Each (IsAnchored world) (in_call_order call) → Keeps world call late.Authority ↔ Each (HasAuthority world) (in_call_order call)
+  pub asked : Each (HasAuthority world) (in_call_order call) → Keeps world call late.Asked ↔ Each (IsCertified world) (in_call_order call)
+  pub genuine : Each (IsInProfile world) (in_call_order call) → (each (forged world) (in_call_order call) ≡ None) ↔ Each (IsGenuine world) (in_call_order call)
+  pub covered : Each (IsInProfile world) (in_call_order call) → Keeps world call late.Covers ↔ Each (IsCovered world) (in_call_order call)
 
-meanings : ChainLaws → CoversLaw → (world : World) → HoldsBytes world → (call : Call) → Meanings world call
+pub meanings : ChainLaws → CoversLaw → (world : World) → HoldsBytes world → (call : Call) → Meanings world call
 meanings laws law world typed call = record {
   listing = each_means (broken_by world late.Listed call.moment) (IsListed world) (listed_means world call.moment) (in_call_order call);
   profile = each_means_of (broken_by world late.Profile call.moment) (IsListed world) (IsInProfile world) (profile_means laws world typed call.moment) (in_call_order call);
@@ -47,13 +47,13 @@ meanings laws law world typed call = record {
 -- ---- what holds where so many of them do
 
 -- rules 10 to 14, as far as they hold, in their own words
-listed_of : (world : World) (call : Call) → Meanings world call → Keeps world call late.Listed → Each (IsListed world) (in_call_order call)
+pub listed_of : (world : World) (call : Call) → Meanings world call → Keeps world call late.Listed → Each (IsListed world) (in_call_order call)
 listed_of world call m a = m.listing.0 a
 
-profile_of : (world : World) (call : Call) → Meanings world call → Keeps world call late.Listed → Keeps world call late.Profile → Each (IsInProfile world) (in_call_order call)
+pub profile_of : (world : World) (call : Call) → Meanings world call → Keeps world call late.Listed → Keeps world call late.Profile → Each (IsInProfile world) (in_call_order call)
 profile_of world call m a b = (m.profile (listed_of world call m a)).0 b
 
-anchored_of : (world : World) (call : Call) → Meanings world call → Keeps world call late.Listed → Keeps world call late.Profile → Keeps world call late.Shape
+pub anchored_of : (world : World) (call : Call) → Meanings world call → Keeps world call late.Listed → Keeps world call late.Profile → Keeps world call late.Shape
     → Each (IsAnchored world) (in_call_order call)
 anchored_of world call m a b c = (m.shape (profile_of world call m a b)).0 c
 

@@ -59,7 +59,7 @@ said_of world rule moment one state is = ap (λ s. part_at one.mark.field (tell 
 
 -- ---- rule 10
 
-truth_of_file : (world : World) (one : Reading) (bytes : List ℕ) → HasFile world one bytes → truth_for world one ≡ truth_by world (Some bytes)
+pub truth_of_file : (world : World) (one : Reading) (bytes : List ℕ) → HasFile world one bytes → truth_for world one ≡ truth_by world (Some bytes)
 unfolding truth_of
 truth_of_file world one bytes f = ap (truth_by world) (ap (option_and_then (λ name. file name world.files)) f.named ∙ f.there)
 
@@ -129,7 +129,7 @@ known laws world typed one chain h =
     }
 
 -- what a rule says of it
-judged_says : (world : World) (rule : LateRule) (moment : ℕ) (one : Reading) (chain : List CertView) (k : Known world one chain)
+pub judged_says : (world : World) (rule : LateRule) (moment : ℕ) (one : Reading) (chain : List CertView) (k : Known world one chain)
     → broken_by world rule moment one ≡ part_at one.mark.field (tell_judged rule world.table moment one k.judged)
 judged_says world rule moment one chain k = said_of world rule moment one (have k.judged) k.is
 
@@ -159,7 +159,7 @@ profile_means laws world typed moment one (bytes, f) = (
 
 shape_none : (chain anchors : List CertView) (shape anchor : Option ℕ) → PathOf chain anchors shape → Path chain anchors anchor → shape ≡ None
 shape_none chain anchors None anchor p path = refl
-shape_none chain anchors (Some place) anchor p path = absurd (p anchor path)
+shape_none chain anchors (Some place) anchor p path = absurd (p.0 anchor path)
 
 -- of a chain that is known, its path
 path_of : (world : World) (one : Reading) (chain : List CertView) (anchor : Option ℕ) (k : Known world one chain) → Path chain world.anchors anchor
@@ -188,7 +188,7 @@ first_none Holds count (Some broken) f all = absurd (f.2 (all broken f.0 f.1))
 
 -- ---- rule 13
 
-dates_of : (world : World) (moment : ℕ) (one : Reading) (chain : List CertView) (anchor : Option ℕ) (k : Known world one chain) → Path chain world.anchors anchor
+pub dates_of : (world : World) (moment : ℕ) (one : Reading) (chain : List CertView) (anchor : Option ℕ) (k : Known world one chain) → Path chain world.anchors anchor
     → IsFirstBroken (IsValid world.anchors moment chain) (length chain) (out_of_date k.judged moment)
 dates_of world moment one chain anchor k path =
     subst (λ (c : List CertView). IsFirstBroken (IsValid world.anchors moment c) (length c) (out_of_date k.judged moment)) k.certificates
@@ -209,7 +209,7 @@ dates_mean laws world typed moment one (chain, anchor, h) = (
 
 -- ---- rule 14
 
-authority_of : (world : World) (one : Reading) (chain : List CertView) (anchor : Option ℕ) (k : Known world one chain) → Path chain world.anchors anchor
+pub authority_of : (world : World) (one : Reading) (chain : List CertView) (anchor : Option ℕ) (k : Known world one chain) → Path chain world.anchors anchor
     → IsFirstBroken (IsAuthorized world.table world.anchors anchor chain) (length chain) k.judged.authority
 authority_of world one chain anchor k path =
     subst (λ (c : List CertView). IsFirstBroken (IsAuthorized world.table world.anchors anchor c) (length c) k.judged.authority) k.certificates
@@ -244,12 +244,12 @@ signed_none Holds count field (No part) s all = absurd (s.2 (all part s.0 s.1))
 signed_none Holds count field (Failed part) s all = refl
 
 -- rule 14 holds of what is known
-inside_of : ChainLaws → (world : World) → HoldsBytes world → (one : Reading) (chain : List CertView) (k : Known world one chain) → HasAuthority world one → k.judged.authority ≡ None
+pub inside_of : ChainLaws → (world : World) → HoldsBytes world → (one : Reading) (chain : List CertView) (k : Known world one chain) → HasAuthority world one → k.judged.authority ≡ None
 inside_of laws world typed one chain k p =
     part_none one.mark.field k.judged.authority
     (sym (judged_says world late.Authority 0 one chain k) ∙ (authority_means laws world typed 0 one (p.0, p.1, p.2)).1 p)
 
-signatures_of : (world : World) (one : Reading) (chain : List CertView) (anchor : Option ℕ) (k : Known world one chain) → Path chain world.anchors anchor → k.judged.authority ≡ None
+pub signatures_of : (world : World) (one : Reading) (chain : List CertView) (anchor : Option ℕ) (k : Known world one chain) → Path chain world.anchors anchor → k.judged.authority ≡ None
     → SignedAs (IsSigned world.says world.anchors anchor chain) (length chain) k.judged.asked
 signatures_of world one chain anchor k path inside =
     subst (λ (c : List CertView). SignedAs (IsSigned world.says world.anchors anchor c) (length c) k.judged.asked) k.certificates

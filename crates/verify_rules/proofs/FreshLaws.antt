@@ -39,7 +39,7 @@ fresh_one window moment one h = fresh_by window moment one.passport.iat (place o
 
 -- ---- there is one
 
-some_origin : (o : Option IdentityField) → no_originating o ≡ None → (field : IdentityField) × (o ≡ Some field)
+pub some_origin : (o : Option IdentityField) → no_originating o ≡ None → (field : IdentityField) × (o ≡ Some field)
 some_origin None e = absurd cc
 some_origin (Some field) e = (field, refl)
 

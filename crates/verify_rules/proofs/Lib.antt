@@ -1,9 +1,11 @@
 pub mod AllLateWords
+pub mod AllPlaces
 pub mod AllRules
 pub mod AllWords
 pub mod AskingSteps
 pub mod CauseLaws
 pub mod ChainMeans
+pub mod EarlyPlaces
 pub mod EarlySteps
 pub mod FactLaws
 pub mod FieldSteps
@@ -12,9 +14,11 @@ pub mod FirstOf
 pub mod FreshLaws
 pub mod Known
 pub mod LateMeans
+pub mod LatePlaces
 pub mod LateSteps
 pub mod LeafMeans
 pub mod OrderWords
+pub mod PlaceLaws
 pub mod ReadSteps
 pub mod ReadingLaws
 pub mod ScreenedLaws
@@ -23,6 +27,7 @@ pub mod ResultLaws
 pub mod TokenWords
 pub mod TurnSteps
 pub mod VerdictLaws
+pub mod WentLaws
 pub mod WordLaws
 pub mod WordSteps
 pub mod WorldAgrees

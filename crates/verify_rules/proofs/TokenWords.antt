@@ -20,7 +20,7 @@ use Rattle.passport_json.specs.View.{TokenView}
 use Rattle.passport_json.specs.declared.fault.TokenFault.{TokenFault}
 use Rattle.verify_rules.specs.Call.{IdentityField, Reading, has_ppt, judged_fields, lacks_ppt, given_to_compact, links, mark_of, marked_or_part, numbered, originating, read_field, reading, reading_by, readings_of, with_field}
 use Rattle.verify_rules.specs.Rules.{each, unreadable}
-use Rattle.verify_rules.specs.Words.{AreRead, CanBeRead, Each, IsRead}
+use Rattle.verify_rules.specs.Words.{AreNumbered, AreRead, CanBeRead, Each, IsFieldText, IsRead}
 use Rattle.verify_rules.specs.declared.facts.Facts.{Facts}
 use Rattle.verify_rules.proofs.FreshLaws.{read_there}
 use Rattle.verify_rules.proofs.Known.{known_link, known_with, known_without}
@@ -60,7 +60,7 @@ token_bytes value f h =
 abbrev HasBytes : IdentityField → Type 0
 HasBytes field = IsBytes field.parts.token
 
-abbrev IsJudged : IdentityField → Type 0
+abbrev pub IsJudged : IdentityField → Type 0
 IsJudged field = IsKnown field.parts.ppt × IsBytes field.parts.token
 
 numbered_by : (number : ℕ) (value : List ℕ) (others : List IdentityField) (r : Result Parts FieldFault) → ((f : Parts) → r ≡ Ok f → FieldText f value) → Each HasBytes others
@@ -72,6 +72,14 @@ numbered_bytes : FieldLaw → (number : ℕ) (values : List (List ℕ)) → Each
 numbered_bytes law number [] = tt
 numbered_bytes law number (value ∷ others) =
     numbered_by number value (numbered (suc number) others) (read_parts value) (λ f e. (law value f).0 e) (numbered_bytes law (suc number) others)
+
+-- where each value is in the grammar, they are the fields of these values
+pub are_numbered : FieldLaw → (number : ℕ) (values : List (List ℕ)) → Each IsFieldText values → AreNumbered number values (numbered number values)
+are_numbered law number [] h = tt
+are_numbered law number (value ∷ others) h =
+    let read : read_parts value ≡ Ok h.0.0 = (law value h.0.0).1 h.0.1 in
+    subst (λ (r : Result Parts FieldFault). AreNumbered number (value ∷ others) (with_field number r (numbered (suc number) others))) (sym read)
+    (refl, h.0.1, are_numbered law (suc number) others h.1)
 
 find_at : (test : IdentityField → Bool) (P : IdentityField → Type 0) (field : IdentityField) (fields : List IdentityField) (o : IdentityField) (t : Bool) → (test field ≡ true → P field)
     → (find test fields ≡ Some o → P o) → test field ≡ t → cond t (Some field) (find test fields) ≡ Some o → P o
@@ -103,7 +111,7 @@ with_origin : (o : Option IdentityField) (others : List IdentityField) → ((fie
 with_origin None others one all = all
 with_origin (Some field) others one all = (one field refl, all)
 
-are_judged : FieldLaw → (number : ℕ) (values : List (List ℕ)) → Each IsJudged (judged_fields (numbered number values))
+pub are_judged : FieldLaw → (number : ℕ) (values : List (List ℕ)) → Each IsJudged (judged_fields (numbered number values))
 are_judged law number values =
     let fields = numbered number values in
     let all = numbered_bytes law number values in
@@ -116,7 +124,7 @@ claims_by : (said : Facts) (field : IdentityField) (token : TokenView) (one : Re
     → ((claims : ClaimsView) → r ≡ Ok claims → Claims token.header token.payload field.parts.ppt field.parts.info claims) → marked_or_part (mark_of field.number token) r ≡ Ok one → IsRead said field one
 claims_by said field token one (Ok claims) text law h =
     let same : reading claims (mark_of field.number token) ≡ one = cc in
-    subst (IsRead said field) same (record { token = token; text = text; claims = law claims refl; mark = refl })
+    subst (IsRead said field) same (record { token = token; text = text; claims = law claims refl; mark = refl; number = refl })
 claims_by said field token one (Err fault) text law h = absurd cc
 
 token_by : ClaimsLaw → (said : Facts) (field : IdentityField) (one : Reading) (r : Result TokenView TokenFault) → IsKnown field.parts.ppt
@@ -140,7 +148,7 @@ read_again tokens claims said field one judged h =
 
 -- ---- the rule
 
-unreadable_means : TokenLaw → TokenFoundLaw → ClaimsLaw → (said : Facts) (field : IdentityField) → IsJudged field → (unreadable said field ≡ None) ↔ CanBeRead said field
+pub unreadable_means : TokenLaw → TokenFoundLaw → ClaimsLaw → (said : Facts) (field : IdentityField) → IsJudged field → (unreadable said field ≡ None) ↔ CanBeRead said field
 unreadable_means tokens found claims said field judged = (
   (λ h. let r = read_there said field h in (r.0, is_read found claims said field r.0 judged r.1)),
   (λ (h : CanBeRead said field). read_one said field h.0 (read_again tokens claims said field h.0 judged h.1)),

@@ -12,7 +12,6 @@ use Rattle.verify_rules.specs.Late.{asking, at_asking, at_rule, by_answer, event
 use Rattle.verify_rules.specs.States.{State, have, no_chain, long, unread}
 use Rattle.verify_rules.specs.World.{AreRight, IsRight, World, truth_for, truths}
 use Rattle.verify_rules.specs.declared.late.Event.{Event}
-use Rattle.verify_rules.specs.declared.late.Event.TheVariants as events
 use Rattle.verify_rules.specs.declared.late.LateRule.{LateRule}
 use Rattle.verify_rules.specs.declared.late.LateRule.TheVariants as late
 use Rattle.verify_rules.proofs.ResultLaws.{IsSetAside}

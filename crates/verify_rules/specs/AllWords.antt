@@ -1,7 +1,9 @@
 -- All rules but the one on replay in their own words: what a verdict over a world says of each.
 use Rattle.std.specs.Prelude.{◌≡◌, ℕ, List, None, Result, Ok, Err}
 use Rattle.verify_rules.specs.Call.{Call}
+use Rattle.verify_rules.specs.LatePlaces.{SpeaksOfLatePlace}
 use Rattle.verify_rules.specs.LateWords.{SaysLateWords}
+use Rattle.verify_rules.specs.Places.{SpeaksOfPlace}
 use Rattle.verify_rules.specs.Rules.{early_rules, first}
 use Rattle.verify_rules.specs.Screened.{ScreenedView, screened_of}
 use Rattle.verify_rules.specs.Words.{SaysWords}
@@ -22,3 +24,6 @@ early_answer call (Unasked bad) = Ok (screened_of call)
 pub record SaysRules (world : World) (bytes : List ℕ) (call : Call) (verdict : Verdict) : Type 0 where
   pub early : SaysWords bytes call (early_answer call verdict)
   pub late : first early_rules call ≡ None → SaysLateWords world call verdict
+  -- and where the one is broken that refuses the call
+  pub early_place : SpeaksOfPlace bytes call (early_answer call verdict)
+  pub late_place : first early_rules call ≡ None → SpeaksOfLatePlace world call verdict

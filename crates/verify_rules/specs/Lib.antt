@@ -4,12 +4,15 @@ pub mod Call
 pub mod Causes
 pub mod Code
 pub mod Late
+pub mod LatePlaces
 pub mod LateWords
+pub mod Places
 pub mod Rules
 pub mod Screened
 pub mod Seen
 pub mod Signed
 pub mod States
 pub mod Verdict
+pub mod Went
 pub mod Words
 pub mod World

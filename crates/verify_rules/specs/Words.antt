@@ -1,6 +1,6 @@
 -- The rules in their own words: what holds of a message, its Identity fields and their PASSporTs where a rule holds, and which rule is
 -- the first that doesn't.
-use Rattle.std.specs.Prelude.{◌≡◌, ⊤, ◌⊎◌, ℕ, ◌+◌, ◌<◌, ◌≤◌, List, [], ◌∷◌, length, codes, Option, Some, None, Result, Ok, Err}
+use Rattle.std.specs.Prelude.{◌≡◌, ⊤, ◌⊎◌, ℕ, suc, ◌+◌, ◌<◌, ◌≤◌, List, [], ◌∷◌, length, codes, Option, Some, None, Result, Ok, Err}
 use Rattle.identity_header.specs.FieldText.{FieldText}
 use Rattle.identity_header.specs.Parts.{Parts}
 use Rattle.passport_claims.specs.Claims.{Claims}
@@ -11,6 +11,7 @@ use Rattle.sip_message.specs.Head.{Head}
 use Rattle.sip_message.specs.Message.{MessageView}
 use Rattle.verify_rules.specs.Call.{Call, IdentityField, Reading, called_by, facts, fields_of, in_call_order, in_message, judged_fields, given_to_compact, mark_of, passports_of, values_of}
 use Rattle.verify_rules.specs.Screened.{ScreenedView}
+use Rattle.verify_rules.specs.Went.{WentSo}
 use Rattle.verify_rules.specs.declared.facts.Facts.{Facts}
 use Rattle.verify_rules.specs.declared.refusal.ScreenFault.{ScreenFault}
 use Rattle.verify_rules.specs.declared.refusal.ScreenFault.TheVariants.{Refused, Memory}
@@ -41,6 +42,13 @@ pub record AreFewFields (values : List (List ℕ)) : Type 0 where
   pub few : length values ≤ 16
   pub texts : Each IsFieldText values
 
+-- the fields of these values, with numbers from this one on
+abbrev pub AreNumbered : ℕ → List (List ℕ) → List IdentityField → Type 0
+AreNumbered number [] [] = ⊤
+AreNumbered number [] (field ∷ fields) = ⊥
+AreNumbered number (value ∷ values) [] = ⊥
+AreNumbered number (value ∷ values) (field ∷ fields) = (field.number ≡ number) × FieldText field.parts value × AreNumbered (suc number) values fields
+
 -- 4: a field has the type `shaken` (RFC 8588), or none (RFC 8225)
 abbrev pub MayOriginate : IdentityField → Type 0
 MayOriginate field = (field.parts.ppt ≡ Some (codes "shaken")) ⊎ (field.parts.ppt ≡ None)
@@ -56,6 +64,7 @@ pub record IsRead (said : Facts) (field : IdentityField) (one : Reading) : Type 
   pub text : TokenText field.parts.token (given_to_compact said field.parts) token
   pub claims : Claims token.header token.payload field.parts.ppt field.parts.info one.passport
   pub mark : one.mark ≡ mark_of field.number token
+  pub number : one.mark.field ≡ field.number
 
 abbrev pub CanBeRead : Facts → IdentityField → Type 0
 CanBeRead said field = (one : Reading) × IsRead said field one
@@ -92,21 +101,35 @@ Means number P (Ok screened) = P
 Means number P (Err (Refused refused)) = (refused.rule ≡ number → P → ⊥) × (number < refused.rule → P)
 Means number P (Err Memory) = ⊤
 
+-- the fields that are spoken of are the message's, counted from 1, where each is in the grammar
+abbrev pub SpeaksOfFields : Call → Result ScreenedView ScreenFault → Type 0
+SpeaksOfFields call (Ok screened) = AreNumbered 1 (values_of call) (fields_of call)
+SpeaksOfFields call (Err (Refused refused)) = 3 < refused.rule → AreNumbered 1 (values_of call) (fields_of call)
+SpeaksOfFields call (Err Memory) = ⊤
+
 -- the PASSporTs that are spoken of are those of the judged fields, where they can be read
 abbrev pub SpeaksOfRead : Call → Result ScreenedView ScreenFault → Type 0
 SpeaksOfRead call (Ok screened) = AreRead (facts call) (judged_fields (fields_of call)) (in_message call)
 SpeaksOfRead call (Err (Refused refused)) = 6 < refused.rule → AreRead (facts call) (judged_fields (fields_of call)) (in_message call)
 SpeaksOfRead call (Err Memory) = ⊤
 
+-- a screened call's PASSporTs stand in the order in which it went; so do those of a call that a rule behind the one on their order refuses
+abbrev pub SpeaksOfOrder : Call → Result ScreenedView ScreenFault → Type 0
+SpeaksOfOrder call (Ok screened) = WentSo (facts call) (in_message call) screened.readings
+SpeaksOfOrder call (Err (Refused refused)) = 8 < refused.rule → WentSo (facts call) (in_message call) (in_call_order call)
+SpeaksOfOrder call (Err Memory) = ⊤
+
 -- each of the nine rules
 pub record SaysWords (bytes : List ℕ) (call : Call) (result : Result ScreenedView ScreenFault) : Type 0 where
   pub invite : Means 1 (IsInvite bytes) result
   pub identity : Means 2 (1 ≤ length (values_of call)) result
   pub fields : Means 3 (AreFewFields (values_of call)) result
+  pub numbers : SpeaksOfFields call result
   pub originating : Means 4 (OfOne MayOriginate (fields_of call)) result
   pub algorithms : Means 5 (Each IsEs256 (judged_fields (fields_of call))) result
   pub tokens : Means 6 (Each (CanBeRead (facts call)) (judged_fields (fields_of call))) result
   pub read : SpeaksOfRead call result
   pub calling : Means 7 (Each (IsFrom (facts call).calling) (in_message call)) result
   pub order : Means 8 (CallHasOrder call) result
+  pub went : SpeaksOfOrder call result
   pub fresh : Means 9 (Each (IsFresh call.settings.window call.moment) (in_call_order call)) result

@@ -1,6 +1,7 @@
 //! Rules 1 to 9, tried in their order.
 ghost use Rattle.std.specs.Prelude.{◌≡◌, ◌≤◌, List, map, IfOk};
 ghost use Rattle.verify_rules.specs.Call.{call_of, fields_of, read_call};
+ghost use Rattle.verify_rules.specs.Places.{SpeaksOfPlace};
 ghost use Rattle.verify_rules.specs.Rules.{Rule, early_rules, field_rules};
 ghost use Rattle.verify_rules.specs.Screened.{IsFirstBefore, IsLeast, IsScreenedBy};
 ghost use Rattle.verify_rules.specs.Seen.{field_seen};
@@ -45,6 +46,9 @@ pub fn screen(
     // Each rule in its own words, in the grammars and claims of the message that came: of a screened call it holds; where it refuses, it
     // doesn't hold, and those before it do.
     ensures words { SaysWords bytes.now (call_of settings.now moment bytes.now) result }
+
+    // Where the rule that refuses is broken: at the first Identity field or PASSporT of which it doesn't hold.
+    ensures places { SpeaksOfPlace bytes.now (call_of settings.now moment bytes.now) result }
 {
     head_law();
     field_law();

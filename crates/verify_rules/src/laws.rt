@@ -12,6 +12,7 @@ ghost use Rattle.passport_claims.specs.declared.kind.Kind.{Kind};
 ghost use Rattle.verify_rules.specs.AllWords.{SaysRules};
 ghost use Rattle.verify_rules.specs.Call.{Call, Reading, call_of, in_call_order};
 ghost use Rattle.verify_rules.specs.Late.{covers_kind};
+ghost use Rattle.verify_rules.specs.LatePlaces.{SpeaksOfLatePlace};
 ghost use Rattle.verify_rules.specs.LateWords.{CoversKind, SaysLateWords};
 ghost use Rattle.verify_rules.specs.Rules.{HoldAll, Rule, each, early_rules, first};
 ghost use Rattle.verify_rules.specs.Screened.{IsScreenedBy, ScreenedView, digest_in, last_of, last_of_call, ticket_of};
@@ -46,6 +47,17 @@ pub fn screened_law()
 /// none of the rules before; and what it says of a call that may be set aside.
 pub fn late_words_law()
     ensures { (world : World) (call : Call) (verdict : Verdict) → HoldsBytes world → first early_rules call ≡ None → VerdictOf world call verdict → SaysLateWords world call verdict }
+{
+    judged_law();
+    chain_law();
+    covers_law();
+}
+
+/// What the first broken rule of all says of where it is broken, if it is one of rules 10 to 17, where the files of the world hold bytes;
+/// and what holds before the place at which a call may be set aside.
+pub(crate) fn late_places_law()
+    ensures { (world : World) (call : Call) (verdict : Verdict) → HoldsBytes world → first early_rules call ≡ None → VerdictOf world call verdict
+        → SpeaksOfLatePlace world call verdict }
 {
     judged_law();
     chain_law();
@@ -94,7 +106,8 @@ pub fn signed_law()
     signed_claims_law();
 }
 
-/// What a verdict over a world says of each rule but the one on replay in its own words, where the files of the world hold bytes.
+/// What a verdict over a world says of each rule but the one on replay in its own words, and of where the one is broken that
+/// refuses the call, where the files of the world hold bytes.
 pub fn words_law()
     ensures { (world : World) (settings : Settings) (moment : ℕ) (bytes : List ℕ) (verdict : Verdict) → HoldsBytes world
         → VerdictOf world (call_of settings moment bytes) verdict → SaysRules world bytes (call_of settings moment bytes) verdict }
@@ -106,6 +119,7 @@ pub fn words_law()
     claims_law();
     order_law();
     late_words_law();
+    late_places_law();
 }
 
 /// Rules 10 to 14 depend on no provider of signatures; and rules 15 to 17 say the same by two of them, where both make the same of each chain of

@@ -2,6 +2,7 @@
 ghost use Rattle.std.specs.Prelude.{◌≡◌, ◌+◌, ◌≤◌, length};
 ghost use Rattle.verify_rules.specs.Call.{Call};
 ghost use Rattle.verify_rules.specs.Causes.{IsCaused};
+ghost use Rattle.verify_rules.specs.LatePlaces.{SpeaksOfLatePlace};
 ghost use Rattle.verify_rules.specs.LateWords.{SaysLateWords};
 ghost use Rattle.verify_rules.specs.Verdict.{IsVerdict, QuietIs, verdict_of};
 ghost use Rattle.verify_rules.specs.World.{AreRight, HoldsBytes, IsJudgedBy, VerdictOf, World};
@@ -10,7 +11,7 @@ use crate::asking::ask;
 use crate::chains::Chains;
 use crate::events::first_rule;
 use crate::late::{Event, LateRule};
-use crate::laws::late_words_law;
+use crate::laws::{late_places_law, late_words_law};
 use crate::refusal::{Place, Refusal};
 use crate::screened::Screened;
 use cert_store::judged_law;
@@ -73,6 +74,11 @@ pub fn finish<C: Chains, P: Provider>(
     ensures words { (world : World) (call : Call) → HoldsBytes world → IsJudgedBy world call table.now (P.says provider.old) moment screened.now.readings
         → AreRight world screened.now.readings (C.states chains.now) → SaysLateWords world call result }
 
+    // Where the rule that refuses is broken there: at the first PASSporT, and in it at the first certificate, of which it doesn't
+    // hold; and what holds before the place at which the call is set aside.
+    ensures places { (world : World) (call : Call) → HoldsBytes world → IsJudgedBy world call table.now (P.says provider.old) moment screened.now.readings
+        → AreRight world screened.now.readings (C.states chains.now) → SpeaksOfLatePlace world call result }
+
     // An answer is left open by a chain that was handed in, or by a question that failed in this call.
     ensures causes { IsCaused screened.now.readings (C.states chains.now) (P.faults provider.old) (P.faults provider.new) result }
 
@@ -88,6 +94,7 @@ pub fn finish<C: Chains, P: Provider>(
 {
     judged_law();
     late_words_law();
+    late_places_law();
     finish_exactly(screened, chains, moment, table, provider)
 }
 

@@ -9,5 +9,6 @@ returns c = record {
   chain_whole = c.chain_law.ensures.whole;
   path_again = c.path_law.ensures.again;
   path_found = c.path_law.ensures.found;
+  path_refused = c.path_law.ensures.refused;
   within = c.within_law.ensures.decides;
 }

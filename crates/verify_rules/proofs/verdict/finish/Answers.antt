@@ -10,3 +10,8 @@ pub returns-clause-words : goal.returns-clause-words
 returns-clause-words g c = λ world call typed judged right.
     c.late_words_law.ensures world call c.finish_exactly.result typed judged.early
     (verdict_right c.judged_law.ensures.answered world call _ _ _ _ _ _ _ c.finish_exactly.result c.finish_exactly.ensures.verdict judged right)
+
+pub returns-clause-places : goal.returns-clause-places
+returns-clause-places g c = λ world call typed judged right.
+    c.late_places_law.ensures world call c.finish_exactly.result typed judged.early
+    (verdict_right c.judged_law.ensures.answered world call _ _ _ _ _ _ _ c.finish_exactly.result c.finish_exactly.ensures.verdict judged right)
