@@ -4,6 +4,7 @@ pub mod AllWords
 pub mod AskingSteps
 pub mod CauseLaws
 pub mod ChainMeans
+pub mod CodeLaws
 pub mod EarlySteps
 pub mod FactLaws
 pub mod FieldSteps
@@ -11,15 +12,18 @@ pub mod FirstLaws
 pub mod FirstOf
 pub mod FreshLaws
 pub mod Known
+pub mod LastLaws
 pub mod LateMeans
 pub mod LateSteps
 pub mod LeafMeans
+pub mod NumberLaws
 pub mod OrderWords
+pub mod ProviderLaws
 pub mod ReadSteps
 pub mod ReadingLaws
+pub mod ResultLaws
 pub mod ScreenedLaws
 pub mod SignedLaws
-pub mod ResultLaws
 pub mod TokenWords
 pub mod TurnSteps
 pub mod VerdictLaws
@@ -30,4 +34,3 @@ pub mod WorldAside
 pub mod WorldEvents
 pub mod WorldLaws
 pub mod WorldVerdict
-pub mod ProviderLaws

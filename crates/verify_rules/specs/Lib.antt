@@ -3,8 +3,10 @@ pub mod Asking
 pub mod Call
 pub mod Causes
 pub mod Code
+pub mod LastSecond
 pub mod Late
 pub mod LateWords
+pub mod Numbers
 pub mod Rules
 pub mod Screened
 pub mod Seen
