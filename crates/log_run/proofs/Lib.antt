@@ -7,3 +7,4 @@ pub mod RunLaws
 pub mod LegalLaws
 pub mod EndLaws
 pub mod ClauseLaws
+pub mod StatusLaws

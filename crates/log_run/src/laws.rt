@@ -7,12 +7,14 @@ ghost use Rattle.call_log.specs.Log.{LogText, Passed, after, start};
 ghost use Rattle.call_log.specs.Reads.{ReadsEntry};
 ghost use Rattle.call_log.specs.declared.fault.LogFault.{LogFault};
 ghost use Rattle.call_log.specs.declared.fault.LogFault.TheVariants.{Backward, Grammar, Many, Source};
+ghost use Rattle.log_run.specs.AllValid.{AreValid, all_valid};
 ghost use Rattle.log_run.specs.Clauses.{FaultyAt, IsFaulty, PartLog};
 ghost use Rattle.log_run.specs.Ending.{report_status};
 ghost use Rattle.log_run.specs.Reading.{ReadCalls};
 ghost use Rattle.log_run.specs.Running.{SourceRose, Streams, StreamsStay};
 ghost use Rattle.stir_outside.specs.Count.{Rose};
 ghost use Rattle.stir_outside.specs.Told.{AppendsFront};
+ghost use Rattle.verify_service.specs.declared.outcome.Outcome.{Outcome};
 
 /// The calls that are read of a log, one after another: none yet, one, and some behind others.
 pub fn reading_law()
@@ -44,4 +46,11 @@ pub fn run_law()
     ensures source { (s t : Streams) (fault : LogFault) → (fault ≡ Source → Rose s.read_faults t.read_faults) → SourceRose s t (Some fault) }
     ensures source_behind { (a b c : Streams) (fault : Option LogFault) → StreamsStay a b → SourceRose b c fault → SourceRose a c fault }
     ensures low { (good : Bool) → report_status good ≤ 1 }
+{}
+
+/// The status of a whole report is 0 just where each of its calls is valid, and else 1.
+pub fn status_law()
+    ensures zero { (outcomes : List Outcome) → AreValid outcomes → report_status (all_valid outcomes) ≡ 0 }
+    ensures valid { (outcomes : List Outcome) → report_status (all_valid outcomes) ≡ 0 → AreValid outcomes }
+    ensures one { (outcomes : List Outcome) → (AreValid outcomes → ⊥) → report_status (all_valid outcomes) ≡ 1 }
 {}

@@ -13,7 +13,7 @@ mod rounds;
 mod run;
 
 pub use judge::Judge;
-pub use laws::{log_law, reading_law, run_law};
+pub use laws::{log_law, reading_law, run_law, status_law};
 pub use reading::next_call;
 pub use run::{end_at, judge_log, report_status};
 /// Memory ran out.

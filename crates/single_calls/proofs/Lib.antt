@@ -1,3 +1,4 @@
+pub mod ExplainBack
 pub mod ExplainSteps
 pub mod ExplainLaws
 pub mod ExplainerLaws

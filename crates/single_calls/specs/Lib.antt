@@ -2,6 +2,7 @@ pub mod AlwaysYes
 pub mod Explain
 pub mod CallQuestions
 pub mod Asks
+pub mod ToldApart
 pub mod Written
 pub mod Explainer
 pub mod Asker

@@ -1,5 +1,6 @@
 //! Laws: a function here does nothing, and its clauses are the law.
-ghost use Rattle.std.specs.Prelude.{◌≡◌, ℕ, List, [], Option, Some, None, true};
+ghost use Rattle.std.specs.Fmt.{decimal};
+ghost use Rattle.std.specs.Prelude.{◌≡◌, ◌<◌, ◌∷◌, codes, ℕ, List, [], Option, Some, None, true};
 ghost use Rattle.call_log.specs.Entry.{Entry};
 ghost use Rattle.call_run.specs.Answer.{AnswerView, all_well, texts_of};
 ghost use Rattle.call_run.specs.Answering.{AreAnswered};
@@ -8,15 +9,19 @@ ghost use Rattle.cert_store.specs.Rules.{Says};
 ghost use Rattle.single_calls.specs.Agreement.{JudgedAlike};
 ghost use Rattle.single_calls.specs.Asker.{AskedBy, AskerView, asking_world};
 ghost use Rattle.single_calls.specs.Asks.{Asks, asked_of};
-ghost use Rattle.single_calls.specs.Explain.{Explain, broken_text, ok_lines};
+ghost use Rattle.single_calls.specs.Explain.{Explain, broken_line, broken_text, explained, ok_line, ok_lines, unread_line};
+ghost use Rattle.single_calls.specs.ToldApart.{AreToldAlike, FindingFits, IsBrokenLine, line_of};
 ghost use Rattle.stir_outside.specs.Files.{Files};
 ghost use Rattle.verify_rules.specs.Call.{Call};
 ghost use Rattle.verify_rules.specs.World.{First, World, with_says};
+ghost use Rattle.verify_rules.specs.declared.refusal.Place.{Place};
 ghost use Rattle.verify_rules.specs.declared.refusal.Refusal.{Refusal};
 ghost use Rattle.verify_rules.specs.declared.settings.Settings.{Settings};
+ghost use Rattle.verify_service.specs.Report.{place_text};
+ghost use Rattle.verify_service.specs.declared.finding.Finding.{Finding};
 
 use cert_store::questions_law;
-use verify_rules::provider_law;
+use verify_rules::{code_law, provider_law};
 
 /// What is explained of a call by the first rule that it breaks: the lines of the rules before it and its own, and those of all seventeen
 /// where it breaks none.
@@ -41,4 +46,16 @@ pub fn agreement_law()
 {
     questions_law();
     provider_law();
+}
+
+/// The lines that explain a call have these words, and can be read back: texts are the same only where the number of the call is and what is
+/// told of what is found.
+pub fn lines_law()
+    ensures met { (number rule : ℕ) → ok_line number rule ≡ line_of (decimal number ∷ decimal rule ∷ codes "ok" ∷ []) }
+    ensures broken { (number : ℕ) (refused : Refusal) → IsBrokenLine number refused (broken_line number refused) }
+    ensures unread { (number : ℕ) (bad : Place) → unread_line number bad ≡ line_of (decimal number ∷ codes "10" ∷ codes "unread" ∷ place_text bad ∷ []) }
+    ensures same_text { (m n : ℕ) (a b : Finding) → m < 4294967296 → n < 4294967296 → FindingFits a → FindingFits b → explained m a ≡ explained n b
+        → (m ≡ n) × AreToldAlike a b }
+{
+    code_law();
 }

@@ -6,6 +6,7 @@ pub mod AskingSteps
 pub mod CauseLaws
 pub mod ChainMeans
 pub mod EarlyPlaces
+pub mod CodeLaws
 pub mod EarlySteps
 pub mod FactLaws
 pub mod FieldSteps
@@ -13,17 +14,20 @@ pub mod FirstLaws
 pub mod FirstOf
 pub mod FreshLaws
 pub mod Known
+pub mod LastLaws
 pub mod LateMeans
 pub mod LatePlaces
 pub mod LateSteps
 pub mod LeafMeans
+pub mod NumberLaws
 pub mod OrderWords
 pub mod PlaceLaws
+pub mod ProviderLaws
 pub mod ReadSteps
 pub mod ReadingLaws
+pub mod ResultLaws
 pub mod ScreenedLaws
 pub mod SignedLaws
-pub mod ResultLaws
 pub mod TokenWords
 pub mod TurnSteps
 pub mod VerdictLaws
@@ -35,5 +39,4 @@ pub mod WorldAside
 pub mod WorldEvents
 pub mod WorldLaws
 pub mod WorldVerdict
-pub mod ProviderLaws
 pub mod OneField

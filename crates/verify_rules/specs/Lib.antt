@@ -3,10 +3,12 @@ pub mod Asking
 pub mod Call
 pub mod Causes
 pub mod Code
+pub mod LastSecond
 pub mod Late
 pub mod LatePlaces
 pub mod LateWords
 pub mod Places
+pub mod Numbers
 pub mod Rules
 pub mod Screened
 pub mod Seen

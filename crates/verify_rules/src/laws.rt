@@ -9,11 +9,16 @@ ghost use Rattle.cert_store.specs.ChainMap.{listed};
 ghost use Rattle.cert_store.specs.Judged.{JudgedAs, JudgedView, judged_of};
 ghost use Rattle.cert_store.specs.Rules.{Says};
 ghost use Rattle.passport_claims.specs.declared.kind.Kind.{Kind};
+ghost use Rattle.sip_message.specs.Head.{Head};
+ghost use Rattle.sip_message.specs.Message.{MessageView};
 ghost use Rattle.verify_rules.specs.AllWords.{SaysRules};
-ghost use Rattle.verify_rules.specs.Call.{Call, Reading, call_of, in_call_order};
+ghost use Rattle.verify_rules.specs.Call.{Call, Reading, call_of, facts, in_call_order};
+ghost use Rattle.verify_rules.specs.Code.{HasCode, code_of};
+ghost use Rattle.verify_rules.specs.LastSecond.{IsLastSecond};
 ghost use Rattle.verify_rules.specs.Late.{covers_kind};
 ghost use Rattle.verify_rules.specs.LatePlaces.{SpeaksOfLatePlace};
 ghost use Rattle.verify_rules.specs.LateWords.{CoversKind, SaysLateWords};
+ghost use Rattle.verify_rules.specs.Numbers.{IsCalledOf, IsCallingOf};
 ghost use Rattle.verify_rules.specs.Rules.{HoldAll, Rule, each, early_rules, first};
 ghost use Rattle.verify_rules.specs.Screened.{IsScreenedBy, ScreenedView, digest_in, last_of, last_of_call, ticket_of};
 ghost use Rattle.verify_rules.specs.Signed.{IsKnownAgain};
@@ -136,3 +141,24 @@ pub fn one_field_law()
     ensures { (call : Call) (at other : ℕ) (one second : Reading) → slice_get (in_call_order call) at ≡ Some one → slice_get (in_call_order call) other ≡ Some second
         → one.mark.field ≡ second.mark.field → one ≡ second }
 {}
+/// Each rule from 1 to 18, of which 18 is the one on replay, has the response code of its row (RFC 3261, section 21.4.1; RFC 8224, section 6.2.2).
+pub fn code_law()
+    ensures { (rule : ℕ) → HasCode rule (code_of rule) }
+{}
+
+/// A call that breaks none of rules 1 to 9 is fresh up to the `iat` of its last PASSporT plus the window.
+pub fn last_second_law()
+    ensures { (call : Call) → first early_rules call ≡ None → IsLastSecond call (last_of_call call) }
+{
+    signed_law();
+}
+
+/// The calling number of rule 7 and the called number of rule 8, of a call whose bytes are the head of a message.
+pub fn numbers_law()
+    ensures calling { (settings : Settings) (moment : ℕ) (bytes : List ℕ) (message : MessageView) → Head bytes message
+        → IsCallingOf message settings.local (facts (call_of settings moment bytes)).calling }
+    ensures called { (settings : Settings) (moment : ℕ) (bytes : List ℕ) (message : MessageView) → Head bytes message
+        → IsCalledOf message settings.local (facts (call_of settings moment bytes)) }
+{
+    head_law();
+}

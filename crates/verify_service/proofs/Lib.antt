@@ -2,7 +2,10 @@ pub mod CallSteps
 pub mod CountLaws
 pub mod FollowLaws
 pub mod JudgeLaws
+pub mod LastLaws
+pub mod LineLaws
 pub mod ListLaws
+pub mod ReadBack
 pub mod ReadLaws
 pub mod RoundLaws
 pub mod SettleLaws

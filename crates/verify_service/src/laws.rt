@@ -1,22 +1,26 @@
 //! Laws: a function here does nothing, and its clauses are the law.
 ghost use Rattle.std.specs.List.{slice_get};
 ghost use Rattle.std.specs.Option.{option_map};
-ghost use Rattle.std.specs.Prelude.{◌≡◌, ◌<◌, ◌+◌, ◌++◌, ◌∷◌, [], ℕ, List, length, take, Option, Some, Result};
+ghost use Rattle.std.specs.Prelude.{◌≡◌, ◌<◌, ◌+◌, ◌++◌, ◌∷◌, [], ℕ, List, length, take, Option, Some, None, Result};
 ghost use Rattle.call_log.specs.Entry.{Entry};
 ghost use Rattle.cert_store.specs.Rules.{Says};
 ghost use Rattle.passport_claims.specs.Passport.{ClaimsView};
 ghost use Rattle.stir_outside.specs.Files.{Files};
-ghost use Rattle.verify_rules.specs.Call.{Reading, call_of, passport_in};
-ghost use Rattle.verify_rules.specs.Rules.{early_rules};
+ghost use Rattle.verify_rules.specs.Call.{Call, Reading, call_of, passport_in};
+ghost use Rattle.verify_rules.specs.LastSecond.{IsLastSecond};
+ghost use Rattle.verify_rules.specs.Rules.{early_rules, first};
 ghost use Rattle.verify_rules.specs.Screened.{IsScreenedBy, ScreenedView};
 ghost use Rattle.verify_rules.specs.States.{State};
 ghost use Rattle.verify_rules.specs.declared.refusal.ScreenFault.{ScreenFault};
 ghost use Rattle.verify_rules.specs.declared.settings.Settings.{Settings};
 ghost use Rattle.verify_service.specs.Chains.{AreRightWhere, IsRightWhere};
-ghost use Rattle.verify_service.specs.Judging.{call_in};
+ghost use Rattle.verify_service.specs.Judging.{call_in, last_second};
+ghost use Rattle.verify_service.specs.Report.{report, report_text};
+ghost use Rattle.verify_service.specs.ReportLine.{AllFit, Fits, IsLine};
+ghost use Rattle.verify_service.specs.declared.outcome.Outcome.{Outcome};
 ghost use Rattle.cert_store.specs.declared.world.World.{World as Materials};
 
-use verify_rules::right_law;
+use verify_rules::{code_law, last_second_law, right_law};
 
 /// A call of a log is judged as what its message and its moment are.
 pub fn call_law()
@@ -35,4 +39,22 @@ pub fn chains_law()
         → AreRightWhere told materials says (take (i + 1) readings) (states ++ state ∷ []) }
 {
     right_law();
+}
+
+/// A call that breaks none of rules 1 to 9 is known again up to the `iat` of its last PASSporT plus the window.
+pub fn fresh_law()
+    ensures { (call : Call) → first early_rules call ≡ None → IsLastSecond call (last_second call) }
+{
+    last_second_law();
+}
+
+/// A line of the report has the words of its row, and the report can be read back: lines are the same only where the number of the call and
+/// what came of it are, and reports only where all that came of their calls is.
+pub fn report_law()
+    ensures line { (number : ℕ) (outcome : Outcome) → IsLine number outcome (report_text number outcome) }
+    ensures same_line { (m n : ℕ) (a b : Outcome) → m < 4294967296 → n < 4294967296 → Fits a → Fits b → report_text m a ≡ report_text n b → (m ≡ n) × (a ≡ b) }
+    ensures same_report { (number : ℕ) (xs ys : List Outcome) → number + length xs < 4294967296 → number + length ys < 4294967296 → AllFit xs → AllFit ys
+        → report number xs ≡ report number ys → xs ≡ ys }
+{
+    code_law();
 }

@@ -24,7 +24,7 @@ pub use cert_store::World;
 pub use chains::{CallChain, CallChains};
 pub use finding::{Finding, Pass};
 pub use judge::judge_call;
-pub use laws::{call_law, chains_law};
+pub use laws::{call_law, chains_law, fresh_law, report_law};
 pub use outcome::Outcome;
 pub use reading::chain_in;
 pub use report::report_line;
