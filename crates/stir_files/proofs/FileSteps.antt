@@ -1,10 +1,9 @@
 -- The steps of reading one file.
-use Rattle.std.proofs.Common.{◌≡◌, ℕ, ◌≤◌, List, length, Option, Some, None, Result, Err, ap, subst}
-use Rattle.std.specs.Option.{IsSomeAnd}
+use Rattle.std.proofs.Common.{◌≡◌, ℕ, ◌≤◌, List, length, Option, Some, Result, Err, ap, subst}
 use Rattle.stir_outside.proofs.CountLaws.{then_rose}
 use Rattle.stir_outside.specs.Count.{Rose}
 use Rattle.stir_outside.specs.Files.{Counts, CountsGoOn, Files, OfFile}
-use Rattle.stir_files.specs.Inputs.{Adds, HoldsFile, TakesIn, file_of}
+use Rattle.stir_files.specs.Inputs.{Adds, TakesIn, file_of}
 use Rattle.stir_files.specs.Named.{CausedBy, FaultSays, IsRefusal, NamedFile, ShelfSays, refusal_of}
 use Rattle.stir_files.specs.declared.fault.FileFault.{FileFault}
 use Rattle.stir_files.specs.declared.fault.FileFault.TheVariants.{Missing, Long, Failed, Refused, NoList, Memory}

@@ -1,5 +1,5 @@
 -- The certificate of a holder is read, or refused.
-use Rattle.std.proofs.Common.{◌≡◌, ℕ, List, true, false, is_some, Option, Some, None, Ok, Err, ◌∙◌, ap}
+use Rattle.std.proofs.Common.{◌≡◌, ℕ, List, true, false, is_some, Some, None, Ok, Err, ◌∙◌, ap}
 use Rattle.x509_profile.specs.Cert.{Cert}
 use Rattle.x509_profile.specs.Fault.{fault_at}
 use Rattle.x509_profile.specs.Read.{read_certificate}

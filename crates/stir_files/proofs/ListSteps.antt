@@ -7,7 +7,7 @@ use Rattle.std.proofs.lemmas.List.{drop_all}
 use Rattle.std.specs.Option.{IsSomeAnd}
 use Rattle.stir_outside.specs.Files.{Files}
 use Rattle.stir_files.specs.Inputs.{Adds, Holds, HoldsContent, HoldsFile, IsOfThese, KeepsOthers, all_differ, file_of, files_named, has_part, no_inputs, same_kind}
-use Rattle.stir_files.specs.Named.{FaultSays, Passes, ReadOf, Stop, StopsAt, refusal_of}
+use Rattle.stir_files.specs.Named.{FaultSays, Passes, Stop, StopsAt, refusal_of}
 use Rattle.stir_files.specs.declared.fault.FileFault.{FileFault}
 use Rattle.stir_files.specs.declared.input_file.InputFile.{InputFile}
 use Rattle.stir_files.specs.declared.input_file.InputFile.TheVariants.{Chains, Anchors, Table, Answers, Leaf}
