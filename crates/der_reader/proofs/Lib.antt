@@ -1,4 +1,5 @@
 pub mod NextLaws
+pub mod UnreadableLaws
 pub mod PartLaws
 pub mod BrokenLaws
 pub mod ReadLaws

@@ -14,18 +14,18 @@ use Rattle.der_reader.specs.Next.{header_at, content_at, next_behind, next_at, n
 use Rattle.lists.proofs.StepLaws.{inside}
 
 -- the bytes begin with a tag and the one minimal length
-record HeaderText (bytes : List ℕ) (h : Header) : Type 0 where
-  low_tag : bit_and h.tag 31 ≢ 31
-  small : h.content_size < 65536
-  fits : h.size ≤ length bytes
-  some : 0 < h.size
-  text : take h.size bytes ≡ h.tag ∷ length_text h.content_size
+pub record HeaderText (bytes : List ℕ) (h : Header) : Type 0 where
+  pub low_tag : bit_and h.tag 31 ≢ 31
+  pub small : h.content_size < 65536
+  pub fits : h.size ≤ length bytes
+  pub some : 0 < h.size
+  pub text : take h.size bytes ≡ h.tag ∷ length_text h.content_size
 
 pub short_text : (n : ℕ) → n < 128 → length_text n ≡ n ∷ []
 unfolding length_text
 short_text n l = grind (arith, nat_tests)
 
-one_byte_text : (n : ℕ) → 128 ≤ n → n < 256 → length_text n ≡ 129 ∷ n ∷ []
+pub one_byte_text : (n : ℕ) → 128 ≤ n → n < 256 → length_text n ≡ 129 ∷ n ∷ []
 unfolding length_text
 one_byte_text n l m = grind (arith, nat_tests)
 
@@ -33,17 +33,17 @@ two_byte_text : (n : ℕ) → 256 ≤ n → length_text n ≡ 130 ∷ n / 256 �
 unfolding length_text
 two_byte_text n l = grind (arith, nat_tests)
 
-header_again_short : (tag n : ℕ) (more : List ℕ) → bit_and tag 31 ≢ 31 → n < 128
+pub header_again_short : (tag n : ℕ) (more : List ℕ) → bit_and tag 31 ≢ 31 → n < 128
     → header_at (tag ∷ n ∷ more) ≡ Ok (record { tag = tag; size = 2; content_size = n })
 unfolding header_at
 header_again_short tag n more t l = grind (arith, nat_tests, common_steps)
 
-header_again_one : (tag n : ℕ) (more : List ℕ) → bit_and tag 31 ≢ 31 → 128 ≤ n
+pub header_again_one : (tag n : ℕ) (more : List ℕ) → bit_and tag 31 ≢ 31 → 128 ≤ n
     → header_at (tag ∷ 129 ∷ n ∷ more) ≡ Ok (record { tag = tag; size = 3; content_size = n })
 unfolding header_at
 header_again_one tag n more t l = grind (arith, nat_tests, common_steps)
 
-header_again_two : (tag a b : ℕ) (more : List ℕ) → bit_and tag 31 ≢ 31 → 0 < a
+pub header_again_two : (tag a b : ℕ) (more : List ℕ) → bit_and tag 31 ≢ 31 → 0 < a
     → header_at (tag ∷ 130 ∷ a ∷ b ∷ more) ≡ Ok (record { tag = tag; size = 4; content_size = a * 256 + b })
 unfolding header_at
 header_again_two tag a b more t l = grind (arith, nat_tests, common_steps)
@@ -114,7 +114,7 @@ found_one t (x ∷ more) h b e =
       text = ap (λ l. t ∷ l) (sym (one_byte_text x l u));
     })
 
-two_digits : (x y : ℕ) → 0 < x → y < 256 → length_text (x * 256 + y) ≡ 130 ∷ x ∷ y ∷ []
+pub two_digits : (x y : ℕ) → 0 < x → y < 256 → length_text (x * 256 + y) ≡ 130 ∷ x ∷ y ∷ []
 two_digits x y l u =
     let big : 256 ≤ x * 256 + y = omega arith in
     let high : (x * 256 + y) / 256 ≡ x = omega arith in
@@ -139,7 +139,7 @@ found_two t (x ∷ y ∷ more) h b e =
     })
 
 -- what `header_at` gives is tag and length as they stand there
-header_found : (bytes : List ℕ) (h : Header) → AllBytes bytes → header_at bytes ≡ Ok h → HeaderText bytes h
+pub header_found : (bytes : List ℕ) (h : Header) → AllBytes bytes → header_at bytes ≡ Ok h → HeaderText bytes h
 header_found [] h b e = absurd (no_byte h e)
 header_found (t ∷ []) h b e = absurd (one_byte t h e)
 header_found (t ∷ s ∷ rest) h b e =
@@ -154,7 +154,7 @@ header_found (t ∷ s ∷ rest) h b e =
     ]
 
 -- the tag and the minimal length of n are read back
-header_again : (t n : ℕ) (more : List ℕ) → bit_and t 31 ≢ 31 → n < 65536
+pub header_again : (t n : ℕ) (more : List ℕ) → bit_and t 31 ≢ 31 → n < 65536
     → header_at (t ∷ (length_text n ++ more)) ≡ Ok (record { tag = t; size = suc (length (length_text n)); content_size = n })
 header_again t n more low small = elim (sizes n) [
   | inl l ↦ rw (short_text n l) (header_again_short t n more low l)
@@ -344,27 +344,27 @@ parts_are_bytes bytes element rest b s =
 
 -- ---- an element that is cut short
 
-too_short : (bytes : List ℕ) (h : Header) → header_at bytes ≡ Ok h → length bytes < h.size + h.content_size → next_at bytes ≡ Err (short_at (length bytes))
+pub too_short : (bytes : List ℕ) (h : Header) → header_at bytes ≡ Ok h → length bytes < h.size + h.content_size → next_at bytes ≡ Err (short_at (length bytes))
 unfolding next_at
 too_short bytes h e l = let test : nat_lt (length bytes) (h.size + h.content_size) ≡ true = grind (arith, nat_tests, l) in rw (e, test) refl
 
-nothing : next_at [] ≡ Err (short_at 0)
+pub nothing : next_at [] ≡ Err (short_at 0)
 unfolding next_at header_at
 nothing = refl
 
-no_length : (t : ℕ) → bit_and t 31 ≢ 31 → next_at (t ∷ []) ≡ Err (short_at 1)
+pub no_length_byte : (t : ℕ) → bit_and t 31 ≢ 31 → next_at (t ∷ []) ≡ Err (short_at 1)
 unfolding next_at header_at
-no_length t low = grind (arith, nat_tests, common_steps)
+no_length_byte t low = grind (arith, nat_tests, common_steps)
 
-one_wanting : (t : ℕ) → bit_and t 31 ≢ 31 → next_at (t ∷ 129 ∷ []) ≡ Err (short_at 2)
+pub one_wanting : (t : ℕ) → bit_and t 31 ≢ 31 → next_at (t ∷ 129 ∷ []) ≡ Err (short_at 2)
 unfolding next_at header_at
 one_wanting t low = grind (arith, nat_tests, common_steps)
 
-two_wanting : (t : ℕ) → bit_and t 31 ≢ 31 → next_at (t ∷ 130 ∷ []) ≡ Err (short_at 2)
+pub two_wanting : (t : ℕ) → bit_and t 31 ≢ 31 → next_at (t ∷ 130 ∷ []) ≡ Err (short_at 2)
 unfolding next_at header_at
 two_wanting t low = grind (arith, nat_tests, common_steps)
 
-half_wanting : (t a : ℕ) → bit_and t 31 ≢ 31 → next_at (t ∷ 130 ∷ a ∷ []) ≡ Err (short_at 3)
+pub half_wanting : (t a : ℕ) → bit_and t 31 ≢ 31 → next_at (t ∷ 130 ∷ a ∷ []) ≡ Err (short_at 3)
 unfolding next_at header_at
 half_wanting t a low = grind (arith, nat_tests, common_steps)
 
@@ -373,7 +373,7 @@ abbrev Short : List ℕ → Type 0
 Short front = next_at front ≡ Err (short_at (length front))
 
 front_one : (t n : ℕ) (content front more : List ℕ) → bit_and t 31 ≢ 31 → n < 128 → length content ≡ n → n ∷ content ≡ front ++ more → 1 ≤ length more → Short (t ∷ front)
-front_one t n content [] more low l size e some = no_length t low
+front_one t n content [] more low l size e some = no_length_byte t low
 front_one t n content (b ∷ rest) more low l size e some =
     let is : n ≡ b = cc in
     let left : content ≡ rest ++ more = cc in
@@ -381,7 +381,7 @@ front_one t n content (b ∷ rest) more low l size e some =
     (too_short (t ∷ n ∷ rest) _ (header_again_short t n rest low l) (omega (arith, size, some, ap length left, length-append rest more)))
 
 front_two : (t n : ℕ) (content front more : List ℕ) → bit_and t 31 ≢ 31 → 128 ≤ n → length content ≡ n → 129 ∷ n ∷ content ≡ front ++ more → 1 ≤ length more → Short (t ∷ front)
-front_two t n content [] more low l size e some = no_length t low
+front_two t n content [] more low l size e some = no_length_byte t low
 front_two t n content (b ∷ []) more low l size e some = let is : 129 ≡ b = cc in subst (λ b. Short (t ∷ b ∷ [])) is (one_wanting t low)
 front_two t n content (b ∷ c ∷ rest) more low l size e some =
     let is : 129 ≡ b = cc in
@@ -392,7 +392,7 @@ front_two t n content (b ∷ c ∷ rest) more low l size e some =
 
 front_three : (t a b : ℕ) (content front more : List ℕ) → bit_and t 31 ≢ 31 → 0 < a → length content ≡ a * 256 + b → 130 ∷ a ∷ b ∷ content ≡ front ++ more → 1 ≤ length more
     → Short (t ∷ front)
-front_three t a b content [] more low l size e some = no_length t low
+front_three t a b content [] more low l size e some = no_length_byte t low
 front_three t a b content (c ∷ []) more low l size e some = let is : 130 ≡ c = cc in subst (λ c. Short (t ∷ c ∷ [])) is (two_wanting t low)
 front_three t a b content (c ∷ d ∷ []) more low l size e some = let is : 130 ≡ c = cc in subst (λ c. Short (t ∷ c ∷ d ∷ [])) is (half_wanting t d low)
 front_three t a b content (c ∷ d ∷ f ∷ rest) more low l size e some =

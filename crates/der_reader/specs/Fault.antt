@@ -2,6 +2,10 @@
 use Rattle.std.specs.Prelude.{ℕ}
 use Rattle.der_reader.specs.declared.fault.DerFault.{DerFault}
 
+-- the fault of this kind and place
+abbrev pub fault_at : ℕ → ℕ → DerFault
+fault_at kind place = record { kind = kind; place = place }
+
 -- the bytes end at this place, before the element does
 abbrev pub short_at : ℕ → DerFault
 short_at place = record { kind = 1; place = place }

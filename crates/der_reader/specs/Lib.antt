@@ -2,6 +2,7 @@ pub mod Fault
 pub mod Tags
 pub mod Elem
 pub mod Next
+pub mod Unreadable
 pub mod Part
 pub mod Broken
 pub mod Each

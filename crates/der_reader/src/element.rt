@@ -1,7 +1,8 @@
 //! One DER element off the front of some bytes (X.690, sections 8.1.2, 8.1.3 and 10.1).
 
-ghost use Rattle.std.specs.Prelude.{◌≡◌, ◌+◌, ◌<◌, ◌≤◌, length, IfOk, IfErr, IsOkAnd, List, ℕ};
+ghost use Rattle.std.specs.Prelude.{◌≡◌, ◌+◌, ◌<◌, ◌≤◌, length, Err, IfOk, IfErr, IsOkAnd, List, ℕ};
 ghost use Rattle.der_reader.specs.Elem.{BeginsWith, Element, element_of};
+ghost use Rattle.der_reader.specs.Unreadable.{Unreadable};
 ghost use Rattle.der_reader.specs.Next.{content_at, header_at, next_at, next_view, pair_at, pair_view, sole_at, sole_view};
 
 use crate::fault::DerFault;
@@ -51,6 +52,10 @@ impl<'a> Der<'a> {
         // Two elements that the same bytes begin with are one.
         ensures unique { (a b : Element) (r s : List ℕ) → BeginsWith bytes.now a r → BeginsWith bytes.now b s
             → (a ≡ b) × (r ≡ s) }
+
+        // A fault is the first test that the bytes fail, and the first that they fail is the fault.
+        ensures refused { IfErr result (λ fault. Unreadable bytes.now fault) }
+        ensures only_refused { (fault : DerFault) → Unreadable bytes.now fault → result ≡ Err fault }
 
         ensures shorter { IfOk result (λ r. length r.1.now < length bytes.now) }
         ensures place { IfErr result (λ fault. fault.place ≤ length bytes.now) }

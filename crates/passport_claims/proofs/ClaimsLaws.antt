@@ -11,8 +11,9 @@ use Rattle.passport_claims.specs.Claims.{Claims, HasKind, IsKnown}
 use Rattle.passport_claims.specs.Kind.{attest_of, attest_text, ppt_of}
 use Rattle.passport_claims.specs.Members.{HasText, called_in, number_in, text_in}
 use Rattle.passport_claims.specs.Origid.{IsOrigid, is_origid}
-use Rattle.passport_claims.specs.Passport.{ClaimsView, IsKind, IsPassport, most_called}
+use Rattle.passport_claims.specs.Passport.{ClaimsView, IsCalledCount, IsKind, IsPassport, most_called}
 use Rattle.passport_claims.specs.Read.{checked_header, checked_kind, has_text, has_text_where, origid_of, read_claims, shaken_in, div_in}
+use Rattle.passport_claims.specs.Refused.{HasHeader, IsOfFieldType, IsSigned256}
 use Rattle.passport_claims.specs.Reading.{Gives, IsOkUnlessMemory, fault_seen, or_fault}
 use Rattle.lists.specs.Steps.{◌>>=◌}
 use Rattle.passport_claims.specs.declared.fault.ClaimFault.{ClaimFault}
@@ -20,30 +21,27 @@ use Rattle.passport_claims.specs.declared.fault.ClaimFault.TheVariants as faults
 use Rattle.passport_claims.specs.declared.kind.Attest.{Attest}
 use Rattle.passport_claims.specs.declared.kind.Kind.{Kind}
 use Rattle.passport_claims.specs.declared.kind.Kind.TheVariants as kinds
-use Rattle.passport_claims.proofs.MemberLaws.{attest_again, attest_only, called_again, called_only, found_text, number_again, number_only, text_again, text_found, where_again, where_found}
+use Rattle.passport_claims.proofs.MemberLaws.{attest_again, attest_only, called_again, called_count, called_only, count_called, found_text, number_again, number_only, text_again, text_found, where_again, where_found}
 use Rattle.passport_claims.proofs.OrigidLaws.{origid_again, origid_tells}
 use Rattle.lists.proofs.GivenLaws.{only_given}
 use Rattle.lists.proofs.StepLaws.{came}
 
 -- ---- steps
 
-there : {A : Type 0} (broken : ClaimFault) (found : Option A) (a : A) → or_fault broken found ≡ Ok a → found ≡ Some a
+pub there : {A : Type 0} (broken : ClaimFault) (found : Option A) (a : A) → or_fault broken found ≡ Ok a → found ≡ Some a
 there broken None a h = absurd cc
 there broken (Some x) a h = let e : x ≡ a = cc in ap (λ y. Some y) e
 
 -- ---- the header
 
-header_again : (header : Data) (ppt : Option (List ℕ)) (info : List ℕ) → HasText (codes "typ") (codes "passport") header → HasText (codes "alg") (codes "ES256") header
-    → has_text_where (codes "ppt") ppt header ≡ true → HasText (codes "x5u") info header → checked_header header ppt info ≡ Ok info
-header_again header ppt info typ alg same_ppt x5u =
-    rw (text_again (codes "typ") (codes "passport") header typ, text_again (codes "alg") (codes "ES256") header alg, same_ppt, text_again (codes "x5u") info header x5u) refl
-
-record HasHeader (header : Data) (ppt : Option (List ℕ)) (info kept : List ℕ) : Type 0 where
-  typ : has_text (codes "typ") (codes "passport") header ≡ true
-  alg : has_text (codes "alg") (codes "ES256") header ≡ true
-  same_ppt : has_text_where (codes "ppt") ppt header ≡ true
-  x5u : has_text (codes "x5u") info header ≡ true
-  is : kept ≡ info
+pub header_again : (header : Data) (ppt : Option (List ℕ)) (info : List ℕ) → HasHeader header ppt info → checked_header header ppt info ≡ Ok info
+header_again header ppt info h =
+    rw (
+      text_again (codes "typ") (codes "passport") header h.before.before.typ,
+      text_again (codes "alg") (codes "ES256") header h.before.before.alg,
+      where_again (codes "ppt") ppt header h.before.same_ppt,
+      text_again (codes "x5u") info header h.same_x5u,
+    ) refl
 
 record FourHold (a b c d : Bool) (info kept : List ℕ) : Type 0 where
   first : a ≡ true
@@ -60,10 +58,16 @@ four_by true false c d info kept h = absurd cc
 four_by true true false d info kept h = absurd cc
 four_by true true true false info kept h = absurd cc
 
-header_only : (header : Data) (ppt : Option (List ℕ)) (info kept : List ℕ) → checked_header header ppt info ≡ Ok kept → HasHeader header ppt info kept
+pub header_only : (header : Data) (ppt : Option (List ℕ)) (info kept : List ℕ) → checked_header header ppt info ≡ Ok kept
+    → HasHeader header ppt info × (kept ≡ info)
 header_only header ppt info kept h =
     let k = four_by (has_text (codes "typ") (codes "passport") header) (has_text (codes "alg") (codes "ES256") header) (has_text_where (codes "ppt") ppt header) (has_text (codes "x5u") info header) info kept h in
-    record { typ = k.first; alg = k.second; same_ppt = k.third; x5u = k.fourth; is = k.is }
+    let signed : IsSigned256 header = record {
+      typ = text_found (codes "typ") (codes "passport") header k.first;
+      alg = text_found (codes "alg") (codes "ES256") header k.second;
+    } in
+    let of_type : IsOfFieldType header ppt = record { before = signed; same_ppt = where_found (codes "ppt") ppt header k.third } in
+    (record { before = of_type; same_x5u = text_found (codes "x5u") info header k.fourth }, k.is)
 
 -- ---- what the type adds
 
@@ -72,12 +76,12 @@ kind_again payload kinds.Base h = refl
 kind_again payload (kinds.Shaken level origid) h = rw (h.0, attest_again level, h.1, origid_again origid h.2) refl
 kind_again payload (kinds.Div div) h = rw (number_again (codes "div") payload div h) refl
 
-attest_found : (payload : Data) (level : Attest) → option_and_then attest_of (text_in (codes "attest") payload) ≡ Some level → HasText (codes "attest") (attest_text level) payload
+pub attest_found : (payload : Data) (level : Attest) → option_and_then attest_of (text_in (codes "attest") payload) ≡ Some level → HasText (codes "attest") (attest_text level) payload
 attest_found payload level h =
     option_and_then_some attest_of (text_in (codes "attest") payload) level h
     (λ text et el. subst (λ t. HasText (codes "attest") t payload) (attest_only text level el) (found_text (get (codes "attest") payload) text et))
 
-origid_found : (payload : Data) (origid : List ℕ) → option_and_then origid_of (text_in (codes "origid") payload) ≡ Some origid → HasText (codes "origid") origid payload × IsOrigid origid
+pub origid_found : (payload : Data) (origid : List ℕ) → option_and_then origid_of (text_in (codes "origid") payload) ≡ Some origid → HasText (codes "origid") origid payload × IsOrigid origid
 origid_found payload origid h =
     option_and_then_some origid_of (text_in (codes "origid") payload) origid h
     (λ text et eo. let k = cond_some (is_origid text) text origid eo in
@@ -118,17 +122,25 @@ kind_only payload ppt kind (inr (inr e)) h = rw e (div_only payload kind (subst 
 
 -- ---- all claims
 
+pub issued_again : (payload : Data) (iat : ℕ) → IsIssuedAt payload iat → issued_at payload ≡ Some iat
+issued_again payload iat is = rw (is.member, le-leb iat last_second is.within) refl
+
+header_of : (header payload : Data) (ppt : Option (List ℕ)) (info : List ℕ) (claims : ClaimsView) → Claims header payload ppt info claims
+    → HasHeader header ppt info
+header_of header payload ppt info claims c =
+    record { before = record { before = record { typ = c.typ; alg = c.alg }; same_ppt = c.same_ppt }; same_x5u = c.same_x5u }
+
 pub claims_again : (header payload : Data) (ppt : Option (List ℕ)) (info : List ℕ) (claims : ClaimsView) → Claims header payload ppt info claims → read_claims header payload ppt info ≡ Ok claims
 unfolding read_claims
 claims_again header payload ppt info claims c =
     let kind : checked_kind ppt payload ≡ Ok claims.kind = subst (λ p. checked_kind p payload ≡ Ok claims.kind) c.kept_ppt (kind_again payload claims.kind c.kind) in
     let kept : info ≡ claims.x5u = sym c.kept_x5u in
-    let issued : issued_at payload ≡ Some claims.iat = rw (c.iat.member, le-leb claims.iat last_second c.iat.within) refl in
+    let issued : issued_at payload ≡ Some claims.iat = issued_again payload claims.iat c.iat in
     rw (
-      header_again header ppt info c.typ c.alg (where_again (codes "ppt") ppt header c.same_ppt) c.same_x5u,
+      header_again header ppt info (header_of header payload ppt info claims c),
       issued,
       number_again (codes "orig") payload claims.orig c.orig,
-      called_again (most_called ppt) payload claims.dest c.dest c.some_called c.few_called,
+      called_again (most_called ppt) payload claims.dest c.dest c.called.some (count_called ppt (length claims.dest) c.called),
       kind,
       kept,
     ) refl
@@ -152,7 +164,7 @@ unsigned_by (unsigned own) seconds h = let e : own ≡ seconds = cc in ap unsign
 unsigned_by (negative z) seconds h = absurd cc
 unsigned_by (float x) seconds h = absurd cc
 
-issued_only : (payload : Data) (iat : ℕ) → issued_at payload ≡ Some iat → IsIssuedAt payload iat
+pub issued_only : (payload : Data) (iat : ℕ) → issued_at payload ≡ Some iat → IsIssuedAt payload iat
 issued_only payload iat h =
     option_and_then_some not_past (option_and_then as_u64 (option_and_then as_number (get (codes "iat") payload))) iat h
     (λ seconds es el. option_and_then_some as_u64 (option_and_then as_number (get (codes "iat") payload)) seconds es
@@ -179,18 +191,17 @@ claims_only header payload ppt info claims known h =
     let made : ClaimsView = record { kind = fifth.0; x5u = first.0; iat = second.0; orig = third.0; dest = fourth.0 } in
     let is : made ≡ claims = let e = fifth.2 in cc in
     let here : Claims header payload ppt info made = record {
-      typ = text_found (codes "typ") (codes "passport") header head.typ;
-      alg = text_found (codes "alg") (codes "ES256") header head.alg;
-      same_ppt = where_found (codes "ppt") ppt header head.same_ppt;
-      same_x5u = text_found (codes "x5u") info header head.x5u;
+      typ = head.0.before.before.typ;
+      alg = head.0.before.before.alg;
+      same_ppt = head.0.before.same_ppt;
+      same_x5u = head.0.same_x5u;
       iat = iat;
       orig = orig;
       dest = dest.has;
-      some_called = dest.some;
-      few_called = dest.few;
+      called = called_count ppt (length fourth.0) dest.some dest.few;
       kind = kind.has;
       kept_ppt = kind.type_is;
-      kept_x5u = head.is;
+      kept_x5u = head.1;
     } in
     subst (Claims header payload ppt info) is here
 
@@ -228,7 +239,6 @@ read_meets payload ppt kind x5u iat orig dest known issued called typed =
     let of_type = kind_only payload ppt kind known typed in
     record {
       iat_within = issued.within;
-      some_called = counted.some;
-      few_called = subst (λ p. length dest ≤ most_called p) (sym of_type.type_is) counted.few;
+      called = subst (λ p. IsCalledCount p (length dest)) (sym of_type.type_is) (called_count ppt (length dest) counted.some counted.few);
       kind_ok = kind_meets payload kind of_type.has;
     }

@@ -3,6 +3,8 @@ pub mod FirstLaws
 mod MemberLaws
 pub mod OrigidLaws
 mod PassportLaws
+mod RefusedLaws
+mod RefusedSteps
 pub mod SignedLaws
 mod SignableLaws
 mod SizeLaws

@@ -14,7 +14,7 @@ use Rattle.tn_values.specs.Number.{is_number}
 use Rattle.passport_json.specs.Passport.{text_where, texts}
 use Rattle.passport_claims.specs.Kind.{attest_of, attest_text}
 use Rattle.passport_claims.specs.Members.{HasText, HasNumber, HasNumbers, called_in, items_length, number_in, number_of, numbers_after, numbers_of, tn_in}
-use Rattle.passport_claims.specs.Passport.{is_text}
+use Rattle.passport_claims.specs.Passport.{IsCalledCount, is_text, most_called}
 use Rattle.passport_claims.specs.Read.{has_text, has_text_where, is_absent}
 use Rattle.passport_claims.specs.declared.kind.Attest.{Attest}
 use Rattle.passport_claims.specs.declared.kind.Attest.TheVariants as levels
@@ -168,6 +168,30 @@ called_only most value numbers h =
     (λ items ei en. option_and_then_some as_array (tn_in (codes "dest") value) items ei
     (λ tn et ea. option_and_then_some (get (codes "tn")) (get (codes "dest") value) tn et
     (λ holder eh etn. called_of most value holder tn items numbers eh etn ea en)))
+
+-- ---- how many
+
+div_is : (ppt : Option (List ℕ)) → is_text (codes "div") ppt ≡ true → ppt ≡ Some (codes "div")
+div_is None h = absurd cc
+div_is (Some text) h = ap (λ t. Some t) ((bytes_eq-Decides text (codes "div")).0 h)
+
+pub called_count : (ppt : Option (List ℕ)) (count : ℕ) → 1 ≤ count → count ≤ most_called ppt → IsCalledCount ppt count
+called_count ppt count some few = record {
+  some = some;
+  few = at_most_32 (is_text (codes "div") ppt) few;
+  one = λ is. let at_most_one : count ≤ 1 = subst (λ p. count ≤ most_called p) is few in omega (arith, some, at_most_one);
+}
+  where
+    at_most_32 : (t : Bool) → count ≤ cond t 1 32 → count ≤ 32
+    at_most_32 true few = omega (arith, few)
+    at_most_32 false few = few
+
+pub count_called : (ppt : Option (List ℕ)) (count : ℕ) → IsCalledCount ppt count → count ≤ most_called ppt
+count_called ppt count is = of (is_text (codes "div") ppt) refl
+  where
+    of : (t : Bool) → is_text (codes "div") ppt ≡ t → count ≤ cond t 1 32
+    of true e = let one = is.one (div_is ppt e) in omega (arith, one)
+    of false e = is.few
 
 -- ---- attestations
 

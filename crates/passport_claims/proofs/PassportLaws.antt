@@ -6,6 +6,7 @@ use Rattle.passport_claims.specs.Made.{has_origid, is_called_count}
 use Rattle.passport_claims.specs.Passport.{IsKind, IsPassport, most_called}
 use Rattle.passport_claims.specs.declared.kind.Kind.{Kind}
 use Rattle.passport_claims.specs.declared.kind.Kind.TheVariants as kinds
+use Rattle.passport_claims.proofs.MemberLaws.{called_count}
 use Rattle.passport_claims.proofs.OrigidLaws.{origid_tells}
 use Rattle.std.proofs.lemmas.Bool.{and_parts}
 
@@ -20,7 +21,6 @@ made_meets kind x5u iat orig dest given within count origid copied =
     let k = and_parts (nat_le 1 (length given)) (nat_le (length given) (most_called (ppt_of kind))) count in
     rw copied (record {
       iat_within = within;
-      some_called = let l = k.0 in grind (arith, nat_tests);
-      few_called = let l = k.1 in grind (arith, nat_tests);
+      called = called_count (ppt_of kind) (length given) (let l = k.0 in grind (arith, nat_tests)) (let l = k.1 in grind (arith, nat_tests));
       kind_ok = kind_made kind origid;
     })

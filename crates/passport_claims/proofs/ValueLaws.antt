@@ -117,8 +117,7 @@ claims_by claims has kind is numbers = record {
   iat = record { member = has.iat; within = is.iat_within };
   orig = record { holder = with_tn (string claims.orig); member = has.orig; tn = refl; ok = numbers.orig };
   dest = record { holder = with_tn (array (texts claims.dest)); member = has.dest; tn = refl; ok = numbers.dest };
-  some_called = is.some_called;
-  few_called = is.few_called;
+  called = is.called;
   kind = kind;
   kept_ppt = refl;
   kept_x5u = refl;

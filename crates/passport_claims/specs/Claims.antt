@@ -1,6 +1,6 @@
 -- What a PASSporT says by its header and payload (RFC 8225, sections 4 and 5; RFC 8588, section 4; RFC 8946, section 4), for the
 -- type and the certificate's URI that its Identity header field has (RFC 8224, section 4).
-use Rattle.std.specs.Prelude.{◌≡◌, ◌⊎◌, ℕ, ◌≤◌, List, length, Option, Some, None, ⊤, codes}
+use Rattle.std.specs.Prelude.{◌≡◌, ◌⊎◌, ℕ, List, length, Option, Some, None, ⊤, codes}
 use Rattle.serde_json.specs.Data.{Data}
 use Rattle.serde_json.specs.Find.{get}
 use Rattle.passport_json.specs.IssuedAt.{IsIssuedAt}
@@ -8,7 +8,7 @@ use Rattle.passport_json.specs.Passport.{text_where}
 use Rattle.passport_claims.specs.Kind.{attest_text, ppt_of}
 use Rattle.passport_claims.specs.Members.{HasText, HasNumber, HasNumbers}
 use Rattle.passport_claims.specs.Origid.{IsOrigid}
-use Rattle.passport_claims.specs.Passport.{ClaimsView, most_called}
+use Rattle.passport_claims.specs.Passport.{ClaimsView, IsCalledCount}
 use Rattle.passport_claims.specs.declared.kind.Kind.{Kind}
 use Rattle.passport_claims.specs.declared.kind.Kind.TheVariants as kinds
 
@@ -30,8 +30,7 @@ pub record Claims (header payload : Data) (ppt : Option (List ℕ)) (info : List
   pub iat : IsIssuedAt payload claims.iat
   pub orig : HasNumber (codes "orig") payload claims.orig
   pub dest : HasNumbers payload claims.dest
-  pub some_called : 1 ≤ length claims.dest
-  pub few_called : length claims.dest ≤ most_called ppt
+  pub called : IsCalledCount ppt (length claims.dest)
   pub kind : HasKind payload claims.kind
   -- what is kept of the field
   pub kept_ppt : ppt_of claims.kind ≡ ppt

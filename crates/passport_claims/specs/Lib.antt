@@ -14,4 +14,5 @@ pub mod Origid
 pub mod Passport
 pub mod Read
 pub mod Reading
+pub mod Refused
 pub mod Signed

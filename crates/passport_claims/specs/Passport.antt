@@ -57,6 +57,12 @@ is_text text (Some value) = bytes_eq value text
 abbrev pub most_called : Option (List ℕ) → ℕ
 most_called ppt = if is_text (codes "div") ppt then 1 else 32
 
+-- the same as a relation: 1 to 32 numbers, and exactly one where the type is `div`
+pub record IsCalledCount (ppt : Option (List ℕ)) (count : ℕ) : Type 0 where
+  pub some : 1 ≤ count
+  pub few : count ≤ 32
+  pub one : ppt ≡ Some (codes "div") → count ≡ 1
+
 -- ---- what each PASSporT meets
 
 -- the identifier of the call is one, where the type has it
@@ -67,8 +73,7 @@ IsKind (kinds.Div number) = ⊤
 
 pub record IsPassport (claims : ClaimsView) : Type 0 where
   pub iat_within : claims.iat ≤ last_second
-  pub some_called : 1 ≤ length claims.dest
-  pub few_called : length claims.dest ≤ most_called (ppt_of claims.kind)
+  pub called : IsCalledCount (ppt_of claims.kind) (length claims.dest)
   pub kind_ok : IsKind claims.kind
 
 -- its numbers are numbers: the calling one, the called ones, and the diverted one, where there is one

@@ -1,5 +1,5 @@
 -- What a reader's result says of a token, where want of memory is free.
-use Rattle.std.specs.Prelude.{Option, Some, None, Result, Ok, Err}
+use Rattle.std.specs.Prelude.{Option, Some, None, Result, Ok, Err, IfSome, ⊤}
 use Rattle.lists.specs.Given as given
 use Rattle.passport_claims.specs.declared.fault.ClaimFault.{ClaimFault}
 use Rattle.passport_claims.specs.declared.fault.ClaimFault.TheVariants as faults
@@ -21,3 +21,8 @@ Gives seen result read = given.Gives fault_seen seen result read
 -- a value with this property came; or memory was wanting
 abbrev pub IsOkUnlessMemory : {X : Type 0} → Result X ClaimFault → (X → Type 0) → Type 0
 IsOkUnlessMemory result P = given.IsOkUnlessMemory fault_seen result P
+
+-- a fault has this property; want of memory is free
+abbrev pub IfRefused : {X : Type 0} → Result X ClaimFault → (ClaimFault → Type 0) → Type 0
+IfRefused (Ok value) P = ⊤
+IfRefused (Err fault) P = IfSome (fault_seen fault) P

@@ -1,12 +1,13 @@
 //! A PASSporT.
-ghost use Rattle.std.specs.Prelude.{◌≡◌, ◌≤◌, Some, None, IfOk, if◌then◌else◌};
+ghost use Rattle.std.specs.Prelude.{◌≡◌, ◌≤◌, Some, None, Err, IfOk, if◌then◌else◌};
 ghost use Rattle.std.specs.Option.{option_copied};
 ghost use Rattle.text_grammar.specs.Uri.{is_uri};
 ghost use Rattle.passport_claims.specs.Claims.{Claims, IsKnown};
 ghost use Rattle.passport_claims.specs.Made.{is_called_count, made};
 ghost use Rattle.passport_claims.specs.Passport.{ClaimsView, IsPassport};
 ghost use Rattle.passport_claims.specs.Read.{read_claims};
-ghost use Rattle.passport_claims.specs.Reading.{Gives, IsOkUnlessMemory};
+ghost use Rattle.passport_claims.specs.Reading.{Gives, IfRefused, IsOkUnlessMemory};
+ghost use Rattle.passport_claims.specs.Refused.{Refused};
 
 use crate::fault::ClaimFault;
 use crate::kind::Kind;
@@ -47,7 +48,7 @@ impl Passport {
     /// `Origid` are looked at for `shaken` alone, and `Div` for `div` alone. Members that aren't named there are passed over.
     ///
     /// The type is none, `shaken` or `div`.
-    #[tactic(auto, using(crate::proofs::ClaimsLaws::claims_found, crate::proofs::ClaimsLaws::claims_only_of, crate::proofs::ClaimsLaws::claims_unique))]
+    #[tactic(auto, using(crate::proofs::ClaimsLaws::claims_found, crate::proofs::ClaimsLaws::claims_only_of, crate::proofs::ClaimsLaws::claims_unique, crate::proofs::RefusedLaws::claims_refused))]
     pub fn from_token(
         alloc: Global,
         token: &Token,
@@ -61,6 +62,11 @@ impl Passport {
             → IsOkUnlessMemory result (λ passport. passport ≡ claims) }
         ensures unique { (one other : ClaimsView) → Claims token.now.header token.now.payload (option_copied ppt.entry) info.now one
             → Claims token.now.header token.now.payload (option_copied ppt.entry) info.now other → one ≡ other }
+
+        // A fault is the first claim that is broken, and the first that is broken is the fault.
+        ensures refused { IfRefused result (Refused token.now.header token.now.payload (option_copied ppt.entry) info.now) }
+        ensures only_refused { (fault : ClaimFault) → Refused token.now.header token.now.payload (option_copied ppt.entry) info.now fault
+            → Gives (λ passport. passport) result (Err fault) }
     {
         claims_of(alloc, token, ppt, info)
     }

@@ -2,6 +2,7 @@
 use Rattle.std.proofs.Common.{rules, arith}
 use Rattle.der_reader.specs.Next.{next_at}
 use Rattle.der_reader.proofs.NextLaws.{answer_found, one_element, answer_again, answer_shorter}
+use Rattle.der_reader.proofs.UnreadableLaws.{answer_only_refused, answer_refused}
 use Rattle.der_reader.proofs.element.Der.next.Goals as goal
 
 pub returns-in_err-read-clause-only : goal.returns-in_err-read-clause-only
@@ -25,3 +26,19 @@ returns-in_err-read-clause-unique c = one_element c.args.bytes.now
 
 pub returns-clause-unique : goal.returns-clause-unique
 returns-clause-unique c = one_element c.args.bytes.now
+
+pub returns-in_err-read-clause-refused : goal.returns-in_err-read-clause-refused
+unfolding next_at
+returns-in_err-read-clause-refused c = answer_refused c.args.bytes.now c.from_residual.result (λ i. omega (arith, c.type_inv.bytes i)) (search rules)
+
+pub returns-in_err-read-clause-only_refused : goal.returns-in_err-read-clause-only_refused
+unfolding next_at
+returns-in_err-read-clause-only_refused c = answer_only_refused c.args.bytes.now c.from_residual.result (search rules)
+
+pub returns-clause-refused : goal.returns-clause-refused
+unfolding next_at
+returns-clause-refused c = answer_refused c.args.bytes.now c.split.result (λ i. omega (arith, c.type_inv.bytes i)) (search rules)
+
+pub returns-clause-only_refused : goal.returns-clause-only_refused
+unfolding next_at
+returns-clause-only_refused c = answer_only_refused c.args.bytes.now c.split.result (search rules)
