@@ -1,5 +1,5 @@
 -- Bytes begin with no element for the first test that fails, and the first that fails is the fault of reading them.
-use Rattle.std.proofs.Common.{◌≡◌, ◌≢◌, ◌⊎◌, inl, inr, ℕ, suc, ◌+◌, ◌*◌, ◌<◌, ◌≤◌, Bool, true, false, cond, List, [], ◌∷◌, ◌++◌, length, take, drop, nat_lt, bit_and, Result, Ok, Err, IfErr, refl, sym, ap, subst, ◌∙◌, arith, length-append, length-drop}
+use Rattle.std.proofs.Common.{◌≡◌, ◌≢◌, ◌⊎◌, inl, inr, ℕ, ◌+◌, ◌<◌, ◌≤◌, Bool, true, false, cond, List, [], ◌∷◌, ◌++◌, length, take, drop, nat_lt, bit_and, Result, Ok, Err, IfErr, refl, sym, ap, subst, ◌∙◌, arith, length-append, length-drop}
 use Rattle.std.proofs.lemmas.Bool.Decides.{nat_tests}
 use Rattle.std.proofs.lemmas.Grind.{common_steps}
 use Rattle.std.proofs.lemmas.List.{take-append-drop}
@@ -8,7 +8,7 @@ use Rattle.der_reader.specs.declared.element.Der.{Der}
 use Rattle.der_reader.specs.declared.element.Header.{Header}
 use Rattle.der_reader.specs.declared.fault.DerFault.{DerFault}
 use Rattle.der_reader.specs.Elem.{AllBytes, Element, length_text}
-use Rattle.der_reader.specs.Fault.{bad_length_at, fault_at, high_tag_at, short_at}
+use Rattle.der_reader.specs.Fault.{bad_length_at, fault_at, short_at}
 use Rattle.der_reader.specs.Next.{content_at, header_at, next_at, next_behind, next_view}
 use Rattle.der_reader.specs.Unreadable.{IsHighTag, IsLongForm, IsNotShortest, Unreadable, by_one, by_two, content_cut, high_tag, length_cut, no_form, no_length, no_tag, not_shortest}
 use Rattle.der_reader.proofs.NextLaws.{HeaderText, half_wanting, header_again, header_again_one, header_again_short, header_again_two, header_found, no_length_byte, nothing, one_wanting, too_short, two_wanting}

@@ -1,5 +1,5 @@
 -- Header and payload are refused for the first claim that is broken, and the first that is broken is what they are refused for.
-use Rattle.std.proofs.Common.{◌≡◌, ◌⊎◌, inl, inr, ℕ, Bool, true, false, not, cond, List, length, Option, Some, None, Result, Ok, Err, codes, refl, sym, ap, subst, ◌∙◌}
+use Rattle.std.proofs.Common.{◌≡◌, inl, inr, ℕ, Bool, true, false, not, cond, List, length, Option, Some, None, Result, Ok, Err, codes, refl, sym, ap, subst, ◌∙◌}
 use Rattle.std.specs.Prelude.{IfSome, option_and_then}
 use Rattle.lists.specs.Given.{IsFaultOf}
 use Rattle.lists.specs.Steps.{◌>>=◌}
@@ -19,7 +19,6 @@ use Rattle.passport_claims.specs.declared.fault.ClaimFault.{ClaimFault}
 use Rattle.passport_claims.specs.declared.fault.ClaimFault.TheVariants as faults
 use Rattle.passport_claims.specs.declared.kind.Attest.{Attest}
 use Rattle.passport_claims.specs.declared.kind.Kind.{Kind}
-use Rattle.passport_claims.specs.declared.kind.Kind.TheVariants as kinds
 use Rattle.passport_claims.proofs.ClaimsLaws.{attest_found, header_again, header_only, issued_again, issued_only, origid_found, there}
 use Rattle.passport_claims.proofs.MemberLaws.{attest_again, called_again, called_count, called_only, count_called, number_again, number_only, text_again, text_found, where_again, where_found}
 use Rattle.passport_claims.proofs.OrigidLaws.{origid_again}
@@ -147,7 +146,7 @@ dest_refused header payload ppt info fault x5u iat orig known before h =
           let n = nothing_there faults.Dest fault (called_in (most_called ppt) payload) k in
           wrong_dest before
           (λ numbers has count. none_holds (λ numbers. HasNumbers payload numbers × IsCalledCount ppt (length numbers)) (called_in (most_called ppt) payload) n.0
-            (called_read payload ppt) numbers (has, count)) n.1
+          (called_read payload ppt) numbers (has, count)) n.1
       | inr p ↦
           let k = called_holds payload ppt p.0 (there faults.Dest (called_in (most_called ppt) payload) p.0 p.1) in
           type_refused header payload ppt info fault x5u iat orig p.0 known (record { dest = p.0; before = before; called = k.0; count = k.1 }) p.2
@@ -210,7 +209,7 @@ unfolding read_claims
 dest_read header payload ppt info before none =
     let nothing : called_in (most_called ppt) payload ≡ None
     = none_read (λ numbers. HasNumbers payload numbers × IsCalledCount ppt (length numbers)) (called_in (most_called ppt) payload) (called_holds payload ppt)
-      (λ numbers h. none numbers h.0 h.1) in
+    (λ numbers h. none numbers h.0 h.1) in
     rw (
       header_again header ppt info before.before.before,
       issued_again payload before.before.iat before.before.issued,

@@ -1,8 +1,7 @@
 -- Each claim by itself: where it is refused, and what this says of header and payload.
-use Rattle.std.proofs.Common.{◌≡◌, ◌⊎◌, inl, inr, ℕ, Bool, true, false, not, cond, List, [], length, Option, Some, None, Result, Ok, Err, codes, refl, sym, ap, subst, ◌∙◌}
+use Rattle.std.proofs.Common.{◌≡◌, ◌⊎◌, inl, inr, Bool, true, false, Option, Some, None, Result, Ok, Err, refl, sym, ap}
 use Rattle.lists.specs.Steps.{◌>>=◌}
 use Rattle.passport_claims.specs.declared.fault.ClaimFault.{ClaimFault}
-use Rattle.passport_claims.specs.declared.fault.ClaimFault.TheVariants as faults
 use Rattle.passport_claims.specs.Reading.{or_fault}
 
 -- a reading that is refused is refused at its first step, or behind what this gave
