@@ -1,10 +1,12 @@
 -- What is promised of what is wanted is promised of the order that it comes of.
-use Rattle.std.proofs.Common.{◌≡◌, ℕ, List, Option, Result, IfOk, IsTrue, sym, subst}
+use Rattle.std.proofs.Common.{◌≡◌, refl, ℕ, List, Option, Result, IfOk, IsTrue, sym, subst}
 use Rattle.std.specs.Prelude.{IfErr}
 use Rattle.lists.specs.Given.{Gives}
 use Rattle.auth_service.specs.Answer.{decided}
 use Rattle.auth_service.specs.Causes.{IsCaused}
-use Rattle.auth_service.specs.Order.{HolderView, OrderView, is_order}
+use Rattle.passport_claims.specs.declared.form.Form.{Form}
+use Rattle.passport_claims.specs.declared.form.Form.TheVariants as forms
+use Rattle.auth_service.specs.Order.{HolderView, IsInForm, OrderView, is_order, shape_of}
 use Rattle.auth_service.specs.Outcome.{IsSigned}
 use Rattle.auth_service.specs.Promise.{IsPromised}
 use Rattle.auth_service.specs.Signed.{signed}
@@ -24,3 +26,10 @@ signed_as seen bytes wanted order holder signs result p same = subst (λ (x : Or
 pub caused_as : {X : Type 0} (seen : X → List ℕ) (bytes : List ℕ) (wanted order : OrderView) (holder : Option HolderView) (signs : List ℕ → List ℕ → Option (List ℕ)) (result : Result X SignFault)
     → IsPromised seen bytes wanted holder signs result → wanted ≡ order → IfErr result (λ fault. IsCaused bytes order holder signs fault)
 caused_as seen bytes wanted order holder signs result p same = subst (λ (x : OrderView). IfErr result (λ fault. IsCaused bytes x holder signs fault)) same p.causes
+
+-- ---- the form
+
+pub in_form : (form : Form) → IsInForm form (shape_of form)
+in_form forms.Base = record { kind = refl; compact = (λ e. absurd cc, λ e. absurd cc) }
+in_form forms.Compact = record { kind = refl; compact = (λ e. refl, λ e. refl) }
+in_form (forms.Shaken level origid) = record { kind = refl; compact = (λ e. absurd cc, λ e. absurd cc) }

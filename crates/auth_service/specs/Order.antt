@@ -1,11 +1,12 @@
 -- What is to be signed, by which key, and for whom (RFC 8224, section 4.1; RFC 8225, sections 5 and 7; RFC 8588, section 4; RFC 8946, section 4).
-use Rattle.std.specs.Prelude.{ℕ, Bool, ◌&&◌, nat_le, List, Option, Some, None}
+use Rattle.std.specs.Prelude.{◌≡◌, ◌↔◌, ℕ, Bool, ◌&&◌, nat_le, List, Option, Some, None}
 use Rattle.std.specs.Borrow.{Bor}
 use Rattle.text_grammar.specs.Moment.{last_second}
 use Rattle.text_grammar.specs.Uri.{is_uri}
 use Rattle.tn_auth_list.specs.declared.entries.Entry.{Entry}
 use Rattle.tn_values.specs.Local.{LocalView}
 use Rattle.delegation.specs.Coverage.{Table}
+use Rattle.passport_claims.specs.Form.{form_kind}
 use Rattle.passport_claims.specs.Made.{has_origid}
 use Rattle.passport_claims.specs.declared.form.Form.{Form}
 use Rattle.passport_claims.specs.declared.form.Form.TheVariants as forms
@@ -36,6 +37,11 @@ abbrev pub shape_of : Form → Shape
 shape_of forms.Base = shapes.Full kinds.Base
 shape_of forms.Compact = shapes.Compact
 shape_of (forms.Shaken level origid) = shapes.Full (kinds.Shaken level origid)
+
+-- What is signed is in this form: of the form's type, and compact just where the form is (RFC 8225, section 7).
+pub record IsInForm (form : Form) (shape : Shape) : Type 0 where
+  pub kind : kind_of shape ≡ form_kind form
+  pub compact : (shape ≡ shapes.Compact) ↔ (form ≡ forms.Compact)
 
 -- of the origin of a call, in the order's form
 abbrev pub order_of : SignOrder → OrderView

@@ -5,7 +5,7 @@ ghost use Rattle.stir_outside.specs.Count.{Rose};
 ghost use Rattle.auth_service.specs.Answer.{names_provider, decided};
 ghost use Rattle.auth_service.specs.Asking.{IsAskedOnce, stand};
 ghost use Rattle.auth_service.specs.Causes.{IsCaused};
-ghost use Rattle.auth_service.specs.Order.{divert_order_of, holder_seen, is_order, order_of, wanted_of};
+ghost use Rattle.auth_service.specs.Order.{IsInForm, divert_order_of, holder_seen, is_order, order_of, wanted_of};
 ghost use Rattle.auth_service.specs.Outcome.{IsSigned};
 ghost use Rattle.auth_service.specs.Promise.{IsPromised};
 ghost use Rattle.auth_service.specs.Signed.{signature_of, signed};
@@ -27,7 +27,7 @@ use verify_rules::covers_kind_law;
 ///
 /// The faults are tried in the order of [`SignFault`]; the provider is asked at most once, and only where `Form`, `NoNumber` and
 /// `Authority` don't come. `Provider` comes only where its count of faults rose, and `Memory` for want of memory alone.
-#[tactic(auto, using(crate::proofs::OrderLaws::valid_as, crate::proofs::OrderLaws::exact_as, crate::proofs::OrderLaws::signed_as, crate::proofs::OrderLaws::caused_as))]
+#[tactic(auto, using(crate::proofs::OrderLaws::valid_as, crate::proofs::OrderLaws::exact_as, crate::proofs::OrderLaws::signed_as, crate::proofs::OrderLaws::caused_as, crate::proofs::OrderLaws::in_form))]
 pub fn sign<P: Provider>(
     alloc: Global,
     bytes: &[u8],
@@ -42,6 +42,9 @@ pub fn sign<P: Provider>(
 
     // What was signed: the message with one more field, which is read as the PASSporT of the message's numbers and the key's signature.
     ensures signed { IfOk result (λ out. IsSigned bytes.now (order_of order.now) (holder_seen holder.entry) (P.signs provider.old) out.items) }
+
+    // It is of the form's type, and compact just where the form is.
+    ensures form { IsInForm order.now.form (order_of order.now).shape }
 
     // Each of these faults in the words of what shows it.
     ensures causes { IfErr result (λ fault. IsCaused bytes.now (order_of order.now) (holder_seen holder.entry) (P.signs provider.old) fault) }
