@@ -23,7 +23,7 @@ IsByRows (row ∷ others) rule code = (rule ≡ row.0 → code ≡ row.1) × IsB
 abbrev pub code_rows : List (ℕ × ℕ)
 code_rows =
     (1, 400) ∷ (2, 428) ∷ (3, 438) ∷ (4, 428) ∷ (5, 437) ∷ (6, 438) ∷ (7, 438) ∷ (8, 438) ∷ (9, 403) ∷ (10, 436) ∷ (11, 437) ∷ (12, 437)
-        ∷ (13, 437) ∷ (14, 437) ∷ (15, 437) ∷ (16, 438) ∷ (17, 437) ∷ (18, 438) ∷ []
+    ∷ (13, 437) ∷ (14, 437) ∷ (15, 437) ∷ (16, 438) ∷ (17, 437) ∷ (18, 438) ∷ []
 
 -- the rule has this code
 unfoldable pub HasCode : ℕ → ℕ → Type 0
