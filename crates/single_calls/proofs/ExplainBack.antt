@@ -3,6 +3,7 @@ use Rattle.std.proofs.Common.{◌≡◌, ◌⊎◌, inl, inr, ℕ, zero, suc, �
 use Rattle.std.specs.Char.{is_ascii_digit}
 use Rattle.std.specs.Fmt.{decimal}
 use Rattle.std.proofs.lemmas.List.{append-nil, append_cancel_left, append_cancel_right}
+use Rattle.text_grammar.proofs.DecimalLaws.{number_written}
 use Rattle.verify_rules.specs.Code.{HasCode, code_of}
 use Rattle.verify_rules.specs.declared.refusal.Place.{Place}
 use Rattle.verify_rules.specs.declared.refusal.Refusal.{Refusal}
@@ -99,12 +100,18 @@ broken_text_is : (number : ℕ) (refused : Refusal) → broken_line number refus
 unfolding broken_line
 broken_text_is number refused = refl
 
+ten : codes "10" ≡ decimal 10
+ten = number_written 10 (codes "10") 10 (omega arith) refl
+
 unread_text_is : (number : ℕ) (bad : Place) → unread_line number bad ≡ decimal number ++ 32 ∷ (decimal 10 ++ 32 ∷ behind_ten bad)
 unfolding unread_line
-unread_text_is number bad = refl
+unread_text_is number bad = ap (λ (x : List ℕ). decimal number ++ 32 ∷ (x ++ 32 ∷ behind_ten bad)) ten
+
+false_is_not_true : false ≡ true → ⊥
+false_is_not_true e = cc
 
 no_digit : (n byte : ℕ) (rest : List ℕ) → n < 2 ^ 64 → is_ascii_digit byte ≡ false → get_or (decimal n ++ rest) 0 0 ≡ byte → ⊥
-no_digit n byte rest low none is = (λ (e : false ≡ true). cc) (sym none ∙ sym (ap is_ascii_digit is) ∙ first_digit n rest low)
+no_digit n byte rest low none is = false_is_not_true (sym none ∙ sym (ap is_ascii_digit is) ∙ first_digit n rest low)
 
 broken_end : (number : ℕ) (refused : Refusal) → number < 4294967296 → refused.rule < 256 → IsOther (broken_line number refused)
 broken_end number refused low small = record {
