@@ -1,4 +1,5 @@
 //! Signing a message.
+ghost use Rattle.stir_outside.specs.Stays.{ProviderStays};
 ghost use Rattle.std.specs.Prelude.{◌≡◌, ◌+◌, ◌≤◌, true, IfErr, IfOk, IsTrue};
 ghost use Rattle.lists.specs.Given.{Gives};
 ghost use Rattle.stir_outside.specs.Count.{Rose};
@@ -53,11 +54,9 @@ pub fn sign<P: Provider>(
     ensures failed { names_provider result ≡ true → Rose (P.faults provider.old) (P.faults provider.new) }
 
     // What the call does to the provider.
-    ensures faults { P.faults provider.old ≤ P.faults provider.new }
     ensures asks { P.asks provider.new ≤ P.asks provider.old + 1 }
     ensures asks_stay { P.asks provider.old ≤ P.asks provider.new }
-    ensures same_says { P.says provider.new ≡ P.says provider.old }
-    ensures same_signs { P.signs provider.new ≡ P.signs provider.old }
+    ensures provider { ProviderStays P.Provider provider.old provider.new }
 {
     let wanted = order.wanted();
     sign_wanted(alloc, bytes, &wanted, holder, provider)
@@ -82,11 +81,9 @@ pub fn divert<P: Provider>(
     ensures signed { IfOk result (λ out. IsSigned bytes.now (divert_order_of order.now) (holder_seen holder.entry) (P.signs provider.old) out.items) }
     ensures causes { IfErr result (λ fault. IsCaused bytes.now (divert_order_of order.now) (holder_seen holder.entry) (P.signs provider.old) fault) }
     ensures failed { names_provider result ≡ true → Rose (P.faults provider.old) (P.faults provider.new) }
-    ensures faults { P.faults provider.old ≤ P.faults provider.new }
     ensures asks { P.asks provider.new ≤ P.asks provider.old + 1 }
     ensures asks_stay { P.asks provider.old ≤ P.asks provider.new }
-    ensures same_says { P.says provider.new ≡ P.says provider.old }
-    ensures same_signs { P.signs provider.new ≡ P.signs provider.old }
+    ensures provider { ProviderStays P.Provider provider.old provider.new }
 {
     let wanted = order.wanted();
     sign_wanted(alloc, bytes, &wanted, holder, provider)

@@ -14,6 +14,7 @@ use stir_outside::Shelf;
 /// `answered` says what may be answered to a call, by the files that a shelf tells and the calls that were answered before. `behind` says which
 /// calls may have been answered before, and `stops` behind which lines of the call which file of certificates may stop the run.
 pub trait Answerer {
+    ghost use Rattle.stir_outside.specs.Stays.{ShelfStays};
     ghost use Rattle.call_log.specs.Entry.{Entry};
     ghost use Rattle.call_run.specs.Answer.{AnswerView, unread_lines};
     ghost use Rattle.call_run.specs.Answering.{Adds, AnswersBehind, Implies, IncludedIn, StopsBy};
@@ -42,8 +43,7 @@ pub trait Answerer {
         ensures unread { IfOk result (λ answer. AtMost (unread_lines answer) (S.counts shelf.old).faults (S.counts shelf.new).faults) }
         ensures stopped { IfErr result (λ stop. StopsBy (behind self.old (S.files shelf.old)) (stops self.old (S.files shelf.old)) call.now (S.counts shelf.old).faults (S.counts shelf.new).faults stop) }
         // What doesn't change.
-        ensures same_files { S.files shelf.new ≡ S.files shelf.old }
-        ensures shelf_stays { (S.counts shelf.old).faults ≤ (S.counts shelf.new).faults }
+        ensures shelf { ShelfStays S.Shelf shelf.old shelf.new }
         ensures still { Implies (answered self.new (S.files shelf.new)) (answered self.old (S.files shelf.old)) }
         ensures still_stops { IncludedIn (stops self.new (S.files shelf.new)) (stops self.old (S.files shelf.old)) };
 }

@@ -1,4 +1,5 @@
 //! The calls of a log: each is read, answered and written of before the next.
+ghost use Rattle.stir_outside.specs.Stays.{ShelfStays};
 ghost use Rattle.std.specs.Prelude.{◌≡◌, ◌+◌, ◌≤◌, [], length, Ok, IfOk};
 ghost use Rattle.call_log.specs.Entry.{most_message_length};
 ghost use Rattle.call_run.specs.Answering.{Implies, IncludedIn};
@@ -32,8 +33,7 @@ fn answer_call<A: Answerer, S: Shelf, O: Sink>(
     ensures writes { O.faults sink.old ≤ O.faults sink.new }
     ensures still { Implies (A.answered answerer.new (S.files shelf.new)) (A.answered answerer.old (S.files shelf.old)) }
     ensures still_stops { IncludedIn (A.stops answerer.new (S.files shelf.new)) (A.stops answerer.old (S.files shelf.old)) }
-    ensures same_files { S.files shelf.new ≡ S.files shelf.old }
-    ensures shelf_stays { (S.counts shelf.old).faults ≤ (S.counts shelf.new).faults }
+    ensures shelf { ShelfStays S.Shelf shelf.old shelf.new }
 {
     let answer = match answerer.answer(alloc, shelf, call) {
         Ok(answer) => answer,
@@ -67,8 +67,7 @@ fn run_call<A: Answerer, S: Shelf, I: Source, O: Sink>(
     ensures more { result ≡ Ok More → reader.new.passed.count ≡ reader.old.passed.count + 1 }
     ensures still { Implies (A.answered answerer.new (S.files shelf.new)) (A.answered answerer.old (S.files shelf.old)) }
     ensures still_stops { IncludedIn (A.stops answerer.new (S.files shelf.new)) (A.stops answerer.old (S.files shelf.old)) }
-    ensures same_files { S.files shelf.new ≡ S.files shelf.old }
-    ensures shelf_stays { (S.counts shelf.old).faults ≤ (S.counts shelf.new).faults }
+    ensures shelf { ShelfStays S.Shelf shelf.old shelf.new }
 {
     reading_law();
     let call = match next_call(reader, input) {
@@ -100,8 +99,7 @@ pub(crate) fn run_calls<A: Answerer, S: Shelf, I: Source, O: Sink>(
         (streams_of I.Source O.Sink input.old sink.old)
         (streams_of I.Source O.Sink input.new sink.new) result }
     ensures none_ahead { IfOk result (λ fault. reader.new.ahead ≡ []) }
-    ensures same_files { S.files shelf.new ≡ S.files shelf.old }
-    ensures shelf_stays { (S.counts shelf.old).faults ≤ (S.counts shelf.new).faults }
+    ensures shelf { ShelfStays S.Shelf shelf.old shelf.new }
 {
     'calls: loop {
         match run_call(alloc, answerer, shelf, reader, input, sink, all_good) {

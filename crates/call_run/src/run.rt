@@ -1,4 +1,5 @@
 //! A run over a whole log: its calls, and the last line.
+ghost use Rattle.stir_outside.specs.Stays.{ShelfStays};
 ghost use Rattle.std.specs.Prelude.{◌≡◌, ◌≤◌, ◌++◌, ℕ, [], string_bytes};
 ghost use Rattle.call_run.specs.Clauses.{AnswersLog, Fails, HasCauses, HasEnded, IsComplete, LogRan, Refuses, run_state_of};
 ghost use Rattle.call_run.specs.Ending.{EndsBy, EndsStopped, EndsUnread, unread_line};
@@ -47,8 +48,7 @@ pub fn answer_log<A: Answerer, S: Shelf, I: Source, O: Sink>(
     ensures complete { IsComplete (A.stops answerer.old (S.files shelf.old))
         (run_state_of I.Source O.Sink (S.counts shelf.old).faults input.old sink.old)
         (run_state_of I.Source O.Sink (S.counts shelf.new).faults input.new sink.new) result }
-    ensures same_files { S.files shelf.new ≡ S.files shelf.old }
-    ensures shelf_stays { (S.counts shelf.old).faults ≤ (S.counts shelf.new).faults }
+    ensures shelf { ShelfStays S.Shelf shelf.old shelf.new }
 {
     one_log();
     run_log(alloc, answerer, shelf, input, sink)
@@ -66,8 +66,7 @@ fn run_log<A: Answerer, S: Shelf, I: Source, O: Sink>(
     ensures ran { LogRan (A.answered answerer.old (S.files shelf.old)) (A.stops answerer.old (S.files shelf.old))
         (run_state_of I.Source O.Sink (S.counts shelf.old).faults input.old sink.old)
         (run_state_of I.Source O.Sink (S.counts shelf.new).faults input.new sink.new) result }
-    ensures same_files { S.files shelf.new ≡ S.files shelf.old }
-    ensures shelf_stays { (S.counts shelf.old).faults ≤ (S.counts shelf.new).faults }
+    ensures shelf { ShelfStays S.Shelf shelf.old shelf.new }
 {
     let mut reader = LogReader::new(alloc);
     let mut all_good = true;

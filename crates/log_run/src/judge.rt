@@ -12,6 +12,7 @@ use verify_service::Outcome;
 /// `judged` says what may be answered to a call, by the files that a shelf tells. `bench` is what stays from round to round, and `standing`
 /// what moves, with the shelf's count of failed reads.
 pub trait Judge {
+    ghost use Rattle.stir_outside.specs.Stays.{ShelfStays};
     ghost use Rattle.call_log.specs.Entry.{Entry};
     ghost use Rattle.log_run.specs.Bench.{Bench, Implies, Moves, RoundJudged, Standing};
     ghost use Rattle.stir_outside.specs.Files.{Files};
@@ -44,7 +45,6 @@ pub trait Judge {
         // What changes, also where memory was wanting, and what doesn't.
         ensures moves { Moves (standing self.old (S.counts shelf.old).faults) (standing self.new (S.counts shelf.new).faults) calls.now }
         ensures same { bench self.new ≡ bench self.old }
-        ensures same_files { S.files shelf.new ≡ S.files shelf.old }
-        ensures shelf_stays { (S.counts shelf.old).faults ≤ (S.counts shelf.new).faults }
+        ensures shelf { ShelfStays S.Shelf shelf.old shelf.new }
         ensures still { Implies (judged self.new (S.files shelf.new)) (judged self.old (S.files shelf.old)) };
 }

@@ -1,4 +1,5 @@
 //! The rounds of a log: each is read, judged and reported before the next.
+ghost use Rattle.stir_outside.specs.Stays.{ShelfStays};
 ghost use Rattle.std.specs.Prelude.{◌≡◌, ◌+◌, ◌≤◌, ◌<◌, ◌&&◌, ℕ, [], length, vec_len, None, Ok, Err, IfOk};
 ghost use Rattle.log_run.specs.Bench.{Implies, Moves};
 ghost use Rattle.log_run.specs.Judged.{at_of};
@@ -46,8 +47,7 @@ fn judge_round<R: Threads + Sync, J: Judge, S: Shelf, O: Sink>(
     ensures writes { O.faults sink.old ≤ O.faults sink.new }
     ensures same { J.bench judge.new ≡ J.bench judge.old }
     ensures still { Implies (J.judged judge.new (S.files shelf.new)) (J.judged judge.old (S.files shelf.old)) }
-    ensures same_files { S.files shelf.new ≡ S.files shelf.old }
-    ensures shelf_stays { (S.counts shelf.old).faults ≤ (S.counts shelf.new).faults }
+    ensures shelf { ShelfStays S.Shelf shelf.old shelf.new }
 {
     let outcomes = match judge.round(rt, alloc, shelf, calls) {
         Ok(outcomes) => outcomes,
@@ -88,8 +88,7 @@ fn run_round<R: Threads + Sync, J: Judge, S: Shelf, I: Source, O: Sink>(
     ensures more { result ≡ Ok More → reader.new.passed.count ≡ reader.old.passed.count + 256 }
     ensures same { J.bench judge.new ≡ J.bench judge.old }
     ensures still { Implies (J.judged judge.new (S.files shelf.new)) (J.judged judge.old (S.files shelf.old)) }
-    ensures same_files { S.files shelf.new ≡ S.files shelf.old }
-    ensures shelf_stays { (S.counts shelf.old).faults ≤ (S.counts shelf.new).faults }
+    ensures shelf { ShelfStays S.Shelf shelf.old shelf.new }
 {
     let mut calls = Vec::new(alloc);
     let next = match read_round(reader, input, &mut calls) {
@@ -124,8 +123,7 @@ pub(crate) fn run_rounds<R: Threads + Sync, J: Judge, S: Shelf, I: Source, O: Si
         (streams_of I.Source O.Sink input.old sink.old)
         (streams_of I.Source O.Sink input.new sink.new) result }
     ensures none_ahead { IfOk result (λ fault. reader.new.ahead ≡ []) }
-    ensures same_files { S.files shelf.new ≡ S.files shelf.old }
-    ensures shelf_stays { (S.counts shelf.old).faults ≤ (S.counts shelf.new).faults }
+    ensures shelf { ShelfStays S.Shelf shelf.old shelf.new }
 {
     more_rounds();
     'rounds: loop {

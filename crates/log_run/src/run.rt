@@ -1,4 +1,5 @@
 //! A run over a whole log: its rounds, and the last line.
+ghost use Rattle.stir_outside.specs.Stays.{ShelfStays};
 ghost use Rattle.std.specs.Prelude.{◌≡◌, ◌≤◌, ℕ};
 ghost use Rattle.log_run.specs.Clauses.{Fails, HasCauses, HasEnded, Headline, IsComplete, LogRan, Refuses, run_state_of};
 ghost use Rattle.log_run.specs.Ending.{EndsAtFault, EndsBy, EndsRefused, failed_line, refused_line, report_status};
@@ -48,8 +49,7 @@ pub fn judge_log<R: Threads + Sync, J: Judge, S: Shelf, I: Source, O: Sink>(
     ensures complete { IsComplete
         (run_state_of I.Source O.Sink (J.standing judge.old (S.counts shelf.old).faults) input.old sink.old)
         (run_state_of I.Source O.Sink (J.standing judge.new (S.counts shelf.new).faults) input.new sink.new) result }
-    ensures same_files { S.files shelf.new ≡ S.files shelf.old }
-    ensures shelf_stays { (S.counts shelf.old).faults ≤ (S.counts shelf.new).faults }
+    ensures shelf { ShelfStays S.Shelf shelf.old shelf.new }
 {
     one_log();
     legal_together();
@@ -70,8 +70,7 @@ fn run_log<R: Threads + Sync, J: Judge, S: Shelf, I: Source, O: Sink>(
     ensures ran { LogRan (J.judged judge.old (S.files shelf.old)) (J.bench judge.old)
         (run_state_of I.Source O.Sink (J.standing judge.old (S.counts shelf.old).faults) input.old sink.old)
         (run_state_of I.Source O.Sink (J.standing judge.new (S.counts shelf.new).faults) input.new sink.new) result }
-    ensures same_files { S.files shelf.new ≡ S.files shelf.old }
-    ensures shelf_stays { (S.counts shelf.old).faults ≤ (S.counts shelf.new).faults }
+    ensures shelf { ShelfStays S.Shelf shelf.old shelf.new }
 {
     let mut reader = LogReader::new(alloc);
     let mut all_good = true;

@@ -1,4 +1,5 @@
 //! What asks for a call.
+ghost use Rattle.stir_outside.specs.Stays.{ShelfStays};
 ghost use Rattle.std.specs.Prelude.{◌≡◌, ◌≤◌, [], Ok, IfErr, OnOk, string_bytes};
 ghost use Rattle.single_calls.specs.Asker.{AskedBy, BehindAsked, StopsAsking};
 ghost use Rattle.single_calls.specs.Reading.{StopsCall, WritesCall, lines};
@@ -105,8 +106,7 @@ fn ask_call<S: Shelf>(
     ensures writes { OnOk result (WritesCall (S.files shelf.old) world.now (call_in settings.now call.now) (lines written.old (string_bytes text.old)) (lines written.new (string_bytes text.new))) }
     ensures stopped { IfErr result (StopsCall (S.files shelf.old) world.now (call_in settings.now call.now) (lines written.old (string_bytes text.old))
         (lines written.new (string_bytes text.new)) (S.counts shelf.old).faults (S.counts shelf.new).faults) }
-    ensures same_files { S.files shelf.new ≡ S.files shelf.old }
-    ensures counts { CountsGoOn (S.counts shelf.old) (S.counts shelf.new) }
+    ensures shelf { ShelfStays S.Shelf shelf.old shelf.new }
 {
     call_law();
     match screen(alloc, call.message(), call.moment(), settings) {
@@ -134,8 +134,7 @@ fn ask_screened<S: Shelf>(
     ensures stopped { (call : RuledCall) → IsScreenedBy early_rules call (Ok screened.now)
         → IfErr result (StopsCall (S.files shelf.old) world.now call (lines written.old (string_bytes text.old))
         (lines written.new (string_bytes text.new)) (S.counts shelf.old).faults (S.counts shelf.new).faults) }
-    ensures same_files { S.files shelf.new ≡ S.files shelf.old }
-    ensures counts { CountsGoOn (S.counts shelf.old) (S.counts shelf.new) }
+    ensures shelf { ShelfStays S.Shelf shelf.old shelf.new }
 {
     screened_law();
     let mut chains = CallChains::new(alloc);

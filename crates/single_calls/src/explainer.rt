@@ -1,4 +1,5 @@
 //! What explains a call.
+ghost use Rattle.stir_outside.specs.Stays.{ShelfStays};
 ghost use Rattle.std.specs.Prelude.{◌≡◌, ◌≤◌, List, IfOk};
 ghost use Rattle.call_log.specs.Entry.{Entry};
 ghost use Rattle.call_run.specs.Answer.{unread_lines};
@@ -58,8 +59,7 @@ impl<'a> Explainer<'a> {
     ) -> Result<Answer, AllocError>
         ensures answered { (before : List Entry) → IfOk result (ExplainedBy self.now (S.files shelf.old) before call.now) }
         ensures unread { IfOk result (λ answer. AtMost (unread_lines answer) (S.counts shelf.old).faults (S.counts shelf.new).faults) }
-        ensures same_files { S.files shelf.new ≡ S.files shelf.old }
-        ensures shelf_stays { (S.counts shelf.old).faults ≤ (S.counts shelf.new).faults }
+        ensures shelf { ShelfStays S.Shelf shelf.old shelf.new }
     {
         let mut chains = CallChains::new(alloc);
         let mut provider = self.answers.steady();

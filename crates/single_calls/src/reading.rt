@@ -1,4 +1,5 @@
 //! Reading the chains of a call, with the lines of the questions that are asked for each.
+ghost use Rattle.stir_outside.specs.Stays.{ShelfStays};
 ghost use Rattle.std.specs.Prelude.{◌≡◌, ◌≤◌, ℕ, [], List, false, length, true, IfOk, IfErr, OnErr, OnOk, string_bytes};
 ghost use Rattle.std.specs.List.{list_any};
 ghost use Rattle.single_calls.specs.AlwaysYes.{always_yes};
@@ -42,8 +43,7 @@ pub(crate) fn ask_chains<S: Shelf>(
     ensures asked { OnOk result (AreAsked (S.files shelf.old) world.now screened.now.readings (lines written.old (string_bytes text.old)) (lines written.new (string_bytes text.new)) chains.new) }
     ensures stopped { IfErr result (Stopped (S.files shelf.old) world.now screened.now.readings (lines written.old (string_bytes text.old))
         (lines written.new (string_bytes text.new)) (S.counts shelf.old).faults (S.counts shelf.new).faults) }
-    ensures same_files { S.files shelf.new ≡ S.files shelf.old }
-    ensures counts { CountsGoOn (S.counts shelf.old) (S.counts shelf.new) }
+    ensures shelf { ShelfStays S.Shelf shelf.old shelf.new }
 {
     chains_law();
     'passports: for i in 0..screened.count() {
@@ -75,8 +75,7 @@ fn known_chain<S: Shelf>(
     ensures right { IfOk result (λ chain. IsRightWhere (S.files shelf.old) world.now always_yes x5u.now (state_of chain)) }
     ensures known { IfOk result (λ chain. is_unread (state_of chain) ≡ false) }
     ensures stopped { IfErr result (StopsFor world.now x5u.now (S.counts shelf.old).faults (S.counts shelf.new).faults) }
-    ensures same_files { S.files shelf.new ≡ S.files shelf.old }
-    ensures counts { CountsGoOn (S.counts shelf.old) (S.counts shelf.new) }
+    ensures shelf { ShelfStays S.Shelf shelf.old shelf.new }
 {
     right_law();
     let Some(name) = world.chains.file(x5u) else {

@@ -4,6 +4,7 @@ ghost use Rattle.stir_cmd.specs.Outside.{outside_of};
 ghost use Rattle.stir_cmd.specs.Explained.{ask_course, explain_course};
 ghost use Rattle.stir_cmd.specs.Singly.{LogAnswers, calls_at};
 ghost use Rattle.stir_words.specs.Seen.{asking_view, judging_view};
+ghost use Rattle.stir_outside.specs.Stays.{ShelfStays};
 
 use crate::settings::settings_of;
 use crate::verify::end_at;
@@ -84,8 +85,7 @@ fn answer_calls<A: Answerer, S: Shelf, I: Source, O: Sink>(
     ensures ran { LogAnswers (A.answered answerer.old (S.files shelf.old)) (A.stops answerer.old (S.files shelf.old))
         (calls_at (outside_of S.Shelf I.Source O.Sink shelf.old input.old sink.old))
         (calls_at (outside_of S.Shelf I.Source O.Sink shelf.new input.new sink.new)) result }
-    ensures shelf_stays { (S.counts shelf.old).faults ≤ (S.counts shelf.new).faults }
-    ensures same_files { S.files shelf.new ≡ S.files shelf.old }
+    ensures shelf { ShelfStays S.Shelf shelf.old shelf.new }
 {
     answer_log(alloc, answerer, shelf, input, sink)
 }

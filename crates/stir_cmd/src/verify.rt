@@ -5,6 +5,7 @@ ghost use Rattle.stir_cmd.specs.Stopping.{EndsAtStop};
 ghost use Rattle.stir_cmd.specs.Verifying.{RanBy, verify_course};
 ghost use Rattle.stir_files.specs.Stop.{stop_of};
 ghost use Rattle.stir_words.specs.Seen.{judging_view};
+ghost use Rattle.stir_outside.specs.Stays.{ShelfStays};
 
 use crate::bench::Bench;
 use crate::settings::settings_of;
@@ -59,8 +60,7 @@ fn judge_by<R: Threads + Sync, S: Shelf, I: Source, O: Sink>(
     ensures ran { RanBy settings materials
         (outside_of S.Shelf I.Source O.Sink shelf.old input.old sink.old)
         (outside_of S.Shelf I.Source O.Sink shelf.new input.new sink.new) result }
-    ensures shelf_stays { (S.counts shelf.old).faults ≤ (S.counts shelf.new).faults }
-    ensures same_files { S.files shelf.new ≡ S.files shelf.old }
+    ensures shelf { ShelfStays S.Shelf shelf.old shelf.new }
 {
     let Materials {
         chains,

@@ -1,4 +1,5 @@
 //! Rule 16: the signatures of the PASSporTs, as the provider answers for them.
+ghost use Rattle.stir_outside.specs.Stays.{ProviderStays};
 ghost use Rattle.std.specs.Prelude.{◌≡◌, ◌+◌, ◌≤◌, length, IfOk, IsSome, OnErr};
 ghost use Rattle.std.specs.Option.{option_copied};
 ghost use Rattle.stir_outside.specs.Count.{HasCause};
@@ -28,9 +29,7 @@ pub(crate) fn ask<C: Chains, P: Provider>(
     ensures answer { IsAsked (P.says provider.old) screened.now.readings (C.states chains.now) (P.faults provider.old) (P.faults provider.new) result }
     ensures asks { P.asks provider.new ≤ P.asks provider.old + length screened.now.readings }
     ensures asks_stay { P.asks provider.old ≤ P.asks provider.new }
-    ensures faults { P.faults provider.old ≤ P.faults provider.new }
-    ensures same_says { P.says provider.new ≡ P.says provider.old }
-    ensures same_signs { P.signs provider.new ≡ P.signs provider.old }
+    ensures provider { ProviderStays P.Provider provider.old provider.new }
 {
     'passports: for i in 0..screened.count() {
         let one = screened.taken(i);

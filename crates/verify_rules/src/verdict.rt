@@ -1,4 +1,5 @@
 //! Rules 10 to 17, tried in their order.
+ghost use Rattle.stir_outside.specs.Stays.{ProviderStays};
 ghost use Rattle.std.specs.Prelude.{◌≡◌, ◌+◌, ◌≤◌, length};
 ghost use Rattle.verify_rules.specs.Call.{Call};
 ghost use Rattle.verify_rules.specs.Causes.{IsCaused};
@@ -88,9 +89,7 @@ pub fn finish<C: Chains, P: Provider>(
     // How often the provider was asked, and what that changed of it.
     ensures asks { P.asks provider.new ≤ P.asks provider.old + length screened.now.readings }
     ensures asks_stay { P.asks provider.old ≤ P.asks provider.new }
-    ensures faults { P.faults provider.old ≤ P.faults provider.new }
-    ensures same_says { P.says provider.new ≡ P.says provider.old }
-    ensures same_signs { P.signs provider.new ≡ P.signs provider.old }
+    ensures provider { ProviderStays P.Provider provider.old provider.new }
 {
     judged_law();
     late_words_law();
@@ -111,9 +110,7 @@ fn finish_exactly<C: Chains, P: Provider>(
     ensures verdict { IsVerdict (P.says provider.old) table.now moment screened.now.readings (C.states chains.now) (P.faults provider.old) (P.faults provider.new) result }
     ensures asks { P.asks provider.new ≤ P.asks provider.old + length screened.now.readings }
     ensures asks_stay { P.asks provider.old ≤ P.asks provider.new }
-    ensures faults { P.faults provider.old ≤ P.faults provider.new }
-    ensures same_says { P.says provider.new ≡ P.says provider.old }
-    ensures same_signs { P.signs provider.new ≡ P.signs provider.old }
+    ensures provider { ProviderStays P.Provider provider.old provider.new }
 {
     if let Some(event) = first_rule(&BEFORE, screened, chains, moment, table) {
         return verdict_of(event);

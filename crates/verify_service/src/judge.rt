@@ -1,4 +1,5 @@
 //! Judging calls, each by itself.
+ghost use Rattle.stir_outside.specs.Stays.{ProviderStays, ShelfStays};
 ghost use Rattle.std.specs.Prelude.{◌≡◌, ◌≤◌, Ok, length, IfOk, vec_len};
 ghost use Rattle.stir_outside.specs.Files.{CountsGoOn};
 ghost use Rattle.verify_rules.specs.Call.{Call as RuledCall};
@@ -38,11 +39,8 @@ pub(crate) fn judge_all<S: Shelf, P: Provider, G: Gate>(
     ensures unread { IfOk result (λ findings. AreCounted found_unread findings.items (S.counts shelf.old).faults (S.counts shelf.new).faults) }
     ensures unasked { IfOk result (λ findings. AreCounted found_unasked findings.items (P.faults worker.old.provider) (P.faults worker.new.provider)) }
 
-    ensures same_files { S.files shelf.new ≡ S.files shelf.old }
-    ensures counts { CountsGoOn (S.counts shelf.old) (S.counts shelf.new) }
-    ensures same_says { P.says worker.new.provider ≡ P.says worker.old.provider }
-    ensures same_signs { P.signs worker.new.provider ≡ P.signs worker.old.provider }
-    ensures faults { P.faults worker.old.provider ≤ P.faults worker.new.provider }
+    ensures shelf { ShelfStays S.Shelf shelf.old shelf.new }
+    ensures provider { ProviderStays P.Provider worker.old.provider worker.new.provider }
 {
     let mut findings = Vec::new(alloc);
     'calls: for call in calls {
@@ -78,11 +76,8 @@ pub fn judge_call<S: Shelf, P: Provider>(
     ensures found { IfOk result (IsFoundWhere (S.files shelf.old) world.now (P.says provider.old) (call_in settings.now call.now)) }
     ensures unread { IfOk result (λ finding. HasCauseIf (found_unread finding) (S.counts shelf.old).faults (S.counts shelf.new).faults) }
     ensures unasked { IfOk result (λ finding. HasCauseIf (found_unasked finding) (P.faults provider.old) (P.faults provider.new)) }
-    ensures same_files { S.files shelf.new ≡ S.files shelf.old }
-    ensures counts { CountsGoOn (S.counts shelf.old) (S.counts shelf.new) }
-    ensures same_says { P.says provider.new ≡ P.says provider.old }
-    ensures same_signs { P.signs provider.new ≡ P.signs provider.old }
-    ensures faults { P.faults provider.old ≤ P.faults provider.new }
+    ensures shelf { ShelfStays S.Shelf shelf.old shelf.new }
+    ensures provider { ProviderStays P.Provider provider.old provider.new }
 {
     screened_law();
     match screen(alloc, call.message(), call.moment(), settings) {
@@ -118,11 +113,8 @@ fn judge_screened<S: Shelf, P: Provider>(
         → IfOk result (IsFoundWhere (S.files shelf.old) world.now (P.says provider.old) call) }
     ensures unread { IfOk result (λ finding. HasCauseIf (found_unread finding) (S.counts shelf.old).faults (S.counts shelf.new).faults) }
     ensures unasked { IfOk result (λ finding. HasCauseIf (found_unasked finding) (P.faults provider.old) (P.faults provider.new)) }
-    ensures same_files { S.files shelf.new ≡ S.files shelf.old }
-    ensures counts { CountsGoOn (S.counts shelf.old) (S.counts shelf.new) }
-    ensures same_says { P.says provider.new ≡ P.says provider.old }
-    ensures same_signs { P.signs provider.new ≡ P.signs provider.old }
-    ensures faults { P.faults provider.old ≤ P.faults provider.new }
+    ensures shelf { ShelfStays S.Shelf shelf.old shelf.new }
+    ensures provider { ProviderStays P.Provider provider.old provider.new }
 {
     screened_law();
     read_chains(alloc, world, shelf, provider, screened, chains)?;

@@ -1,4 +1,5 @@
 //! Reading the chains of a call.
+ghost use Rattle.stir_outside.specs.Stays.{ProviderStays, ShelfStays};
 ghost use Rattle.std.specs.Prelude.{◌≡◌, ◌≤◌, ℕ, List, length, true, IfOk, OnOk, Some};
 ghost use Rattle.std.specs.List.{list_any};
 ghost use Rattle.cert_store.specs.ChainMap.{listed};
@@ -29,11 +30,8 @@ pub(crate) fn read_chains<S: Shelf, P: Provider>(
     ensures unread { OnOk result (HasCauseIf (list_any is_unread chains.new) (S.counts shelf.old).faults (S.counts shelf.new).faults) }
     ensures unasked { OnOk result (HasCauseIf (list_any is_unasked chains.new) (P.faults provider.old) (P.faults provider.new)) }
 
-    ensures same_files { S.files shelf.new ≡ S.files shelf.old }
-    ensures counts { CountsGoOn (S.counts shelf.old) (S.counts shelf.new) }
-    ensures same_says { P.says provider.new ≡ P.says provider.old }
-    ensures same_signs { P.signs provider.new ≡ P.signs provider.old }
-    ensures faults { P.faults provider.old ≤ P.faults provider.new }
+    ensures shelf { ShelfStays S.Shelf shelf.old shelf.new }
+    ensures provider { ProviderStays P.Provider provider.old provider.new }
 {
     right_law();
     chains.clear();
@@ -56,11 +54,8 @@ fn chain_of<S: Shelf, P: Provider>(
     ensures right { IfOk result (λ chain. IsRightWhere (S.files shelf.old) world.now (P.says provider.old) x5u.now (state_of chain)) }
     ensures unread { IfOk result (λ chain. HasCauseIf (is_unread (state_of chain)) (S.counts shelf.old).faults (S.counts shelf.new).faults) }
     ensures unasked { IfOk result (λ chain. HasCauseIf (is_unasked (state_of chain)) (P.faults provider.old) (P.faults provider.new)) }
-    ensures same_files { S.files shelf.new ≡ S.files shelf.old }
-    ensures counts { CountsGoOn (S.counts shelf.old) (S.counts shelf.new) }
-    ensures same_says { P.says provider.new ≡ P.says provider.old }
-    ensures same_signs { P.signs provider.new ≡ P.signs provider.old }
-    ensures faults { P.faults provider.old ≤ P.faults provider.new }
+    ensures shelf { ShelfStays S.Shelf shelf.old shelf.new }
+    ensures provider { ProviderStays P.Provider provider.old provider.new }
 {
     right_law();
     match world.chains.file(x5u) {
@@ -81,11 +76,8 @@ pub fn chain_in<S: Shelf, P: Provider>(
         → IfOk result (λ chain. IsRightWhere (S.files shelf.old) world.now (P.says provider.old) x5u (state_of chain)) }
     ensures unread { IfOk result (λ chain. HasCauseIf (is_unread (state_of chain)) (S.counts shelf.old).faults (S.counts shelf.new).faults) }
     ensures unasked { IfOk result (λ chain. HasCauseIf (is_unasked (state_of chain)) (P.faults provider.old) (P.faults provider.new)) }
-    ensures same_files { S.files shelf.new ≡ S.files shelf.old }
-    ensures counts { CountsGoOn (S.counts shelf.old) (S.counts shelf.new) }
-    ensures same_says { P.says provider.new ≡ P.says provider.old }
-    ensures same_signs { P.signs provider.new ≡ P.signs provider.old }
-    ensures faults { P.faults provider.old ≤ P.faults provider.new }
+    ensures shelf { ShelfStays S.Shelf shelf.old shelf.new }
+    ensures provider { ProviderStays P.Provider provider.old provider.new }
 {
     right_law();
     match shelf.read(alloc, name, MOST_CHAIN_BYTES) {
@@ -108,9 +100,7 @@ fn judged<P: Provider>(
 ) -> Result<CallChain, AllocError>
     ensures judged { IfOk result (IsOfBytes world.now (P.says provider.old) bytes.now) }
     ensures unasked { IfOk result (λ chain. HasCauseIf (is_unasked (state_of chain)) (P.faults provider.old) (P.faults provider.new)) }
-    ensures same_says { P.says provider.new ≡ P.says provider.old }
-    ensures same_signs { P.signs provider.new ≡ P.signs provider.old }
-    ensures faults { P.faults provider.old ≤ P.faults provider.new }
+    ensures provider { ProviderStays P.Provider provider.old provider.new }
 {
     let judged = judge_chain(alloc, bytes, &world.anchors, &world.table, provider)?;
     Ok(CallChain::Have(judged))

@@ -1,4 +1,5 @@
 //! A round on one worker.
+ghost use Rattle.stir_outside.specs.Stays.{ProviderStays, ShelfStays};
 ghost use Rattle.std.specs.Prelude.{◌≡◌, ◌≤◌, length, IfErr, IfOk, vec_len, slice_index_or};
 ghost use Rattle.replay_law.specs.Round.{RoundSettled, round_of};
 ghost use Rattle.replay_law.specs.Turn.{FirstWins};
@@ -64,11 +65,8 @@ impl Service {
 
         // What the shelf and the provider tell stays, and their counts never fall.
         ensures workers { length workers.new ≡ length workers.old }
-        ensures same_files { S.files shelf.new ≡ S.files shelf.old }
-        ensures counts { CountsGoOn (S.counts shelf.old) (S.counts shelf.new) }
-        ensures same_says { (d : _) → P.says (slice_index_or workers.new 0 d).provider ≡ P.says (slice_index_or workers.old 0 d).provider }
-        ensures same_signs { (d : _) → P.signs (slice_index_or workers.new 0 d).provider ≡ P.signs (slice_index_or workers.old 0 d).provider }
-        ensures faults { (d : _) → P.faults (slice_index_or workers.old 0 d).provider ≤ P.faults (slice_index_or workers.new 0 d).provider }
+        ensures shelf { ShelfStays S.Shelf shelf.old shelf.new }
+        ensures provider { (d : _) → ProviderStays P.Provider (slice_index_or workers.old 0 d).provider (slice_index_or workers.new 0 d).provider }
     {
         let worker = &mut workers[0];
         self.judge_round(alloc, shelf, worker, calls)
@@ -96,11 +94,8 @@ impl Service {
         ensures number { self.new.number ≡ last_number self.old.number calls.now }
         ensures moment { self.new.moment ≡ last_moment_of self.old.moment calls.now }
         ensures wanting { IfErr result (λ _. IsPurged calls.now (held self.old.past) (held self.new.past)) }
-        ensures same_files { S.files shelf.new ≡ S.files shelf.old }
-        ensures counts { CountsGoOn (S.counts shelf.old) (S.counts shelf.new) }
-        ensures same_says { P.says worker.new.provider ≡ P.says worker.old.provider }
-        ensures same_signs { P.signs worker.new.provider ≡ P.signs worker.old.provider }
-        ensures faults { P.faults worker.old.provider ≤ P.faults worker.new.provider }
+        ensures shelf { ShelfStays S.Shelf shelf.old shelf.new }
+        ensures provider { ProviderStays P.Provider worker.old.provider worker.new.provider }
     {
         one_by_one();
         same_is_one();

@@ -20,7 +20,7 @@ pub returns-in-Ok-clause-ran : goal.returns-in-Ok-clause-ran
 returns-in-Ok-clause-ran g c =
     let behind = rw c.in-Ok-Some.field-0-is at c.in-Ok-Some.ensures.behind in
     let moves = rw c.in-Ok-Some.field-0-is at c.in-Ok-Some.ensures.moves in
-    more_ran _ _ _ _ _ _ _ _ _ _ _ _ _ _ _ _ _ _ (c.reading_law.ensures.one _ _ _ _ _ behind.reads moves.0) c.in-Ok-Some.ensures.never_falls c.in-Ok.ensures.writes c.in-Ok.ensures.shelf_stays c.in-Ok.ensures.answered
+    more_ran _ _ _ _ _ _ _ _ _ _ _ _ _ _ _ _ _ _ (c.reading_law.ensures.one _ _ _ _ _ behind.reads moves.0) c.in-Ok-Some.ensures.never_falls c.in-Ok.ensures.writes c.in-Ok.ensures.shelf.counts.faults.never_falls c.in-Ok.ensures.answered
 
 pub returns-in-Ok-clause-reads_on : goal.returns-in-Ok-clause-reads_on
 returns-in-Ok-clause-reads_on g c =
@@ -36,4 +36,4 @@ pub returns-clause-ran : goal.returns-clause-ran
 returns-clause-ran g c =
     let behind = rw c.in-Ok-Some.field-0-is at c.in-Ok-Some.ensures.behind in
     let moves = rw c.in-Ok-Some.field-0-is at c.in-Ok-Some.ensures.moves in
-    halted _ _ _ _ _ _ _ _ _ _ _ _ _ _ _ _ _ _ _ _ (c.reading_law.ensures.one _ _ _ _ _ behind.reads moves.0) c.in-Ok-Some.ensures.never_falls c.in-Err-answer_call.ensures.writes c.in-Err-answer_call.ensures.shelf_stays c.in-Err-answer_call.ensures.answered
+    halted _ _ _ _ _ _ _ _ _ _ _ _ _ _ _ _ _ _ _ _ (c.reading_law.ensures.one _ _ _ _ _ behind.reads moves.0) c.in-Ok-Some.ensures.never_falls c.in-Err-answer_call.ensures.writes c.in-Err-answer_call.ensures.shelf.counts.faults.never_falls c.in-Err-answer_call.ensures.answered

@@ -19,8 +19,8 @@ calls-preserved g c =
     record {
       runs = on_both _ _ _ _ _ _ _ _ _ _ c.calls.invariant.still c.calls.invariant.runs ran;
       reads_on = c.in-Ok-More.ensures.reads_on (ap Ok c.in-Ok-More.field-0-is);
-      files = c.in-Ok-More.ensures.same_files ∙ c.calls.invariant.files;
-      shelf_stays = omega (arith, c.calls.invariant.shelf_stays, c.in-Ok-More.ensures.shelf_stays);
+      files = c.in-Ok-More.ensures.shelf.files ∙ c.calls.invariant.files;
+      shelf_stays = omega (arith, c.calls.invariant.shelf_stays, c.in-Ok-More.ensures.shelf.counts.faults.never_falls);
       still = λ before call answer h. c.calls.invariant.still before call answer (c.in-Ok-More.ensures.still before call answer h);
       still_stops = λ before call text name h. c.calls.invariant.still_stops before call text name (c.in-Ok-More.ensures.still_stops before call text name h);
     }

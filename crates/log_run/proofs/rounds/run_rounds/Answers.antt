@@ -14,8 +14,8 @@ rounds-preserved g c =
       reads_on = c.in-Ok-More.ensures.reads_on (ap Ok c.in-Ok-More.field-0-is);
       stands = c.in-Ok-More.ensures.stands (ap Ok c.in-Ok-More.field-0-is);
       same = c.in-Ok-More.ensures.same ∙ c.rounds.invariant.same;
-      files = c.in-Ok-More.ensures.same_files ∙ c.rounds.invariant.files;
-      shelf_stays = omega (arith, c.rounds.invariant.shelf_stays, c.in-Ok-More.ensures.shelf_stays);
+      files = c.in-Ok-More.ensures.shelf.files ∙ c.rounds.invariant.files;
+      shelf_stays = omega (arith, c.rounds.invariant.shelf_stays, c.in-Ok-More.ensures.shelf.counts.faults.never_falls);
       still = λ call outcome h. c.rounds.invariant.still call outcome (c.in-Ok-More.ensures.still call outcome h);
     }
 

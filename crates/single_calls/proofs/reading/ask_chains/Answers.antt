@@ -22,6 +22,6 @@ passports-preserved g c =
           (lines c.args.written.now (string_bytes c.args.text.now)) (lines c.passports.written (string_bytes c.passports.text))
           (lines c.add_chain.new.written (string_bytes c.add_chain.new.text)) c.passports.chains c.push.new.self c.passports.i c.passport.result.now c.x5u-x5u.result.now state
           c.chains_law.ensures.next i.same_files i.counted within c.passport.ensures c.x5u-x5u.ensures i.asked c.in-Ok.ensures.right c.in-Ok.ensures.known c.in-Ok-add_chain.ensures c.in-Ok-push.ensures;
-      same_files = c.in-Ok.ensures.same_files ∙ i.same_files;
-      counts = go_on (g.S.Shelf.counts c.args.shelf.now) (g.S.Shelf.counts c.passports.shelf) (g.S.Shelf.counts c.known_chain.new.shelf) i.counts c.in-Ok.ensures.counts;
+      same_files = c.in-Ok.ensures.shelf.files ∙ i.same_files;
+      counts = go_on (g.S.Shelf.counts c.args.shelf.now) (g.S.Shelf.counts c.passports.shelf) (g.S.Shelf.counts c.known_chain.new.shelf) i.counts c.in-Ok.ensures.shelf.counts;
     }

@@ -28,14 +28,14 @@ calls-preserved g c =
           c.calls.invariant.same_files c.calls.invariant.same_says within c.call-item.is c.calls.invariant.found c.in_ok-finding.ensures.found);
       unread = subst (λ (fs : List Finding). AreCounted found_unread fs (g.S.Shelf.counts c.args.shelf.now).faults (g.S.Shelf.counts c.judge_call.new.shelf).faults) (sym pushed)
           (counted_more found_unread c.calls.findings.items c.in_ok-finding.finding (g.S.Shelf.counts c.args.shelf.now).faults (g.S.Shelf.counts c.calls.shelf).faults
-          (g.S.Shelf.counts c.judge_call.new.shelf).faults c.calls.invariant.counts.faults.never_falls c.in_ok-finding.ensures.counts.faults.never_falls c.calls.invariant.unread
+          (g.S.Shelf.counts c.judge_call.new.shelf).faults c.calls.invariant.counts.faults.never_falls c.in_ok-finding.ensures.shelf.counts.faults.never_falls c.calls.invariant.unread
           c.in_ok-finding.ensures.unread);
       unasked = subst (λ (fs : List Finding). AreCounted found_unasked fs (g.P.Provider.faults c.args.worker.now.provider) (g.P.Provider.faults c.judge_call.new.provider)) (sym pushed)
           (counted_more found_unasked c.calls.findings.items c.in_ok-finding.finding (g.P.Provider.faults c.args.worker.now.provider) (g.P.Provider.faults c.calls.worker.provider)
-          (g.P.Provider.faults c.judge_call.new.provider) c.calls.invariant.faults c.in_ok-finding.ensures.faults c.calls.invariant.unasked c.in_ok-finding.ensures.unasked);
-      same_files = c.in_ok-finding.ensures.same_files ∙ c.calls.invariant.same_files;
-      counts = go_on (g.S.Shelf.counts c.args.shelf.now) (g.S.Shelf.counts c.calls.shelf) (g.S.Shelf.counts c.judge_call.new.shelf) c.calls.invariant.counts c.in_ok-finding.ensures.counts;
-      same_says = c.in_ok-finding.ensures.same_says ∙ c.calls.invariant.same_says;
-      same_signs = c.in_ok-finding.ensures.same_signs ∙ c.calls.invariant.same_signs;
-      faults = (let one = c.calls.invariant.faults in let other = c.in_ok-finding.ensures.faults in omega arith);
+          (g.P.Provider.faults c.judge_call.new.provider) c.calls.invariant.faults c.in_ok-finding.ensures.provider.faults c.calls.invariant.unasked c.in_ok-finding.ensures.unasked);
+      same_files = c.in_ok-finding.ensures.shelf.files ∙ c.calls.invariant.same_files;
+      counts = go_on (g.S.Shelf.counts c.args.shelf.now) (g.S.Shelf.counts c.calls.shelf) (g.S.Shelf.counts c.judge_call.new.shelf) c.calls.invariant.counts c.in_ok-finding.ensures.shelf.counts;
+      same_says = c.in_ok-finding.ensures.provider.says ∙ c.calls.invariant.same_says;
+      same_signs = c.in_ok-finding.ensures.provider.signs ∙ c.calls.invariant.same_signs;
+      faults = (let one = c.calls.invariant.faults in let other = c.in_ok-finding.ensures.provider.faults in omega arith);
     }

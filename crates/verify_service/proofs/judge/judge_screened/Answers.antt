@@ -10,7 +10,7 @@ returns-clause-found g c = λ call passed now.
     found_where (g.S.Shelf.files c.args.shelf.now) c.args.world.now (g.P.Provider.says c.args.provider.now) call c.args.screened.now c.read_chains.new.chains c.args.moment
     c.finish-verdict.result c.finding_of.result c.screened_law.ensures.judged
     (λ world ruled by right. c.finish-verdict.ensures.right world ruled
-    (subst (λ (s : Says). IsJudgedBy world ruled c.args.world.now.table s c.args.moment c.args.screened.now.readings) (sym c.in_ok-read_chains.ensures.same_says) by) right)
+    (subst (λ (s : Says). IsJudgedBy world ruled c.args.world.now.table s c.args.moment c.args.screened.now.readings) (sym c.in_ok-read_chains.ensures.provider.says) by) right)
     passed now c.in_ok-read_chains.ensures.right c.finding_of.ensures.same
 
 pub returns-clause-unread : goal.returns-clause-unread
@@ -20,5 +20,5 @@ returns-clause-unread g c = unread_cause c.args.screened.now.readings c.read_cha
 
 pub returns-clause-unasked : goal.returns-clause-unasked
 returns-clause-unasked g c = unasked_cause c.args.screened.now.readings c.read_chains.new.chains (g.P.Provider.faults c.read_chains.new.provider) (g.P.Provider.faults c.finish-verdict.new.provider)
-    c.finish-verdict.result c.finding_of.result c.finish-verdict.ensures.causes c.finish-verdict.ensures.faults c.finding_of.ensures.same (g.P.Provider.faults c.args.provider.now)
-    c.in_ok-read_chains.ensures.faults c.in_ok-read_chains.ensures.unasked
+    c.finish-verdict.result c.finding_of.result c.finish-verdict.ensures.causes c.finish-verdict.ensures.provider.faults c.finding_of.ensures.same (g.P.Provider.faults c.args.provider.now)
+    c.in_ok-read_chains.ensures.provider.faults c.in_ok-read_chains.ensures.unasked

@@ -26,13 +26,13 @@ passports-preserved g c =
           c.passports.invariant.same_says c.passports.invariant.right within c.passport.ensures c.x5u-x5u.ensures c.in_ok-chain.ensures.right);
       unread = subst (λ (states : List State). HasCauseIf (list_any is_unread states) (g.S.Shelf.counts c.args.shelf.now).faults (g.S.Shelf.counts c.chain_of.new.shelf).faults) (sym pushed)
           (cause_more is_unread c.passports.chains state (g.S.Shelf.counts c.args.shelf.now).faults (g.S.Shelf.counts c.passports.shelf).faults (g.S.Shelf.counts c.chain_of.new.shelf).faults
-          c.passports.invariant.counts.faults.never_falls c.in_ok-chain.ensures.counts.faults.never_falls c.passports.invariant.unread c.in_ok-chain.ensures.unread);
+          c.passports.invariant.counts.faults.never_falls c.in_ok-chain.ensures.shelf.counts.faults.never_falls c.passports.invariant.unread c.in_ok-chain.ensures.unread);
       unasked = subst (λ (states : List State). HasCauseIf (list_any is_unasked states) (g.P.Provider.faults c.args.provider.now) (g.P.Provider.faults c.chain_of.new.provider)) (sym pushed)
           (cause_more is_unasked c.passports.chains state (g.P.Provider.faults c.args.provider.now) (g.P.Provider.faults c.passports.provider) (g.P.Provider.faults c.chain_of.new.provider)
-          c.passports.invariant.faults c.in_ok-chain.ensures.faults c.passports.invariant.unasked c.in_ok-chain.ensures.unasked);
-      same_files = c.in_ok-chain.ensures.same_files ∙ c.passports.invariant.same_files;
-      counts = go_on (g.S.Shelf.counts c.args.shelf.now) (g.S.Shelf.counts c.passports.shelf) (g.S.Shelf.counts c.chain_of.new.shelf) c.passports.invariant.counts c.in_ok-chain.ensures.counts;
-      same_says = c.in_ok-chain.ensures.same_says ∙ c.passports.invariant.same_says;
-      same_signs = c.in_ok-chain.ensures.same_signs ∙ c.passports.invariant.same_signs;
-      faults = (let one = c.passports.invariant.faults in let other = c.in_ok-chain.ensures.faults in omega arith);
+          c.passports.invariant.faults c.in_ok-chain.ensures.provider.faults c.passports.invariant.unasked c.in_ok-chain.ensures.unasked);
+      same_files = c.in_ok-chain.ensures.shelf.files ∙ c.passports.invariant.same_files;
+      counts = go_on (g.S.Shelf.counts c.args.shelf.now) (g.S.Shelf.counts c.passports.shelf) (g.S.Shelf.counts c.chain_of.new.shelf) c.passports.invariant.counts c.in_ok-chain.ensures.shelf.counts;
+      same_says = c.in_ok-chain.ensures.provider.says ∙ c.passports.invariant.same_says;
+      same_signs = c.in_ok-chain.ensures.provider.signs ∙ c.passports.invariant.same_signs;
+      faults = (let one = c.passports.invariant.faults in let other = c.in_ok-chain.ensures.provider.faults in omega arith);
     }

@@ -19,7 +19,7 @@ returns-clause-adds g c =
     OnOk r (Adds (BehindAsked before (g.S.Shelf.files c.args.shelf.now)) (BehindAsked now (g.S.Shelf.files c.ask_call.new.shelf)) c.args.call.now) in
     subst P c.self.view_is (elim c.match-ask_call.branch [
       | in-Ok w ↦ subst Q (sym w.result-is) (adds before now (g.S.Shelf.files c.args.shelf.now) (g.S.Shelf.files c.ask_call.new.shelf) c.args.call.now
-          (string_bytes c.new-text.result) (string_bytes c.ask_call.new.text) refl refl c.ask_call.ensures.same_files w.in-Ok.ensures.writes)
+          (string_bytes c.new-text.result) (string_bytes c.ask_call.new.text) refl refl c.ask_call.ensures.shelf.files w.in-Ok.ensures.writes)
       | in-Err-Unread w ↦ subst Q (sym w.result-is) tt
       | in-Err-Memory w ↦ subst Q (sym w.result-is) tt
     ])
