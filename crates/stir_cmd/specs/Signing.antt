@@ -4,7 +4,7 @@ use Rattle.std.specs.Io.KnownBytes.{Appends, Consumes, IsAtEnd}
 use Rattle.hex.specs.Hex.{encode_lower}
 use Rattle.log_run.specs.Ending.{failed_line}
 use Rattle.stir_outside.specs.Ending.{EndsAs, memory_line}
-use Rattle.auth_service.specs.Answer.{told}
+use Rattle.auth_service.specs.Answer.{decided}
 use Rattle.auth_service.specs.Causes.{IsCaused}
 use Rattle.auth_service.specs.Order.{HolderView, OrderView, shape_of, shape_of_diversion}
 use Rattle.auth_service.specs.Outcome.{IsSigned}
@@ -75,7 +75,7 @@ pub record GivesMessage (order : OrderView) (holder : Option HolderView) (signs 
 
 -- it is one of the four faults that message, order, holder and key decide
 abbrev pub IsDecided : SignFault → Type 0
-IsDecided fault = told fault ≡ Some fault
+IsDecided fault = decided fault ≡ Some fault
 
 -- this fault comes, and it has its cause
 pub record GivesFault (order : OrderView) (holder : Option HolderView) (signs : List ℕ → List ℕ → Option (List ℕ)) (bytes : List ℕ) (fault : SignFault) : Type 0 where
