@@ -1,15 +1,11 @@
 //! The cache of judged chains: `Cache` of `cert_store`.
 
-use crate::answer::Answer;
-use crate::authority::table_of;
-use crate::chains::answers_of;
-use crate::paths::anchors_of;
-use crate::table::{Unread, number, text};
 use cert_store::{Asked, Cache, Judged, judge_chain};
 use delegation::Anchors;
 use std::alloc::Global;
 use stir_outside::AnswerProvider;
 use tn_auth_list::CodeTable;
+use vector_table::{Answer, Unread, anchors_of, answers_of, number, table_of, text};
 
 /// What a call answers.
 pub fn answer(alloc: Global, call: &str, words: &[&[u8]]) -> Result<String, Unread> {
