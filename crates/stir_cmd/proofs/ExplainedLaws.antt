@@ -5,7 +5,7 @@ use Rattle.call_log.specs.Entry.{Entry}
 use Rattle.call_run.specs.Answer.{AnswerView, all_well, found_unread, texts_of, unread_in}
 use Rattle.call_run.specs.Answering.{AreAnswered}
 use Rattle.call_run.specs.Clauses.{WholeAnswer}
-use Rattle.call_run.specs.declared.finding.Finding.{Finding}
+use Rattle.call_run.specs.declared.status.CallStatus.{CallStatus}
 use Rattle.log_run.specs.Ending.{report_status}
 use Rattle.single_calls.specs.Asker.{AskedBy, AskerView, asking_world}
 use Rattle.single_calls.specs.Asks.{Asks}

@@ -1,5 +1,5 @@
 -- What `show` answers to bytes is what its words say, and what it promises follows.
-use Rattle.std.proofs.Common.{◌≡◌, ℕ, ◌≤◌, inl, inr, List, Result, Ok, Err, refl, sym, ◌∙◌, ap, subst, arith}
+use Rattle.std.proofs.Common.{◌≡◌, ℕ, ◌≤◌, ◌⊎◌, inl, inr, List, Result, Ok, Err, refl, sym, ◌∙◌, ap, subst, arith}
 use Rattle.stir_outside.specs.Status.{status_number}
 use Rattle.x509_profile.specs.Chain.{Chain, RefusedCertificate, certificates_in}
 use Rattle.x509_profile.specs.View.{CertView}

@@ -290,7 +290,7 @@ pub showed : (before now : Io) (status : ℕ) → Answered show_answering before
 showed before now status a low = record { text = a.text; shows = (show_reply before now a.text status a.reply low).0; reported = a.reported }
 
 pub show_ended : (before now : Io) (status : ℕ) → Answered show_answering before now status → status ≤ 1 → IsAtEnd now.left × (status ≡ 0)
-show_ended before now status a low = (show_reply before now a.text status a.reply low).1
+show_ended before now status a low = let r = show_reply before now a.text status a.reply low in (r.1, r.2)
 
 -- the bytes are too many, or no chain of certificates
 abbrev pub IsRefusedChain : List ℕ → Type 0
@@ -306,17 +306,17 @@ refused_long None left_now bytes from long = tt
 refused_long (Some known) None bytes from long = absurd from
 refused_long (Some known) (Some rest) bytes from long = inl (omega (arith, long, ap length from, length-append bytes rest))
 
-refused_reply_of_show : (before now : Io) (text : List ℕ) → IsReply show_answering before now text 5 → IfSome before.left IsRefusedChain
-refused_reply_of_show before now text (inl r) = by_says r.gives.says
+refused_reply_of_show : (before now : Io) (text : List ℕ) (status : ℕ) → status ≡ 5 → IsReply show_answering before now text status → IfSome before.left IsRefusedChain
+refused_reply_of_show before now text status five (inl r) = by_says r.gives.says
   where
-    by_says : ((5 ≡ 0) × Shows r.bytes text) ⊎ ((5 ≡ 5) × IsNoChain r.bytes) → IfSome before.left IsRefusedChain
-    by_says (inl s) = absurd (omega (arith, s.0))
+    by_says : ((status ≡ 0) × Shows r.bytes text) ⊎ ((status ≡ 5) × IsNoChain r.bytes) → IfSome before.left IsRefusedChain
+    by_says (inl s) = absurd (omega (arith, s.0, five))
     by_says (inr s) = refused_all before.left now.left r.bytes r.taken r.ended s.1
-refused_reply_of_show before now text (inr r) = refused_long before.left now.left r.bytes r.taken r.more
+refused_reply_of_show before now text status five (inr r) = refused_long before.left now.left r.bytes r.taken r.more
 
 -- as the cause of status 5 had it
 pub show_refused : (before now : Io) → Answered show_answering before now 5 → IfSome before.left IsRefusedChain
-show_refused before now a = refused_reply_of_show before now a.text a.reply
+show_refused before now a = refused_reply_of_show before now a.text 5 refl a.reply
 
 -- a chain within the limit is shown, and any other bytes are refused, as completeness had it
 chain_given : (bytes text : List ℕ) (certificates : List CertView) (status : ℕ) → Chain bytes certificates → ShowGives bytes text status → status ≡ 0
