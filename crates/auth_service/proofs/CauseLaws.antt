@@ -1,11 +1,12 @@
 -- The fault that the definition gives has its cause in the message, the order, the holder or the provider's answer.
-use Rattle.std.proofs.Common.{◌≡◌, ◌↔◌, ℕ, Bool, true, false, not, cond, List, Option, Some, None, Result, Ok, Err, IsTrue, inl, inr, refl, sym, ap, subst, ◌∙◌, arith}
+use Rattle.std.proofs.Common.{◌≡◌, ◌↔◌, ◌⊎◌, ℕ, Bool, true, false, not, cond, List, Option, Some, None, Result, Ok, Err, IsTrue, inl, inr, refl, sym, ap, subst, ◌∙◌, arith}
 use Rattle.std.specs.Prelude.{IfErr}
 use Rattle.lists.proofs.Bytes.{same_byte}
 use Rattle.lists.specs.Given.{Gives}
 use Rattle.lists.specs.Steps.{◌>>=◌}
 use Rattle.sip_message.specs.Accessors.{calling_number, date, is_invite}
 use Rattle.sip_message.specs.Added.{with_line}
+use Rattle.sip_message.specs.Head.{Head}
 use Rattle.sip_message.specs.Message.{MessageView}
 use Rattle.sip_message.specs.Reading.{read}
 use Rattle.sip_message.specs.declared.fault.FormFault.{FormFault}
@@ -22,12 +23,12 @@ use Rattle.auth_service.specs.declared.fault.SignFault.TheVariants as faults
 use Rattle.auth_service.specs.declared.wanted.Shape.{Shape}
 use Rattle.auth_service.specs.declared.wanted.Shape.TheVariants as shapes
 use Rattle.auth_service.specs.Answer.{decided}
-use Rattle.auth_service.specs.Causes.{HasRoom, IsCaused, IsInvite, IsOrdered, IsUnauthorized, MaySpeak, no_invite, no_message, other_date, too_long}
+use Rattle.auth_service.specs.Causes.{HasRoom, IsCaused, IsInvite, IsMisformed, IsOrdered, IsTooLong, IsUnauthorized, IsUnnumbered, IsWithheld, MaySpeak, misformed, no_invite, no_message, other_date, too_long, unauthorized, unnumbered}
 use Rattle.auth_service.specs.Field.{field_name, value_of}
 use Rattle.auth_service.specs.Order.{HolderView, OrderView}
-use Rattle.auth_service.specs.Signed.{allowed, called_number, claims_by, claims_for, claims_in, claims_of, claims_or_fault, is_dated_as, invite_in, is_allowed, is_dated, is_second, is_too_long, signature_of, signature_or, signed}
+use Rattle.auth_service.specs.Signed.{allowed, called_number, claims_by, claims_for, claims_in, claims_of, claims_or_fault, is_dated_as, invite_in, is_allowed, is_dated, is_second, is_too_long, no_signature, signature_of, signature_or, signed}
 use Rattle.auth_service.specs.Written.{IsFor}
-use Rattle.auth_service.proofs.LineLaws.{CompactSize, FullSize, has_none, has_room}
+use Rattle.auth_service.proofs.LineLaws.{CompactSize, FullSize, has_none, has_room, none_signature}
 use Rattle.auth_service.proofs.MadeLaws.{made_for}
 use Rattle.auth_service.proofs.SignedLaws.{HeadLaw, second_is}
 
@@ -203,3 +204,64 @@ answers_caused seen (Err faults.Authority) laws bytes order holder signs g = fau
 answers_caused seen (Err (faults.NoSignature digest)) laws bytes order holder signs g = fault_caused laws bytes order holder signs (faults.NoSignature digest) g
 answers_caused seen (Err faults.Provider) laws bytes order holder signs g = tt
 answers_caused seen (Err faults.Memory) laws bytes order holder signs g = tt
+
+-- ---- nothing is withheld of what may be signed
+
+same_message : Laws → (bytes : List ℕ) (m n : MessageView) → Head bytes m → Head bytes n → m ≡ n
+same_message laws bytes m n h k = let a : read bytes ≡ Ok m = (laws.head bytes m).1 h in let b : read bytes ≡ Ok n = (laws.head bytes n).1 k in cc
+
+same_some : (a b : List ℕ) (o : Option (List ℕ)) → o ≡ Some a → o ≡ Some b → a ≡ b
+same_some a b o e f = cc
+
+same_claims : Laws → (bytes : List ℕ) (order : OrderView) (m n : MessageView) (c d : ClaimsView) → IsOrdered bytes order m c → IsOrdered bytes order n d → c ≡ d
+same_claims laws bytes order m n c d o p =
+    let same : m ≡ n = same_message laws bytes m n o.invite.head p.invite.head in
+    let orig : o.orig ≡ p.orig = same_some o.orig p.orig (calling_number n order.local) (sym (ap (λ x. calling_number x order.local) same) ∙ o.calling) p.calling in
+    let dest : o.dest ≡ p.dest = same_some o.dest p.dest (called_number order n) (sym (ap (λ x. called_number order x) same) ∙ o.called) p.called in
+    o.says ∙ (ap (λ x. claims_by order x o.dest) orig ∙ (ap (λ x. claims_by order p.orig x) dest ∙ sym p.says))
+
+well_formed : Laws → (bytes : List ℕ) (order : OrderView) (message : MessageView) (claims : ClaimsView) → IsOrdered bytes order message claims → HasRoom bytes order claims
+    → IsMisformed bytes order → ⊥
+well_formed laws bytes order message claims o room (no_message none) = none message o.invite.head
+well_formed laws bytes order message claims o room (no_invite m h not_one) =
+    not_one (ap (λ x. is_invite x) (same_message laws bytes m message h o.invite.head) ∙ o.invite.method)
+well_formed laws bytes order message claims o room (other_date m h i compact other) =
+    other (ap (λ x. date x) (same_message laws bytes m message h o.invite.head) ∙ o.invite.dated compact)
+well_formed laws bytes order message claims o room (too_long m c p long) =
+    room no_signature none_signature
+    (subst (λ (x : ClaimsView). IsTooLong bytes order x no_signature) (same_claims laws bytes order m message c claims p o) (long no_signature none_signature))
+
+well_numbered : Laws → (bytes : List ℕ) (order : OrderView) (message : MessageView) (claims : ClaimsView) → IsOrdered bytes order message claims → (u : IsUnnumbered bytes order)
+    → (calling_number u.message order.local ≡ None) ⊎ (called_number order u.message ≡ None) → ⊥
+well_numbered laws bytes order message claims o u (inl e) =
+    let same : u.message ≡ message = same_message laws bytes u.message message u.invite.head o.invite.head in
+    let k : calling_number u.message order.local ≡ Some o.orig = ap (λ x. calling_number x order.local) same ∙ o.calling in
+    absurd cc
+well_numbered laws bytes order message claims o u (inr e) =
+    let same : u.message ≡ message = same_message laws bytes u.message message u.invite.head o.invite.head in
+    let k : called_number order u.message ≡ Some o.dest = ap (λ x. called_number order x) same ∙ o.called in
+    absurd cc
+
+well_held : Laws → (bytes : List ℕ) (order : OrderView) (holder : Option HolderView) (message : MessageView) (claims : ClaimsView) → IsOrdered bytes order message claims
+    → MaySpeak holder claims → IsUnauthorized bytes order holder → ⊥
+well_held laws bytes order holder message claims o may u =
+    let same : claims ≡ u.claims = same_claims laws bytes order message u.message claims u.claims o u.ordered in
+    u.lacks (subst (λ (x : ClaimsView). CoversKind u.one.table u.one.entries x.orig x.kind) same (subst (λ (x : Option HolderView). MaySpeak x claims) u.given may))
+
+none_withheld : Laws → (bytes : List ℕ) (order : OrderView) (holder : Option HolderView) (message : MessageView) (claims : ClaimsView) → IsOrdered bytes order message claims
+    → HasRoom bytes order claims → MaySpeak holder claims → IsWithheld bytes order holder → ⊥
+none_withheld laws bytes order holder message claims o room may (misformed m) = well_formed laws bytes order message claims o room m
+none_withheld laws bytes order holder message claims o room may (unnumbered u) = well_numbered laws bytes order message claims o u u.missing
+none_withheld laws bytes order holder message claims o room may (unauthorized u) = well_held laws bytes order holder message claims o may u
+
+-- some fault
+abbrev pub HasFault : Result ClaimsView SignFault → Type 0
+HasFault r = (fault : SignFault) × (r ≡ Err fault)
+
+fault_by : Laws → (bytes : List ℕ) (order : OrderView) (holder : Option HolderView) (r : Result ClaimsView SignFault) → Given bytes order holder r → IsWithheld bytes order holder
+    → HasFault r
+fault_by laws bytes order holder r (refused f e c) w = (f, e)
+fault_by laws bytes order holder r (granted message claims e o room may) w = absurd (none_withheld laws bytes order holder message claims o room may w)
+
+pub withheld_fault : Laws → (bytes : List ℕ) (order : OrderView) (holder : Option HolderView) → IsWithheld bytes order holder → HasFault (claims_for bytes order holder)
+withheld_fault laws bytes order holder w = fault_by laws bytes order holder (claims_for bytes order holder) (permitted laws bytes order holder) w

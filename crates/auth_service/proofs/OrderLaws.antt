@@ -3,10 +3,11 @@ use Rattle.std.proofs.Common.{◌≡◌, refl, ℕ, List, Option, Result, IfOk, 
 use Rattle.std.specs.Prelude.{IfErr}
 use Rattle.lists.specs.Given.{Gives}
 use Rattle.auth_service.specs.Answer.{decided}
-use Rattle.auth_service.specs.Causes.{IsCaused}
+use Rattle.auth_service.specs.Asking.{IsLeftAlone}
+use Rattle.auth_service.specs.Causes.{IsCaused, IsWithheld}
+use Rattle.auth_service.specs.Order.{HolderView, IsInForm, OrderView, is_order, shape_of}
 use Rattle.passport_claims.specs.declared.form.Form.{Form}
 use Rattle.passport_claims.specs.declared.form.Form.TheVariants as forms
-use Rattle.auth_service.specs.Order.{HolderView, IsInForm, OrderView, is_order, shape_of}
 use Rattle.auth_service.specs.Outcome.{IsSigned}
 use Rattle.auth_service.specs.Promise.{IsPromised}
 use Rattle.auth_service.specs.Signed.{signed}
@@ -26,6 +27,10 @@ signed_as seen bytes wanted order holder signs result p same = subst (λ (x : Or
 pub caused_as : {X : Type 0} (seen : X → List ℕ) (bytes : List ℕ) (wanted order : OrderView) (holder : Option HolderView) (signs : List ℕ → List ℕ → Option (List ℕ)) (result : Result X SignFault)
     → IsPromised seen bytes wanted holder signs result → wanted ≡ order → IfErr result (λ fault. IsCaused bytes order holder signs fault)
 caused_as seen bytes wanted order holder signs result p same = subst (λ (x : OrderView). IfErr result (λ fault. IsCaused bytes x holder signs fault)) same p.causes
+
+pub withheld_as : {X : Type 0} (bytes : List ℕ) (wanted order : OrderView) (holder : Option HolderView) (before now : ℕ) (result : Result X SignFault)
+    → (IsWithheld bytes wanted holder → IsLeftAlone before now result) → wanted ≡ order → IsWithheld bytes order holder → IsLeftAlone before now result
+withheld_as bytes wanted order holder before now result p same w = p (subst (λ (x : OrderView). IsWithheld bytes x holder) (sym same) w)
 
 -- ---- the form
 

@@ -1,5 +1,5 @@
 -- What a call did to the provider that it asked.
-use Rattle.std.specs.Prelude.{◌≡◌, ℕ, ◌+◌, ◌≤◌, Bool, true, List, Option, Result}
+use Rattle.std.specs.Prelude.{◌≡◌, ℕ, ◌+◌, ◌≤◌, Bool, true, false, List, Option, Result}
 use Rattle.stir_outside.specs.Count.{Rose}
 use Rattle.auth_service.specs.Answer.{names_provider}
 use Rattle.auth_service.specs.declared.fault.SignFault.{SignFault}
@@ -22,3 +22,8 @@ pub record IsAskedOnce {X : Type 0} (before now : Stand) (result : Result X Sign
   pub asks_stay : before.asks ≤ now.asks
   pub same_says : now.says ≡ before.says
   pub same_signs : now.signs ≡ before.signs
+
+-- it wasn't asked, and no failure of it is answered
+pub record IsLeftAlone {X : Type 0} (before now : ℕ) (result : Result X SignFault) : Type 0 where
+  pub asks : now ≡ before
+  pub unnamed : names_provider result ≡ false

@@ -64,6 +64,12 @@ pub record IsUnauthorized (bytes : List ℕ) (order : OrderView) (holder : Optio
   pub given : holder ≡ Some one
   pub lacks : CoversKind one.table one.entries claims.orig claims.kind → ⊥
 
+-- nothing may be signed, whatever the provider does: one of these three faults is there
+pub data IsWithheld (bytes : List ℕ) (order : OrderView) (holder : Option HolderView) : Type 0 where
+  misformed : IsMisformed bytes order → IsWithheld bytes order holder
+  unnumbered : IsUnnumbered bytes order → IsWithheld bytes order holder
+  unauthorized : IsUnauthorized bytes order holder → IsWithheld bytes order holder
+
 -- the holder, where one is given, may
 abbrev pub MaySpeak : Option HolderView → ClaimsView → Type 0
 MaySpeak None claims = ⊤

@@ -1,15 +1,16 @@
 //! Signing a message.
-ghost use Rattle.stir_outside.specs.Stays.{ProviderStays};
-ghost use Rattle.std.specs.Prelude.{◌≡◌, ◌+◌, ◌≤◌, true, IfErr, IfOk, IsTrue};
+ghost use Rattle.std.specs.Prelude.{◌≡◌, ◌+◌, ◌≤◌, false, true, Err, IfErr, IfOk, IsTrue};
 ghost use Rattle.lists.specs.Given.{Gives};
 ghost use Rattle.stir_outside.specs.Count.{Rose};
+ghost use Rattle.stir_outside.specs.Stays.{ProviderStays};
 ghost use Rattle.auth_service.specs.Answer.{names_provider, decided};
-ghost use Rattle.auth_service.specs.Asking.{IsAskedOnce, stand};
-ghost use Rattle.auth_service.specs.Causes.{IsCaused};
+ghost use Rattle.auth_service.specs.Asking.{IsAskedOnce, IsLeftAlone, stand};
+ghost use Rattle.auth_service.specs.Causes.{IsCaused, IsWithheld};
 ghost use Rattle.auth_service.specs.Order.{IsInForm, divert_order_of, holder_seen, is_order, order_of, wanted_of};
 ghost use Rattle.auth_service.specs.Outcome.{IsSigned};
 ghost use Rattle.auth_service.specs.Promise.{IsPromised};
-ghost use Rattle.auth_service.specs.Signed.{signature_of, signed};
+ghost use Rattle.auth_service.specs.Signed.{claims_for, signature_of, signed};
+ghost use Rattle.auth_service.specs.declared.fault.SignFault.{SignFault};
 
 use crate::fault::SignFault;
 use crate::identity::{field_value, with_identity};
@@ -53,6 +54,10 @@ pub fn sign<P: Provider>(
     // The provider's failure has its count.
     ensures failed { names_provider result ≡ true → Rose (P.faults provider.old) (P.faults provider.new) }
 
+    // Where one of the first three faults is there, the provider isn't asked, and isn't named.
+    ensures unasked { IsWithheld bytes.now (order_of order.now) (holder_seen holder.entry) → P.asks provider.new ≡ P.asks provider.old }
+    ensures unnamed { IsWithheld bytes.now (order_of order.now) (holder_seen holder.entry) → names_provider result ≡ false }
+
     // What the call does to the provider.
     ensures asks { P.asks provider.new ≤ P.asks provider.old + 1 }
     ensures asks_stay { P.asks provider.old ≤ P.asks provider.new }
@@ -81,6 +86,8 @@ pub fn divert<P: Provider>(
     ensures signed { IfOk result (λ out. IsSigned bytes.now (divert_order_of order.now) (holder_seen holder.entry) (P.signs provider.old) out.items) }
     ensures causes { IfErr result (λ fault. IsCaused bytes.now (divert_order_of order.now) (holder_seen holder.entry) (P.signs provider.old) fault) }
     ensures failed { names_provider result ≡ true → Rose (P.faults provider.old) (P.faults provider.new) }
+    ensures unasked { IsWithheld bytes.now (divert_order_of order.now) (holder_seen holder.entry) → P.asks provider.new ≡ P.asks provider.old }
+    ensures unnamed { IsWithheld bytes.now (divert_order_of order.now) (holder_seen holder.entry) → names_provider result ≡ false }
     ensures asks { P.asks provider.new ≤ P.asks provider.old + 1 }
     ensures asks_stay { P.asks provider.old ≤ P.asks provider.new }
     ensures provider { ProviderStays P.Provider provider.old provider.new }
@@ -101,6 +108,7 @@ fn sign_wanted<P: Provider>(
     ensures promised { IsPromised (λ out. out.items) bytes.now (wanted_of wanted.now) (holder_seen holder.entry) (P.signs provider.old) result }
     ensures asked { IsAskedOnce (stand (P.says provider.old) (P.signs provider.old) (P.asks provider.old) (P.faults provider.old))
         (stand (P.says provider.new) (P.signs provider.new) (P.asks provider.new) (P.faults provider.new)) result }
+    ensures withheld { IsWithheld bytes.now (wanted_of wanted.now) (holder_seen holder.entry) → IsLeftAlone (P.asks provider.old) (P.asks provider.new) result }
 {
     head_law();
     token_bytes_law();
@@ -122,6 +130,8 @@ fn sign_exactly<P: Provider>(
     ensures signed { IfOk result (λ out. IsSigned bytes.now (wanted_of wanted.now) (holder_seen holder.entry) (P.signs provider.old) out.items) }
     ensures asked { IsAskedOnce (stand (P.says provider.old) (P.signs provider.old) (P.asks provider.old) (P.faults provider.old))
         (stand (P.says provider.new) (P.signs provider.new) (P.asks provider.new) (P.faults provider.new)) result }
+    ensures withheld { (fault : SignFault) → claims_for bytes.now (wanted_of wanted.now) (holder_seen holder.entry) ≡ Err fault
+        → IsLeftAlone (P.asks provider.old) (P.asks provider.new) result }
 {
     head_law();
     token_bytes_law();

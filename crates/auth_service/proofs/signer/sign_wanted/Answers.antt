@@ -1,6 +1,6 @@
 -- Each fault has its cause.
 use Rattle.auth_service.specs.Order.{holder_seen, wanted_of}
-use Rattle.auth_service.proofs.CauseLaws.{Laws, answers_caused}
+use Rattle.auth_service.proofs.CauseLaws.{Laws, answers_caused, withheld_fault}
 use Rattle.auth_service.proofs.signer.sign_wanted.Goals as goal
 
 pub returns-clause-promised : goal.returns-clause-promised
@@ -16,3 +16,13 @@ returns-clause-promised g c =
       is_signed = c.sign_exactly.ensures.signed;
       causes = answers_caused (λ out. out.items) c.sign_exactly.result laws c.args.bytes.now (wanted_of c.args.wanted.now) (holder_seen c.args.holder) (g.P.Provider.signs c.args.provider.now) c.sign_exactly.ensures.exact;
     }
+
+pub returns-clause-withheld : goal.returns-clause-withheld
+returns-clause-withheld g c =
+    let laws : Laws = record {
+      head = c.head_law.ensures;
+      full = c.token_bytes_law.ensures.full_size;
+      compact = c.token_bytes_law.ensures.compact_size;
+      covers = c.covers_kind_law.ensures;
+    } in
+    λ w. let f = withheld_fault laws c.args.bytes.now (wanted_of c.args.wanted.now) (holder_seen c.args.holder) w in c.sign_exactly.ensures.withheld f.0 f.1
