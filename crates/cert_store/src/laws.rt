@@ -1,10 +1,11 @@
 //! Laws: a function here does nothing, and its clauses are the law.
-ghost use Rattle.std.specs.Prelude.{◌≡◌, ◌≢◌, ◌≤◌, ℕ, List, length, Option, None};
+ghost use Rattle.std.specs.Prelude.{◌≡◌, ◌↔◌, ◌≢◌, ◌≤◌, ℕ, List, length, Option, Some, None, true};
 ghost use Rattle.der_reader.specs.Elem.{AllBytes};
 ghost use Rattle.x509_profile.specs.Chain.{Chain};
 ghost use Rattle.x509_profile.specs.View.{CertView};
 ghost use Rattle.delegation.specs.Coverage.{Table};
 ghost use Rattle.cert_store.specs.Below.{Below};
+ghost use Rattle.cert_store.specs.ChainMap.{IsFileName, Row, is_file_name, row_of};
 ghost use Rattle.cert_store.specs.Judged.{HasAuthority, judged_of};
 ghost use Rattle.cert_store.specs.Questions.{AgreeOn, kept_question, questions_of};
 ghost use Rattle.cert_store.specs.Rules.{Says};
@@ -46,4 +47,10 @@ pub fn questions_law()
     ensures apart { (anchors : List CertView) (table : Table) (says other : Says) (bytes : List ℕ)
         → judged_of anchors table other bytes ≡ record (judged_of anchors table says bytes) { asked = (judged_of anchors table other bytes).asked } }
     ensures none { (certificate : Option CertView) → kept_question certificate None ≡ None }
+{}
+
+/// The name of a file in a chain map is 1 to 255 bytes of visible ASCII (this project's own rule).
+pub fn file_name_law()
+    ensures name { (word : List ℕ) → is_file_name word ≡ true ↔ IsFileName word }
+    ensures some { (line : List ℕ) (row : Row) → row_of line ≡ Some row → 1 ≤ length row.file }
 {}

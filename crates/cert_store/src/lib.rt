@@ -18,7 +18,7 @@ mod world;
 
 pub use judge::judge_chain;
 pub use judged::{Asked, Judged, Question};
-pub use laws::{judged_law, questions_law};
+pub use laws::{file_name_law, judged_law, questions_law};
 pub use map::{ChainMap, MapFault};
 pub use world::World;
 /// Memory ran out.
