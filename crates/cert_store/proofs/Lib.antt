@@ -1,6 +1,7 @@
 pub mod FileNames
 pub mod HeldLaws
 pub mod MapLaws
+pub mod NameLaws
 pub mod PathFacts
 pub mod RuleSteps
 pub mod AskSteps

@@ -1,6 +1,6 @@
 -- The chain map (this project's own rule): which file has the certificates of which x5u, the header parameter of RFC 7515,
 -- section 4.1.5. A line is `X5U FILE`, and a map has at most 50,000 lines, those that are passed over too.
-use Rattle.std.specs.Prelude.{◌≡◌, ℕ, ◌<◌, ◌≤◌, ◌⊎◌, Bool, ◌&&◌, nat_le, List, [], ◌∷◌, length, map, filter, is_some, Option, Some, None, option_and_then, Result, Ok, Err, if◌then◌else◌}
+use Rattle.std.specs.Prelude.{◌≡◌, true, ℕ, ◌<◌, ◌≤◌, ◌⊎◌, Bool, ◌&&◌, nat_le, List, [], ◌∷◌, length, map, filter, is_some, Option, Some, None, option_and_then, Result, Ok, Err, if◌then◌else◌}
 use Rattle.std.specs.List.{list_all}
 use Rattle.std.specs.Map.{lookup}
 use Rattle.std.specs.Str.{bytes_eq}
@@ -28,6 +28,11 @@ is_x5u word = list_all is_uri_byte word
 -- at most 255 bytes of visible ASCII; a word has at least one
 abbrev pub is_file_name : List ℕ → Bool
 is_file_name word = nat_le (length word) 255 && list_all is_visible word
+
+-- the same by what holds of the word
+pub record IsFileName (word : List ℕ) : Type 0 where
+  pub most : length word ≤ 255
+  pub visible : list_all is_visible word ≡ true
 
 abbrev pub row_of_two : List ℕ → List ℕ → Option Row
 row_of_two x5u file = if is_x5u x5u && is_file_name file then Some (record { x5u = x5u; file = file }) else None

@@ -1,10 +1,11 @@
 //! Laws: a function here does nothing, and its clauses are the law.
-ghost use Rattle.std.specs.Prelude.{◌≡◌, ◌≢◌, ◌≤◌, ◌⊎◌, ℕ, suc, true, List, length, is_some, Option, Some, None};
+ghost use Rattle.std.specs.Prelude.{◌≡◌, ◌↔◌, ◌≢◌, ◌≤◌, ◌⊎◌, ℕ, suc, true, List, length, is_some, Option, Some, None};
 ghost use Rattle.der_reader.specs.Elem.{AllBytes};
 ghost use Rattle.x509_profile.specs.Chain.{Chain};
 ghost use Rattle.x509_profile.specs.View.{CertView};
 ghost use Rattle.delegation.specs.Coverage.{Table};
 ghost use Rattle.cert_store.specs.Below.{Below};
+ghost use Rattle.cert_store.specs.ChainMap.{IsFileName, Row, is_file_name, row_of};
 ghost use Rattle.cert_store.specs.Holding.{Chains, Holding, chain_of, is_among, put_in, touched};
 ghost use Rattle.cert_store.specs.Judged.{HasAuthority, JudgedView, judged_of};
 ghost use Rattle.cert_store.specs.Questions.{AgreeOn, kept_question, questions_of};
@@ -67,4 +68,10 @@ pub fn cache_law()
 
     // what is among the first is held
     ensures among { (x5u : List ℕ) (entries : Chains) (n : ℕ) → is_among n x5u entries ≡ true → is_some (chain_of x5u entries) ≡ true }
+{}
+
+/// The name of a file in a chain map is 1 to 255 bytes of visible ASCII (this project's own rule).
+pub fn file_name_law()
+    ensures name { (word : List ℕ) → is_file_name word ≡ true ↔ IsFileName word }
+    ensures some { (line : List ℕ) (row : Row) → row_of line ≡ Some row → 1 ≤ length row.file }
 {}

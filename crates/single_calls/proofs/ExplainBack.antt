@@ -21,7 +21,7 @@ pub met_words : (number rule : ℕ) → ok_line number rule ≡ line_of (decimal
 unfolding ok_line
 met_words number rule =
     ap (λ (x : List ℕ). decimal number ++ 32 ∷ x) (sym (append_assoc (decimal rule) (codes " ok") (codes "\n")))
-        ∙ sym (append_assoc (decimal number) (codes " " ++ (decimal rule ++ codes " ok")) (codes "\n"))
+    ∙ sym (append_assoc (decimal number) (codes " " ++ (decimal rule ++ codes " ok")) (codes "\n"))
 
 broken_words : (number : ℕ) (refused : Refusal)
     → broken_line number refused ≡ line_of (decimal number ∷ decimal refused.rule ∷ decimal (code_of refused.rule) ∷ place_text refused.place ∷ [])
@@ -29,8 +29,8 @@ unfolding broken_line
 broken_words number refused =
     ap (λ (x : List ℕ). decimal number ++ 32 ∷ x)
     (ap (λ (x : List ℕ). decimal refused.rule ++ 32 ∷ x) (sym (append_assoc (decimal (code_of refused.rule)) (codes " " ++ place_text refused.place) (codes "\n")))
-      ∙ sym (append_assoc (decimal refused.rule) (codes " " ++ (decimal (code_of refused.rule) ++ (codes " " ++ place_text refused.place))) (codes "\n")))
-        ∙ sym (append_assoc (decimal number) (codes " " ++ (decimal refused.rule ++ (codes " " ++ (decimal (code_of refused.rule) ++ (codes " " ++ place_text refused.place))))) (codes "\n"))
+    ∙ sym (append_assoc (decimal refused.rule) (codes " " ++ (decimal (code_of refused.rule) ++ (codes " " ++ place_text refused.place))) (codes "\n")))
+    ∙ sym (append_assoc (decimal number) (codes " " ++ (decimal refused.rule ++ (codes " " ++ (decimal (code_of refused.rule) ++ (codes " " ++ place_text refused.place))))) (codes "\n"))
 
 pub broken_is : ((rule : ℕ) → HasCode rule (code_of rule)) → (number : ℕ) (refused : Refusal) → IsBrokenLine number refused (broken_line number refused)
 broken_is coded number refused = record { code = code_of refused.rule; has_code = coded refused.rule; line_is = broken_words number refused }
@@ -45,7 +45,7 @@ ok_then : (m r : ℕ) (rest : List ℕ) → ok_line m r ++ rest ≡ decimal m ++
 unfolding ok_line
 ok_then m r rest =
     append_assoc (decimal m) (codes " " ++ (decimal r ++ codes " ok\n")) rest
-        ∙ ap (λ (x : List ℕ). decimal m ++ 32 ∷ x) (append_assoc (decimal r) (codes " ok\n") rest)
+    ∙ ap (λ (x : List ℕ). decimal m ++ 32 ∷ x) (append_assoc (decimal r) (codes " ok\n") rest)
 
 -- a line that isn't one of a rule that is met
 record IsOther (text : List ℕ) : Type 0 where
@@ -64,7 +64,7 @@ no_end : (m r : ℕ) (rest end : List ℕ) → m < 2 ^ 64 → r < 2 ^ 64 → IsE
 no_end m r rest end low small (inl none) same = no_text (decimal m) 32 (decimal r ++ 32 ∷ (codes "ok\n" ++ rest)) (sym none ∙ sym same ∙ ok_then m r rest)
 no_end m r rest end low small (inr line) same =
     let number = same_then 32 m line.number (decimal r ++ 32 ∷ (codes "ok\n" ++ rest)) (decimal line.rule ++ 32 ∷ line.tail) refl low line.number_fits
-          (sym (ok_then m r rest) ∙ same ∙ line.text_is) in
+    (sym (ok_then m r rest) ∙ same ∙ line.text_is) in
     let rule = same_then 32 r line.rule (codes "ok\n" ++ rest) line.tail refl small line.rule_fits number.behind in
     line.other (sym (ap (λ (x : List ℕ). get_or x 0 0) rule.behind))
 
@@ -84,7 +84,7 @@ same_lines m n r (suc k) zero e f low high small room left right same =
     absurd (no_end m r (ok_lines m (suc r) k ++ e) f (omega arith) (omega arith) right (sym (append_assoc (ok_line m r) (ok_lines m (suc r) k) e) ∙ same))
 same_lines m n r (suc k) (suc j) e f low high small room left right same =
     let rest = both_met m n r (ok_lines m (suc r) k ++ e) (ok_lines n (suc r) j ++ f) (omega arith) (omega arith) (omega arith)
-          (sym (append_assoc (ok_line m r) (ok_lines m (suc r) k) e) ∙ same ∙ append_assoc (ok_line n r) (ok_lines n (suc r) j) f) in
+    (sym (append_assoc (ok_line m r) (ok_lines m (suc r) k) e) ∙ same ∙ append_assoc (ok_line n r) (ok_lines n (suc r) j) f) in
     let more = same_lines m n (suc r) k j e f low high (omega arith) (omega arith) left right rest in
     (ap suc more.0, more.1)
 
@@ -173,9 +173,10 @@ Opens number text = (rest : List ℕ) × (text ≡ decimal number ++ 32 ∷ rest
 opens_lines : (number rule count : ℕ) (end : List ℕ) → Opens number end → Opens number (ok_lines number rule count ++ end)
 unfolding ok_lines
 opens_lines number rule zero end opens = opens
-opens_lines number rule (suc count) end opens =
-    (decimal rule ++ 32 ∷ (codes "ok\n" ++ (ok_lines number (suc rule) count ++ end)),
-      append_assoc (ok_line number rule) (ok_lines number (suc rule) count) end ∙ ok_then number rule (ok_lines number (suc rule) count ++ end))
+opens_lines number rule (suc count) end opens = (
+  decimal rule ++ 32 ∷ (codes "ok\n" ++ (ok_lines number (suc rule) count ++ end)),
+  append_assoc (ok_line number rule) (ok_lines number (suc rule) count) end ∙ ok_then number rule (ok_lines number (suc rule) count ++ end),
+)
 
 opens_met : (number count : ℕ) → Opens number (ok_lines number 1 (suc count))
 unfolding ok_lines
@@ -196,7 +197,7 @@ same_broken : (m n : ℕ) (a b : Refusal) → m < 4294967296 → n < 4294967296 
     → broken_line m a ≡ broken_line n b → a ≡ b
 same_broken m n a b low high small narrow left right same =
     let number = same_then 32 m n (decimal a.rule ++ 32 ∷ behind_code a) (decimal b.rule ++ 32 ∷ behind_code b) refl (omega arith) (omega arith)
-          (sym (broken_text_is m a) ∙ same ∙ broken_text_is n b) in
+    (sym (broken_text_is m a) ∙ same ∙ broken_text_is n b) in
     let rule = same_then 32 a.rule b.rule (behind_code a) (behind_code b) refl (omega arith) (omega arith) number.behind in
     let code = same_then 32 (code_of a.rule) (code_of b.rule) (place_text a.place ++ codes "\n") (place_text b.place ++ codes "\n") refl (code_fits a.rule) (code_fits b.rule) rule.behind in
     refusal_is a b rule.number (same_place a.place b.place left right (append_cancel_right (place_text a.place) (place_text b.place) (codes "\n") code.behind))
@@ -204,7 +205,7 @@ same_broken m n a b low high small narrow left right same =
 same_unread_line : (m n : ℕ) (a b : Place) → m < 4294967296 → n < 4294967296 → PlaceFits a → PlaceFits b → unread_line m a ≡ unread_line n b → a ≡ b
 same_unread_line m n a b low high left right same =
     let number = same_then 32 m n (decimal 10 ++ 32 ∷ behind_ten a) (decimal 10 ++ 32 ∷ behind_ten b) refl (omega arith) (omega arith)
-          (sym (unread_text_is m a) ∙ same ∙ unread_text_is n b) in
+    (sym (unread_text_is m a) ∙ same ∙ unread_text_is n b) in
     let ten = same_then 32 10 10 (behind_ten a) (behind_ten b) refl (omega arith) (omega arith) number.behind in
     same_place a b left right
     (append_cancel_right (place_text a) (place_text b) (codes "\n") (append_cancel_left (codes "unread ") (place_text a ++ codes "\n") (place_text b ++ codes "\n") ten.behind))
@@ -212,7 +213,7 @@ same_unread_line m n a b low high left right same =
 broken_not_unread : (m n : ℕ) (a : Refusal) (b : Place) → m < 4294967296 → n < 4294967296 → a.rule < 256 → broken_line m a ≡ unread_line n b → ⊥
 broken_not_unread m n a b low high small same =
     let number = same_then 32 m n (decimal a.rule ++ 32 ∷ behind_code a) (decimal 10 ++ 32 ∷ behind_ten b) refl (omega arith) (omega arith)
-          (sym (broken_text_is m a) ∙ same ∙ unread_text_is n b) in
+    (sym (broken_text_is m a) ∙ same ∙ unread_text_is n b) in
     let rule = same_then 32 a.rule 10 (behind_code a) (behind_ten b) refl (omega arith) (omega arith) number.behind in
     no_digit (code_of a.rule) 117 (codes " " ++ (place_text a.place ++ codes "\n")) (code_fits a.rule) refl (ap (λ (x : List ℕ). get_or x 0 0) rule.behind)
 
@@ -243,5 +244,5 @@ alike_by m n (Passes a) (Passes b) low high left right count ends = tt
 pub told_apart : (m n : ℕ) (a b : Finding) → m < 4294967296 → n < 4294967296 → FindingFits a → FindingFits b → explained m a ≡ explained n b → (m ≡ n) × AreToldAlike a b
 told_apart m n a b low high left right same =
     let h = same_lines m n 1 (count_of a) (count_of b) (end_of m a) (end_of n b) low high (few a left) (few b right) (end_is m a low left) (end_is n b high right)
-          (sym (in_two m a) ∙ same ∙ in_two n b) in
+    (sym (in_two m a) ∙ same ∙ in_two n b) in
     (number_by m n (explained m a) (explained n b) low high (opens m a) (opens n b) same, alike_by m n a b low high left right h.0 h.1)

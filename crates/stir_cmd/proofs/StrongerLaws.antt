@@ -22,30 +22,56 @@ use Rattle.stir_files.specs.Named.{first_fault}
 use Rattle.stir_files.specs.declared.materials.Materials.{Materials}
 use Rattle.stir_outside.proofs.CountLaws.{not_risen_behind, then_at_most}
 use Rattle.stir_outside.specs.Count.{AtMost, last_count}
-use Rattle.stir_outside.specs.Files.{Files}
-use Rattle.stir_words.specs.Order.{JudgingView}
+use Rattle.stir_outside.specs.Files.{Counts, CountsGoOn, Files}
+use Rattle.stir_words.specs.Order.{AskingView, JudgingView}
 use Rattle.stir_cmd.specs.Input.{Answered, InputComplete, InputThrough, IsReply, MayGive, MayRefuse}
 use Rattle.stir_cmd.specs.Outside.{IfTold, Io, Outside, io_in}
 use Rattle.stir_cmd.specs.Show.{show}
 use Rattle.stir_cmd.specs.Showing.{IsNoChain, ShowGives, Shows, show_answering}
 use Rattle.stir_cmd.specs.Calls.{settings_by, world_by}
-use Rattle.stir_cmd.specs.Explained.{EachCall, ExplainedLog, explain_course, explain_over}
-use Rattle.stir_cmd.specs.OverFiles.{Behind, counted}
+use Rattle.stir_cmd.specs.Explained.{EachCall, ExplainedLog, ask_over, explain_over}
+use Rattle.stir_cmd.specs.OverFiles.{AnswersFiles, Behind, OverFiles, counted}
+use Rattle.stir_cmd.specs.OverLog.{AnswersBytes}
 use Rattle.stir_cmd.specs.Signing.{GivesFault, GivesMessage, SignCommand, SignGives, fault_line, holder_by, sign_answering, sign_course, sign_over, signed_by}
 use Rattle.stir_cmd.specs.Stopping.{IsQuiet}
-use Rattle.stir_cmd.specs.Verifying.{verify_course, verify_over}
+use Rattle.stir_cmd.specs.Verifying.{verify_over}
 use Rattle.stir_cmd.proofs.OverFilesLaws.{saying}
 
--- `verify` on a whole log, as `AnswersWhole` had it
-pub whole : (judging : JudgingView) (before now : Outside) (status : ℕ) → (verify_course judging).Answers before now status
-    → (files : Files) (bytes : List ℕ) (calls : List Entry) → before.files ≡ Some files → first_fault files (files_of judging) ≡ None → before.left ≡ Some bytes → LogText (start 0 0) bytes calls [] → IsQuiet before now
-    → (status ≤ 1) ⊎ (status ≡ 6)
-whole judging before now status answers files bytes calls told none left log q = by_behind (answers.none files told none q)
+-- ---- completeness of the commands over a log: `verify`, `explain` and `ask`
+
+abbrev AnswersLog : OverFiles → Type 0
+AnswersLog over = (read : over.Read) (mid now : Outside) (status : ℕ) → (over.course read).Answers mid now status → AnswersBytes mid now status
+
+quiet_behind : (before now : Outside) (counts : Counts) → CountsGoOn before.counts counts → counts.faults ≤ now.counts.faults → IsQuiet before now → IsQuiet (counted before counts) now
+quiet_behind before now counts goes stay q =
+    record { files = not_risen_behind before.counts.faults counts.faults now.counts.faults goes.faults.never_falls stay q.files; read_faults = q.read_faults; write_faults = q.write_faults }
+
+-- the files have no fault, and the bytes are a whole log
+log_whole : (over : OverFiles) → AnswersLog over → (before now : Outside) (status : ℕ) → AnswersFiles over before now status → (files : Files) (bytes : List ℕ) (calls : List Entry)
+    → before.files ≡ Some files → first_fault files over.named ≡ None → before.left ≡ Some bytes → LogText (start 0 0) bytes calls [] → IsQuiet before now → (status ≤ 1) ⊎ (status ≡ 6)
+log_whole over log before now status answers files bytes calls told none left text q = by_behind (answers.none files told none q)
   where
-    by_behind : Behind (verify_over judging) before now (λ read mid. ((verify_over judging).course read).Answers mid now status) ⊎ (status ≡ 6) → (status ≤ 1) ⊎ (status ≡ 6)
-    by_behind (inl b) =
-        b.says.whole bytes calls left log (record { files = not_risen_behind before.counts.faults b.counts.faults now.counts.faults b.go_on.faults.never_falls b.stay q.files; read_faults = q.read_faults; write_faults = q.write_faults })
+    by_behind : Behind over before now (λ read mid. (over.course read).Answers mid now status) ⊎ (status ≡ 6) → (status ≤ 1) ⊎ (status ≡ 6)
+    by_behind (inl b) = (log b.read (counted before b.counts) now status b.says).whole bytes calls left text (quiet_behind before now b.counts b.go_on b.stay q)
     by_behind (inr six) = inr six
+
+-- .. or they are none
+log_part : (over : OverFiles) → AnswersLog over → (before now : Outside) (status : ℕ) → AnswersFiles over before now status → (files : Files) (bytes rest : List ℕ) (calls : List Entry)
+    → before.files ≡ Some files → first_fault files over.named ≡ None → before.left ≡ Some bytes → LogText (start 0 0) bytes calls rest → (rest ≡ [] → ⊥) → IsQuiet before now → (status ≡ 5) ⊎ (status ≡ 6)
+log_part over log before now status answers files bytes rest calls told none left text some q = by_behind (answers.none files told none q)
+  where
+    by_behind : Behind over before now (λ read mid. (over.course read).Answers mid now status) ⊎ (status ≡ 6) → (status ≡ 5) ⊎ (status ≡ 6)
+    by_behind (inl b) = (log b.read (counted before b.counts) now status b.says).part bytes rest calls left text some (quiet_behind before now b.counts b.go_on b.stay q)
+    by_behind (inr six) = inr six
+
+pub verify_log : (judging : JudgingView) → AnswersLog (verify_over judging)
+verify_log judging read mid now status answers = answers
+
+pub explain_log : (judging : JudgingView) → AnswersLog (explain_over judging)
+explain_log judging read mid now status answers = answers
+
+pub ask_log : (words : AskingView) → AnswersLog (ask_over words)
+ask_log words read mid now status answers = answers
 
 -- `explain`, as `ExplainedLog` had it
 pub record ExplainedBefore (judging : JudgingView) (files : Files) (bytes : List ℕ) (before now : Outside) (status : ℕ) : Type 0 where
@@ -249,6 +275,18 @@ sign_complete order materials before now status c bytes told q = by_size (nat_le
     by_size : (t : Bool) → nat_le (length bytes) 65535 ≡ t → (status ≡ status_for (signed_by order materials bytes)) ⊎ (status ≡ 6)
     by_size true e = by_short (c.short bytes told (grind (arith, nat_tests)) q)
     by_size false e = let long : 65535 < length bytes = grind (arith, nat_tests) in by_long long (c.long bytes told long q)
+
+-- 5 is for a named file alone
+pub sign_refused : (order : OrderView) (materials : SigningMaterials) (before now : Io) → Answered (sign_answering order materials) before now 5 → ⊥
+sign_refused order materials before now a = by_reply a.reply
+  where
+    by_reply : IsReply (sign_answering order materials) before now a.text 5 → ⊥
+    by_reply (inl r) = by_gives r.gives
+      where
+        by_gives : SignGives order materials r.bytes a.text 5 → ⊥
+        by_gives (inl signs) = omega (arith, signs.said)
+        by_gives (inr refuses) = omega (arith, refuses.said)
+    by_reply (inr r) = omega (arith, r.gives.1)
 
 -- ---- `show`
 

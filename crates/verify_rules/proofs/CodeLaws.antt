@@ -1,5 +1,5 @@
 -- Each rule has the response code of its row.
-use Rattle.std.proofs.Common.{◌≡◌, ℕ, ap}
+use Rattle.std.proofs.Common.{ℕ, ap}
 use Rattle.verify_rules.specs.Code.{HasCode, code_of}
 
 pub has_code : (rule : ℕ) → HasCode rule (code_of rule)

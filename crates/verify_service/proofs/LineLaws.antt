@@ -1,11 +1,10 @@
 -- A line of the report is its row.
-use Rattle.std.proofs.Common.{◌≡◌, inl, inr, if◌then◌else◌, ℕ, ◌==◌, Bool, true, false, List, [], ◌∷◌, ◌++◌, codes, append_assoc, refl, sym, arith}
+use Rattle.std.proofs.Common.{◌≡◌, inl, inr, if◌then◌else◌, ℕ, ◌==◌, Bool, true, false, [], ◌∷◌, ◌++◌, codes, append_assoc, refl, sym, arith}
 use Rattle.std.specs.Fmt.{decimal}
 use Rattle.std.proofs.lemmas.Bool.Decides.{nat_tests}
 use Rattle.verify_rules.specs.Code.{HasCode, code_of}
-use Rattle.verify_rules.specs.declared.refusal.Place.{Place}
 use Rattle.verify_service.specs.Report.{place_text, report_text, said_text, unasked_rule}
-use Rattle.verify_service.specs.ReportLine.{IsLine, IsOpenRule, IsRow}
+use Rattle.verify_service.specs.ReportLine.{IsLine, IsOpenRule}
 use Rattle.verify_service.specs.declared.outcome.Outcome.{Outcome}
 use Rattle.verify_service.specs.declared.outcome.Outcome.TheVariants.{Valid, Refused, Replay, Unread, Unasked}
 

@@ -1,5 +1,5 @@
 -- A line of the report can be read back: its number and its outcome.
-use Rattle.std.proofs.Common.{◌≡◌, ℕ, zero, suc, ◌==◌, ◌||◌, not, ◌+◌, ◌<◌, ◌^◌, Bool, true, false, ◌&&◌, cond, List, [], ◌∷◌, ◌++◌, length, get_or, codes, append_assoc, refl, sym, ◌∙◌, ap, arith}
+use Rattle.std.proofs.Common.{◌≡◌, ℕ, suc, ◌==◌, ◌||◌, not, ◌+◌, ◌<◌, ◌^◌, Bool, true, false, ◌&&◌, cond, List, [], ◌∷◌, ◌++◌, length, get_or, codes, append_assoc, refl, sym, ◌∙◌, ap, arith}
 use Rattle.std.specs.Char.{is_ascii_digit}
 use Rattle.std.specs.Fmt.{decimal}
 use Rattle.std.specs.List.{list_all}
@@ -15,7 +15,7 @@ use Rattle.verify_rules.specs.Code.{code_of, is_unsupported}
 use Rattle.verify_rules.specs.declared.refusal.Place.{Place}
 use Rattle.verify_rules.specs.declared.refusal.Refusal.{Refusal}
 use Rattle.verify_service.specs.Report.{place_text, refused_text, report, report_text, said_text, unasked_rule, unasked_text}
-use Rattle.verify_service.specs.ReportLine.{AllFit, Fits, IsLine, PlaceFits}
+use Rattle.verify_service.specs.ReportLine.{AllFit, Fits, PlaceFits}
 use Rattle.verify_service.specs.declared.outcome.Outcome.{Outcome}
 use Rattle.verify_service.specs.declared.outcome.Outcome.TheVariants.{Valid, Refused, Replay, Unread, Unasked}
 
@@ -96,7 +96,7 @@ refusal_is a b rule place = ap (λ x. record { rule = x; place = a.place }) rule
 same_refused : (a b : Refusal) → a.rule < 256 → b.rule < 256 → PlaceFits a.place → PlaceFits b.place → refused_text a ≡ refused_text b → a ≡ b
 same_refused a b low high left right same =
     let code = same_then 32 (code_of a.rule) (code_of b.rule) (decimal a.rule ++ (codes " " ++ place_text a.place)) (decimal b.rule ++ (codes " " ++ place_text b.place)) refl
-          (code_fits a.rule) (code_fits b.rule) (append_cancel_left (codes "refused ") _ _ same) in
+    (code_fits a.rule) (code_fits b.rule) (append_cancel_left (codes "refused ") _ _ same) in
     let rule = same_then 32 a.rule b.rule (place_text a.place) (place_text b.place) refl (omega arith) (omega arith) code.behind in
     refusal_is a b rule.number (same_place a.place b.place left right rule.behind)
 
@@ -109,7 +109,7 @@ same_unread a b left right same = same_place a b left right (append_cancel_left 
 same_unasked : (a b : Place) → PlaceFits a → PlaceFits b → unasked_text a ≡ unasked_text b → a ≡ b
 same_unasked a b left right same =
     let rule = same_then 32 (unasked_rule a.part) (unasked_rule b.part) (place_text a) (place_text b) refl (rule_fits a.part) (rule_fits b.part)
-          (append_cancel_left (codes "unasked - ") _ _ same) in
+    (append_cancel_left (codes "unasked - ") _ _ same) in
     same_place a b left right rule.behind
 
 -- the third byte tells which it is
@@ -192,7 +192,7 @@ line_then : (number : ℕ) (outcome : Outcome) (rest : List ℕ) → report_text
 unfolding report_text
 line_then number outcome rest =
     append_assoc (decimal number) (codes " " ++ (said_text outcome ++ codes "\n")) rest
-        ∙ ap (λ (x : List ℕ). decimal number ++ 32 ∷ x) (append_assoc (said_text outcome) (codes "\n") rest)
+    ∙ ap (λ (x : List ℕ). decimal number ++ 32 ∷ x) (append_assoc (said_text outcome) (codes "\n") rest)
 
 record SameLine (m n : ℕ) (a b : Outcome) (r s : List ℕ) : Type 0 where
   number : m ≡ n
@@ -228,4 +228,4 @@ same_report number (x ∷ xs) [] low high left right same = absurd (some_line nu
 same_report number (x ∷ xs) (y ∷ ys) low high left right same =
     let h = lines_apart number number x y (report (suc number) xs) (report (suc number) ys) (omega (arith, low)) (omega (arith, low)) left.0 right.0 same in
     ap (λ o. o ∷ xs) h.outcome
-        ∙ ap (λ (l : List Outcome). y ∷ l) (same_report (suc number) xs ys (omega (arith, low)) (omega (arith, high)) left.1 right.1 h.behind)
+    ∙ ap (λ (l : List Outcome). y ∷ l) (same_report (suc number) xs ys (omega (arith, low)) (omega (arith, high)) left.1 right.1 h.behind)
