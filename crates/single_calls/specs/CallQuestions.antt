@@ -55,11 +55,11 @@ own_questions (one ∷ others) (state ∷ states) = own_question one state ++ ow
 abbrev pub questions_over : Bool → List Reading → List State → List QuestionView
 questions_over own readings states = chains_questions states ++ (if own then own_questions readings states else [])
 
--- of the PASSporTs in chain order
+-- of the PASSporTs in call order
 abbrev pub late_questions : World → Bool → List Reading → List QuestionView
 late_questions world own readings = questions_over own readings (truths world readings)
 
--- Of a call that breaks none of rules 1 to 9, those of the chains of its PASSporTs, in chain order; and where it breaks none of rules 1 to
+-- Of a call that breaks none of rules 1 to 9, those of the chains of its PASSporTs, in call order; and where it breaks none of rules 1 to
 -- 14, those of the PASSporTs themselves.
 unfoldable pub call_questions : World → Call → List QuestionView
 call_questions world call =

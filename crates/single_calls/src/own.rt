@@ -14,7 +14,7 @@ use verify_rules::{ChainState, Chains, Screened};
 use verify_service::CallChains;
 use x509_profile::Certificate;
 
-/// Writes the lines of the questions for the signatures of a call's PASSporTs, in chain order, under the keys of their leaves.
+/// Writes the lines of the questions for the signatures of a call's PASSporTs, in call order, under the keys of their leaves.
 pub(crate) fn add_own(
     alloc: Global,
     screened: &Screened,

@@ -102,7 +102,7 @@ pub ask_keeps : TextsLaw → WellLaw → (words : AskingView) → KeepsAll (ask_
 ask_keeps texts well words =
     let settings = settings_by words.settings in
     over_keeps (ask_over words) (λ world. keeps _ _ _ (λ before now status ran low.
-        let done = ran.causes.done low in (
-          done.said ∙ ap report_status (well (asker_by settings world) before.files done.calls done.answers done.are_answered.each),
-          asked_told texts settings world before now status before.files before.left (ran.answers low),
-        )))
+    let done = ran.causes.done low in (
+      done.said ∙ ap report_status (well (asker_by settings world) before.files done.calls done.answers done.are_answered.each),
+      asked_told texts settings world before now status before.files before.left (ran.answers low),
+    )))

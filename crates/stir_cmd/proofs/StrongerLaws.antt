@@ -269,9 +269,11 @@ sign_complete order materials before now status c bytes told q = by_size (nat_le
     by_short : MayGive (sign_answering order materials) bytes status ⊎ (status ≡ 6) → (status ≡ status_for (signed_by order materials bytes)) ⊎ (status ≡ 6)
     by_short (inl may) = inl (sign_status order materials bytes may.0 status may.1)
     by_short (inr six) = inr six
+
     by_long : 65535 < length bytes → MayRefuse (sign_answering order materials) status ⊎ (status ≡ 6) → (status ≡ status_for (signed_by order materials bytes)) ⊎ (status ≡ 6)
     by_long long (inl may) = inl (may.1.1 ∙ sym (ap status_for (signed_long bytes order (holder_by materials.holder) (held_signs materials.answers) long)))
     by_long long (inr six) = inr six
+
     by_size : (t : Bool) → nat_le (length bytes) 65535 ≡ t → (status ≡ status_for (signed_by order materials bytes)) ⊎ (status ≡ 6)
     by_size true e = by_short (c.short bytes told (grind (arith, nat_tests)) q)
     by_size false e = let long : 65535 < length bytes = grind (arith, nat_tests) in by_long long (c.long bytes told long q)
@@ -312,14 +314,18 @@ show_reply : (before now : Io) (text : List ℕ) (status : ℕ) → IsReply show
 show_reply before now text status (inl r) low = by_says r.gives.says
   where
     by_says : ((status ≡ 0) × Shows r.bytes text) ⊎ ((status ≡ 5) × IsNoChain r.bytes) → ShowsAll before.left text × IsAtEnd now.left × (status ≡ 0)
-    by_says (inl s) = (record {
-      bytes = r.bytes;
-      certificates = s.1.certificates;
-      all = if_all before.left r.bytes (all_taken before.left now.left r.bytes r.taken r.ended);
-      size = r.short;
-      chain = s.1.chain;
-      lines = s.1.lines;
-    }, r.ended, s.0)
+    by_says (inl s) = (
+      record {
+        bytes = r.bytes;
+        certificates = s.1.certificates;
+        all = if_all before.left r.bytes (all_taken before.left now.left r.bytes r.taken r.ended);
+        size = r.short;
+        chain = s.1.chain;
+        lines = s.1.lines;
+      },
+      r.ended,
+      s.0,
+    )
     by_says (inr s) = absurd (omega (arith, low, s.0))
 show_reply before now text status (inr r) low = absurd (omega (arith, low, r.gives.1))
 
@@ -391,9 +397,11 @@ show_no_chain before now status c bytes told (inr none) q = by_size (nat_le (len
     by_short : MayGive show_answering bytes status ⊎ (status ≡ 6) → (status ≡ 5) ⊎ (status ≡ 6)
     by_short (inl may) = inl (no_chain_given bytes may.0 status none may.1)
     by_short (inr six) = inr six
+
     by_long : MayRefuse show_answering status ⊎ (status ≡ 6) → (status ≡ 5) ⊎ (status ≡ 6)
     by_long (inl may) = inl may.1.1
     by_long (inr six) = inr six
+
     by_size : (t : Bool) → nat_le (length bytes) 49152 ≡ t → (status ≡ 5) ⊎ (status ≡ 6)
     by_size true e = by_short (c.short bytes told (grind (arith, nat_tests)) q)
     by_size false e = by_long (c.long bytes told (grind (arith, nat_tests)) q)

@@ -9,12 +9,12 @@ ghost use Rattle.stir_outside.specs.Stays.{ShelfStays};
 use crate::settings::settings_of;
 use crate::verify::end_at;
 use call_run::{Answerer, answer_log};
+use cert_store::World;
 use single_calls::{Asker, Explainer};
 use std::alloc::Global;
 use stir_files::{Materials, read_materials, read_world};
 use stir_outside::{Shelf, Sink, Source};
 use stir_words::{Asking, Judging};
-use cert_store::World;
 
 /// Reads the named files, and says of each call of the log which rules it meets, up to the first that it breaks; where a file can't be had, it
 /// says so.

@@ -6,7 +6,9 @@ ghost use Rattle.stir_cmd.specs.Outside.{io_of};
 
 use crate::answer::Answer;
 use std::alloc::{AllocError, Global};
-use stir_outside::{ReadFault, Sink, Source, Status, end_with, memory_line, read_up_to, write_whole};
+use stir_outside::{
+    ReadFault, Sink, Source, Status, end_with, memory_line, read_up_to, write_whole,
+};
 
 /// A command over a whole input.
 pub(crate) trait InputCommand {

@@ -19,15 +19,13 @@ use crate::answer::Answer;
 use crate::input::{InputCommand, answer_input};
 use crate::verify::end_at;
 use auth_service::{DivertOrder, Holder, SignFault, SignOrder, divert, sign};
+use sip_message::MOST_BYTES;
 use std::alloc::{AllocError, Global};
 use stir_files::{SigningMaterials, read_signing};
 use stir_outside::{Shelf, Sink, Source, Status, SteadyProvider};
 use stir_words::{Diverting, HolderFiles, Signing};
 use tn_auth_list::AuthList;
 use x509_profile::Certificate;
-
-/// The most bytes of a message.
-const MOST_MESSAGE: usize = 65_535;
 
 /// What is to be signed of a message.
 #[derive(Clone, Copy)]
@@ -130,7 +128,7 @@ impl InputCommand for MessageCommand<'_, '_> {
     ghost ready = { λ m. IsTrue (is_order (command_of m.command.now).order) × HasList m.materials.now.holder };
 
     fn most(&self) -> usize {
-        MOST_MESSAGE
+        MOST_BYTES
     }
 
     fn answer(&self, alloc: Global, bytes: &[u8]) -> Result<Answer, AllocError> {

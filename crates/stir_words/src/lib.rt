@@ -2,7 +2,6 @@
 //!
 //! [`Order::of`] reads them as this project's own rule says: which options a command takes stands in one table, each option is a word
 //! `--name=value` or a word `--name` and a next word that is the value, and no other list of words is accepted. The options are read by clap.
-//! [`Status`] is the number with which the program ends.
 #![tactic(auto)]
 
 mod clap_options;

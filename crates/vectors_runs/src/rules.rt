@@ -49,7 +49,7 @@ fn settings_of(country: &[u8], national: &[u8], window: &[u8]) -> Result<Setting
     Ok(Settings { local, window })
 }
 
-/// Puts the fields of the judged PASSporTs in chain order, the last second, and the ticket behind other words.
+/// Puts the fields of the judged PASSporTs in call order, the last second, and the ticket behind other words.
 fn put_screened(answer: Answer, screened: &Screened) -> Answer {
     let mut answer = answer;
     for place in 0..screened.count() {

@@ -175,6 +175,6 @@ abbrev pub or_none : Result (List ℕ) ChainFault → List ℕ
 or_none (Ok turn) = turn
 or_none (Err fault) = []
 
--- the judged PASSporTs in chain order: the originating one and then the links as the call went
+-- the judged PASSporTs in call order: the originating one and then the links as the call went
 abbrev pub in_call_order : Call → List Reading
 in_call_order call = in_turn (in_message call) (or_none (turn_of (facts call) (in_message call)))

@@ -10,7 +10,7 @@ use Rattle.verify_rules.specs.declared.readings.Mark.{Mark}
 use Rattle.verify_rules.specs.declared.refusal.ScreenFault.{ScreenFault}
 use Rattle.verify_rules.specs.declared.refusal.ScreenFault.TheVariants.{Refused, Memory}
 
--- the judged PASSporTs in chain order, and the last second at which the last of them is fresh
+-- the judged PASSporTs in call order, and the last second at which the last of them is fresh
 pub record ScreenedView : Type 0 where
   pub readings : List Reading
   pub last : ℕ
@@ -31,7 +31,7 @@ abbrev pub iat_or_none : Option Reading → ℕ
 iat_or_none None = 0
 iat_or_none (Some one) = one.passport.iat
 
--- PASSporTs in chain order, with the last one's iat plus the window
+-- PASSporTs in call order, with the last one's iat plus the window
 unfoldable pub screened_by : ℕ → List Reading → ScreenedView
 screened_by window readings = record { readings = readings; last = iat_or_none (last_of readings) + window }
 
