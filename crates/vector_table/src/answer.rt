@@ -131,8 +131,16 @@ pub fn ok<D: Display + Drop>(alloc: Global, found: D) -> Result<String, Unread> 
 }
 
 /// `line` and its number.
-pub fn line(alloc: Global, number: u32) -> Result<String, Unread> {
+fn line(alloc: Global, number: u32) -> Result<String, Unread> {
     Answer::new(alloc).word("line").word(number).line()
+}
+
+/// `ok`, or `line` and the number of the first bad line, for what was read of a text of lines.
+pub fn ok_or_line<T: Drop>(alloc: Global, read: Result<T, u32>) -> Result<String, Unread> {
+    match read {
+        Ok(_) => word(alloc, "ok"),
+        Err(bad) => line(alloc, bad),
+    }
 }
 
 /// A value as it is printed: plainly, at the right of fifteen places, and for a programmer.

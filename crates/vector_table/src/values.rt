@@ -2,12 +2,15 @@
 
 use crate::table::{Unread, number, text};
 use crate::words::given;
-use cert_store::{ChainMap, MapFault};
+use cert_store::{ChainMap, Judged, MapFault, judge_chain};
 use delegation::{AnchorFault, Anchors};
-use std::alloc::Global;
-use stir_outside::{AnswerFault, Answers};
+use std::alloc::{AllocError, Global};
+use stir_outside::{AnswerFault, AnswerProvider, Answers};
 use tn_auth_list::{AuthList, Code, CodeTable, Entry, TableFault};
 use tn_values::{Local, Number, Span};
+
+/// A length that no text of lines may reach.
+const TOO_LONG: usize = 4_000_000_000;
 
 /// The number that a word is.
 pub fn number_of(digits: &[u8]) -> Result<Number, Unread> {
@@ -79,27 +82,62 @@ fn entry_of(word: &str) -> Result<Entry, Unread> {
     }
 }
 
-/// The answers that a text holds.
-pub fn answers_of(alloc: Global, text: &[u8]) -> Result<Answers, Unread> {
-    if text.len() >= 4_000_000_000 {
+/// The answers that a text holds, or its first bad line.
+pub fn read_answers(alloc: Global, text: &[u8]) -> Result<Result<Answers, u32>, Unread> {
+    if text.len() >= TOO_LONG {
         return Err(Unread::Value);
     }
     match Answers::read(alloc, text) {
-        Ok(answers) => Ok(answers),
-        Err(AnswerFault::Line { .. }) => Err(Unread::Value),
+        Ok(answers) => Ok(Ok(answers)),
+        Err(AnswerFault::Line { line }) => Ok(Err(line)),
         Err(AnswerFault::Memory) => Err(Unread::Memory),
     }
 }
 
-/// The code table that a text is.
-pub fn table_of(alloc: Global, text: &[u8]) -> Result<CodeTable, Unread> {
-    if text.len() >= 4_000_000_000 {
+/// The code table that a text is, or its first bad line.
+pub fn read_table(alloc: Global, text: &[u8]) -> Result<Result<CodeTable, u32>, Unread> {
+    if text.len() >= TOO_LONG {
         return Err(Unread::Value);
     }
     match CodeTable::read(alloc, text) {
-        Ok(table) => Ok(table),
-        Err(TableFault::Line { .. }) => Err(Unread::Value),
+        Ok(table) => Ok(Ok(table)),
+        Err(TableFault::Line { line }) => Ok(Err(line)),
         Err(TableFault::Memory) => Err(Unread::Memory),
+    }
+}
+
+/// The chain map that a text is, or its first bad line.
+pub fn read_map(alloc: Global, text: &[u8]) -> Result<Result<ChainMap, u32>, Unread> {
+    if text.len() >= TOO_LONG {
+        return Err(Unread::Value);
+    }
+    match ChainMap::read(alloc, text) {
+        Ok(map) => Ok(Ok(map)),
+        Err(MapFault::Line { line }) => Ok(Err(line)),
+        Err(MapFault::Memory) => Err(Unread::Memory),
+    }
+}
+
+/// The answers that a text holds.
+pub fn answers_of(alloc: Global, text: &[u8]) -> Result<Answers, Unread> {
+    whole(read_answers(alloc, text)?)
+}
+
+/// The code table that a text is.
+pub fn table_of(alloc: Global, text: &[u8]) -> Result<CodeTable, Unread> {
+    whole(read_table(alloc, text)?)
+}
+
+/// The chain map that a text is.
+pub fn map_of(alloc: Global, text: &[u8]) -> Result<ChainMap, Unread> {
+    whole(read_map(alloc, text)?)
+}
+
+/// What was read of a text that has no bad line.
+fn whole<T: Drop>(read: Result<T, u32>) -> Result<T, Unread> {
+    match read {
+        Ok(value) => Ok(value),
+        Err(_) => Err(Unread::Value),
     }
 }
 
@@ -112,14 +150,13 @@ pub fn anchors_of(alloc: Global, bytes: &[u8]) -> Result<Anchors, Unread> {
     }
 }
 
-/// The chain map that a text is.
-pub fn map_of(alloc: Global, text: &[u8]) -> Result<ChainMap, Unread> {
-    if text.len() >= 4_000_000_000 {
-        return Err(Unread::Value);
-    }
-    match ChainMap::read(alloc, text) {
-        Ok(map) => Ok(map),
-        Err(MapFault::Line { .. }) => Err(Unread::Value),
-        Err(MapFault::Memory) => Err(Unread::Memory),
-    }
+/// A chain as the rules on it judge it.
+pub fn judged(
+    alloc: Global,
+    chain: &[u8],
+    anchors: &Anchors,
+    table: &CodeTable,
+    provider: &mut AnswerProvider<'_>,
+) -> Result<Judged, AllocError> {
+    judge_chain(alloc, chain, anchors, table, provider)
 }

@@ -1,8 +1,8 @@
 //! Answers files and the provider over one: the calls of `stir_outside` about them.
 
 use std::alloc::Global;
-use stir_outside::{AnswerFault, AnswerProvider, Answers, Provider};
-use vector_table::{Answer, Unread, answers_of, joined, line, numbers_of, word};
+use stir_outside::{AnswerProvider, Provider};
+use vector_table::{Answer, Unread, answers_of, joined, numbers_of, ok_or_line, read_answers};
 
 /// What a call answers.
 pub fn answer(alloc: Global, call: &str, words: &[&[u8]]) -> Result<String, Unread> {
@@ -16,14 +16,7 @@ pub fn answer(alloc: Global, call: &str, words: &[&[u8]]) -> Result<String, Unre
 /// `ok`, or the first bad line of an answers file.
 fn read(alloc: Global, words: &[&[u8]]) -> Result<String, Unread> {
     let file = joined(alloc, words)?;
-    if file.len() >= 4_000_000_000 {
-        return Err(Unread::Value);
-    }
-    match Answers::read(alloc, file.as_slice()) {
-        Ok(_) => word(alloc, "ok"),
-        Err(AnswerFault::Line { line: bad }) => line(alloc, bad),
-        Err(AnswerFault::Memory) => Err(Unread::Memory),
-    }
+    ok_or_line(alloc, read_answers(alloc, file.as_slice())?)
 }
 
 /// What a provider over an answers file answers to some calls, how many were made and how many failed.

@@ -2,10 +2,10 @@
 
 use crate::numbers::{ordering, put_span};
 use std::alloc::Global;
-use tn_auth_list::{AuthList, Code, CodeTable, Entry, Grant, ListFault, TableFault};
+use tn_auth_list::{AuthList, Code, Entry, Grant, ListFault, TableFault};
 use vector_table::{
-    Answer, Unread, code_of, entries_of, fault, line, number, number_of, or_none, shown, table_of,
-    text, word,
+    Answer, Unread, code_of, entries_of, fault, number, number_of, ok_or_line, or_none, read_table,
+    shown, table_of, word,
 };
 
 /// What a call answers.
@@ -66,7 +66,10 @@ fn count(alloc: Global, words: &[&[u8]]) -> Result<String, Unread> {
     let [bytes] = words else {
         return Err(Unread::Call);
     };
-    counted(alloc, AuthList::read(alloc, bytes).ok())
+    match AuthList::read(alloc, bytes) {
+        Ok(list) => word(alloc, list.entries().len()),
+        Err(_) => word(alloc, "none"),
+    }
 }
 
 /// How many entries the list of these entries has, or `none`.
@@ -74,12 +77,7 @@ fn build(alloc: Global, words: &[&[u8]]) -> Result<String, Unread> {
     let [entries] = words else {
         return Err(Unread::Call);
     };
-    counted(alloc, AuthList::build(entries_of(alloc, entries)?))
-}
-
-/// How many entries a list has, or `none`.
-fn counted(alloc: Global, list: Option<AuthList>) -> Result<String, Unread> {
-    match list {
+    match AuthList::build(entries_of(alloc, entries)?) {
         Some(list) => word(alloc, list.entries().len()),
         None => word(alloc, "none"),
     }
@@ -140,14 +138,7 @@ fn table(alloc: Global, words: &[&[u8]]) -> Result<String, Unread> {
     let [text] = words else {
         return Err(Unread::Call);
     };
-    if text.len() >= 4_000_000_000 {
-        return Err(Unread::Value);
-    }
-    match CodeTable::read(alloc, text) {
-        Ok(_) => word(alloc, "ok"),
-        Err(TableFault::Line { line: bad }) => line(alloc, bad),
-        Err(TableFault::Memory) => Err(Unread::Memory),
-    }
+    ok_or_line(alloc, read_table(alloc, text)?)
 }
 
 /// What a table grants a code: `nothing`, `all`, or whether a number is among those that it grants.

@@ -1,13 +1,13 @@
 //! Chain maps and the rules on a chain: the calls of `cert_store`.
 
-use cert_store::{Asked, ChainMap, Judged, MapFault, Question, judge_chain};
+use cert_store::{Asked, Judged, MapFault, Question};
 use delegation::Anchors;
 use std::alloc::{AllocError, Global};
-use stir_outside::{AnswerFault, AnswerProvider, Answers};
+use stir_outside::{AnswerProvider, Answers};
 use tn_auth_list::CodeTable;
 use vector_table::{
-    Answer, Unread, anchors_of, answers_of, line, map_of, number, numbers_of, or_none, table_of,
-    text, word,
+    Answer, Unread, anchors_of, answers_of, judged, map_of, number, numbers_of, ok_or_line,
+    or_none, read_map, table_of, word,
 };
 
 /// What a call answers.
@@ -79,7 +79,7 @@ impl Case<'_> {
 
     /// What the rules say.
     fn judge(self, alloc: Global, provider: &mut AnswerProvider<'_>) -> Result<Judged, AllocError> {
-        judge_chain(alloc, self.chain, self.anchors, self.table, provider)
+        judged(alloc, self.chain, self.anchors, self.table, provider)
     }
 
     /// Where rules 11, 12 and 14 are broken, `-` where they aren't; how the signatures were answered for; how often was asked. The listed
@@ -175,12 +175,5 @@ fn map(alloc: Global, words: &[&[u8]]) -> Result<String, Unread> {
     let [text] = words else {
         return Err(Unread::Call);
     };
-    if text.len() >= 4_000_000_000 {
-        return Err(Unread::Value);
-    }
-    match ChainMap::read(alloc, text) {
-        Ok(_) => word(alloc, "ok"),
-        Err(MapFault::Line { line: bad }) => line(alloc, bad),
-        Err(MapFault::Memory) => Err(Unread::Memory),
-    }
+    ok_or_line(alloc, read_map(alloc, text)?)
 }

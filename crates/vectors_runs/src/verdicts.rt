@@ -4,13 +4,13 @@ ghost use Rattle.verify_rules.specs.States.{seen};
 ghost use Rattle.vectors_runs.specs.Known.{known_seen};
 
 use crate::rules::{put_place, put_refusal};
-use cert_store::{Judged, judge_chain};
+use cert_store::Judged;
 use delegation::Anchors;
 use std::alloc::Global;
 use stir_outside::AnswerProvider;
 use tn_auth_list::CodeTable;
 use vector_table::{
-    Answer, Unread, anchors_of, answers_of, local_of, number, numbers_of, table_of,
+    Answer, Unread, anchors_of, answers_of, judged, local_of, number, numbers_of, table_of,
 };
 use verify_rules::{ChainState, Chains, Screened, Settings, Verdict, finish, screen};
 
@@ -166,7 +166,7 @@ impl<'a> Case<'a> {
             b"none" => Ok(Known::NoChain),
             b"long" => Ok(Known::Long),
             b"unread" => Ok(Known::Unread),
-            _ => Ok(Known::Have(judge_chain(alloc, file, self.anchors, self.table, provider)?)),
+            _ => Ok(Known::Have(judged(alloc, file, self.anchors, self.table, provider)?)),
         }
     }
 }
