@@ -8,3 +8,4 @@ pub mod LegalLaws
 pub mod EndLaws
 pub mod ClauseLaws
 pub mod StatusLaws
+pub mod StaysLaws

@@ -1,11 +1,12 @@
 -- The calls so far were answered, and their lines written.
-use Rattle.std.proofs.Common.{◌≡◌, ◌≤◌, ◌-◌, []}
+use Rattle.std.proofs.Common.{◌-◌, []}
 use Rattle.call_log.specs.Entry.{most_entries}
 use Rattle.call_log.specs.Reads.{left_to}
 use Rattle.log_run.specs.Running.{streams}
 use Rattle.log_run.specs.Steps.{ReadsOn}
 use Rattle.call_run.specs.Answering.{Implies, IncludedIn}
 use Rattle.call_run.specs.Running.{RunsOn, at}
+use Rattle.stir_outside.specs.Stays.{ShelfStays}
 use Rattle.call_run.proofs.calls.run_calls.Given as goal
 
 abbrev pub invariant-calls : goal.invariant-calls
@@ -16,8 +17,7 @@ invariant-calls g l = record {
       (streams (g.I.Source.faults l.fn.input) (g.O.Sink.written l.fn.sink) (g.O.Sink.faults l.fn.sink))
       (streams (g.I.Source.faults l.input) (g.O.Sink.written l.sink) (g.O.Sink.faults l.sink));
   reads_on : ReadsOn l.reader;
-  files : g.S.Shelf.files l.shelf ≡ g.S.Shelf.files l.fn.shelf;
-  shelf_stays : (g.S.Shelf.counts l.fn.shelf).faults ≤ (g.S.Shelf.counts l.shelf).faults;
+  shelf : ShelfStays g.S.Shelf l.fn.shelf l.shelf;
   still : Implies (g.A.Answerer.answered l.answerer (g.S.Shelf.files l.shelf)) (g.A.Answerer.answered l.fn.answerer (g.S.Shelf.files l.fn.shelf));
   still_stops : IncludedIn (g.A.Answerer.stops l.answerer (g.S.Shelf.files l.shelf)) (g.A.Answerer.stops l.fn.answerer (g.S.Shelf.files l.fn.shelf));
 }

@@ -1,11 +1,12 @@
 -- The rounds so far were full, and were judged and reported.
-use Rattle.std.proofs.Common.{◌≡◌, ◌≤◌, ◌-◌}
+use Rattle.std.proofs.Common.{◌≡◌, ◌-◌}
 use Rattle.call_log.specs.Entry.{most_entries}
 use Rattle.call_log.specs.Reads.{left_to}
 use Rattle.log_run.specs.Bench.{Implies}
 use Rattle.log_run.specs.Judged.{at}
 use Rattle.log_run.specs.Running.{RunsOn, streams}
 use Rattle.log_run.specs.Steps.{ReadsOn, StandsBy}
+use Rattle.stir_outside.specs.Stays.{ShelfStays}
 use Rattle.log_run.proofs.rounds.run_rounds.Given as goal
 
 abbrev pub invariant-rounds : goal.invariant-rounds
@@ -18,8 +19,7 @@ invariant-rounds g l = record {
   reads_on : ReadsOn l.reader;
   stands : StandsBy l.reader.passed (g.J.Judge.standing l.judge (g.S.Shelf.counts l.shelf).faults);
   same : g.J.Judge.bench l.judge ≡ g.J.Judge.bench l.fn.judge;
-  files : g.S.Shelf.files l.shelf ≡ g.S.Shelf.files l.fn.shelf;
-  shelf_stays : (g.S.Shelf.counts l.fn.shelf).faults ≤ (g.S.Shelf.counts l.shelf).faults;
+  shelf : ShelfStays g.S.Shelf l.fn.shelf l.shelf;
   still : Implies (g.J.Judge.judged l.judge (g.S.Shelf.files l.shelf)) (g.J.Judge.judged l.fn.judge (g.S.Shelf.files l.fn.shelf));
 }
 
