@@ -5,7 +5,7 @@ use Rattle.x509_profile.specs.Chain.{Chain, RefusedCertificate, certificates_in}
 use Rattle.x509_profile.specs.View.{CertView}
 use Rattle.stir_cmd.specs.Answer.{Reply, refused_input, shown, shown_reply}
 use Rattle.stir_cmd.specs.Show.{show}
-use Rattle.stir_cmd.specs.Showing.{IsNoChain, ShowGives, ShowRefuses, show_answering, show_course}
+use Rattle.stir_cmd.specs.Showing.{IsNoChain, ShowGives, ShowRefuses, Shows, show_answering, show_course}
 use Rattle.stir_cmd.proofs.InputLaws.{Decides, IsAnswer, keeps_whole}
 use Rattle.stir_cmd.proofs.Keeps.{KeepsAll}
 
@@ -34,7 +34,7 @@ refuses law bytes text refused read line = record { says = inr (refl, no_chain l
 gives : (bytes text : List ℕ) (status : ℕ) → ShowGives bytes text status → IsAnswer status
 gives bytes text status g = by_says g.says
   where
-    by_says : ((status ≡ 0) × _) ⊎ ((status ≡ 5) × _) → IsAnswer status
+    by_says : ((status ≡ 0) × Shows bytes text) ⊎ ((status ≡ 5) × IsNoChain bytes) → IsAnswer status
     by_says (inl said) = inl (omega (arith, said.0))
     by_says (inr said) = inr said.0
 
