@@ -1,199 +1,180 @@
 -- How a run ends, by each of its statuses.
-use Rattle.std.proofs.Common.{◌≡◌, ℕ, ◌≤◌, ◌⊎◌, inl, inr, Bool, true, List, [], ◌++◌, Option, Some, None, Ok, Err, refl, sym, ◌∙◌, ap, subst, append-nil}
+use Rattle.std.proofs.Common.{◌≡◌, ℕ, ◌≤◌, ◌⊎◌, inl, inr, Bool, List, [], ◌++◌, string_bytes, Option, Some, None, Ok, Err, refl, sym, ◌∙◌, ap, subst, arith, append-nil}
 use Rattle.std.specs.Io.KnownBytes.{Appends}
 use Rattle.std.proofs.KnownBytes.{Appends-trans}
 use Rattle.call_log.specs.Entry.{Entry}
-use Rattle.call_log.specs.HandsOut.{HandsOutOf}
-use Rattle.call_log.specs.Log.{Passed, start}
-use Rattle.call_log.specs.declared.fault.LogFault.TheVariants.{Grammar, Backward, Many, Source, Memory}
+use Rattle.call_log.specs.declared.fault.LogFault.{LogFault}
+use Rattle.call_log.specs.declared.fault.LogFault.TheVariants.{Grammar, Backward, Many, Source, Memory as WantOfMemory}
+use Rattle.log_run.specs.Batch.{Batch, texts_in}
+use Rattle.log_run.specs.Ending.{CloseRan, EndedSo, EndsAt, EndsBehind, EndsHalted, EndsRefused, EndsStopped, FailsIn, LogRan, MayBeShort, MayEnd, MayStand, failed_line, refused_line, report_status, unread_line}
+use Rattle.log_run.specs.Reading.{FaultyAt, SourceFailed}
+use Rattle.log_run.specs.Running.{At, RunsOut, StopsNext}
+use Rattle.log_run.specs.Streams.{BehindBy, SourceRose, Streams, StreamsStay}
+use Rattle.log_run.specs.declared.ends.RunError.{RunError}
+use Rattle.log_run.specs.declared.ends.RunError.TheVariants as error
+use Rattle.log_run.specs.declared.stop.AnswerError.{AnswerError}
+use Rattle.log_run.specs.declared.stop.AnswerError.TheVariants.{Unread, Memory}
+use Rattle.log_run.proofs.ReadLaws.{at_backward, at_grammar, at_many, read_nothing}
 use Rattle.log_run.proofs.RunLaws.{front_behind}
 use Rattle.stir_outside.proofs.CountLaws.{then_rose}
-use Rattle.log_run.specs.Bench.{Bench}
-use Rattle.log_run.specs.Clauses.{RunState, FaultyAt, IsEndLine, LogRan}
-use Rattle.log_run.specs.Ending.{EndsAlone, EndsBy, EndsRefused, failed_line, refused_line, report_status}
-use Rattle.stir_outside.specs.Ending.{EndsAs, memory_line}
-use Rattle.log_run.specs.Judged.{At, Judged, at}
-use Rattle.log_run.specs.Reading.{ReadBehind}
-use Rattle.log_run.specs.Rounds.{IsCut, Round}
-use Rattle.log_run.specs.Running.{RunEnd, RunsOut, Streams, lines_behind}
-use Rattle.log_run.specs.declared.ends.RunError.TheVariants as error
 use Rattle.stir_outside.specs.Count.{Rose}
+use Rattle.stir_outside.specs.Ending.{EndsAs, memory_line}
 use Rattle.stir_outside.specs.Told.{AppendsFront}
-use Rattle.verify_service.specs.declared.outcome.Outcome.{Outcome}
 
--- the beginning of a run
-abbrev pub first_at : RunState → At
-first_at before = at (start 0 0) before.left before.standing true
+-- of a run whose batches were written, and what came then
+module _ (Known : Type 0) (Stopped : List Entry → AnswerError → Type 0) (Closed : List ℕ → Type 0) (mid : At) (ahead : List ℕ) (left_now : Option (List ℕ)) (lines : List ℕ) (s t u : Streams) (status : ℕ)
+    (stay : s.write_faults ≤ t.write_faults) (wrote : Appends s.written t.written lines) where
 
--- the rounds that were judged, up to some place
-pub record Base (judged : Entry → Outcome → Type 0) (bench : Bench) (before now : RunState) (rounds : List Round) (mid : At) : Type 0 where
-  pub stands : Judged judged bench (first_at before) mid rounds
-  pub cut : IsCut rounds
-  pub shelf_stays : mid.standing.shelf ≤ now.standing.shelf
-  pub provider_stays : mid.standing.provider ≤ now.standing.provider
+  abbrev Goal : Type 0
+  Goal = EndedSo Known Stopped Closed mid ahead left_now lines s u status
 
--- ---- the five ends
+  abbrev May : List ℕ → Type 0
+  May line = MayEnd mid ahead left_now s u line
 
-pub record EndedWhole (judged : Entry → Outcome → Type 0) (bench : Bench) (before now : RunState) (status : ℕ) : Type 0 where
-  pub rounds : List Round
-  pub mid : At
-  pub base : Base judged bench before now rounds mid
-  pub behind : ReadBehind mid.passed mid.left now.left (Ok None)
-  pub reported : Appends before.streams.written now.streams.written (lines_behind (first_at before) rounds)
-  pub said : status ≡ report_status mid.all_good
+  -- a line that may stand there wasn't written whole
+  front : (line : List ℕ) → MayStand Known Stopped Closed May mid line → status ≡ 4 → Rose t.write_faults u.write_faults → AppendsFront t.written u.written line → Goal
+  front line may said rose written = inr (inr (inr (inr (inr (record {
+    line = line;
+    may = may;
+    rose = then_rose s.write_faults t.write_faults u.write_faults stay rose;
+    front = front_behind s.written t.written u.written lines line wrote written;
+    said = said;
+  })))))
 
-pub record EndedFaulty (judged : Entry → Outcome → Type 0) (bench : Bench) (before now : RunState) (status : ℕ) : Type 0 where
-  pub rounds : List Round
-  pub mid : At
-  pub base : Base judged bench before now rounds mid
-  pub place : ℕ
-  pub faulty : FaultyAt mid.passed mid.left place
-  pub reported : Appends before.streams.written now.streams.written (lines_behind (first_at before) rounds ++ refused_line place)
-  pub said : status ≡ 5
+  short : (text : List ℕ) → MayBeShort Known Stopped Closed mid text → status ≡ 6 → Appends s.written u.written (lines ++ (text ++ memory_line)) → Goal
+  short text may said written = inr (inr (inr (inr (inl (record { text = text; may = may; reported = written; said = said })))))
 
-pub record EndedFailed (judged : Entry → Outcome → Type 0) (bench : Bench) (before now : RunState) (status : ℕ) : Type 0 where
-  pub rounds : List Round
-  pub mid : At
-  pub base : Base judged bench before now rounds mid
-  pub behind : ReadBehind mid.passed mid.left now.left (Err Source)
-  pub rose : Rose before.streams.read_faults now.streams.read_faults
-  pub reported : Appends before.streams.written now.streams.written (lines_behind (first_at before) rounds ++ failed_line)
-  pub said : status ≡ 3
+  -- want of memory, which a line says
+  memory : MayStand Known Stopped Closed May mid memory_line → MayBeShort Known Stopped Closed mid [] → EndsAs t.written u.written t.write_faults u.write_faults status memory_line 6 → Goal
+  memory may be (inl e) = short [] be e.0 (Appends-trans s.written t.written u.written lines memory_line wrote e.1)
+  memory may be (inr e) = front memory_line may e.0 e.1 e.2
 
-pub record EndedFront (judged : Entry → Outcome → Type 0) (bench : Bench) (before now : RunState) (status : ℕ) : Type 0 where
-  pub rounds : List Round
-  pub mid : At
-  pub base : Base judged bench before now rounds mid
-  pub rose : Rose before.streams.write_faults now.streams.write_faults
-  pub line : List ℕ
-  pub may_end : IsEndLine line
-  pub front : AppendsFront before.streams.written now.streams.written (lines_behind (first_at before) rounds ++ line)
-  pub said : status ≡ 4
+  -- the run was stopped at calls
+  stopped_by : (stop : AnswerError) → StopsNext Stopped mid stop → EndsStopped t.written u.written t.write_faults u.write_faults status stop → Goal
+  stopped_by (Unread text name) may (inl (inl e)) = inr (inr (inr (inl (record {
+    text = text;
+    name = name;
+    stops = may;
+    reported = Appends-trans s.written t.written u.written lines (string_bytes text ++ unread_line (string_bytes name)) wrote e.1;
+    said = e.0;
+  }))))
+  stopped_by (Unread text name) may (inl (inr e)) =
+      front (string_bytes text ++ unread_line (string_bytes name)) (inr (inl (record { stop = Unread text name; stops = may; says = inl refl }))) e.0 e.1 e.2
+  stopped_by (Unread text name) may (inr e) = memory (inr (inl (record { stop = Unread text name; stops = may; says = inr refl }))) (inr (inl ((Unread text name, may), refl))) e
+  stopped_by Memory may e = memory (inr (inl (record { stop = Memory; stops = may; says = refl }))) (inr (inl ((Memory, may), refl))) e
 
-pub record EndedShort (judged : Entry → Outcome → Type 0) (bench : Bench) (before now : RunState) (status : ℕ) : Type 0 where
-  pub rounds : List Round
-  pub mid : At
-  pub base : Base judged bench before now rounds mid
-  pub reported : Appends before.streams.written now.streams.written (lines_behind (first_at before) rounds ++ memory_line)
-  pub said : status ≡ 6
+  -- ---- the report was closed by a text
 
-abbrev pub Ended : (Entry → Outcome → Type 0) → Bench → RunState → RunState → ℕ → Type 0
-Ended judged bench before now status =
-    EndedWhole judged bench before now status ⊎ (EndedFaulty judged bench before now status ⊎ (EndedFailed judged bench before now status ⊎ (EndedFront judged bench before now status ⊎ EndedShort judged bench before now status)))
+  -- the line after the text, whole or not
+  line_by : (text line : List ℕ) (said : ℕ) (between : Option (List ℕ)) (writes : ℕ) → Closed text → May line → Appends t.written between text → t.write_faults ≤ writes
+      → EndsAs between u.written writes u.write_faults status line said → (status ≡ said → Appends s.written u.written (lines ++ (text ++ line)) → Goal) → Goal
+  line_by text line said between writes closed may closing stays (inl e) whole =
+      whole e.0 (Appends-trans s.written t.written u.written lines (text ++ line) wrote (Appends-trans t.written between u.written text line closing e.1))
+  line_by text line said between writes closed may closing stays (inr e) whole =
+      front (text ++ line) (inr (inr (record { text = text; end = line; closed = closed; may_end = may; says = refl }))) e.0 (then_rose t.write_faults writes u.write_faults stays e.1)
+      (front_behind t.written between u.written text line closing e.2)
 
--- ---- which end it is
+  memory_by : (text : List ℕ) (between : Option (List ℕ)) (writes : ℕ) → Closed text → Appends t.written between text → t.write_faults ≤ writes → EndsAs between u.written writes u.write_faults status memory_line 6 → Goal
+  memory_by text between writes closed closing stays e =
+      line_by text memory_line 6 between writes closed (inr (inl refl)) closing stays e (λ said reported. short text (inr (inr closed)) said reported)
 
-base_of : (judged : Entry → Outcome → Type 0) (bench : Bench) (before now : RunState) (passed : Passed) (good : Bool) (between : Streams) (ended : RunEnd)
-    → (r : RunsOut judged bench (first_at before) (at passed now.left now.standing good) before.streams between ended) → Base judged bench before now r.rounds r.mid
-base_of judged bench before now passed good between ended r = record { stands = r.stands; cut = r.cut; shelf_stays = r.shelf_stays; provider_stays = r.provider_stays }
+  refused_by : (text : List ℕ) (place : ℕ) (between : Option (List ℕ)) (writes : ℕ) → Closed text → FaultyAt mid.passed mid.left place → Appends t.written between text → t.write_faults ≤ writes
+      → EndsRefused between u.written writes u.write_faults status place → Goal
+  refused_by text place between writes closed faulty closing stays (inl e) =
+      line_by text (refused_line place) 5 between writes closed (inr (inr (inr (place, refl, faulty)))) closing stays e
+      (λ said reported. inr (inl (record { text = text; closed = closed; place = place; faulty = faulty; reported = reported; said = said })))
+  refused_by text place between writes closed faulty closing stays (inr e) = memory_by text between writes closed closing stays e
 
--- the last line couldn't be written whole
-front_end : (judged : Entry → Outcome → Type 0) (bench : Bench) (before now : RunState) (status : ℕ) (passed : Passed) (good : Bool) (between : Streams) (ended : RunEnd) (line : List ℕ)
-    → (r : RunsOut judged bench (first_at before) (at passed now.left now.standing good) before.streams between ended) → IsEndLine line → Appends before.streams.written between.written (lines_behind (first_at before) r.rounds)
-    → (status ≡ 4) × Rose between.write_faults now.streams.write_faults × AppendsFront between.written now.streams.written line → EndedFront judged bench before now status
-front_end judged bench before now status passed good between ended line r may wrote e = record {
-  rounds = r.rounds;
+  -- the end after the text
+  behind_by : (text : List ℕ) (between : Option (List ℕ)) (writes : ℕ) (good : Bool) (fault : Option LogFault) → Closed text → good ≡ mid.good → BehindBy {X = RunError} mid.passed mid.left left_now (Ok fault)
+      → SourceRose s u ahead fault → Appends t.written between text → t.write_faults ≤ writes → EndsAt between u.written writes u.write_faults status good fault → Goal
+  behind_by text between writes good None closed same behind rose closing stays e = inl (record {
+    text = text;
+    closed = closed;
+    behind = behind;
+    reported = Appends-trans s.written t.written u.written lines text wrote (subst (λ (x : Option (List ℕ)). Appends t.written x text) (sym e.same_written) closing);
+    said = e.answered ∙ ap report_status same;
+  })
+  behind_by text between writes good (Some (Grammar place)) closed same behind rose closing stays e =
+      refused_by text place between writes closed (at_grammar mid.passed mid.left left_now place behind.hands_out) closing stays e
+  behind_by text between writes good (Some (Backward place)) closed same behind rose closing stays e =
+      refused_by text place between writes closed (at_backward mid.passed mid.left left_now place behind.hands_out) closing stays e
+  behind_by text between writes good (Some (Many place)) closed same behind rose closing stays e =
+      refused_by text place between writes closed (at_many mid.passed mid.left left_now place behind.hands_out) closing stays e
+  behind_by text between writes good (Some Source) closed same behind rose closing stays e =
+      line_by text failed_line 3 between writes closed (inr (inr (inl (refl, behind, rose)))) closing stays e
+      (λ said reported. inr (inr (inl (record { text = text; closed = closed; behind = behind; failed = rose; reported = reported; said = said }))))
+  behind_by text between writes good (Some WantOfMemory) closed same behind rose closing stays e = memory_by text between writes closed closing stays e
+
+  closed_by : (text : List ℕ) (good : Bool) (fault : Option LogFault) → Closed text → good ≡ mid.good → BehindBy {X = RunError} mid.passed mid.left left_now (Ok fault) → SourceRose s u ahead fault
+      → EndsBehind t.written u.written t.write_faults u.write_faults status text good fault ⊎ FailsIn t.written u.written t.write_faults u.write_faults status text → Goal
+  closed_by text good fault closed same behind rose (inl e) = behind_by text e.between e.writes_between good fault closed same behind rose e.wrote e.stay e.ends
+  closed_by text good fault closed same behind rose (inr e) =
+      front text (inr (inr (record { text = text; end = []; closed = closed; may_end = inl refl; says = sym (append-nil text) }))) e.answered e.rose e.front
+
+-- the source failed where no more was read of it
+pub rose_still : (s t u : Streams) (ahead : List ℕ) (fault : Option LogFault) → u.read_faults ≡ t.read_faults → SourceRose s t ahead fault → SourceRose s u ahead fault
+rose_still s t u ahead None same r = tt
+rose_still s t u ahead (Some (Grammar place)) same r = tt
+rose_still s t u ahead (Some (Backward place)) same r = tt
+rose_still s t u ahead (Some (Many place)) same r = tt
+rose_still s t u ahead (Some Source) same r = subst (λ (x : ℕ). SourceFailed s.read_faults x ahead) (sym same) r
+rose_still s t u ahead (Some WantOfMemory) same r = tt
+
+-- ---- the whole
+
+-- the log ended, and the report was closed, or memory was wanting for that
+pub log_closed : (most : ℕ) (Answered Known : List Batch → Type 0) (Halted Stopped : List Batch → List Entry → AnswerError → Type 0) (Closed : List Batch → List ℕ → Type 0) (Short : Type 0) (Closes : List ℕ → Type 0) (a b : At) (s t u : Streams)
+    (good : Bool) (fault : Option LogFault) (status : ℕ) → ((batches : List Batch) (text : List ℕ) → Answered batches → Closes text → Closed batches text)
+    → ((batches : List Batch) → Answered batches → Short → Stopped batches [] Memory) → good ≡ b.good → u.read_faults ≡ t.read_faults → RunsOut most Answered Halted a b s t (Ok fault)
+    → CloseRan Short Closes t.written u.written t.write_faults u.write_faults status good fault → LogRan most Known Stopped Closed a b.ahead b.left s u status
+log_closed most Answered Known Halted Stopped Closed Short Closes a b s t u good fault status to_closed to_short same reads r close = record {
+  batches = r.batches;
   mid = r.mid;
-  base = base_of judged bench before now passed good between ended r;
-  rose = then_rose before.streams.write_faults between.write_faults now.streams.write_faults r.stay.write_faults e.1;
-  line = line;
-  may_end = may;
-  front = front_behind before.streams.written between.written now.streams.written (lines_behind (first_at before) r.rounds) line wrote e.2;
-  said = e.0;
+  cut = r.cut;
+  read = r.read;
+  good_so = r.good_so;
+  so = by_close close;
+} where
+  by_close : CloseRan Short Closes t.written u.written t.write_faults u.write_faults status good fault → EndedSo (Known r.batches) (Stopped r.batches) (Closed r.batches) r.mid b.ahead b.left (texts_in r.batches) s u status
+  by_close (inl wanting) =
+      let stops : StopsNext (Stopped r.batches) r.mid Memory = record { calls = []; next = record { mid = r.mid.passed; mid_left = r.mid.left; read = read_nothing r.mid.passed r.mid.left }; stopped = to_short r.batches r.ends.0 wanting.0 } in
+      memory (Known r.batches) (Stopped r.batches) (Closed r.batches) r.mid b.ahead b.left (texts_in r.batches) s t u status r.stay.write_faults r.ends.4
+      (inr (inl (record { stop = Memory; stops = stops; says = refl }))) (inr (inl ((Memory, stops), refl))) wanting.1
+  by_close (inr closed) =
+      closed_by (Known r.batches) (Stopped r.batches) (Closed r.batches) r.mid b.ahead b.left (texts_in r.batches) s t u status r.stay.write_faults r.ends.4 closed.text good fault
+      (to_closed r.batches closed.text r.ends.0 closed.closed) (same ∙ r.ends.2) r.ends.1 (rose_still s t u b.ahead fault reads r.ends.3) closed.wrote
+
+-- it was stopped before the log ended
+pub log_halted : (most : ℕ) (Known : List Batch → Type 0) (Stopped : List Batch → List Entry → AnswerError → Type 0) (Closed : List Batch → List ℕ → Type 0) (a b : At) (s t u : Streams) (stopped : RunError) (status : ℕ)
+    → RunsOut most Known Stopped a b s t (Err stopped) → EndsHalted t.written u.written t.write_faults u.write_faults status stopped → LogRan most Known Stopped Closed a b.ahead b.left s u status
+log_halted most Known Stopped Closed a b s t u error.Sink status r e = record {
+  batches = r.batches;
+  mid = r.mid;
+  cut = r.cut;
+  read = r.read;
+  good_so = r.good_so;
+  so = inr (inr (inr (inr (inr (record {
+    line = [];
+    may = inl (r.ends.0, inl refl);
+    rose = subst (Rose s.write_faults) (sym e.same_writes) r.ends.1;
+    front = subst (AppendsFront s.written u.written) (sym (append-nil (texts_in r.batches))) (subst (λ (x : Option (List ℕ)). AppendsFront s.written x (texts_in r.batches)) (sym e.same_written) r.ends.2);
+    said = e.answered;
+  })))));
 }
-
-short_end : (judged : Entry → Outcome → Type 0) (bench : Bench) (before now : RunState) (status : ℕ) (passed : Passed) (good : Bool) (between : Streams) (ended : RunEnd)
-    → (r : RunsOut judged bench (first_at before) (at passed now.left now.standing good) before.streams between ended) → Appends before.streams.written between.written (lines_behind (first_at before) r.rounds)
-    → EndsAs between.written now.streams.written between.write_faults now.streams.write_faults status memory_line 6 → Ended judged bench before now status
-short_end judged bench before now status passed good between ended r wrote (inl e) = inr (inr (inr (inr (record {
-  rounds = r.rounds;
+log_halted most Known Stopped Closed a b s t u error.Memory status r e = record {
+  batches = r.batches;
   mid = r.mid;
-  base = base_of judged bench before now passed good between ended r;
-  reported = Appends-trans before.streams.written between.written now.streams.written (lines_behind (first_at before) r.rounds) memory_line wrote e.1;
-  said = e.0;
-}))))
-short_end judged bench before now status passed good between ended r wrote (inr e) = inr (inr (inr (inl (front_end judged bench before now status passed good between ended memory_line r (inr (inr (inl refl))) wrote e))))
-
-faulty_end : (judged : Entry → Outcome → Type 0) (bench : Bench) (before now : RunState) (status : ℕ) (passed : Passed) (good : Bool) (between : Streams) (ended : RunEnd) (place : ℕ)
-    → (r : RunsOut judged bench (first_at before) (at passed now.left now.standing good) before.streams between ended) → Appends before.streams.written between.written (lines_behind (first_at before) r.rounds)
-    → FaultyAt r.mid.passed r.mid.left place → EndsRefused between.written now.streams.written between.write_faults now.streams.write_faults status place → Ended judged bench before now status
-faulty_end judged bench before now status passed good between ended place r wrote faulty (inl (inl e)) = inr (inl (record {
-  rounds = r.rounds;
+  cut = r.cut;
+  read = r.read;
+  good_so = r.good_so;
+  so = memory (Known r.batches) (Stopped r.batches) (Closed r.batches) r.mid b.ahead b.left (texts_in r.batches) s t u status r.stay.write_faults r.ends.1 (inl (r.ends.0, inr refl)) (inl (r.ends.0, refl)) e;
+}
+log_halted most Known Stopped Closed a b s t u (error.Stopped stop) status r e = record {
+  batches = r.batches;
   mid = r.mid;
-  base = base_of judged bench before now passed good between ended r;
-  place = place;
-  faulty = faulty;
-  reported = Appends-trans before.streams.written between.written now.streams.written (lines_behind (first_at before) r.rounds) (refused_line place) wrote e.1;
-  said = e.0;
-}))
-faulty_end judged bench before now status passed good between ended place r wrote faulty (inl (inr e)) =
-    inr (inr (inr (inl (front_end judged bench before now status passed good between ended (refused_line place) r (inr (inr (inr (place, refl)))) wrote e))))
-faulty_end judged bench before now status passed good between ended place r wrote faulty (inr e) = short_end judged bench before now status passed good between ended r wrote e
-
-failed_end : (judged : Entry → Outcome → Type 0) (bench : Bench) (before now : RunState) (status : ℕ) (passed : Passed) (good : Bool) (between : Streams) → now.streams.read_faults ≡ between.read_faults
-    → RunsOut judged bench (first_at before) (at passed now.left now.standing good) before.streams between (Ok (Some Source)) → EndsAs between.written now.streams.written between.write_faults now.streams.write_faults status failed_line 3 → Ended judged bench before now status
-failed_end judged bench before now status passed good between same r (inl e) = inr (inr (inl (record {
-  rounds = r.rounds;
-  mid = r.mid;
-  base = base_of judged bench before now passed good between (Ok (Some Source)) r;
-  behind = r.behind;
-  rose = subst (Rose before.streams.read_faults) (sym same) r.rose;
-  reported = Appends-trans before.streams.written between.written now.streams.written (lines_behind (first_at before) r.rounds) failed_line r.reported e.1;
-  said = e.0;
-})))
-failed_end judged bench before now status passed good between same r (inr e) =
-    inr (inr (inr (inl (front_end judged bench before now status passed good between (Ok (Some Source)) failed_line r (inr (inl refl)) r.reported e))))
-
-whole_end : (judged : Entry → Outcome → Type 0) (bench : Bench) (before now : RunState) (status : ℕ) (passed : Passed) (good : Bool) (between : Streams)
-    → RunsOut judged bench (first_at before) (at passed now.left now.standing good) before.streams between (Ok None) → EndsAlone between.written now.streams.written between.write_faults now.streams.write_faults status (report_status good) → Ended judged bench before now status
-whole_end judged bench before now status passed good between r e = inl (record {
-  rounds = r.rounds;
-  mid = r.mid;
-  base = base_of judged bench before now passed good between (Ok None) r;
-  behind = r.behind;
-  reported = subst (λ w. Appends before.streams.written w (lines_behind (first_at before) r.rounds)) (sym e.same_written) r.reported;
-  said = e.answered ∙ ap report_status r.good;
-})
-
-sink_end : (judged : Entry → Outcome → Type 0) (bench : Bench) (before now : RunState) (status : ℕ) (passed : Passed) (good : Bool) (between : Streams)
-    → RunsOut judged bench (first_at before) (at passed now.left now.standing good) before.streams between (Err error.Sink) → EndsAlone between.written now.streams.written between.write_faults now.streams.write_faults status 4 → Ended judged bench before now status
-sink_end judged bench before now status passed good between r e = inr (inr (inr (inl (record {
-  rounds = r.rounds;
-  mid = r.mid;
-  base = base_of judged bench before now passed good between (Err error.Sink) r;
-  rose = subst (Rose before.streams.write_faults) (sym e.same_writes) r.rose;
-  line = [];
-  may_end = inl refl;
-  front = subst (AppendsFront before.streams.written now.streams.written) (sym (append-nil (lines_behind (first_at before) r.rounds)))
-      (subst (λ w. AppendsFront before.streams.written w (lines_behind (first_at before) r.rounds)) (sym e.same_written) r.reported);
-  said = e.answered;
-}))))
-
-pub at_grammar : (passed : Passed) (left now : Option (List ℕ)) (place : ℕ) → HandsOutOf passed left now (Err (Grammar place)) → FaultyAt passed left place
-at_grammar passed None now place h = tt
-at_grammar passed (Some rest) now place h = (h.log, inl h.has)
-
-pub at_backward : (passed : Passed) (left now : Option (List ℕ)) (place : ℕ) → HandsOutOf passed left now (Err (Backward place)) → FaultyAt passed left place
-at_backward passed None now place h = tt
-at_backward passed (Some rest) now place h = (h.log, inr (inl h.has))
-
-pub at_many : (passed : Passed) (left now : Option (List ℕ)) (place : ℕ) → HandsOutOf passed left now (Err (Many place)) → FaultyAt passed left place
-at_many passed None now place h = tt
-at_many passed (Some rest) now place h = (h.log, inr (inr h.has))
-
-ended_by : (judged : Entry → Outcome → Type 0) (bench : Bench) (before now : RunState) (status : ℕ) (passed : Passed) (good : Bool) (between : Streams) (ended : RunEnd) → now.streams.read_faults ≡ between.read_faults
-    → RunsOut judged bench (first_at before) (at passed now.left now.standing good) before.streams between ended → EndsBy between.written now.streams.written between.write_faults now.streams.write_faults status good ended → Ended judged bench before now status
-ended_by judged bench before now status passed good between (Ok None) same r e = whole_end judged bench before now status passed good between r e
-ended_by judged bench before now status passed good between (Ok (Some (Grammar place))) same r e =
-    faulty_end judged bench before now status passed good between (Ok (Some (Grammar place))) place r r.reported (at_grammar r.mid.passed r.mid.left now.left place r.behind.hands_out) e
-ended_by judged bench before now status passed good between (Ok (Some (Backward place))) same r e =
-    faulty_end judged bench before now status passed good between (Ok (Some (Backward place))) place r r.reported (at_backward r.mid.passed r.mid.left now.left place r.behind.hands_out) e
-ended_by judged bench before now status passed good between (Ok (Some (Many place))) same r e =
-    faulty_end judged bench before now status passed good between (Ok (Some (Many place))) place r r.reported (at_many r.mid.passed r.mid.left now.left place r.behind.hands_out) e
-ended_by judged bench before now status passed good between (Ok (Some Source)) same r e = failed_end judged bench before now status passed good between same r e
-ended_by judged bench before now status passed good between (Ok (Some Memory)) same r e = short_end judged bench before now status passed good between (Ok (Some Memory)) r r.reported e
-ended_by judged bench before now status passed good between (Err error.Sink) same r e = sink_end judged bench before now status passed good between r e
-ended_by judged bench before now status passed good between (Err error.Memory) same r e = short_end judged bench before now status passed good between (Err error.Memory) r r.reported e
-
-pub ended_of : (judged : Entry → Outcome → Type 0) (bench : Bench) (before now : RunState) (status : ℕ) → LogRan judged bench before now status → Ended judged bench before now status
-ended_of judged bench before now status r = ended_by judged bench before now status r.passed r.good r.between r.ended r.reads_same r.ran r.ends
+  cut = r.cut;
+  read = r.read;
+  good_so = r.good_so;
+  so = stopped_by (Known r.batches) (Stopped r.batches) (Closed r.batches) r.mid b.ahead b.left (texts_in r.batches) s t u status r.stay.write_faults r.ends.1 stop r.ends.0 e;
+}

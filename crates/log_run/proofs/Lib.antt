@@ -1,11 +1,7 @@
 pub mod ReadLaws
-pub mod ReportLaws
-pub mod RoundLaws
-pub mod JudgedLaws
-pub mod OneRound
-pub mod RunLaws
-pub mod LegalLaws
-pub mod EndLaws
-pub mod ClauseLaws
-pub mod StatusLaws
+pub mod BatchLaws
 pub mod StaysLaws
+pub mod RunLaws
+pub mod OneBatch
+pub mod JoinLaws
+pub mod EndLaws

@@ -1,15 +1,19 @@
--- Calls that are read behind one another.
-use Rattle.std.proofs.Common.{◌≡◌, ℕ, suc, ◌+◌, ◌-◌, ◌<◌, ◌≤◌, List, [], ◌∷◌, ◌++◌, length, Option, Result, refl, sym, ◌∙◌, ap, subst, arith, append-nil, append_assoc}
+-- Calls that are read after one another, and those of a batch.
+use Rattle.std.proofs.Common.{◌≡◌, ℕ, ◌+◌, ◌<◌, ◌≤◌, List, [], ◌∷◌, ◌++◌, length, Option, Some, None, Result, Ok, Err, refl, ap, ◌∙◌, sym, subst, arith, append-nil, append_assoc, inl, inr}
 use Rattle.std.specs.Io.KnownBytes.{Consumes}
-use Rattle.std.specs.List.{slice_get}
 use Rattle.std.proofs.KnownBytes.{Consumes-nil, Consumes-trans}
+use Rattle.std.specs.declared.alloc.AllocError.{AllocError}
 use Rattle.call_log.specs.Entry.{Entry, entry_text}
+use Rattle.call_log.specs.HandsOut.{HandsOutOf}
 use Rattle.call_log.specs.Log.{AreCalls, Passed, after, after_all, entry_texts}
 use Rattle.call_log.specs.Reads.{ReadsEntry}
 use Rattle.call_log.specs.declared.fault.LogFault.{LogFault}
-use Rattle.log_run.specs.Reading.{ReadBehind, ReadCalls, ReadFull, ReadLast}
-use Rattle.log_run.specs.Rounds.{most_in_round}
-use Rattle.verify_service.specs.Service.{EachFollows, last_entry, last_moment_of, last_number, moment_or, number_or}
+use Rattle.call_log.specs.declared.fault.LogFault.TheVariants.{Grammar, Backward, Many}
+use Rattle.log_run.specs.Commands.{Follow, StandsOn}
+use Rattle.log_run.specs.Reading.{CallsRead, FaultyAt, ReadBatch, ReadBehind, ReadCalls, ReadFull, ReadLast}
+use Rattle.log_run.specs.declared.ends.RunError.{RunError}
+use Rattle.log_run.specs.declared.ends.Next.{Next}
+use Rattle.log_run.specs.declared.ends.Next.TheVariants.{More, Whole, Fault}
 
 -- ---- lists of calls
 
@@ -33,41 +37,9 @@ pub numbered : (passed : Passed) (calls : List Entry) → AreCalls passed calls 
 numbered passed [] a = omega arith
 numbered passed (x ∷ xs) a = omega (arith, numbered (after passed x) xs a.1, a.0.numbered)
 
--- ---- what the judge is to know of them
-
-pub follow_of : (passed : Passed) (number moment : ℕ) (calls : List Entry) → number ≡ passed.number → moment ≡ passed.moment → passed.number ≤ 4000000000 + passed.count → AreCalls passed calls → EachFollows number moment calls
-follow_of passed number moment [] n m room a = tt
-follow_of passed number moment (x ∷ xs) n m room a =
-    let next = a.0 in (
-      record {
-        above = omega (arith, n, next.numbered);
-        below = omega (arith, next.numbered, next.room, room);
-        not_before = omega (arith, m, next.not_backward);
-        within = next.moment_within;
-      },
-      follow_of (after passed x) x.number x.moment xs refl refl (omega (arith, next.numbered, room)) a.1,
-    )
-
--- the last call is that of those behind the first, if there are any
-last_behind : (x y : Entry) (ys : List Entry) → last_entry (x ∷ y ∷ ys) ≡ last_entry (y ∷ ys)
-last_behind x y ys = let e : length (x ∷ y ∷ ys) - 1 ≡ suc (length (y ∷ ys) - 1) = omega arith in ap (slice_get (x ∷ y ∷ ys)) e
-
--- The number and the moment of the last call are those that come of taking the calls one by one from the front.
-number_front : (number : ℕ) (x : Entry) (xs : List Entry) → last_number number (x ∷ xs) ≡ last_number x.number xs
-number_front number x [] = refl
-number_front number x (y ∷ ys) = ap (number_or number) (last_behind x y ys) ∙ number_front number y ys ∙ sym (number_front x.number y ys)
-
-moment_front : (moment : ℕ) (x : Entry) (xs : List Entry) → last_moment_of moment (x ∷ xs) ≡ last_moment_of x.moment xs
-moment_front moment x [] = refl
-moment_front moment x (y ∷ ys) = ap (moment_or moment) (last_behind x y ys) ∙ moment_front moment y ys ∙ sym (moment_front x.moment y ys)
-
-pub number_same : (passed : Passed) (calls : List Entry) → last_number passed.number calls ≡ (after_all passed calls).number
-number_same passed [] = refl
-number_same passed (x ∷ xs) = number_front passed.number x xs ∙ number_same (after passed x) xs
-
-pub moment_same : (passed : Passed) (calls : List Entry) → last_moment_of passed.moment calls ≡ (after_all passed calls).moment
-moment_same passed [] = refl
-moment_same passed (x ∷ xs) = moment_front passed.moment x xs ∙ moment_same (after passed x) xs
+pub no_calls : (calls : List Entry) → length calls ≡ 0 → calls ≡ []
+no_calls [] e = refl
+no_calls (call ∷ others) e = absurd (omega (arith, e))
 
 -- ---- what was read
 
@@ -94,8 +66,63 @@ read_one a b left now call r e = record {
 pub read_more : (a b c : Passed) (left mid now : Option (List ℕ)) (xs ys : List Entry) (call : Entry) → ReadCalls a left mid b xs → ReadsEntry b mid now call → c ≡ after b call → ys ≡ xs ++ call ∷ [] → ReadCalls a left now c ys
 read_more a b c left mid now xs ys call r one e grown = subst (ReadCalls a left now c) (sym grown) (read_both a b c left mid now xs (call ∷ []) r (read_one b c mid now call one e))
 
-pub read_full : (a b : Passed) (left now : Option (List ℕ)) (calls : List Entry) → ReadCalls a left now b calls → length calls ≡ most_in_round → ReadFull a left now b calls
-read_full a b left now calls r e = record { read = r; full = e }
+-- ---- a batch
 
-pub read_last : (a b : Passed) (left mid now : Option (List ℕ)) (calls : List Entry) (result : Result (Option Entry) LogFault) → ReadCalls a left mid b calls → length calls < most_in_round → ReadBehind b mid now result → ReadLast a left now calls result
-read_last a b left mid now calls result r few behind = record { mid = b; mid_left = mid; read = r; few = few; behind = behind }
+pub read_full : (most : ℕ) (a b : Passed) (left now : Option (List ℕ)) (calls : List Entry) → ReadCalls a left now b calls → length calls ≡ most → ReadFull most a left now b calls
+read_full most a b left now calls r e = record { read = r; full = e }
+
+pub read_last : (most : ℕ) (a b : Passed) (left mid now : Option (List ℕ)) (calls : List Entry) (result : Result (Option Entry) LogFault) → ReadCalls a left mid b calls → length calls < most → ReadBehind b mid now result
+    → ReadLast most a left now calls result
+read_last most a b left mid now calls result r few behind = record { mid = b; mid_left = mid; read = r; few = few; behind = behind }
+
+-- the calls of a batch, full or not
+pub calls_read : (most : ℕ) (before now : Passed) (left left_now : Option (List ℕ)) (calls : List Entry) (next : Next) → ReadBatch {E = AllocError} most before left left_now now calls (Ok next) → CallsRead before left calls
+calls_read most before now left left_now calls More r = record { mid = now; mid_left = left_now; read = r.read }
+calls_read most before now left left_now calls Whole r = record { mid = r.mid; mid_left = r.mid_left; read = r.read }
+calls_read most before now left left_now calls (Fault fault) r = record { mid = r.mid; mid_left = r.mid_left; read = r.read }
+
+pub few_read : (most : ℕ) (before now : Passed) (left left_now : Option (List ℕ)) (calls : List Entry) (next : Next) → ReadBatch {E = AllocError} most before left left_now now calls (Ok next) → length calls ≤ most
+few_read most before now left left_now calls More r = omega (arith, r.full)
+few_read most before now left left_now calls Whole r = omega (arith, r.few)
+few_read most before now left left_now calls (Fault fault) r = omega (arith, r.few)
+
+-- behind a full batch
+pub more_read : (most : ℕ) (before now : Passed) (left left_now : Option (List ℕ)) (calls : List Entry) → ReadFull most before left left_now now calls → now.count ≡ before.count + most
+more_read most before now left left_now calls r = ap (λ (p : Passed). p.count) r.read.moves ∙ counted before calls ∙ ap (λ n. before.count + n) r.full
+
+-- the command may answer the calls that were read, where it stands there
+pub read_follow : (most : ℕ) (Stands : Passed → Type 0) (before now : Passed) (left left_now : Option (List ℕ)) (calls : List Entry) (next : Next) → Stands before → before.number ≤ 4000000000 + before.count
+    → ReadBatch {E = AllocError} most before left left_now now calls (Ok next) → Follow Stands calls
+read_follow most Stands before now left left_now calls next stands room r =
+    record { passed = before; stands = stands; follow = (calls_read most before now left left_now calls next r).read.follow; room = room }
+
+-- and behind a full batch it stands behind it
+pub stands_read : (most : ℕ) (Stands Stands_now : Passed → Type 0) (before now : Passed) (left left_now : Option (List ℕ)) (calls : List Entry) → Stands before → StandsOn Stands Stands_now calls
+    → ReadFull most before left left_now now calls → Stands_now now
+stands_read most Stands Stands_now before now left left_now calls stands on r = subst Stands_now (sym r.read.moves) (on before stands r.read.follow)
+
+-- a full batch is one behind which it goes on
+pub is_more : (most : ℕ) (before now : Passed) (left left_now : Option (List ℕ)) (calls : List Entry) (next : Next) → ReadBatch {E = AllocError} most before left left_now now calls (Ok next)
+    → ◌≡◌ {A = Result Next RunError} (Ok next) (Ok More) → ReadFull most before left left_now now calls
+is_more most before now left left_now calls More r e = r
+is_more most before now left left_now calls Whole r e = absurd cc
+is_more most before now left left_now calls (Fault fault) r e = absurd cc
+
+-- under another name of how many calls a batch has
+pub read_as : (one other : ℕ) (before now : Passed) (left left_now : Option (List ℕ)) (calls : List Entry) (next : Next) → one ≡ other → ReadBatch {E = AllocError} one before left left_now now calls (Ok next)
+    → ReadBatch {E = AllocError} other before left left_now now calls (Ok next)
+read_as one other before now left left_now calls next same r = subst (λ (m : ℕ). ReadBatch {E = AllocError} m before left left_now now calls (Ok next)) same r
+
+-- ---- a fault of the log stands at its place
+
+pub at_grammar : (passed : Passed) (left now : Option (List ℕ)) (place : ℕ) → HandsOutOf passed left now (Err (Grammar place)) → FaultyAt passed left place
+at_grammar passed None now place h = tt
+at_grammar passed (Some rest) now place h = (h.log, inl h.has)
+
+pub at_backward : (passed : Passed) (left now : Option (List ℕ)) (place : ℕ) → HandsOutOf passed left now (Err (Backward place)) → FaultyAt passed left place
+at_backward passed None now place h = tt
+at_backward passed (Some rest) now place h = (h.log, inr (inl h.has))
+
+pub at_many : (passed : Passed) (left now : Option (List ℕ)) (place : ℕ) → HandsOutOf passed left now (Err (Many place)) → FaultyAt passed left place
+at_many passed None now place h = tt
+at_many passed (Some rest) now place h = (h.log, inr (inr h.has))

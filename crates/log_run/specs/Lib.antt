@@ -1,9 +1,6 @@
-pub mod Bench
-pub mod AllValid
-pub mod Rounds
-pub mod Judged
+pub mod Batch
+pub mod Commands
 pub mod Reading
+pub mod Streams
 pub mod Running
-pub mod Steps
 pub mod Ending
-pub mod Clauses

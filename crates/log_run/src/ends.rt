@@ -1,10 +1,11 @@
-//! How the reading of a round goes on, and what stops a run.
+//! How a run goes on behind a batch, and what stops it.
+use crate::stop::AnswerError;
 use call_log::LogFault;
 
-/// What stands behind a round of calls.
+/// What stands behind a batch of calls.
 #[derive(Clone, Copy)]
 pub(crate) enum Next {
-    /// More of the log, or its end: the round is full.
+    /// More of the log, or its end: the batch is full.
     More,
     /// The end of the log.
     Whole,
@@ -13,10 +14,12 @@ pub(crate) enum Next {
 }
 
 /// What stops a run before the log has ended.
-#[derive(Clone, Copy)]
-pub(crate) enum RunError {
+#[derive(Drop)]
+pub enum RunError {
     /// A write failed.
     Sink,
-    /// Memory ran out.
+    /// Memory ran out for the calls of a batch.
     Memory,
+    /// The calls weren't answered.
+    Stopped(AnswerError),
 }

@@ -1,52 +1,45 @@
-//! The calls of a round, as they are read from a log.
-ghost use Rattle.std.specs.Prelude.{◌≡◌, ◌+◌, ◌≤◌, [], Ok, Err, None, IfOk};
+//! The calls of a batch, as they are read from a log.
+ghost use Rattle.std.specs.Prelude.{◌≡◌, ◌+◌, ◌≤◌, ◌<◌, [], Ok, Err, None, IfOk};
 ghost use Rattle.call_log.specs.Entry.{most_entries};
-ghost use Rattle.call_log.specs.HandsOut.{HandsOutOf};
-ghost use Rattle.call_log.specs.Reads.{Moves, Reads, left_to};
-ghost use Rattle.log_run.specs.Reading.{ReadBehind, ReadRound};
-ghost use Rattle.log_run.specs.Steps.{ReadsOn};
+ghost use Rattle.call_log.specs.Reads.{Moves, left_to};
+ghost use Rattle.log_run.specs.Reading.{ReadBatch, ReadBehind, ReadsOn, SourceFailed};
 ghost use Rattle.log_run.specs.declared.ends.Next.TheVariants.{More, Fault};
-ghost use Rattle.stir_outside.specs.Count.{Rose};
 
 use crate::ends::Next;
 use call_log::{Call, LogFault, LogReader};
 use std::alloc::AllocError;
 use stir_outside::Source;
 
-/// How many calls a round has; the last of a log may have fewer.
-const ROUND: u32 = 256;
-
 /// Reads the next call of a log of which nothing was at fault before.
-pub fn next_call<I: Source>(reader: &mut LogReader, input: &mut I) -> Result<Option<Call>, LogFault>
+fn next_call<I: Source>(reader: &mut LogReader, input: &mut I) -> Result<Option<Call>, LogFault>
     requires good { reader.old.fault ≡ None }
     ensures behind { ReadBehind reader.old.passed
         (left_to reader.old (I.left input.old)) (left_to reader.new (I.left input.new)) result }
     ensures moves { Moves reader.old.passed reader.new result }
-    ensures none_ahead { reader.new.ahead ≡ [] }
     ensures bounded { reader.new.passed.count ≤ most_entries }
-    ensures rose { result ≡ Err LogFault.Source → Rose (I.faults input.old) (I.faults input.new) }
+    ensures failed { result ≡ Err LogFault.Source → SourceFailed (I.faults input.old) (I.faults input.new) reader.new.ahead }
     ensures never_falls { I.faults input.old ≤ I.faults input.new }
 {
     reader.next(input)
 }
 
-/// Reads the calls of the next round into a list that is empty, and says what stands behind them. `AllocError` is the only error.
+/// Reads the calls of the next batch into a list that is empty, and says what stands behind them. `AllocError` is the only error.
 #[tactic(auto, using(crate::proofs::ReadLaws::read_none, crate::proofs::ReadLaws::read_more, crate::proofs::ReadLaws::read_full, crate::proofs::ReadLaws::read_last))]
-pub(crate) fn read_round<I: Source>(
+pub(crate) fn read_batch<I: Source>(
+    most: u32,
     reader: &mut LogReader,
     input: &mut I,
     calls: &mut Vec<Call>,
 ) -> Result<Next, AllocError>
     requires reads_on { ReadsOn reader.old }
     requires empty { calls.old.items ≡ [] }
-    ensures read { ReadRound reader.old.passed
+    ensures read { ReadBatch most reader.old.passed
         (left_to reader.old (I.left input.old)) (left_to reader.new (I.left input.new)) reader.new.passed calls.new.items result }
     ensures reads_on { result ≡ Ok More → ReadsOn reader.new }
-    ensures none_ahead { IfOk result (λ next. reader.new.ahead ≡ []) }
-    ensures rose { result ≡ Ok (Fault LogFault.Source) → Rose (I.faults input.old) (I.faults input.new) }
+    ensures failed { result ≡ Ok (Fault LogFault.Source) → SourceFailed (I.faults input.old) (I.faults input.new) reader.new.ahead }
     ensures never_falls { I.faults input.old ≤ I.faults input.new }
 {
-    for _ in 0..ROUND {
+    for _ in 0..most {
         match next_call(reader, input) {
             Ok(Some(call)) => match calls.push(call) {
                 Ok(()) => {}

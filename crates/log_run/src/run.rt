@@ -1,111 +1,111 @@
-//! A run over a whole log: its rounds, and the last line.
+//! A run over a whole log: its batches, the text that closes the report, and the last line.
+ghost use Rattle.std.specs.Prelude.{◌≡◌, ◌≤◌, ◌++◌, [], string_bytes, true};
+ghost use Rattle.call_log.specs.Reads.{left_to};
+ghost use Rattle.log_run.specs.Commands.{Closes, IsShort};
+ghost use Rattle.log_run.specs.Ending.{CloseRan, EndsHalted, EndsStopped, EndsUnread, EndsAtFault, EndsRefused, LogRan, failed_line, refused_line, report_status, unread_line};
+ghost use Rattle.log_run.specs.Reading.{ReadsOn};
+ghost use Rattle.log_run.specs.Running.{at_of};
+ghost use Rattle.log_run.specs.Streams.{streams_of};
 ghost use Rattle.stir_outside.specs.Stays.{ShelfStays};
-ghost use Rattle.std.specs.Prelude.{◌≡◌, ◌≤◌, ℕ};
-ghost use Rattle.log_run.specs.Clauses.{Fails, HasCauses, HasEnded, Headline, IsComplete, LogRan, Refuses, run_state_of};
-ghost use Rattle.log_run.specs.Ending.{EndsAtFault, EndsBy, EndsRefused, failed_line, refused_line, report_status};
-ghost use Rattle.log_run.specs.Steps.{StandsAtFirst};
-ghost use Rattle.stir_outside.specs.Status.{status_number};
 
+use crate::batches::run_batches;
+use crate::command::LogCommand;
 use crate::ends::RunError;
-use crate::judge::Judge;
-use crate::rounds::run_rounds;
-use call_log::{LogFault, LogReader, one_log};
-use replay_law::{first_of_all, legal_together};
+use crate::stop::AnswerError;
+use call_log::{LogFault, LogReader};
 use std::alloc::Global;
 use std::thread::Threads;
-use stir_outside::{Shelf, Sink, Source, Status, end_with, memory_line};
+use stir_outside::{Shelf, Sink, Source, Status, end_with, memory_line, write_whole};
 
-/// Judges a whole log by a judge that has judged nothing before, and writes a line for each call, in rounds of 256.
-///
-/// The status is 0 where all calls are valid, else 1. Where the log is outside its grammar, or a read of it fails, the whole entries before
-/// are judged and reported, and a line says so: status 5 or 3. Where a write fails the status is 4, and what was written is a front of the
-/// whole. For want of memory whole lines were written, and a line says so: status 6.
-pub fn judge_log<R: Threads + Sync, J: Judge, S: Shelf, I: Source, O: Sink>(
+/// Answers the calls of a log batch by batch, and writes the lines of each before the next is read; then the text that closes the report, and a line
+/// where the log is outside its grammar or can't be read further. The reader may begin at any number and moment, and may have bytes ahead.
+pub fn run_log<R: Threads + Sync, C: LogCommand, S: Shelf, I: Source, O: Sink>(
     rt: &R,
     alloc: Global,
-    judge: &mut J,
+    command: &mut C,
+    reader: &mut LogReader,
     shelf: &mut S,
     input: &mut I,
     sink: &mut O,
 ) -> u8
-    requires { StandsAtFirst (J.standing judge.old (S.counts shelf.old).faults) }
-    ensures ran { LogRan (J.judged judge.old (S.files shelf.old)) (J.bench judge.old)
-        (run_state_of I.Source O.Sink (J.standing judge.old (S.counts shelf.old).faults) input.old sink.old)
-        (run_state_of I.Source O.Sink (J.standing judge.new (S.counts shelf.new).faults) input.new sink.new) result }
-    ensures headline { Headline (J.judged judge.old (S.files shelf.old)) (J.bench judge.old)
-        (run_state_of I.Source O.Sink (J.standing judge.old (S.counts shelf.old).faults) input.old sink.old)
-        (run_state_of I.Source O.Sink (J.standing judge.new (S.counts shelf.new).faults) input.new sink.new) result }
-    ensures ended { HasEnded
-        (run_state_of I.Source O.Sink (J.standing judge.new (S.counts shelf.new).faults) input.new sink.new) result }
-    ensures refuses { Refuses (J.judged judge.old (S.files shelf.old)) (J.bench judge.old)
-        (run_state_of I.Source O.Sink (J.standing judge.old (S.counts shelf.old).faults) input.old sink.old)
-        (run_state_of I.Source O.Sink (J.standing judge.new (S.counts shelf.new).faults) input.new sink.new) result }
-    ensures fails { Fails (J.judged judge.old (S.files shelf.old)) (J.bench judge.old)
-        (run_state_of I.Source O.Sink (J.standing judge.old (S.counts shelf.old).faults) input.old sink.old)
-        (run_state_of I.Source O.Sink (J.standing judge.new (S.counts shelf.new).faults) input.new sink.new) result }
-    ensures causes { HasCauses (J.judged judge.old (S.files shelf.old)) (J.bench judge.old)
-        (run_state_of I.Source O.Sink (J.standing judge.old (S.counts shelf.old).faults) input.old sink.old)
-        (run_state_of I.Source O.Sink (J.standing judge.new (S.counts shelf.new).faults) input.new sink.new) result }
-    ensures complete { IsComplete
-        (run_state_of I.Source O.Sink (J.standing judge.old (S.counts shelf.old).faults) input.old sink.old)
-        (run_state_of I.Source O.Sink (J.standing judge.new (S.counts shelf.new).faults) input.new sink.new) result }
+    requires reads_on { ReadsOn reader.old }
+    requires stands { C.stands command.old (S.counts shelf.old) reader.old.passed }
+    requires first { C.behind command.old (S.counts shelf.old) command.old (S.counts shelf.old) (S.files shelf.old) [] }
+    // What is known of the batches is known from the command as it stood first on.
+    ensures ran { LogRan (C.most command.old) (C.behind command.old (S.counts shelf.old) command.new (S.counts shelf.new) (S.files shelf.old))
+        (C.stopped command.old (S.counts shelf.old) command.new (S.counts shelf.new) (S.files shelf.old))
+        (C.closed command.old (S.counts shelf.old) command.new (S.counts shelf.new) (S.files shelf.old))
+        (at_of I.Source true reader.old input.old) reader.new.ahead (left_to reader.new (I.left input.new))
+        (streams_of I.Source O.Sink input.old sink.old)
+        (streams_of I.Source O.Sink input.new sink.new) result }
     ensures shelf { ShelfStays S.Shelf shelf.old shelf.new }
 {
-    one_log();
-    legal_together();
-    first_of_all();
-    run_log(rt, alloc, judge, shelf, input, sink)
-}
-
-/// Runs the rounds and ends.
-fn run_log<R: Threads + Sync, J: Judge, S: Shelf, I: Source, O: Sink>(
-    rt: &R,
-    alloc: Global,
-    judge: &mut J,
-    shelf: &mut S,
-    input: &mut I,
-    sink: &mut O,
-) -> u8
-    requires { StandsAtFirst (J.standing judge.old (S.counts shelf.old).faults) }
-    ensures ran { LogRan (J.judged judge.old (S.files shelf.old)) (J.bench judge.old)
-        (run_state_of I.Source O.Sink (J.standing judge.old (S.counts shelf.old).faults) input.old sink.old)
-        (run_state_of I.Source O.Sink (J.standing judge.new (S.counts shelf.new).faults) input.new sink.new) result }
-    ensures shelf { ShelfStays S.Shelf shelf.old shelf.new }
-{
-    let mut reader = LogReader::new(alloc);
     let mut all_good = true;
-    let ended = run_rounds(
-        rt,
-        alloc,
-        judge,
-        shelf,
-        &mut reader,
-        input,
-        sink,
-        &mut all_good,
-    );
-    finish(alloc, sink, ended, all_good)
+    match run_batches(rt, alloc, command, shelf, reader, input, sink, &mut all_good) {
+        Ok(fault) => close(alloc, command, sink, fault, all_good),
+        Err(halt) => end_halted(alloc, sink, halt),
+    }
 }
 
-/// Writes the line that says why the log ended, if one is to be written, and gives the status.
-fn finish<O: Sink>(
+/// Writes the text that closes the report, and then the line that says why the log ended, if one is to be written.
+fn close<C: LogCommand, O: Sink>(
     alloc: Global,
+    command: &mut C,
     sink: &mut O,
-    ended: Result<Option<LogFault>, RunError>,
+    fault: Option<LogFault>,
     all_good: bool,
 ) -> u8
-    ensures { EndsBy (O.written sink.old) (O.written sink.new) (O.faults sink.old) (O.faults sink.new) result all_good ended }
+    ensures { CloseRan (IsShort C.behind C.stopped command.old command.new) (Closes C.behind C.closed command.old command.new)
+        (O.written sink.old) (O.written sink.new) (O.faults sink.old) (O.faults sink.new) result all_good fault }
 {
-    match ended {
-        Ok(None) => report_status(all_good),
-        Ok(Some(fault)) => end_at(alloc, sink, fault),
-        Err(RunError::Sink) => Status::Write.number(),
-        Err(RunError::Memory) => end_with(sink, memory_line(), Status::Memory),
+    let text = match command.closing(alloc) {
+        Ok(text) => text,
+        Err(_) => return end_with(sink, memory_line(), Status::Memory),
+    };
+    match write_whole(sink, &text) {
+        Ok(()) => {}
+        Err(_) => return Status::Write.number(),
+    }
+    match fault {
+        None => report_status(all_good),
+        Some(fault) => end_at(alloc, sink, fault),
+    }
+}
+
+/// Writes the last line of a run that was stopped before the log ended.
+fn end_halted<O: Sink>(alloc: Global, sink: &mut O, halt: RunError) -> u8
+    ensures { EndsHalted (O.written sink.old) (O.written sink.new) (O.faults sink.old) (O.faults sink.new) result halt }
+{
+    match halt {
+        RunError::Sink => Status::Write.number(),
+        RunError::Memory => end_with(sink, memory_line(), Status::Memory),
+        RunError::Stopped(stop) => end_stopped(alloc, sink, stop),
+    }
+}
+
+/// Writes the last lines of a run that stopped at calls.
+fn end_stopped<O: Sink>(alloc: Global, sink: &mut O, stop: AnswerError) -> u8
+    ensures { EndsStopped (O.written sink.old) (O.written sink.new) (O.faults sink.old) (O.faults sink.new) result stop }
+{
+    match stop {
+        AnswerError::Unread { text, name } => end_unread(alloc, sink, text.as_str(), name.as_str()),
+        AnswerError::Memory => end_with(sink, memory_line(), Status::Memory),
+    }
+}
+
+/// Writes these lines of the calls, and that the file of this name couldn't be read.
+#[tactic(auto, unfolding(crate::specs::Ending::unread_line))]
+fn end_unread<O: Sink>(alloc: Global, sink: &mut O, text: &str, name: &str) -> u8
+    ensures { EndsUnread (O.written sink.old) (O.written sink.new) (O.faults sink.old) (O.faults sink.new) result text.now name.now }
+{
+    match format!(in alloc; "{text}read fault {name}\n") {
+        Ok(line) => end_with(sink, line.as_str(), Status::Read),
+        Err(_) => end_with(sink, memory_line(), Status::Memory),
     }
 }
 
 /// The status of a whole report.
-pub fn report_status(all_good: bool) -> u8
+fn report_status(all_good: bool) -> u8
     ensures { result ≡ report_status all_good }
 {
     if all_good {
@@ -117,7 +117,7 @@ pub fn report_status(all_good: bool) -> u8
 
 /// Writes the line of a fault of the log.
 #[tactic(auto, unfolding(crate::specs::Ending::failed_line))]
-pub fn end_at<O: Sink>(alloc: Global, sink: &mut O, fault: LogFault) -> u8
+fn end_at<O: Sink>(alloc: Global, sink: &mut O, fault: LogFault) -> u8
     ensures { EndsAtFault (O.written sink.old) (O.written sink.new) (O.faults sink.old) (O.faults sink.new) result fault }
 {
     match fault {

@@ -7,5 +7,5 @@ returns-clause-behind g c = record { reads = rw c.requires.good at c.next.ensure
 pub returns-clause-moves : goal.returns-clause-moves
 returns-clause-moves g c = rw c.requires.good at c.next.ensures.moves
 
-pub returns-clause-rose : goal.returns-clause-rose
-returns-clause-rose g c = rw c.requires.good at c.next.ensures.rose
+pub returns-clause-failed : goal.returns-clause-failed
+returns-clause-failed g c = let rose = rw c.requires.good at c.next.ensures.rose in λ source. record { rose = rose source; none_ahead = c.next.ensures.none_ahead }

@@ -1,7 +1,11 @@
--- The rounds and the last line are the whole run.
+-- The batches and what came then are the whole run.
 use Rattle.std.proofs.Common.{refl}
-use Rattle.log_run.proofs.RunLaws.{log_ran}
+use Rattle.log_run.proofs.EndLaws.{log_closed, log_halted}
 use Rattle.log_run.proofs.run.run_log.Goals as goal
 
-pub returns-clause-ran : goal.returns-clause-ran
-returns-clause-ran g c = log_ran _ _ _ _ _ _ _ _ _ _ _ _ _ _ c.new-reader.result c.run_rounds-ended.new.reader _ _ _ _ c.new-reader.ensures refl c.run_rounds-ended.ensures.none_ahead c.run_rounds-ended.ensures.ran c.finish.ensures
+pub returns-in-Ok-clause-ran : goal.returns-in-Ok-clause-ran
+returns-in-Ok-clause-ran g c =
+    log_closed _ _ _ _ _ _ _ _ _ _ _ _ _ _ _ _ (λ batches text known closes. closes _ _ _ _ _ known) (λ batches known short. short _ _ _ _ _ known) refl refl c.in-Ok.ensures.ran c.close.ensures
+
+pub returns-in-Err-clause-ran : goal.returns-in-Err-clause-ran
+returns-in-Err-clause-ran g c = log_halted _ _ _ _ _ _ _ _ _ _ _ c.in-Err.ensures.ran c.end_halted.ensures
