@@ -1,13 +1,13 @@
 -- How a run ends, by each of its statuses.
-use Rattle.std.proofs.Common.{◌≡◌, ℕ, ◌≤◌, ◌⊎◌, inl, inr, Bool, List, [], ◌++◌, string_bytes, Option, Some, None, Ok, Err, refl, sym, ◌∙◌, ap, subst, arith, append-nil}
-use Rattle.std.specs.Io.KnownBytes.{Appends}
-use Rattle.std.proofs.KnownBytes.{Appends-trans}
+use Rattle.std.proofs.Common.{◌≡◌, ℕ, ◌≤◌, ◌⊎◌, inl, inr, Bool, List, [], ◌∷◌, ◌++◌, string_bytes, Option, Some, None, Ok, Err, refl, sym, ◌∙◌, ap, subst, arith, append-nil}
+use Rattle.std.specs.Io.KnownBytes.{Appends, IsAtEnd, prepend_known}
+use Rattle.std.proofs.KnownBytes.{Appends-trans, prepend_known-nil}
 use Rattle.call_log.specs.Entry.{Entry}
 use Rattle.call_log.specs.declared.fault.LogFault.{LogFault}
 use Rattle.call_log.specs.declared.fault.LogFault.TheVariants.{Grammar, Backward, Many, Source, Memory as WantOfMemory}
 use Rattle.log_run.specs.Batch.{Batch, texts_in}
 use Rattle.log_run.specs.Ending.{CloseRan, EndedSo, EndsAt, EndsBehind, EndsHalted, EndsRefused, EndsStopped, FailsIn, LogRan, MayBeShort, MayEnd, MayStand, failed_line, refused_line, report_status, unread_line}
-use Rattle.log_run.specs.Reading.{FaultyAt, SourceFailed}
+use Rattle.log_run.specs.Reading.{FaultyAt, ReadBehind, SourceFailed}
 use Rattle.log_run.specs.Running.{At, RunsOut, StopsNext}
 use Rattle.log_run.specs.Streams.{BehindBy, SourceRose, Streams, StreamsStay}
 use Rattle.log_run.specs.declared.ends.RunError.{RunError}
@@ -177,4 +177,69 @@ log_halted most Known Stopped Closed a b s t u (error.Stopped stop) status r e =
   read = r.read;
   good_so = r.good_so;
   so = stopped_by (Known r.batches) (Stopped r.batches) (Closed r.batches) r.mid b.ahead b.left (texts_in r.batches) s t u status r.stay.write_faults r.ends.1 stop r.ends.0 e;
+}
+
+-- ---- what the source has left, where the log ended or the source failed, is all that is left to the reader
+
+none_first : (xs ys : List ℕ) → xs ++ ys ≡ [] → xs ≡ []
+none_first [] ys e = refl
+none_first (x ∷ xs) ys e = absurd (cc)
+
+at_end : (ahead : List ℕ) (left : Option (List ℕ)) → IsAtEnd (prepend_known ahead left) → prepend_known ahead left ≡ left
+at_end ahead None e = refl
+at_end ahead (Some rest) e = ap (λ x. Some (x ++ rest)) (none_first ahead rest e)
+
+used_up : (ahead : List ℕ) (left : Option (List ℕ)) → ahead ≡ [] → prepend_known ahead left ≡ left
+used_up ahead left e = ap (λ x. prepend_known x left) e ∙ prepend_known-nil left
+
+end_used : (mid : At) (ahead : List ℕ) (left : Option (List ℕ)) (s t : Streams) (line : List ℕ) → MayEnd mid ahead (prepend_known ahead left) s t line → MayEnd mid ahead left s t line
+end_used mid ahead left s t line (inl e) = inl e
+end_used mid ahead left s t line (inr (inl e)) = inr (inl e)
+end_used mid ahead left s t line (inr (inr (inl e))) = inr (inr (inl (e.0, subst (λ x. ReadBehind mid.passed mid.left x (Err Source)) (used_up ahead left e.2.none_ahead) e.1, e.2)))
+end_used mid ahead left s t line (inr (inr (inr e))) = inr (inr (inr e))
+
+may_used : (Known : Type 0) (Stopped : List Entry → AnswerError → Type 0) (Closed : List ℕ → Type 0) (mid : At) (ahead : List ℕ) (left : Option (List ℕ)) (s t : Streams) (line : List ℕ)
+    → MayStand Known Stopped Closed (MayEnd mid ahead (prepend_known ahead left) s t) mid line → MayStand Known Stopped Closed (MayEnd mid ahead left s t) mid line
+may_used Known Stopped Closed mid ahead left s t line (inl k) = inl k
+may_used Known Stopped Closed mid ahead left s t line (inr (inl n)) = inr (inl n)
+may_used Known Stopped Closed mid ahead left s t line (inr (inr c)) =
+    inr (inr (record { text = c.text; end = c.end; closed = c.closed; may_end = end_used mid ahead left s t c.end c.may_end; says = c.says }))
+
+so_used : (Known : Type 0) (Stopped : List Entry → AnswerError → Type 0) (Closed : List ℕ → Type 0) (mid : At) (ahead : List ℕ) (left : Option (List ℕ)) (lines : List ℕ) (s t : Streams) (status : ℕ)
+    → EndedSo Known Stopped Closed mid ahead (prepend_known ahead left) lines s t status → EndedSo Known Stopped Closed mid ahead left lines s t status
+so_used Known Stopped Closed mid ahead left lines s t status (inl e) = inl (record {
+  text = e.text;
+  closed = e.closed;
+  behind = subst (λ x. ReadBehind mid.passed mid.left x (Ok None)) (at_end ahead left e.behind.reads.ended) e.behind;
+  reported = e.reported;
+  said = e.said;
+})
+so_used Known Stopped Closed mid ahead left lines s t status (inr (inl e)) = inr (inl e)
+so_used Known Stopped Closed mid ahead left lines s t status (inr (inr (inl e))) = inr (inr (inl (record {
+  text = e.text;
+  closed = e.closed;
+  behind = subst (λ x. ReadBehind mid.passed mid.left x (Err Source)) (used_up ahead left e.failed.none_ahead) e.behind;
+  failed = e.failed;
+  reported = e.reported;
+  said = e.said;
+})))
+so_used Known Stopped Closed mid ahead left lines s t status (inr (inr (inr (inl e)))) = inr (inr (inr (inl e)))
+so_used Known Stopped Closed mid ahead left lines s t status (inr (inr (inr (inr (inl e))))) = inr (inr (inr (inr (inl e))))
+so_used Known Stopped Closed mid ahead left lines s t status (inr (inr (inr (inr (inr e))))) = inr (inr (inr (inr (inr (record {
+  line = e.line;
+  may = may_used Known Stopped Closed mid ahead left s t e.line e.may;
+  rose = e.rose;
+  front = e.front;
+  said = e.said;
+})))))
+
+pub log_used : (most : ℕ) (Known : List Batch → Type 0) (Stopped : List Batch → List Entry → AnswerError → Type 0) (Closed : List Batch → List ℕ → Type 0) (a : At) (ahead : List ℕ) (left : Option (List ℕ)) (s t : Streams) (status : ℕ)
+    → LogRan most Known Stopped Closed a ahead (prepend_known ahead left) s t status → LogRan most Known Stopped Closed a ahead left s t status
+log_used most Known Stopped Closed a ahead left s t status r = record {
+  batches = r.batches;
+  mid = r.mid;
+  cut = r.cut;
+  read = r.read;
+  good_so = r.good_so;
+  so = so_used (Known r.batches) (Stopped r.batches) (Closed r.batches) r.mid ahead left (texts_in r.batches) s t status r.so;
 }

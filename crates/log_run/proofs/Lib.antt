@@ -5,3 +5,4 @@ pub mod RunLaws
 pub mod OneBatch
 pub mod JoinLaws
 pub mod EndLaws
+pub mod WordsLaws

@@ -4,3 +4,5 @@ pub mod Reading
 pub mod Streams
 pub mod Running
 pub mod Ending
+pub mod Words
+pub mod Speaks

@@ -5,6 +5,7 @@ mod answer;
 mod batches;
 mod command;
 mod ends;
+mod laws;
 mod reading;
 mod run;
 mod stop;
@@ -12,6 +13,7 @@ mod stop;
 pub use answer::BatchAnswer;
 pub use command::LogCommand;
 pub use ends::RunError;
+pub use laws::batch_law;
 pub use run::run_log;
 pub use stop::AnswerError;
 /// Memory ran out.

@@ -35,7 +35,7 @@ pub fn run_log<R: Threads + Sync, C: LogCommand, S: Shelf, I: Source, O: Sink>(
     ensures ran { LogRan (C.most command.old) (C.behind command.old (S.counts shelf.old) command.new (S.counts shelf.new) (S.files shelf.old))
         (C.stopped command.old (S.counts shelf.old) command.new (S.counts shelf.new) (S.files shelf.old))
         (C.closed command.old (S.counts shelf.old) command.new (S.counts shelf.new) (S.files shelf.old))
-        (at_of I.Source true reader.old input.old) reader.new.ahead (left_to reader.new (I.left input.new))
+        (at_of I.Source true reader.old input.old) reader.new.ahead (I.left input.new)
         (streams_of I.Source O.Sink input.old sink.old)
         (streams_of I.Source O.Sink input.new sink.new) result }
     ensures shelf { ShelfStays S.Shelf shelf.old shelf.new }

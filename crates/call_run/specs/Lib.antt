@@ -1,6 +1,0 @@
-pub mod Answer
-pub mod Answering
-pub mod Running
-pub mod Steps
-pub mod Ending
-pub mod Clauses
