@@ -1,0 +1,5 @@
+pub mod Bench
+pub mod AllValid
+pub mod Rounds
+pub mod Judged
+pub mod Batches

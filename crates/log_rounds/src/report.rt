@@ -1,0 +1,47 @@
+//! The lines of a round.
+ghost use Rattle.std.specs.Prelude.{◌≡◌, ◌+◌, ◌&&◌, ◌<◌, ◌^◌, length, IfOk};
+ghost use Rattle.log_rounds.specs.AllValid.{all_valid, is_valid};
+ghost use Rattle.verify_service.specs.Report.{report};
+
+use std::alloc::{AllocError, Global};
+use verify_service::{Outcome, report_line};
+
+/// The lines of calls whose numbers go on from this one. `AllocError` is the only error.
+#[tactic(auto, using(crate::proofs::ReportLaws::line_more, crate::proofs::ReportLaws::all_lines))]
+pub(crate) fn lines_of(
+    alloc: Global,
+    first: u32,
+    outcomes: &[Outcome],
+) -> Result<Vec<u8>, AllocError>
+    requires { first + length outcomes.now < 2 ^ 32 }
+    ensures { IfOk result (λ text. text.items ≡ report first outcomes.now) }
+{
+    let mut number = first;
+    let mut text = Vec::new(alloc);
+    for outcome in outcomes {
+        let line = report_line(alloc, number, outcome)?;
+        text.extend_from_slice(&line)?;
+        number += 1;
+    }
+    Ok(text)
+}
+
+/// All calls are valid.
+pub(crate) fn all_valid(outcomes: &[Outcome]) -> bool
+    ensures { result ≡ all_valid outcomes.now }
+{
+    outcomes.iter().all(|outcome| is_valid(outcome))
+}
+
+/// The call is valid.
+fn is_valid(outcome: &Outcome) -> bool
+    ensures { result ≡ is_valid outcome.now }
+{
+    match outcome {
+        Outcome::Valid => true,
+        Outcome::Refused(_) => false,
+        Outcome::Replay { .. } => false,
+        Outcome::Unread(_) => false,
+        Outcome::Unasked(_) => false,
+    }
+}
