@@ -6,7 +6,7 @@ use Rattle.log_run.specs.Batch.{BatchAnswerView, Batch, batch_of}
 use Rattle.log_run.specs.Commands.{Follow}
 use Rattle.log_rounds.proofs.FollowLaws.{follow_of, moment_same, number_same}
 use Rattle.log_rounds.proofs.RoundLaws.{aside_both, aside_none, each_as, each_both, order_both, rows_both}
-use Rattle.log_rounds.specs.Bench.{Bench, Implies, Moves, RoundJudged, Standing}
+use Rattle.log_rounds.specs.Bench.{Bench, Implies, Moves, RoundJudged, Standing, faults_of}
 use Rattle.log_rounds.specs.Judged.{SetAside}
 use Rattle.log_rounds.specs.Rounds.{InEach, Round, row_rounds}
 use Rattle.log_run.specs.declared.stop.AnswerError.{AnswerError}
@@ -30,7 +30,7 @@ one_total : (n : ℕ) → n ≡ n + 0
 one_total n = omega arith
 
 one_aside : (judged : Entry → Outcome → Type 0) (bench : Bench) (before now : Standing) (calls : List Entry) (outcomes : List Outcome) → RoundJudged judged bench before now calls outcomes
-    → SetAside bench before now (record { calls = calls; outcomes = outcomes } ∷ [])
+    → SetAside bench (faults_of before) (faults_of now) (record { calls = calls; outcomes = outcomes } ∷ [])
 one_aside judged bench before now calls outcomes round = record {
   unread = subst (λ n. AtMost n before.shelf now.shelf) (one_total (length (unread_texts bench.settings calls outcomes))) round.unread;
   quiet_shelf = λ n. subst NoneUnread (sym (append-nil outcomes)) (round.quiet_shelf n);
@@ -49,7 +49,7 @@ judged_more more judged judged_one bench a b c xs calls answer still o moves s =
       owed = each_both (IsOwed bench.settings) s.rounds one s.owed (o.round.owed, tt);
       settled = subst (λ r. Rounds a.past r c.past) (sym (rows_both bench s.rounds one)) (more a.past b.past c.past (row_rounds bench s.rounds) (row_rounds bench one) s.settled (c.past, o.round.settled, λ ticket. refl));
       in_order = λ w. order_both bench s.rounds one (s.in_order w) (o.round.in_order w, tt);
-      aside = aside_both bench a b c s.rounds one s.shelf_stays moves.shelf_stays s.provider_stays moves.provider_stays s.aside (one_aside judged_one bench b c calls o.outcomes o.round);
+      aside = aside_both bench (faults_of a) (faults_of b) (faults_of c) s.rounds one s.shelf_stays moves.shelf_stays s.provider_stays moves.provider_stays s.aside (one_aside judged_one bench b c calls o.outcomes o.round);
       shelf_stays = omega (arith, s.shelf_stays, moves.shelf_stays);
       provider_stays = omega (arith, s.provider_stays, moves.provider_stays);
     }
@@ -76,7 +76,7 @@ behind_none judged bench a = record {
     owed = tt;
     settled = λ ticket. refl;
     in_order = λ one. tt;
-    aside = aside_none bench a;
+    aside = aside_none bench (faults_of a);
     shelf_stays = omega arith;
     provider_stays = omega arith;
   };

@@ -7,7 +7,7 @@ use Rattle.log_rounds.proofs.FollowLaws.{counted_on}
 use Rattle.log_rounds.proofs.ReportLaws.{report_append}
 use Rattle.log_rounds.proofs.RoundLaws.{aside_on, one_for_each, valid_both}
 use Rattle.log_rounds.specs.AllValid.{all_valid}
-use Rattle.log_rounds.specs.Bench.{Bench, Standing}
+use Rattle.log_rounds.specs.Bench.{Bench, Standing, faults_of}
 use Rattle.log_rounds.specs.Judged.{AreJudged, JudgedBatches, rounds_words}
 use Rattle.log_rounds.specs.Rounds.{InEach, IsCut as IsCutInRounds, Round, calls_in as calls_of, outcomes_in}
 use Rattle.log_run.specs.Speaks.{AreBatches, Speaks}
@@ -74,7 +74,7 @@ same_lines judged passed (x ∷ xs) (y ∷ ys) a each follow =
 
 -- the rounds that were judged, with what was counted since
 are_judged : LegalTogether → FirstOfAll → (judged : Entry → Outcome → Type 0) (bench : Bench) (passed : Passed) (a mid b : Standing) (xs : List Batch) → a.past ≡ nothing → mid.shelf ≤ b.shelf → mid.provider ≤ b.provider
-    → AreBatches 256 passed xs → (j : JudgedRounds judged bench a mid xs) → AreJudged judged bench a b j.rounds
+    → AreBatches 256 passed xs → (j : JudgedRounds judged bench a mid xs) → AreJudged judged bench (faults_of a) (faults_of b) j.rounds
 are_judged legal first judged bench passed a mid b xs empty shelf provider are j =
     let follow = subst (AreCalls passed) (same_calls xs j.rounds j.are) are.follow in
     record {
@@ -82,11 +82,11 @@ are_judged legal first judged bench passed a mid b xs empty shelf provider are j
       each = j.each;
       legal = λ apart. legal_of legal judged bench passed a.past mid.past j.rounds empty j.settled j.each j.owed follow apart;
       first_wins = λ one apart. first_of first judged bench j.rounds (legal_of legal judged bench passed a.past mid.past j.rounds empty j.settled j.each j.owed follow apart) (j.in_order one);
-      aside = aside_on bench a mid b j.rounds j.shelf_stays shelf j.provider_stays provider j.aside;
+      aside = aside_on bench (faults_of a) (faults_of mid) (faults_of b) j.rounds j.shelf_stays shelf j.provider_stays provider j.aside;
     }
 
 judged_batches : LegalTogether → FirstOfAll → (judged : Entry → Outcome → Type 0) (bench : Bench) (passed : Passed) (a mid b : Standing) (xs : List Batch) → a.past ≡ nothing → mid.shelf ≤ b.shelf → mid.provider ≤ b.provider
-    → AreBatches 256 passed xs → JudgedRounds judged bench a mid xs → JudgedBatches judged bench passed a b xs
+    → AreBatches 256 passed xs → JudgedRounds judged bench a mid xs → JudgedBatches judged bench passed (faults_of a) (faults_of b) xs
 judged_batches legal first judged bench passed a mid b xs empty shelf provider are j = record {
   rounds = j.rounds;
   calls = same_calls xs j.rounds j.are;
@@ -99,7 +99,7 @@ other_stop : {X : Type 0} (text name : String Global) → ◌≡◌ {A = AnswerE
 other_stop text name e = absurd (cc)
 
 pub speaks : LegalTogether → FirstOfAll → (judged judged_now : Entry → Outcome → Type 0) (bench bench_now : Bench) (passed : Passed) (a b : Standing) → a.past ≡ nothing
-    → Speaks (rounds_words judged bench passed a b) passed (RoundsBehind judged judged_now bench bench_now a b) (λ batches calls stop. RoundsStopped judged bench a b batches stop) (λ batches text. RoundsClosed judged bench a b batches text)
+    → Speaks (rounds_words judged bench passed (faults_of a) (faults_of b)) passed (RoundsBehind judged judged_now bench bench_now a b) (λ batches calls stop. RoundsStopped judged bench a b batches stop) (λ batches text. RoundsClosed judged bench a b batches text)
 speaks legal first judged judged_now bench bench_now passed a b empty = record {
   known = λ batches are k. judged_batches legal first judged bench passed a b b batches empty (omega arith) (omega arith) are k.so;
   stopped = λ batches calls stop are h. judged_batches legal first judged bench passed a h.mid b batches empty h.shelf_stays h.provider_stays are h.so;

@@ -4,7 +4,7 @@ use Rattle.call_log.specs.Entry.{Entry}
 use Rattle.call_log.specs.Log.{Passed}
 use Rattle.log_run.specs.Batch.{BatchAnswerView, Batch}
 use Rattle.log_rounds.specs.AllValid.{all_valid}
-use Rattle.log_rounds.specs.Bench.{Bench, Implies, RoundJudged, Standing}
+use Rattle.log_rounds.specs.Bench.{Bench, Implies, RoundJudged, Standing, faults_of}
 use Rattle.log_rounds.specs.Judged.{SetAside}
 use Rattle.log_rounds.specs.Rounds.{AllInOrder, InEach, Round, row_rounds}
 use Rattle.log_run.specs.declared.stop.AnswerError.{AnswerError}
@@ -34,7 +34,7 @@ pub record JudgedRounds (judged : Entry → Outcome → Type 0) (bench : Bench) 
   pub owed : InEach (IsOwed bench.settings) rounds
   pub settled : Rounds before.past (row_rounds bench rounds) now.past
   pub in_order : bench.workers ≡ 1 → AllInOrder bench rounds
-  pub aside : SetAside bench before now rounds
+  pub aside : SetAside bench (faults_of before) (faults_of now) rounds
   pub shelf_stays : before.shelf ≤ now.shelf
   pub provider_stays : before.provider ≤ now.provider
 

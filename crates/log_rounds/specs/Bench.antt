@@ -26,6 +26,17 @@ pub record Standing : Type 0 where
   pub shelf : ℕ
   pub provider : ℕ
 
+-- how often a file of certificates couldn't be read, and how often the provider of signatures failed
+pub record FaultCounts : Type 0 where
+  pub shelf : ℕ
+  pub provider : ℕ
+
+abbrev pub fault_counts : ℕ → ℕ → FaultCounts
+fault_counts shelf provider = record { shelf = shelf; provider = provider }
+
+abbrev pub faults_of : Standing → FaultCounts
+faults_of standing = fault_counts standing.shelf standing.provider
+
 abbrev pub IsIn : {A : Type 0} → A → List A → Type 0
 IsIn one [] = ⊥
 IsIn one (other ∷ others) = (one ≡ other) ⊎ IsIn one others

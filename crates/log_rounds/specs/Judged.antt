@@ -5,7 +5,7 @@ use Rattle.call_log.specs.Log.{Passed}
 use Rattle.log_run.specs.Batch.{Batch, all_well, calls_in as calls_of, texts_in}
 use Rattle.log_run.specs.Words.{Words}
 use Rattle.log_rounds.specs.AllValid.{all_valid}
-use Rattle.log_rounds.specs.Bench.{Bench, Standing}
+use Rattle.log_rounds.specs.Bench.{Bench, FaultCounts, Standing}
 use Rattle.log_rounds.specs.Rounds.{FirstWinsIn, InEach, IsApart, IsCut, Legal, Round, calls_in, outcomes_in, unread_pairs}
 use Rattle.replay_law.specs.Held.{nothing}
 use Rattle.stir_outside.specs.Count.{AtMost, NotRisen}
@@ -21,14 +21,14 @@ pub record StandsAtFirst (standing : Standing) : Type 0 where
 
 -- Calls were set aside only for faults that were counted: for certificates, at most as many pairs of a round and a text as the count of
 -- failed reads rose by, unless it stands at its last value.
-pub record SetAside (bench : Bench) (before now : Standing) (rounds : List Round) : Type 0 where
+pub record SetAside (bench : Bench) (before now : FaultCounts) (rounds : List Round) : Type 0 where
   pub unread : AtMost (unread_pairs bench rounds) before.shelf now.shelf
   pub quiet_shelf : NotRisen before.shelf now.shelf → NoneUnread (outcomes_in rounds)
   pub quiet_provider : NotRisen before.provider now.provider → NoneUnasked (outcomes_in rounds)
 
 -- Rounds of 256 calls, but the last, and each outcome may stand for its call. Where the log is apart, the outcomes are legal, and on one
 -- worker the first call that passes with a ticket is the valid one. Calls were set aside only for faults that were counted.
-pub record AreJudged (judged : Entry → Outcome → Type 0) (bench : Bench) (before now : Standing) (rounds : List Round) : Type 0 where
+pub record AreJudged (judged : Entry → Outcome → Type 0) (bench : Bench) (before now : FaultCounts) (rounds : List Round) : Type 0 where
   pub cut : IsCut rounds
   pub each : InEach judged rounds
   pub legal : IsApart bench (calls_in rounds) → Legal judged bench rounds
@@ -39,7 +39,7 @@ pub record AreJudged (judged : Entry → Outcome → Type 0) (bench : Bench) (be
 
 -- The batches are rounds that were judged; their lines are the report of these, whose numbers go on from those before; and all is well where
 -- each call is valid.
-pub record JudgedBatches (judged : Entry → Outcome → Type 0) (bench : Bench) (passed : Passed) (before now : Standing) (batches : List Batch) : Type 0 where
+pub record JudgedBatches (judged : Entry → Outcome → Type 0) (bench : Bench) (passed : Passed) (before now : FaultCounts) (batches : List Batch) : Type 0 where
   pub rounds : List Round
   pub calls : calls_of batches ≡ calls_in rounds
   pub lines : texts_in batches ≡ report (passed.number + 1) (outcomes_in rounds)
@@ -55,5 +55,5 @@ abbrev pub ClosesNothing : List Batch → List ℕ → Type 0
 ClosesNothing batches text = text ≡ []
 
 -- what is said of a log that was judged in rounds of 256, from this place of it on
-abbrev pub rounds_words : (Entry → Outcome → Type 0) → Bench → Passed → Standing → Standing → Words
+abbrev pub rounds_words : (Entry → Outcome → Type 0) → Bench → Passed → FaultCounts → FaultCounts → Words
 rounds_words judged bench passed before now = record { most = 256; Known = JudgedBatches judged bench passed before now; Stops = NoStop; Closes = ClosesNothing }

@@ -1,9 +1,9 @@
 -- What an asker answers, from what was written for the call.
 use Rattle.std.proofs.Common.{◌≡◌, ℕ, List, [], ◌∷◌, ◌++◌, append-nil, append_assoc, Option, Some, None, refl, sym, ◌∙◌, ap, subst}
 use Rattle.call_log.specs.Entry.{Entry}
-use Rattle.call_run.specs.Answer.{AnswerView}
-use Rattle.call_run.specs.Answering.{Adds, AnswersBehind, AnswersStop}
-use Rattle.call_run.specs.declared.status.CallStatus.TheVariants.{Well}
+use Rattle.log_singly.specs.Answer.{AnswerView}
+use Rattle.log_singly.specs.Answering.{Adds, AnswersBehind, AnswersStop}
+use Rattle.log_singly.specs.declared.status.CallStatus.TheVariants.{Well}
 use Rattle.cert_store.specs.Rules.{QuestionView}
 use Rattle.stir_outside.specs.Count.{Rose}
 use Rattle.stir_outside.specs.Files.{Files}

@@ -1,7 +1,7 @@
 -- What is explained of a call, from what is found of it.
 use Rattle.std.proofs.Common.{◌≡◌, ℕ, ◌≤◌, inl, inr, List, Option, Some, None, Result, Ok, Err, IfOk, refl, sym, ◌∙◌, ap, subst}
 use Rattle.call_log.specs.Entry.{Entry}
-use Rattle.call_run.specs.Answer.{AnswerView, unread_lines}
+use Rattle.log_singly.specs.Answer.{AnswerView, unread_lines}
 use Rattle.stir_outside.proofs.CountLaws.{at_most_of_rose, never_rose, none_at}
 use Rattle.stir_outside.specs.Count.{AtMost}
 use Rattle.stir_outside.specs.Files.{Files}

@@ -2,8 +2,8 @@
 use Rattle.std.specs.Prelude.{◌≡◌, ⊤, ℕ, List, take, Option, Some, None}
 use Rattle.std.specs.List.{slice_get}
 use Rattle.call_log.specs.Entry.{Entry}
-use Rattle.call_run.specs.Answer.{AnswerView}
-use Rattle.call_run.specs.declared.status.CallStatus.TheVariants.{Well}
+use Rattle.log_singly.specs.Answer.{AnswerView}
+use Rattle.log_singly.specs.declared.status.CallStatus.TheVariants.{Well}
 use Rattle.cert_store.specs.ChainMap.{listed}
 use Rattle.stir_outside.specs.Files.{Files}
 use Rattle.verify_rules.specs.Call.{Reading, in_call_order}

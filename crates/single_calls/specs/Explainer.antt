@@ -1,9 +1,9 @@
 -- What may be explained of a call, by the files that a shelf tells.
 use Rattle.std.specs.Prelude.{◌≡◌, ⊤, ◌⊎◌, ℕ, List, Option, Some, None}
 use Rattle.call_log.specs.Entry.{Entry}
-use Rattle.call_run.specs.Answer.{AnswerView}
-use Rattle.call_run.specs.declared.status.CallStatus.{CallStatus}
-use Rattle.call_run.specs.declared.status.CallStatus.TheVariants.{Well, Broken, Unread}
+use Rattle.log_singly.specs.Answer.{AnswerView}
+use Rattle.log_singly.specs.declared.status.CallStatus.{CallStatus}
+use Rattle.log_singly.specs.declared.status.CallStatus.TheVariants.{Well, Broken, Unread}
 use Rattle.stir_outside.specs.Files.{Files}
 use Rattle.stir_outside.specs.Held.{Held, held_says}
 use Rattle.verify_rules.specs.World.{First, MayBeUnread, World}

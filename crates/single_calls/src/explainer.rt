@@ -2,13 +2,14 @@
 ghost use Rattle.stir_outside.specs.Stays.{ShelfStays};
 ghost use Rattle.std.specs.Prelude.{◌≡◌, ◌≤◌, List, IfOk};
 ghost use Rattle.call_log.specs.Entry.{Entry};
-ghost use Rattle.call_run.specs.Answer.{unread_lines};
+ghost use Rattle.log_singly.specs.Answer.{unread_lines};
 ghost use Rattle.single_calls.specs.Explainer.{BehindAny, ExplainedBy, NeverStops, explanation, status_of};
 ghost use Rattle.stir_outside.specs.Count.{AtMost};
 
 use crate::explain::explained;
 use call_log::Call;
-use call_run::{Answer, AnswerError, Answerer, CallStatus};
+use log_run::AnswerError;
+use log_singly::{Answer, Answerer, CallStatus};
 use std::alloc::{AllocError, Global};
 use std::marker::Model;
 use stir_outside::{Answers, Shelf};

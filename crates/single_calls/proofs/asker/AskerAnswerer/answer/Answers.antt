@@ -1,8 +1,8 @@
 -- What an asker answers.
 use Rattle.std.proofs.Common.{Result, IfErr, OnOk, refl, sym, subst, string_bytes}
-use Rattle.call_run.specs.Answer.{AnswerView}
-use Rattle.call_run.specs.Answering.{Adds, StopsBy}
-use Rattle.call_run.specs.declared.stop.AnswerError.{AnswerError}
+use Rattle.log_singly.specs.Answer.{AnswerView}
+use Rattle.log_singly.specs.Answering.{Adds, StopsBy}
+use Rattle.log_run.specs.declared.stop.AnswerError.{AnswerError}
 use Rattle.single_calls.specs.Asker.{AskerView, BehindAsked, StopsAsking}
 use Rattle.single_calls.specs.Reading.{lines}
 use Rattle.single_calls.proofs.AskerLaws.{adds, stops_so}
