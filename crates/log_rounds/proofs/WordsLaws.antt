@@ -9,12 +9,13 @@ use Rattle.log_rounds.proofs.RoundLaws.{aside_on, one_for_each, valid_both}
 use Rattle.log_rounds.specs.AllValid.{all_valid}
 use Rattle.log_rounds.specs.Bench.{Bench, Standing, faults_of}
 use Rattle.log_rounds.specs.Judged.{AreJudged, JudgedBatches, rounds_words}
-use Rattle.log_rounds.specs.Rounds.{InEach, IsCut as IsCutInRounds, Round, calls_in as calls_of, outcomes_in}
+use Rattle.log_rounds.specs.Rounds.{InEach, IsCut as IsCutInRounds, Round, calls_in as calls_of, outcomes_in, row_rounds}
 use Rattle.log_run.specs.Speaks.{AreBatches, Speaks}
 use Rattle.log_run.specs.declared.stop.AnswerError.{AnswerError}
 use Rattle.log_run.specs.declared.stop.AnswerError.TheVariants.{Unread, Memory}
 use Rattle.log_rounds.proofs.LegalLaws.{first_of, legal_of}
-use Rattle.replay_law.specs.Held.{nothing}
+use Rattle.replay_law.specs.Held.{Held, nothing}
+use Rattle.replay_law.specs.Round.{Rounds}
 use Rattle.replay_law.specs.Law.{FirstOfAll, LegalTogether}
 use Rattle.std.specs.declared.alloc.Global.{Global}
 use Rattle.std.specs.declared.string.String.{String}
@@ -93,6 +94,9 @@ judged_batches legal first judged bench passed a mid b xs empty shelf provider a
   lines = same_lines judged passed xs j.rounds j.are j.each (subst (AreCalls passed) (same_calls xs j.rounds j.are) are.follow);
   well = same_good xs j.rounds j.are;
   are_judged = are_judged legal first judged bench passed a mid b xs empty shelf provider are j;
+  are_settled = record { owed = j.owed; past = mid.past; settled = subst (λ (h : Held). Rounds h (row_rounds bench j.rounds) mid.past) empty j.settled; in_order = j.in_order };
+  shelf_stays = omega (arith, j.shelf_stays, shelf);
+  provider_stays = omega (arith, j.provider_stays, provider);
 }
 
 other_stop : {X : Type 0} (text name : String Global) → ◌≡◌ {A = AnswerError} (Unread text name) Memory → X

@@ -1,16 +1,18 @@
 -- Rounds of a log that were judged, and what a run over them says.
-use Rattle.std.specs.Prelude.{◌≡◌, ℕ, ◌+◌, List, []}
+use Rattle.std.specs.Prelude.{◌≡◌, ℕ, ◌+◌, ◌≤◌, List, []}
 use Rattle.call_log.specs.Entry.{Entry}
 use Rattle.call_log.specs.Log.{Passed}
 use Rattle.log_run.specs.Batch.{Batch, all_well, calls_in as calls_of, texts_in}
 use Rattle.log_run.specs.Words.{Words}
 use Rattle.log_rounds.specs.AllValid.{all_valid}
 use Rattle.log_rounds.specs.Bench.{Bench, FaultCounts, Standing}
-use Rattle.log_rounds.specs.Rounds.{FirstWinsIn, InEach, IsApart, IsCut, Legal, Round, calls_in, outcomes_in, unread_pairs}
-use Rattle.replay_law.specs.Held.{nothing}
+use Rattle.log_rounds.specs.Rounds.{AllInOrder, FirstWinsIn, InEach, IsApart, IsCut, Legal, Round, calls_in, outcomes_in, row_rounds, unread_pairs}
+use Rattle.replay_law.specs.Held.{Held, nothing}
+use Rattle.replay_law.specs.Round.{Rounds}
 use Rattle.stir_outside.specs.Count.{AtMost, NotRisen}
 use Rattle.verify_service.specs.Causes.{NoneUnasked, NoneUnread}
 use Rattle.verify_service.specs.Report.{report}
+use Rattle.verify_service.specs.Rows.{IsOwed}
 use Rattle.verify_service.specs.declared.outcome.Outcome.{Outcome}
 
 -- the judge has judged no call
@@ -37,14 +39,25 @@ pub record AreJudged (judged : Entry → Outcome → Type 0) (bench : Bench) (be
 
 -- ---- in words
 
+-- Each call that passes is known again by what was signed, and fresh; each round was settled over what the one before it left, the first over
+-- nothing; and one worker took the calls of a round in their order.
+pub record AreSettled (bench : Bench) (rounds : List Round) : Type 0 where
+  pub owed : InEach (IsOwed bench.settings) rounds
+  pub past : Held
+  pub settled : Rounds nothing (row_rounds bench rounds) past
+  pub in_order : bench.workers ≡ 1 → AllInOrder bench rounds
+
 -- The batches are rounds that were judged; their lines are the report of these, whose numbers go on from those before; and all is well where
--- each call is valid.
+-- each call is valid. No count of faults fell.
 pub record JudgedBatches (judged : Entry → Outcome → Type 0) (bench : Bench) (passed : Passed) (before now : FaultCounts) (batches : List Batch) : Type 0 where
   pub rounds : List Round
   pub calls : calls_of batches ≡ calls_in rounds
   pub lines : texts_in batches ≡ report (passed.number + 1) (outcomes_in rounds)
   pub well : all_well batches ≡ all_valid (outcomes_in rounds)
   pub are_judged : AreJudged judged bench before now rounds
+  pub are_settled : AreSettled bench rounds
+  pub shelf_stays : before.shelf ≤ now.shelf
+  pub provider_stays : before.provider ≤ now.provider
 
 -- no file stops the run
 abbrev pub NoStop : List Batch → List Entry → List ℕ → List ℕ → Type 0

@@ -16,7 +16,7 @@ use Rattle.log_run.specs.Reading.{CallsRead, FaultyAt, IsFaulty, ReadBehind, Rea
 use Rattle.log_run.specs.Running.{At, StopsNext, at}
 use Rattle.log_run.specs.Speaks.{AreBatches, Speaks}
 use Rattle.log_run.specs.Streams.{Streams}
-use Rattle.log_run.specs.Words.{AnswersFaulty, AnswersWhole, ClosesWith, DoneReport, FailedReport, FirstBatches, FrontReport, LogSays, MayComeAfter, MayEndWith, NeverStops, PartLog, PartReport, RunState, ShortReport, StoppedReport, StopsWith, TakenLog, WholeReport, Words, run_state}
+use Rattle.log_run.specs.Words.{AnswersFaulty, AnswersWhole, ClosesWith, DoneReport, FailedReport, FirstBatches, FrontReport, LogSays, MayComeAfter, MayEndWith, NeverStops, PartLog, PartReport, RunState, ShortReport, StoppedReport, StopsWith, TakenLog, Words, run_state}
 use Rattle.log_run.specs.declared.stop.AnswerError.{AnswerError}
 use Rattle.log_run.specs.declared.stop.AnswerError.TheVariants.{Unread, Memory}
 use Rattle.log_run.proofs.ReadLaws.{read_both}
@@ -112,35 +112,27 @@ module _ (words : Words) (Known : List Batch → Type 0) (Stopped : List Batch �
   said_so : status ≡ report_status mid.good → status ≡ report_status (all_well batches)
   said_so said = said ∙ ap report_status good_so
 
+  whole_if : (told : Option (List ℕ)) → left ≡ told → ReadBehind mid.passed mid.left left_now (Ok None) → IfSome told (λ bytes. LogText passed bytes (calls_in batches) [])
+  whole_if None is behind = tt
+  whole_if (Some bytes) is behind = whole_of bytes is behind
+
   done_of : EndedWhole (Closed batches) mid left_now (texts_in batches) s t status → DoneReport words passed before now status
   done_of e = record {
     batches = batches;
     answered = first_by (speaks.closed batches e.text are e.closed);
+    log = whole_if left refl e.behind;
     text = e.text;
     closes = speaks.closes batches e.text e.closed;
     reported = e.reported;
     said = said_so e.said;
   }
 
-  whole_if : (told : Option (List ℕ)) → left ≡ told → EndedWhole (Closed batches) mid left_now (texts_in batches) s t status → IfSome told (λ bytes. WholeReport words passed before now bytes status)
-  whole_if None is e = tt
-  whole_if (Some bytes) is e = record {
-    batches = batches;
-    answered = first_by (speaks.closed batches e.text are e.closed);
-    log = whole_of bytes is e.behind;
-    text = e.text;
-    closes = speaks.closes batches e.text e.closed;
-    reported = e.reported;
-    said = said_so e.said;
-  }
-
-  refused_if : (told : Option (List ℕ)) → left ≡ told → EndedFaulty (Closed batches) mid (texts_in batches) s t status → IfSome told (λ bytes. PartReport words passed before now bytes)
-  refused_if None is e = tt
-  refused_if (Some bytes) is e = record {
+  refused_of : EndedFaulty (Closed batches) mid (texts_in batches) s t status → PartReport words passed before now
+  refused_of e = record {
     batches = batches;
     answered = first_by (speaks.closed batches e.text are e.closed);
     place = e.place;
-    part = part_of bytes e.place is e.faulty;
+    part = part_if e.place left refl e.faulty;
     text = e.text;
     closes = speaks.closes batches e.text e.closed;
     reported = e.reported;
@@ -230,7 +222,6 @@ module _ (words : Words) (Known : List Batch → Type 0) (Stopped : List Batch �
     known = omega (arith, e.said, low_status mid.good);
     no_words = λ two. omega (arith, e.said, low_status mid.good, two);
     done = λ low. done_of e;
-    whole = λ low. whole_if left refl e;
     ended = λ low. e.behind.reads.ended;
     fails = λ three. absurd (omega (arith, e.said, low_status mid.good, three));
     sink_failed = λ four. absurd (omega (arith, e.said, low_status mid.good, four));
@@ -243,11 +234,10 @@ module _ (words : Words) (Known : List Batch → Type 0) (Stopped : List Batch �
     known = omega (arith, e.said);
     no_words = λ two. omega (arith, e.said, two);
     done = λ low. absurd (omega (arith, e.said, low));
-    whole = λ low. absurd (omega (arith, e.said, low));
     ended = λ low. absurd (omega (arith, e.said, low));
     fails = λ three. absurd (omega (arith, e.said, three));
     sink_failed = λ four. absurd (omega (arith, e.said, four));
-    refuses = λ five. refused_if left refl e;
+    refuses = λ five. refused_of e;
     short = λ six. absurd (omega (arith, e.said, six));
     answers_whole = λ bytes calls is whole reads writes never. absurd (not_faulty law bytes calls e.place is whole e.faulty);
     answers_faulty = λ bytes rest calls is part some reads writes never. inl e.said;
@@ -256,7 +246,6 @@ module _ (words : Words) (Known : List Batch → Type 0) (Stopped : List Batch �
     known = omega (arith, e.said);
     no_words = λ two. omega (arith, e.said, two);
     done = λ low. absurd (omega (arith, e.said, low));
-    whole = λ low. absurd (omega (arith, e.said, low));
     ended = λ low. absurd (omega (arith, e.said, low));
     fails = λ three. inl (failed_of e);
     sink_failed = λ four. absurd (omega (arith, e.said, four));
@@ -269,7 +258,6 @@ module _ (words : Words) (Known : List Batch → Type 0) (Stopped : List Batch �
     known = omega (arith, e.said);
     no_words = λ two. omega (arith, e.said, two);
     done = λ low. absurd (omega (arith, e.said, low));
-    whole = λ low. absurd (omega (arith, e.said, low));
     ended = λ low. absurd (omega (arith, e.said, low));
     fails = λ three. inr (stopped_of e);
     sink_failed = λ four. absurd (omega (arith, e.said, four));
@@ -282,7 +270,6 @@ module _ (words : Words) (Known : List Batch → Type 0) (Stopped : List Batch �
     known = omega (arith, e.said);
     no_words = λ two. omega (arith, e.said, two);
     done = λ low. absurd (omega (arith, e.said, low));
-    whole = λ low. absurd (omega (arith, e.said, low));
     ended = λ low. absurd (omega (arith, e.said, low));
     fails = λ three. absurd (omega (arith, e.said, three));
     sink_failed = λ four. absurd (omega (arith, e.said, four));
@@ -295,7 +282,6 @@ module _ (words : Words) (Known : List Batch → Type 0) (Stopped : List Batch �
     known = omega (arith, e.said);
     no_words = λ two. omega (arith, e.said, two);
     done = λ low. absurd (omega (arith, e.said, low));
-    whole = λ low. absurd (omega (arith, e.said, low));
     ended = λ low. absurd (omega (arith, e.said, low));
     fails = λ three. absurd (omega (arith, e.said, three));
     sink_failed = λ four. front_of e;

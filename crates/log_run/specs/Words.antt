@@ -62,20 +62,11 @@ pub record StopsWith (words : Words) (passed : Passed) (left : Option (List ℕ)
 -- ---- status 0 and 1
 
 -- The log was read to its end; its calls were answered; their lines and the closing text were written, and nothing else; and the status says
--- whether all is well.
+-- whether all is well. If the bytes are told, they are a whole log.
 pub record DoneReport (words : Words) (passed : Passed) (before now : RunState) (status : ℕ) : Type 0 where
   pub batches : List Batch
   pub answered : FirstBatches words passed before.left batches
-  pub text : List ℕ
-  pub closes : words.Closes batches text
-  pub reported : Appends before.streams.written now.streams.written (texts_in batches ++ text)
-  pub said : status ≡ report_status (all_well batches)
-
--- and where the bytes are told, they are a whole log
-pub record WholeReport (words : Words) (passed : Passed) (before now : RunState) (bytes : List ℕ) (status : ℕ) : Type 0 where
-  pub batches : List Batch
-  pub answered : FirstBatches words passed before.left batches
-  pub log : LogText passed bytes (calls_in batches) []
+  pub log : IfSome before.left (λ bytes. LogText passed bytes (calls_in batches) [])
   pub text : List ℕ
   pub closes : words.Closes batches text
   pub reported : Appends before.streams.written now.streams.written (texts_in batches ++ text)
@@ -83,12 +74,13 @@ pub record WholeReport (words : Words) (passed : Passed) (before now : RunState)
 
 -- ---- status 5
 
--- The bytes are no whole log; the calls before the fault were answered; their lines, the closing text and the line of the fault were written.
-pub record PartReport (words : Words) (passed : Passed) (before now : RunState) (bytes : List ℕ) : Type 0 where
+-- The calls before a fault of the log were answered; their lines, the closing text and the line of the fault were written. If the bytes are told,
+-- they are at fault there.
+pub record PartReport (words : Words) (passed : Passed) (before now : RunState) : Type 0 where
   pub batches : List Batch
   pub answered : FirstBatches words passed before.left batches
   pub place : ℕ
-  pub part : PartLog passed bytes (calls_in batches) place
+  pub part : IfSome before.left (λ bytes. PartLog passed bytes (calls_in batches) place)
   pub text : List ℕ
   pub closes : words.Closes batches text
   pub reported : Appends before.streams.written now.streams.written (texts_in batches ++ (text ++ refused_line place))
@@ -172,11 +164,10 @@ pub record LogSays (words : Words) (passed : Passed) (before now : RunState) (st
   pub known : status ≤ 6
   pub no_words : status ≢ 2
   pub done : status ≤ 1 → DoneReport words passed before now status
-  pub whole : status ≤ 1 → IfSome before.left (λ bytes. WholeReport words passed before now bytes status)
   pub ended : status ≤ 1 → IsAtEnd now.left
   pub fails : status ≡ 3 → FailedReport words passed before now ⊎ StoppedReport words passed before now
   pub sink_failed : status ≡ 4 → FrontReport words passed before now
-  pub refuses : status ≡ 5 → IfSome before.left (λ bytes. PartReport words passed before now bytes)
+  pub refuses : status ≡ 5 → PartReport words passed before now
   pub short : status ≡ 6 → ShortReport words passed before now
   pub answers_whole : AnswersWhole words passed before now status
   pub answers_faulty : AnswersFaulty words passed before now status

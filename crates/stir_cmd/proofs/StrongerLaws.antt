@@ -14,7 +14,7 @@ use Rattle.x509_profile.specs.Chain.{Chain}
 use Rattle.x509_profile.specs.View.{CertView}
 use Rattle.call_log.specs.Entry.{Entry}
 use Rattle.call_log.specs.Log.{LogText, start}
-use Rattle.call_run.specs.Answer.{AnswerView, all_well, texts_of, unread_in}
+use Rattle.log_singly.specs.Answer.{AnswerView, all_well, texts_of, unread_in}
 use Rattle.log_run.specs.Ending.{report_status}
 use Rattle.single_calls.specs.Explainer.{Explains, IsExplained}
 use Rattle.stir_files.specs.Materials.{MaterialsOf, files_of}

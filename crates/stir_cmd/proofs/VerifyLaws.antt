@@ -1,99 +1,74 @@
 -- What `verify` promises, from what it came to.
-use Rattle.std.proofs.Common.{◌≡◌, ℕ, ◌≤◌, List, Option, Some, None, IfSome, refl, sym, ◌∙◌, subst, arith}
-use Rattle.log_run.specs.Bench.{Standing}
-use Rattle.log_run.specs.Clauses as log
-use Rattle.log_run.specs.Rounds.{Round, unread_pairs}
+use Rattle.std.proofs.Common.{◌≡◌, ℕ, ◌≤◌, List, [], ◌++◌, Option, Some, None, IfSome, refl, ◌∙◌, ap, append-nil, subst, arith}
+use Rattle.std.specs.Io.KnownBytes.{Appends}
+use Rattle.call_log.specs.Entry.{Entry}
+use Rattle.call_log.specs.Log.{LogText, start}
+use Rattle.log_run.specs.Batch.{calls_in, texts_in}
+use Rattle.log_run.specs.Ending.{report_status}
+use Rattle.log_run.specs.Words.{DoneReport}
+use Rattle.log_rounds.specs.Bench.{fault_counts}
+use Rattle.log_rounds.specs.Judged as judged
+use Rattle.log_rounds.specs.Rounds.{Round, outcomes_in, unread_pairs}
 use Rattle.stir_files.specs.Materials.{MaterialsOf}
 use Rattle.stir_files.specs.declared.materials.Materials.{Materials}
 use Rattle.stir_outside.proofs.CountLaws.{not_risen_behind, then_at_most}
-use Rattle.stir_outside.specs.Count.{AtMost, NotRisen}
+use Rattle.stir_outside.specs.Count.{NotRisen}
 use Rattle.stir_outside.specs.Files.{Files}
 use Rattle.stir_words.specs.Order.{JudgingView, VerifyBy}
 use Rattle.verify_rules.specs.declared.settings.Settings.{Settings}
+use Rattle.verify_service.specs.Report.{report}
 use Rattle.stir_cmd.specs.Outside.{IfTold, Outside}
 use Rattle.stir_cmd.specs.Calls.{AnswersBy, bench_by, settings_by}
 use Rattle.stir_cmd.specs.Headline.{AreJudged, Headline, Verified}
-use Rattle.stir_cmd.specs.Verifying.{ByService, LogSays, run_state_by, judging_course, verify_course, verify_over}
-use Rattle.stir_cmd.proofs.Keeps.{CausesIn, Keeps, KeepsAll}
+use Rattle.stir_cmd.specs.OverFiles.{counted}
+use Rattle.stir_cmd.specs.OverLog.{log_in}
+use Rattle.stir_cmd.specs.Verifying.{judging_course, verify_course, verify_over, verify_words}
+use Rattle.stir_cmd.proofs.Keeps.{Keeps, KeepsAll}
+use Rattle.stir_cmd.proofs.LogCourseLaws.{log_keeps}
 use Rattle.stir_cmd.proofs.OverFilesLaws.{behind_files, over_keeps}
 
--- ---- how the log's run is seen from the whole run
+-- ---- how the log's run is seen from the whole run, which read the files before it
 
-never_risen : (before now : ℕ) → before ≡ 0 → now ≡ 0 → NotRisen before now
-never_risen before now b n = record { same = n ∙ sym b; below_last = λ e. omega (arith, b, e) }
-
-are_judged : (settings : Settings) (materials : Materials) (files : Files) (before now : Outside) (standing standing_now : Standing) (rounds : List Round) → before.counts.faults ≤ standing.shelf
-    → standing.shelf ≤ standing_now.shelf → standing_now.shelf ≡ now.counts.faults → standing.provider ≡ 0 → standing_now.provider ≡ 0
-    → log.AreJudged (AnswersBy materials settings (Some files)) (bench_by settings) standing standing_now rounds → AreJudged settings materials files before now rounds
-are_judged settings materials files before now standing standing_now rounds shelf stays shelf_now provider provider_now j = record {
+are_judged : (settings : Settings) (materials : Materials) (files : Files) (before now : Outside) (faults : ℕ) (rounds : List Round) → before.counts.faults ≤ faults → faults ≤ now.counts.faults
+    → judged.AreJudged (AnswersBy materials settings (Some files)) (bench_by settings) (fault_counts faults 0) (fault_counts now.counts.faults 0) rounds → AreJudged settings materials files before now rounds
+are_judged settings materials files before now faults rounds earlier stay j = record {
   cut = j.cut;
   each = j.each;
   legal = j.legal;
   first_wins = j.first_wins refl;
-  unread = then_at_most _ before.counts.faults standing.shelf now.counts.faults shelf (subst (AtMost (unread_pairs (bench_by settings) rounds) standing.shelf) shelf_now j.aside.unread);
-  quiet = λ q. j.aside.quiet_shelf (not_risen_behind before.counts.faults standing.shelf standing_now.shelf shelf stays (subst (NotRisen before.counts.faults) (sym shelf_now) q));
-  answered = j.aside.quiet_provider (never_risen standing.provider standing_now.provider provider provider_now);
+  unread = then_at_most (unread_pairs (bench_by settings) rounds) before.counts.faults faults now.counts.faults earlier j.aside.unread;
+  quiet = λ q. j.aside.quiet_shelf (not_risen_behind before.counts.faults faults now.counts.faults earlier stay q);
+  answered = j.aside.quiet_provider (record { same = refl; below_last = omega arith });
 }
 
 -- ---- the headline
 
-told_by : (judging : JudgingView) (before now : Outside) (status : ℕ) (files : Option Files) (left : Option (List ℕ)) (materials : Materials) (standing standing_now : Standing)
-    → MaterialsOf files judging materials → before.counts.faults ≤ standing.shelf → standing.shelf ≤ standing_now.shelf → standing_now.shelf ≡ now.counts.faults → standing.provider ≡ 0
-    → standing_now.provider ≡ 0
-    → IfSome left (λ bytes. log.WholeReport (AnswersBy materials (settings_by judging.settings) files) (bench_by (settings_by judging.settings)) (run_state_by before standing) (run_state_by now standing_now) bytes status)
+told_by : (judging : JudgingView) (before mid now : Outside) (status : ℕ) (files : Option Files) (left : Option (List ℕ)) (materials : Materials) → MaterialsOf files judging materials → before.counts.faults ≤ mid.counts.faults
+    → mid.counts.faults ≤ now.counts.faults → mid.files ≡ files → mid.written ≡ before.written
+    → (done : DoneReport (verify_words (settings_by judging.settings) materials mid now) (start 0 0) (log_in mid) (log_in now) status) → IfSome left (λ bytes. LogText (start 0 0) bytes (calls_in done.batches) [])
     → IfTold files left (λ told bytes. Verified judging told bytes before now status)
-told_by judging before now status None left materials standing standing_now stands shelf stays shelf_now provider provider_now whole = tt
-told_by judging before now status (Some files) None materials standing standing_now stands shelf stays shelf_now provider provider_now whole = tt
-told_by judging before now status (Some files) (Some bytes) materials standing standing_now stands shelf stays shelf_now provider provider_now whole = record {
-  materials = materials;
-  stands = stands;
-  rounds = whole.rounds;
-  log = whole.log;
-  judged = are_judged (settings_by judging.settings) materials files before now standing standing_now whole.rounds shelf stays shelf_now provider provider_now whole.are_judged;
-  reported = whole.reported;
-  said = whole.said;
-}
+told_by judging before mid now status None left materials stands earlier stay same wrote done log = tt
+told_by judging before mid now status (Some files) None materials stands earlier stay same wrote done log = tt
+told_by judging before mid now status (Some files) (Some bytes) materials stands earlier stay same wrote done log =
+    let known = done.answered.known in
+    let lines : texts_in done.batches ++ done.text ≡ report 1 (outcomes_in known.rounds) = ap (λ t. texts_in done.batches ++ t) done.closes ∙ append-nil (texts_in done.batches) ∙ known.lines in
+    record {
+      materials = materials;
+      stands = stands;
+      rounds = known.rounds;
+      log = subst (λ (calls : List Entry). LogText (start 0 0) bytes calls []) known.calls log;
+      judged = are_judged (settings_by judging.settings) materials files before now mid.counts.faults known.rounds earlier stay
+          (subst (λ (x : Option Files). judged.AreJudged (AnswersBy materials (settings_by judging.settings) x) (bench_by (settings_by judging.settings)) (fault_counts mid.counts.faults 0) (fault_counts now.counts.faults 0) known.rounds) same known.are_judged);
+      reported = subst (λ (x : Option (List ℕ)). Appends x now.written (report 1 (outcomes_in known.rounds))) wrote (subst (Appends mid.written now.written) lines done.reported);
+      said = done.said ∙ ap report_status known.well;
+    }
 
 pub headline : (judging : JudgingView) (before now : Outside) (status : ℕ) → (verify_course judging).Came before now status → Headline (Some (VerifyBy judging)) before now status
 headline judging before now status came = λ low.
     let b = behind_files (verify_over judging) before now status came low in
-    let by = b.says in
-    told_by judging before now status before.files before.left b.read by.standing by.standing_now b.stands (omega (arith, b.go_on.faults.never_falls, by.shelf)) by.shelf_stays by.shelf_now by.provider by.provider_now
-    (by.says.headline low)
+    told_by judging before (counted before b.counts) now status before.files before.left b.read b.stands b.go_on.faults.never_falls b.stay refl refl (b.says.done low) (b.says.done low).log
 
 -- ---- the promises
 
--- the run over the log, with another thing that is said of it
-saying : (before now : Outside) (P Q : log.RunState → log.RunState → Type 0) (by : ByService before now P) → Q (run_state_by before by.standing) (run_state_by now by.standing_now) → ByService before now Q
-saying before now P Q by says = record {
-  standing = by.standing;
-  standing_now = by.standing_now;
-  shelf = by.shelf;
-  shelf_stays = by.shelf_stays;
-  shelf_now = by.shelf_now;
-  provider = by.provider;
-  provider_now = by.provider_now;
-  says = says;
-}
-
-keeps : (settings : Settings) (materials : Materials) → Keeps (judging_course settings materials)
-keeps settings materials = record {
-  causes = λ before now status by. record {
-    known = by.says.causes.known;
-    done = λ h. saying before now _ _ by (by.says.causes.done h);
-    words = λ h. by.says.causes.no_words h;
-    read = λ h. saying before now _ _ by (by.says.fails h);
-    write = λ h. saying before now _ _ by (by.says.causes.sink_failed h);
-    input = λ h. saying before now _ _ by (by.says.refuses h);
-    memory = λ h. saying before now _ _ by (by.says.causes.short h);
-  };
-  answers = λ before now status by. record {
-    whole = λ bytes calls left log q. by.says.complete.whole bytes calls left log q.read_faults q.write_faults;
-    part = λ bytes rest calls left log some q. by.says.complete.faulty bytes rest calls left log some q.read_faults q.write_faults;
-  };
-  through = λ before now status by low. by.says.ended low;
-  says = λ before now status by low. tt;
-}
-
 pub keeps_all : (judging : JudgingView) → KeepsAll (verify_course judging)
-keeps_all judging = over_keeps (verify_over judging) (keeps (settings_by judging.settings))
+keeps_all judging = over_keeps (verify_over judging) (λ materials. log_keeps (verify_words (settings_by judging.settings) materials) (λ before now status. Unit {0}) (λ before now still batches calls text name never. never) (λ before now status ran low. tt))

@@ -1,8 +1,7 @@
 -- What `verify` came to, from what its steps came to.
 use Rattle.std.proofs.Common.{◌≡◌, ℕ, ◌≤◌, inl, inr, List, Option, None, Ok, refl, subst, arith}
-use Rattle.log_run.specs.Bench.{Standing}
 use Rattle.replay_law.specs.Held.{nothing}
-use Rattle.log_run.specs.Steps.{StandsAtFirst}
+use Rattle.log_rounds.specs.Judged.{StandsAtFirst}
 use Rattle.replay_desk.specs.Past.{found}
 use Rattle.stir_files.specs.Materials.{MaterialsOf, files_of}
 use Rattle.stir_files.specs.Stop.{Truly}
@@ -16,7 +15,7 @@ use Rattle.cert_store.specs.declared.world.World.{World as Told}
 use Rattle.stir_cmd.specs.Outside.{Outside, outside}
 use Rattle.stir_cmd.specs.Calls.{settings_by}
 use Rattle.stir_cmd.specs.Standing.{materials_by, standing_by}
-use Rattle.stir_cmd.specs.Verifying.{LogSays, RanBy, run_state_by, judging_course, verify_course, verify_over}
+use Rattle.stir_cmd.specs.Verifying.{RanBy, judging_course, verify_course, verify_over}
 use Rattle.stir_cmd.proofs.OverFilesSteps.{goes_on, short_behind}
 
 -- ---- the files were read
@@ -48,20 +47,8 @@ same_materials : (settings : Settings) (materials : Materials) (service : Servic
     → materials_by service materials.answers ≡ materials
 same_materials settings materials service new = λ i. record { chains = new.chains i; anchors = new.anchors i; table = new.table i; answers = materials.answers }
 
-pub log_by : (settings : Settings) (materials : Materials) (service : ServiceView) (before now : Outside) (standing_now : Standing) (status : ℕ)
-    → IsNew settings (record { chains = materials.chains; anchors = materials.anchors; table = materials.table }) service → before.counts.faults ≤ standing_now.shelf → standing_now.shelf ≡ now.counts.faults
-    → standing_now.provider ≡ 0
-    → LogSays (materials_by service materials.answers) service.settings before.files (run_state_by before (standing_by service before.counts.faults)) (run_state_by now standing_now) status
-    → RanBy settings materials before now status
-log_by settings materials service before now standing_now status new stays shelf_now provider says = inl (record {
-  standing = standing_by service before.counts.faults;
-  standing_now = standing_now;
-  shelf = refl;
-  shelf_stays = stays;
-  shelf_now = shelf_now;
-  provider = refl;
-  provider_now = provider;
-  says = subst (λ (x : Settings). LogSays materials x before.files (run_state_by before (standing_by service before.counts.faults)) (run_state_by now standing_now) status) new.settings_are
-      (subst (λ (x : Materials). LogSays x service.settings before.files (run_state_by before (standing_by service before.counts.faults)) (run_state_by now standing_now) status)
-      (same_materials settings materials service new) says);
-})
+pub log_by : (settings : Settings) (materials : Materials) (service : ServiceView) (before now : Outside) (status : ℕ) → IsNew settings (record { chains = materials.chains; anchors = materials.anchors; table = materials.table }) service
+    → (judging_course service.settings (materials_by service materials.answers)).Came before now status → RanBy settings materials before now status
+log_by settings materials service before now status new says = inl (
+    subst (λ (x : Settings). (judging_course x materials).Came before now status) new.settings_are
+    (subst (λ (x : Materials). (judging_course service.settings x).Came before now status) (same_materials settings materials service new) says))

@@ -4,8 +4,8 @@ use Rattle.std.specs.Prelude.{◌≡◌, ℕ, ◌≤◌, List, [], Option, Some,
 use Rattle.std.specs.Io.KnownBytes.{Appends}
 use Rattle.call_log.specs.Log.{LogText, start}
 use Rattle.log_run.specs.Ending.{report_status}
-use Rattle.log_run.specs.Rounds.{FirstWinsIn, InEach, IsApart, IsCut, Legal, Round, calls_in, outcomes_in, unread_pairs}
-use Rattle.log_run.specs.AllValid.{all_valid}
+use Rattle.log_rounds.specs.Rounds.{FirstWinsIn, InEach, IsApart, IsCut, Legal, Round, calls_in, outcomes_in, unread_pairs}
+use Rattle.log_rounds.specs.AllValid.{all_valid}
 use Rattle.stir_files.specs.Materials.{MaterialsOf}
 use Rattle.stir_files.specs.declared.materials.Materials.{Materials}
 use Rattle.stir_outside.specs.Count.{AtMost, NotRisen}

@@ -1,7 +1,11 @@
--- Which status comes of a run over a log.
+-- Commands over a log: what is said of its batches, and which status comes. `verify`, `explain` and `ask` are such commands, after their files.
 use Rattle.std.specs.Prelude.{◌≡◌, ◌≢◌, ◌⊎◌, ℕ, ◌≤◌, List, [], Some}
+use Rattle.std.specs.Io.KnownBytes.{IsAtEnd}
 use Rattle.call_log.specs.Entry.{Entry}
 use Rattle.call_log.specs.Log.{LogText, start}
+use Rattle.log_run.specs.Streams.{streams}
+use Rattle.log_run.specs.Words.{DoneReport, FailedReport, FrontReport, LogSays, PartReport, RunState, ShortReport, StoppedReport, Words, run_state}
+use Rattle.stir_cmd.specs.Course.{Course}
 use Rattle.stir_cmd.specs.Outside.{Outside}
 use Rattle.stir_cmd.specs.Stopping.{IsQuiet}
 
@@ -9,3 +13,21 @@ use Rattle.stir_cmd.specs.Stopping.{IsQuiet}
 pub record AnswersBytes (before now : Outside) (status : ℕ) : Type 0 where
   pub whole : (bytes : List ℕ) (calls : List Entry) → before.left ≡ Some bytes → LogText (start 0 0) bytes calls [] → IsQuiet before now → (status ≤ 1) ⊎ (status ≡ 6)
   pub part : (bytes rest : List ℕ) (calls : List Entry) → before.left ≡ Some bytes → LogText (start 0 0) bytes calls rest → rest ≢ [] → IsQuiet before now → (status ≡ 5) ⊎ (status ≡ 6)
+
+-- the log and the streams, of all that stands around the program
+abbrev pub log_in : Outside → RunState
+log_in stands = run_state stands.left (streams stands.read_faults stands.written stands.write_faults)
+
+-- by what is said of the batches of the log, and what that means in the words of the command's subject
+abbrev pub log_course : (Outside → Outside → Words) → (Outside → Outside → ℕ → Type 0) → Course
+log_course words Subject = record {
+  Came = λ before now status. LogSays (words before now) (start 0 0) (log_in before) (log_in now) status;
+  Done = λ before now status. DoneReport (words before now) (start 0 0) (log_in before) (log_in now) status;
+  Unread = λ before now. FailedReport (words before now) (start 0 0) (log_in before) (log_in now) ⊎ StoppedReport (words before now) (start 0 0) (log_in before) (log_in now);
+  Unwritten = λ before now. FrontReport (words before now) (start 0 0) (log_in before) (log_in now);
+  Refused = λ before now. PartReport (words before now) (start 0 0) (log_in before) (log_in now);
+  Short = λ before now. ShortReport (words before now) (start 0 0) (log_in before) (log_in now);
+  Answers = AnswersBytes;
+  Through = λ before now status. IsAtEnd now.left;
+  Says = Subject;
+}

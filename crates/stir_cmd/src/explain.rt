@@ -1,24 +1,24 @@
 //! The commands `explain` and `ask`, which answer the calls of a log one by one.
-ghost use Rattle.std.specs.Prelude.{◌≡◌, ◌≤◌, []};
+ghost use Rattle.std.specs.Prelude.{◌≡◌};
 ghost use Rattle.stir_cmd.specs.Outside.{outside_of};
 ghost use Rattle.stir_cmd.specs.Explained.{ask_course, explain_course};
-ghost use Rattle.stir_cmd.specs.Singly.{LogAnswers, calls_at};
 ghost use Rattle.stir_words.specs.Seen.{asking_view, judging_view};
-ghost use Rattle.stir_outside.specs.Stays.{ShelfStays};
 
 use crate::settings::settings_of;
 use crate::verify::end_at;
-use call_run::{Answerer, answer_log};
 use cert_store::World;
+use log_singly::{Singly, answer_log};
 use single_calls::{Asker, Explainer};
 use std::alloc::Global;
+use std::thread::Threads;
 use stir_files::{Materials, read_materials, read_world};
 use stir_outside::{Shelf, Sink, Source};
 use stir_words::{Asking, Judging};
 
 /// Reads the named files, and says of each call of the log which rules it meets, up to the first that it breaks; where a file can't be had, it
 /// says so.
-pub(crate) fn explain<S: Shelf, I: Source, O: Sink>(
+pub(crate) fn explain<R: Threads + Sync, S: Shelf, I: Source, O: Sink>(
+    rt: &R,
     alloc: Global,
     judging: &Judging<'_>,
     shelf: &mut S,
@@ -43,8 +43,8 @@ pub(crate) fn explain<S: Shelf, I: Source, O: Sink>(
                 anchors,
                 table,
             };
-            let mut explainer = Explainer::new(settings_of(&judging.settings), world, &answers);
-            answer_calls(alloc, &mut explainer, shelf, input, sink)
+            let explainer = Explainer::new(settings_of(&judging.settings), world, &answers);
+            answer_log(rt, alloc, &mut Singly(explainer), shelf, input, sink)
         }
         Err(stop) => end_at(alloc, &stop, sink),
     }
@@ -52,7 +52,8 @@ pub(crate) fn explain<S: Shelf, I: Source, O: Sink>(
 
 /// Reads the named files, and says what a provider of signatures is asked for the calls of the log, each question once; where a file can't be
 /// had, it says so.
-pub(crate) fn ask<S: Shelf, I: Source, O: Sink>(
+pub(crate) fn ask<R: Threads + Sync, S: Shelf, I: Source, O: Sink>(
+    rt: &R,
     alloc: Global,
     asking: &Asking<'_>,
     shelf: &mut S,
@@ -66,26 +67,9 @@ pub(crate) fn ask<S: Shelf, I: Source, O: Sink>(
 {
     match read_world(alloc, shelf, asking) {
         Ok(world) => {
-            let mut asker = Asker::new(alloc, settings_of(&asking.settings), world);
-            answer_calls(alloc, &mut asker, shelf, input, sink)
+            let asker = Asker::new(alloc, settings_of(&asking.settings), world);
+            answer_log(rt, alloc, &mut Singly(asker), shelf, input, sink)
         }
         Err(stop) => end_at(alloc, &stop, sink),
     }
-}
-
-/// Answers the calls of the log by what has answered none before.
-fn answer_calls<A: Answerer, S: Shelf, I: Source, O: Sink>(
-    alloc: Global,
-    answerer: &mut A,
-    shelf: &mut S,
-    input: &mut I,
-    sink: &mut O,
-) -> u8
-    requires { A.behind answerer.old (S.files shelf.old) [] }
-    ensures ran { LogAnswers (A.answered answerer.old (S.files shelf.old)) (A.stops answerer.old (S.files shelf.old))
-        (calls_at (outside_of S.Shelf I.Source O.Sink shelf.old input.old sink.old))
-        (calls_at (outside_of S.Shelf I.Source O.Sink shelf.new input.new sink.new)) result }
-    ensures shelf { ShelfStays S.Shelf shelf.old shelf.new }
-{
-    answer_log(alloc, answerer, shelf, input, sink)
 }

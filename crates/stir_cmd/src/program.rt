@@ -99,8 +99,8 @@ fn carry_out<R: Threads + Sync, S: Shelf, I: Source, O: Sink>(
 {
     match Order::of(alloc, words) {
         Ok(Order::Verify(judging)) => verify(rt, alloc, &judging, shelf, input, sink),
-        Ok(Order::Explain(judging)) => explain(alloc, &judging, shelf, input, sink),
-        Ok(Order::Ask(asking)) => ask(alloc, &asking, shelf, input, sink),
+        Ok(Order::Explain(judging)) => explain(rt, alloc, &judging, shelf, input, sink),
+        Ok(Order::Ask(asking)) => ask(rt, alloc, &asking, shelf, input, sink),
         Ok(Order::Sign(signing)) => sign_message(
             alloc,
             &SignerCommand::Sign(signing),
