@@ -1,5 +1,5 @@
 -- One round more.
-use Rattle.std.proofs.Common.{◌≡◌, ℕ, ◌+◌, ◌≤◌, List, [], ◌∷◌, ◌++◌, length, Result, Ok, Err, IfOk, IfErr, refl, sym, ◌∙◌, ap, subst, arith, inl, append-nil}
+use Rattle.std.proofs.Common.{◌≡◌, ℕ, ◌+◌, List, [], ◌∷◌, ◌++◌, length, Result, Ok, Err, IfOk, IfErr, refl, sym, ◌∙◌, ap, subst, arith, append-nil}
 use Rattle.call_log.specs.Entry.{Entry}
 use Rattle.call_log.specs.Log.{AreCalls, Passed, after_all}
 use Rattle.log_run.specs.Batch.{BatchAnswerView, Batch, batch_of}
@@ -8,7 +8,7 @@ use Rattle.log_rounds.proofs.FollowLaws.{follow_of, moment_same, number_same}
 use Rattle.log_rounds.proofs.RoundLaws.{aside_both, aside_none, each_as, each_both, order_both, rows_both}
 use Rattle.log_rounds.specs.Bench.{Bench, Implies, Moves, RoundJudged, Standing, faults_of}
 use Rattle.log_rounds.specs.Judged.{SetAside}
-use Rattle.log_rounds.specs.Rounds.{InEach, Round, row_rounds}
+use Rattle.log_rounds.specs.Rounds.{Round, row_rounds}
 use Rattle.log_run.specs.declared.stop.AnswerError.{AnswerError}
 use Rattle.log_run.specs.declared.stop.AnswerError.TheVariants.{Memory}
 use Rattle.replay_law.specs.Law.{MoreRounds}

@@ -1,5 +1,5 @@
 -- What a run over rounds says of the batches of a log.
-use Rattle.std.proofs.Common.{◌≡◌, ℕ, suc, ◌+◌, ◌≤◌, Bool, true, ◌&&◌, List, [], ◌∷◌, ◌++◌, length, Option, refl, sym, ◌∙◌, ap, subst, arith, append_assoc}
+use Rattle.std.proofs.Common.{◌≡◌, ◌+◌, ◌≤◌, ◌&&◌, List, [], ◌∷◌, ◌++◌, length, refl, sym, ◌∙◌, ap, subst, arith}
 use Rattle.call_log.specs.Entry.{Entry}
 use Rattle.call_log.specs.Log.{AreCalls, Passed, after, after_all}
 use Rattle.log_run.specs.Batch.{Batch, IsCut, all_well, calls_in, texts_in}

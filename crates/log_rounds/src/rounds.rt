@@ -6,9 +6,9 @@ ghost use Rattle.log_rounds.specs.Batches.{OneRound, first_number};
 ghost use Rattle.stir_outside.specs.Stays.{ShelfStays};
 ghost use Rattle.verify_service.specs.Service.{EachFollows};
 
+use crate::judge::Judge;
 use crate::report::{all_valid, lines_of};
 use call_log::Call;
-use crate::judge::Judge;
 use log_run::{AnswerError, BatchAnswer, LogCommand};
 use replay_law::more_rounds;
 use std::alloc::{AllocError, Global};

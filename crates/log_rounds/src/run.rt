@@ -30,7 +30,7 @@ pub fn judge_log<R: Threads + Sync, J: Judge, S: Shelf, I: Source, O: Sink>(
 ) -> u8
     requires { StandsAtFirst (J.standing judge.old.0 (S.counts shelf.old).faults) }
     ensures says { LogSays (rounds_words (J.judged judge.old.0 (S.files shelf.old)) (J.bench judge.old.0) (start 0 0)
-            (faults_of (J.standing judge.old.0 (S.counts shelf.old).faults)) (faults_of (J.standing judge.new.0 (S.counts shelf.new).faults)))
+        (faults_of (J.standing judge.old.0 (S.counts shelf.old).faults)) (faults_of (J.standing judge.new.0 (S.counts shelf.new).faults)))
         (start 0 0) (run_state (I.left input.old) (streams_of I.Source O.Sink input.old sink.old)) (run_state (I.left input.new) (streams_of I.Source O.Sink input.new sink.new)) result }
     ensures shelf { ShelfStays S.Shelf shelf.old shelf.new }
 {

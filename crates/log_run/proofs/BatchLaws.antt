@@ -1,6 +1,5 @@
--- Batches behind one another.
-use Rattle.std.proofs.Common.{◌≡◌, ℕ, ◌≤◌, Bool, true, false, ◌&&◌, List, [], ◌∷◌, ◌++◌, length, refl, sym, ◌∙◌, ap, arith, append_assoc}
-use Rattle.call_log.specs.Entry.{Entry}
+-- Batches after one another.
+use Rattle.std.proofs.Common.{◌≡◌, ℕ, ◌≤◌, Bool, true, false, ◌&&◌, List, [], ◌∷◌, ◌++◌, refl, sym, ◌∙◌, ap, arith, append_assoc}
 use Rattle.log_run.specs.Batch.{AllFull, Batch, IsCut, all_well, calls_in, texts_in}
 
 pub calls_both : (xs ys : List Batch) → calls_in (xs ++ ys) ≡ calls_in xs ++ calls_in ys
@@ -11,7 +10,7 @@ pub texts_both : (xs ys : List Batch) → texts_in (xs ++ ys) ≡ texts_in xs ++
 texts_both [] ys = refl
 texts_both (x ∷ xs) ys = ap (λ t. x.answer.text ++ t) (texts_both xs ys) ∙ sym (append_assoc x.answer.text (texts_in xs) (texts_in ys))
 
--- one more in front of those that are well together
+-- one more before those that are well together
 well_front : (t first second both : Bool) → both ≡ (first && second) → (t && both) ≡ ((t && first) && second)
 well_front true first second both e = e
 well_front false first second both e = refl

@@ -1,5 +1,5 @@
 -- How a run ends, by each of its statuses.
-use Rattle.std.proofs.Common.{◌≡◌, ℕ, ◌≤◌, ◌⊎◌, inl, inr, Bool, List, [], ◌∷◌, ◌++◌, string_bytes, Option, Some, None, Ok, Err, refl, sym, ◌∙◌, ap, subst, arith, append-nil}
+use Rattle.std.proofs.Common.{◌≡◌, ℕ, ◌≤◌, ◌⊎◌, inl, inr, Bool, List, [], ◌∷◌, ◌++◌, string_bytes, Option, Some, None, Ok, Err, refl, sym, ◌∙◌, ap, subst, append-nil}
 use Rattle.std.specs.Io.KnownBytes.{Appends, IsAtEnd, prepend_known}
 use Rattle.std.proofs.KnownBytes.{Appends-trans, prepend_known-nil}
 use Rattle.call_log.specs.Entry.{Entry}
@@ -9,7 +9,7 @@ use Rattle.log_run.specs.Batch.{Batch, texts_in}
 use Rattle.log_run.specs.Ending.{CloseRan, EndedSo, EndsAt, EndsBehind, EndsHalted, EndsRefused, EndsStopped, FailsIn, LogRan, MayBeShort, MayEnd, MayStand, failed_line, refused_line, report_status, unread_line}
 use Rattle.log_run.specs.Reading.{FaultyAt, ReadBehind, SourceFailed}
 use Rattle.log_run.specs.Running.{At, RunsOut, StopsNext}
-use Rattle.log_run.specs.Streams.{BehindBy, SourceRose, Streams, StreamsStay}
+use Rattle.log_run.specs.Streams.{BehindBy, SourceRose, Streams}
 use Rattle.log_run.specs.declared.ends.RunError.{RunError}
 use Rattle.log_run.specs.declared.ends.RunError.TheVariants as error
 use Rattle.log_run.specs.declared.stop.AnswerError.{AnswerError}
@@ -24,7 +24,6 @@ use Rattle.stir_outside.specs.Told.{AppendsFront}
 -- of a run whose batches were written, and what came then
 module _ (Known : Type 0) (Stopped : List Entry → AnswerError → Type 0) (Closed : List ℕ → Type 0) (mid : At) (ahead : List ℕ) (left_now : Option (List ℕ)) (lines : List ℕ) (s t u : Streams) (status : ℕ)
     (stay : s.write_faults ≤ t.write_faults) (wrote : Appends s.written t.written lines) where
-
   abbrev Goal : Type 0
   Goal = EndedSo Known Stopped Closed mid ahead left_now lines s u status
 

@@ -1,12 +1,9 @@
 -- A batch joins those before it, whatever state the command came from.
-use Rattle.std.proofs.Common.{◌≡◌, ℕ, ◌≤◌, List, ◌++◌, Option, Ok, subst}
-use Rattle.call_log.specs.Entry.{Entry}
+use Rattle.std.proofs.Common.{◌≡◌, ℕ, ◌≤◌, ◌++◌, Option, subst}
 use Rattle.log_run.specs.Streams.{Streams}
 use Rattle.stir_outside.specs.Files.{Counts, Files}
-use Rattle.log_run.specs.Batch.{Batch}
 use Rattle.log_run.specs.Commands.{Behind, From, Stopping}
 use Rattle.log_run.specs.Running.{At, RunEnd, RunsOn, RunsOut}
-use Rattle.log_run.specs.declared.stop.AnswerError.{AnswerError}
 use Rattle.log_run.proofs.RunLaws.{on_both, out_behind}
 
 -- one batch more, with that of which nothing else is said

@@ -1,19 +1,17 @@
 -- A batch that was read, and then answered and written of, or not.
-use Rattle.std.proofs.Common.{◌≡◌, ℕ, ◌≤◌, ◌<◌, Bool, true, ◌&&◌, List, [], ◌∷◌, ◌++◌, length, Option, Some, None, Result, Ok, Err, refl, sym, ◌∙◌, ap, subst, arith, append-nil}
+use Rattle.std.proofs.Common.{◌≡◌, ℕ, ◌≤◌, ◌<◌, Bool, true, ◌&&◌, List, [], ◌∷◌, ◌++◌, length, Option, Result, Ok, Err, refl, sym, ◌∙◌, ap, subst, arith, append-nil}
 use Rattle.std.specs.Io.KnownBytes.{Appends}
-use Rattle.std.proofs.KnownBytes.{Appends-nil}
 use Rattle.std.specs.declared.alloc.AllocError.{AllocError}
 use Rattle.call_log.specs.Entry.{Entry}
 use Rattle.call_log.specs.Log.{Passed}
-use Rattle.call_log.specs.declared.fault.LogFault.{LogFault}
 use Rattle.call_log.specs.declared.fault.LogFault.TheVariants.{Source}
 use Rattle.log_run.proofs.RunLaws.{source_rose}
 use Rattle.log_run.specs.Reading.{ReadBatch, ReadCalls, SourceFailed}
-use Rattle.log_run.specs.Streams.{SourceRose, Streams, StreamsStay}
+use Rattle.log_run.specs.Streams.{Streams, StreamsStay}
 use Rattle.stir_outside.specs.Count.{Rose}
 use Rattle.stir_outside.specs.Told.{AppendsFront}
 use Rattle.log_run.specs.Batch.{BatchAnswerView, Batch, batch_of}
-use Rattle.log_run.specs.Running.{AnsweredBatch, Answers, At, RanBatch, RunsOn, RunsOut, StopsNext}
+use Rattle.log_run.specs.Running.{AnsweredBatch, Answers, At, RanBatch}
 use Rattle.log_run.specs.declared.ends.RunError.{RunError}
 use Rattle.log_run.specs.declared.ends.RunError.TheVariants as error
 use Rattle.log_run.specs.declared.ends.Next.{Next}
@@ -22,7 +20,7 @@ use Rattle.log_run.specs.declared.stop.AnswerError.{AnswerError}
 use Rattle.log_run.proofs.BatchLaws.{and_true}
 use Rattle.log_run.proofs.ReadLaws.{calls_read, few_read, read_nothing}
 
--- nothing more is known behind no batches than of those before
+-- nothing more is known after no batches than of those before
 none_more : (Known : List Batch → Type 0) (first : List Batch) → Known first → Known (first ++ [])
 none_more Known first known = subst Known (sym (append-nil first)) known
 

@@ -86,7 +86,7 @@ few_read most before now left left_now calls More r = omega (arith, r.full)
 few_read most before now left left_now calls Whole r = omega (arith, r.few)
 few_read most before now left left_now calls (Fault fault) r = omega (arith, r.few)
 
--- behind a full batch
+-- after a full batch
 pub more_read : (most : ℕ) (before now : Passed) (left left_now : Option (List ℕ)) (calls : List Entry) → ReadFull most before left left_now now calls → now.count ≡ before.count + most
 more_read most before now left left_now calls r = ap (λ (p : Passed). p.count) r.read.moves ∙ counted before calls ∙ ap (λ n. before.count + n) r.full
 
@@ -96,12 +96,12 @@ pub read_follow : (most : ℕ) (Stands : Passed → Type 0) (before now : Passed
 read_follow most Stands before now left left_now calls next stands room r =
     record { passed = before; stands = stands; follow = (calls_read most before now left left_now calls next r).read.follow; room = room }
 
--- and behind a full batch it stands behind it
+-- and after a full batch it stands after it
 pub stands_read : (most : ℕ) (Stands Stands_now : Passed → Type 0) (before now : Passed) (left left_now : Option (List ℕ)) (calls : List Entry) → Stands before → StandsOn Stands Stands_now calls
     → ReadFull most before left left_now now calls → Stands_now now
 stands_read most Stands Stands_now before now left left_now calls stands on r = subst Stands_now (sym r.read.moves) (on before stands r.read.follow)
 
--- a full batch is one behind which it goes on
+-- a full batch is one after which it goes on
 pub is_more : (most : ℕ) (before now : Passed) (left left_now : Option (List ℕ)) (calls : List Entry) (next : Next) → ReadBatch {E = AllocError} most before left left_now now calls (Ok next)
     → ◌≡◌ {A = Result Next RunError} (Ok next) (Ok More) → ReadFull most before left left_now now calls
 is_more most before now left left_now calls More r e = r

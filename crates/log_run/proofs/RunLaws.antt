@@ -1,11 +1,11 @@
 -- Pieces of a run after one another. What is known of the batches of the second piece is known of them after those of the first.
-use Rattle.std.proofs.Common.{◌≡◌, ℕ, ◌≤◌, Bool, true, List, [], ◌++◌, Option, Some, None, Ok, Err, refl, sym, ◌∙◌, ap, subst, arith, append_assoc}
+use Rattle.std.proofs.Common.{◌≡◌, ℕ, ◌≤◌, List, [], ◌++◌, Option, Some, None, Ok, Err, refl, sym, ◌∙◌, ap, subst, arith, append_assoc}
 use Rattle.std.specs.Io.KnownBytes.{Appends}
 use Rattle.std.proofs.KnownBytes.{Appends-nil, Appends-trans}
 use Rattle.call_log.specs.Entry.{Entry}
 use Rattle.call_log.specs.declared.fault.LogFault.{LogFault}
 use Rattle.call_log.specs.declared.fault.LogFault.TheVariants.{Grammar, Backward, Many, Source, Memory}
-use Rattle.log_run.specs.Batch.{Batch, all_well, calls_in, texts_in}
+use Rattle.log_run.specs.Batch.{Batch, calls_in, texts_in}
 use Rattle.log_run.specs.Reading.{ReadCalls, SourceFailed}
 use Rattle.log_run.specs.Running.{At, EndedBy, RunEnd, RunsOn, RunsOut}
 use Rattle.log_run.specs.Streams.{SourceRose, Streams, StreamsStay}

@@ -1,5 +1,5 @@
 -- A shelf stays over no call, and over one call after another.
-use Rattle.std.proofs.Common.{◌≡◌, ℕ, refl, ◌∙◌, arith}
+use Rattle.std.proofs.Common.{ℕ, refl, ◌∙◌, arith}
 use Rattle.stir_outside.proofs.CountLaws.{go_on}
 use Rattle.stir_outside.specs.Count.{GoesOn}
 use Rattle.stir_outside.specs.Stays.{ShelfStays}

@@ -1,6 +1,5 @@
 -- The promises of a run in the words of its command, from how it ended.
 use Rattle.std.proofs.Common.{◌≡◌, ◌≢◌, ℕ, ◌≤◌, ◌⊎◌, inl, inr, Bool, true, false, ◌&&◌, List, [], ◌++◌, Option, Some, None, IfSome, Ok, Err, string_bytes, refl, sym, ◌∙◌, ap, subst, arith}
-use Rattle.std.specs.Io.KnownBytes.{Appends}
 use Rattle.std.specs.declared.alloc.Global.{Global}
 use Rattle.std.specs.declared.string.String.{String}
 use Rattle.std.proofs.KnownBytes.{Consumes-trans, prepend_known-nil}
@@ -11,18 +10,17 @@ use Rattle.call_log.specs.Log.{AreCalls, LogText, NoEntry, Passed, after_all, en
 use Rattle.call_log.specs.Reads.{LogState, left_to}
 use Rattle.call_log.specs.declared.fault.LogFault.TheVariants.{Source}
 use Rattle.log_run.specs.Batch.{Batch, IsCut, all_well, calls_in, texts_in}
-use Rattle.log_run.specs.Ending.{CloseSays, EndedFailed, EndedFaulty, EndedFront, EndedShort, EndedSo, EndedStopped, EndedWhole, IsStopLine, LogRan, MayBeShort, MayEnd, MayStand, StopSays, report_status, unread_line}
-use Rattle.log_run.specs.Reading.{CallsRead, FaultyAt, IsFaulty, ReadBehind, ReadCalls, SourceFailed}
+use Rattle.log_run.specs.Ending.{EndedFailed, EndedFaulty, EndedFront, EndedShort, EndedSo, EndedStopped, EndedWhole, IsStopLine, LogRan, MayBeShort, MayEnd, MayStand, report_status, unread_line}
+use Rattle.log_run.specs.Reading.{FaultyAt, IsFaulty, ReadBehind, ReadCalls}
 use Rattle.log_run.specs.Running.{At, StopsNext, at}
 use Rattle.log_run.specs.Speaks.{AreBatches, Speaks}
 use Rattle.log_run.specs.Streams.{Streams}
-use Rattle.log_run.specs.Words.{AnswersFaulty, AnswersWhole, ClosesWith, DoneReport, FailedReport, FirstBatches, FrontReport, LogSays, MayComeAfter, MayEndWith, NeverStops, PartLog, PartReport, RunState, ShortReport, StoppedReport, StopsWith, TakenLog, Words, run_state}
+use Rattle.log_run.specs.Words.{DoneReport, FailedReport, FirstBatches, FrontReport, LogSays, MayComeAfter, MayEndWith, PartLog, PartReport, RunState, ShortReport, StoppedReport, StopsWith, TakenLog, Words, run_state}
 use Rattle.log_run.specs.declared.stop.AnswerError.{AnswerError}
 use Rattle.log_run.specs.declared.stop.AnswerError.TheVariants.{Unread, Memory}
 use Rattle.log_run.proofs.ReadLaws.{read_both}
 use Rattle.stir_outside.proofs.CountLaws.{not_rose}
-use Rattle.stir_outside.specs.Ending.{memory_line}
-use Rattle.stir_outside.specs.Count.{NotRisen, Rose}
+use Rattle.stir_outside.specs.Count.{Rose}
 
 -- ---- the log of all bytes that were left
 
@@ -59,7 +57,6 @@ low_status false = omega arith
 module _ (words : Words) (Known : List Batch → Type 0) (Stopped : List Batch → List Entry → AnswerError → Type 0) (Closed : List Batch → List ℕ → Type 0) (passed : Passed) (left left_now : Option (List ℕ)) (ahead_now : List ℕ)
     (s t : Streams) (status : ℕ) (speaks : Speaks words passed Known Stopped Closed) (batches : List Batch) (mid : At) (cut : IsCut words.most batches) (read : ReadCalls passed left mid.left mid.passed (calls_in batches))
     (good_so : mid.good ≡ (true && all_well batches)) where
-
   abbrev before : RunState
   before = run_state left s
 

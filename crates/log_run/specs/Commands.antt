@@ -1,6 +1,6 @@
 -- What a command over the calls of a log answers for. What is said of the batches before is said from any state on from which they may have been
 -- answered, so that no list of calls is kept.
-use Rattle.std.specs.Prelude.{◌≡◌, ℕ, ◌+◌, ◌≤◌, List, [], ◌∷◌, ◌++◌, Option}
+use Rattle.std.specs.Prelude.{ℕ, ◌+◌, ◌≤◌, List, [], ◌∷◌, ◌++◌, Option}
 use Rattle.call_log.specs.Entry.{Entry}
 use Rattle.call_log.specs.Log.{AreCalls, Passed, after_all}
 use Rattle.stir_outside.specs.Files.{Counts, Files}
@@ -20,14 +20,14 @@ Stopping X = X → Counts → X → Counts → Option Files → List Batch → L
 abbrev pub Closing : Type 0 → Type 1
 Closing X = X → Counts → X → Counts → Option Files → List Batch → List ℕ → Type 0
 
--- the calls may stand next behind a place of the log at which the command stands
+-- the calls may stand next after a place of the log at which the command stands
 pub record Follow (Stands : Passed → Type 0) (calls : List Entry) : Type 0 where
   pub passed : Passed
   pub stands : Stands passed
   pub follow : AreCalls passed calls
   pub room : passed.number ≤ 4000000000 + passed.count
 
--- and behind them it stands behind them
+-- and after them it stands after them
 abbrev pub StandsOn : (Passed → Type 0) → (Passed → Type 0) → List Entry → Type 0
 StandsOn stands stands_now calls = (passed : Passed) → stands passed → AreCalls passed calls → stands_now (after_all passed calls)
 

@@ -61,7 +61,7 @@ abbrev pub EndsStopped : Option (List ℕ) → Option (List ℕ) → ℕ → ℕ
 EndsStopped written written_now writes writes_now result (Unread text name) = EndsUnread written written_now writes writes_now result (string_bytes text) (string_bytes name)
 EndsStopped written written_now writes writes_now result Memory = EndsAs written written_now writes writes_now result memory_line 6
 
--- what stands behind the closing text
+-- what stands after the closing text
 abbrev pub EndsAt : Option (List ℕ) → Option (List ℕ) → ℕ → ℕ → ℕ → Bool → Option LogFault → Type 0
 EndsAt written written_now writes writes_now result good None = EndsAlone written written_now writes writes_now result (report_status good)
 EndsAt written written_now writes writes_now result good (Some fault) = EndsAtFault written written_now writes writes_now result fault
@@ -74,7 +74,7 @@ pub record EndsBehind (written written_now : Option (List ℕ)) (writes writes_n
   pub stay : writes ≤ writes_between
   pub ends : EndsAt between written_now writes_between writes_now result good fault
 
--- the sink failed, and a front of the text was written
+-- the sink failed, and a prefix of the text was written
 pub record FailsIn (written written_now : Option (List ℕ)) (writes writes_now result : ℕ) (text : List ℕ) : Type 0 where
   pub answered : result ≡ 4
   pub rose : Rose writes writes_now

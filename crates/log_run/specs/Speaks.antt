@@ -3,12 +3,9 @@ use Rattle.std.specs.Prelude.{ℕ, List, string_bytes}
 use Rattle.std.specs.declared.alloc.Global.{Global}
 use Rattle.std.specs.declared.string.String.{String}
 use Rattle.call_log.specs.Entry.{Entry}
-use Rattle.call_log.specs.HandsOut.{OneLog}
 use Rattle.call_log.specs.Log.{AreCalls, Passed}
 use Rattle.log_run.specs.Batch.{Batch, IsCut, calls_in}
-use Rattle.log_run.specs.Ending.{LogRan}
-use Rattle.log_run.specs.Running.{at}
-use Rattle.log_run.specs.Words.{LogSays, RunState, Words}
+use Rattle.log_run.specs.Words.{Words}
 use Rattle.log_run.specs.declared.stop.AnswerError.{AnswerError}
 use Rattle.log_run.specs.declared.stop.AnswerError.TheVariants.{Unread}
 

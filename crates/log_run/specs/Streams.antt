@@ -1,5 +1,5 @@
 -- The source of a log and the sink of its report, as a run moves them.
-use Rattle.std.specs.Prelude.{◌≡◌, ⊤, ℕ, ◌≤◌, List, Option, Some, None, Result, Ok, Err}
+use Rattle.std.specs.Prelude.{⊤, ℕ, ◌≤◌, List, Option, Some, None, Result, Ok, Err}
 use Rattle.call_log.specs.Log.{Passed}
 use Rattle.call_log.specs.declared.fault.LogFault.{LogFault}
 use Rattle.call_log.specs.declared.fault.LogFault.TheVariants.{Grammar, Backward, Many, Source, Memory}

@@ -8,7 +8,7 @@ ghost use Rattle.log_run.specs.Streams.{streams_of};
 ghost use Rattle.stir_outside.specs.Stays.{ShelfStays};
 
 use crate::command::LogCommand;
-use crate::ends::{RunError, Next};
+use crate::ends::{Next, RunError};
 use crate::reading::read_batch;
 use call_log::{Call, LogFault, LogReader};
 use std::alloc::Global;

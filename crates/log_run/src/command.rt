@@ -11,7 +11,7 @@ use stir_outside::Shelf;
 /// A command over the calls of a log, which are handed to it in batches.
 ///
 /// `behind` says which batches may have been answered from one state on up to another, `stopped` where the run may then stop, and `closed` by what
-/// text the report may then be closed. `stands` says behind which places of the log a batch may come, with these counts of the shelf.
+/// text the report may then be closed. `stands` says after which places of the log a batch may come, with these counts of the shelf.
 pub trait LogCommand {
     ghost use Rattle.call_log.specs.Entry.{Entry};
     ghost use Rattle.call_log.specs.Log.{Passed};

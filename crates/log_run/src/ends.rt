@@ -1,8 +1,8 @@
-//! How a run goes on behind a batch, and what stops it.
+//! How a run goes on after a batch, and what stops it.
 use crate::stop::AnswerError;
 use call_log::LogFault;
 
-/// What stands behind a batch of calls.
+/// What stands after a batch of calls.
 #[derive(Clone, Copy)]
 pub(crate) enum Next {
     /// More of the log, or its end: the batch is full.

@@ -1,4 +1,7 @@
-//! A log answered batch by batch: the loop that stands around whatever answers a batch of calls.
+//! The one loop over a log: its calls are read in batches, answered, and written of before the next are read.
+//!
+//! [`run_log`] goes on from where a reader stands, hands each batch to a [`LogCommand`], writes its lines, and then the text that closes the report
+//! and the line of what was at fault. Memory is taken for one batch at a time.
 #![tactic(auto)]
 
 mod answer;

@@ -41,7 +41,16 @@ pub fn run_log<R: Threads + Sync, C: LogCommand, S: Shelf, I: Source, O: Sink>(
     ensures shelf { ShelfStays S.Shelf shelf.old shelf.new }
 {
     let mut all_good = true;
-    match run_batches(rt, alloc, command, shelf, reader, input, sink, &mut all_good) {
+    match run_batches(
+        rt,
+        alloc,
+        command,
+        shelf,
+        reader,
+        input,
+        sink,
+        &mut all_good,
+    ) {
         Ok(fault) => close(alloc, command, sink, fault, all_good),
         Err(halt) => end_halted(alloc, sink, halt),
     }

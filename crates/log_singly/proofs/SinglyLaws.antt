@@ -2,16 +2,16 @@
 use Rattle.std.proofs.Common.{◌≡◌, ℕ, ◌+◌, ◌≤◌, Bool, true, false, ◌&&◌, List, [], ◌∷◌, ◌++◌, refl, sym, ◌∙◌, ap, subst, arith, append-nil, append_assoc, string_bytes, Result, Ok, Err, IfOk}
 use Rattle.call_log.specs.Entry.{Entry}
 use Rattle.log_singly.specs.Answer.{AnswerView, all_well, is_well, texts_of, unread_in}
-use Rattle.log_singly.specs.Answering.{AreAnswered, Implies, IncludedIn}
+use Rattle.log_singly.specs.Answering.{AreAnswered, IncludedIn}
 use Rattle.log_run.proofs.BatchLaws.{calls_both}
 use Rattle.log_run.proofs.BatchLaws as batches
-use Rattle.log_run.specs.Batch.{Batch, batch_of, calls_in, texts_in}
-use Rattle.log_run.specs.Batch.{BatchAnswerView as Written, all_well as batches_well}
+use Rattle.log_run.specs.Batch.{Batch, batch_of, calls_in}
+use Rattle.log_run.specs.Batch.{BatchAnswerView as Written}
 use Rattle.log_run.specs.declared.stop.AnswerError.{AnswerError}
 use Rattle.log_run.specs.declared.stop.AnswerError.TheVariants.{Unread, Memory}
 use Rattle.stir_outside.proofs.CountLaws.{at_most_then, both_at_most, then_rose}
 use Rattle.stir_outside.specs.Count.{AtMost}
-use Rattle.log_singly.specs.Singly.{AnsweredSingly, OneAnswer, OneStop, SinglyBehind, SinglyClosed, SinglyStopped, StopOf, StopsSo}
+use Rattle.log_singly.specs.Singly.{AnsweredSingly, OneAnswer, OneStop, SinglyBehind, SinglyStopped, StopOf, StopsSo}
 
 texts_both : (xs ys : List AnswerView) → texts_of (xs ++ ys) ≡ texts_of xs ++ texts_of ys
 texts_both [] ys = refl

@@ -32,7 +32,7 @@ abbrev pub all_well : List AnswerView → Bool
 all_well [] = true
 all_well (answer ∷ others) = is_well answer && all_well others
 
--- the lines of the calls, one behind the other
+-- the lines of the calls, one after the other
 abbrev pub texts_of : List AnswerView → List ℕ
 texts_of [] = []
 texts_of (answer ∷ others) = answer.text ++ texts_of others

@@ -6,7 +6,7 @@ use Rattle.log_singly.specs.Answer.{AnswerView}
 use Rattle.log_run.specs.declared.stop.AnswerError.{AnswerError}
 use Rattle.log_run.specs.declared.stop.AnswerError.TheVariants.{Unread, Memory}
 
--- behind any calls that may have been answered before, this may be answered to the call
+-- after any calls that may have been answered before, this may be answered to the call
 abbrev pub AnswersBehind : (List Entry → Type 0) → (List Entry → Entry → AnswerView → Type 0) → Entry → AnswerView → Type 0
 AnswersBehind behind answered call answer = (before : List Entry) → behind before → answered before call answer
 
@@ -18,7 +18,7 @@ Adds behind behind_now call = (before : List Entry) → behind before → behind
 abbrev pub Implies : (List Entry → Entry → AnswerView → Type 0) → (List Entry → Entry → AnswerView → Type 0) → Type 0
 Implies answered other = (before : List Entry) (call : Entry) (answer : AnswerView) → answered before call answer → other before call answer
 
--- behind any calls that may have been answered before, the file of this name may stop the run at the call, behind these lines of it
+-- after any calls that may have been answered before, the file of this name may stop the run at the call, after these lines of it
 abbrev pub AnswersStop : (List Entry → Type 0) → (List Entry → Entry → List ℕ → List ℕ → Type 0) → Entry → List ℕ → List ℕ → Type 0
 AnswersStop behind stops call text name = (before : List Entry) → behind before → stops before call text name
 
@@ -31,7 +31,7 @@ abbrev pub StopsBy : (List Entry → Type 0) → (List Entry → Entry → List 
 StopsBy behind stops call faults faults_now (Unread text name) = AnswersStop behind stops call (string_bytes text) (string_bytes name) × Rose faults faults_now
 StopsBy behind stops call faults faults_now Memory = ⊤
 
--- each call was answered behind these and those before it
+-- each call was answered after these and those before it
 abbrev pub AreAnswered : (List Entry → Entry → AnswerView → Type 0) → List Entry → List Entry → List AnswerView → Type 0
 AreAnswered answered before [] [] = Unit {0}
 AreAnswered answered before [] (answer ∷ answers) = ⊥

@@ -10,7 +10,7 @@ use Rattle.log_run.specs.declared.stop.AnswerError.{AnswerError}
 use Rattle.log_run.specs.declared.stop.AnswerError.TheVariants.{Unread, Memory}
 use Rattle.stir_outside.specs.Count.{AtMost, Rose}
 
--- each call was answered behind those before it, and these are the lines
+-- each call was answered after those before it, and these are the lines
 pub record AnsweredSingly (answered : List Entry → Entry → AnswerView → Type 0) (faults faults_now : ℕ) (batches : List Batch) : Type 0 where
   pub answers : List AnswerView
   pub each : AreAnswered answered [] (calls_in batches) answers
@@ -19,7 +19,7 @@ pub record AnsweredSingly (answered : List Entry → Entry → AnswerView → Ty
   pub unread : AtMost (unread_in answers) faults faults_now
   pub stay : faults ≤ faults_now
 
--- and the answerer stands behind them, and may answer no more than it might at first
+-- and the answerer stands after them, and may answer no more than it might at first
 pub record SinglyBehind (answered answered_now : List Entry → Entry → AnswerView → Type 0) (stops stops_now : List Entry → Entry → List ℕ → List ℕ → Type 0) (behind_now : List Entry → Type 0) (faults faults_now : ℕ)
     (batches : List Batch) : Type 0 where
   pub so : AnsweredSingly answered faults faults_now batches

@@ -1,8 +1,9 @@
 //! What a call is answered.
-ghost use Rattle.std.specs.Prelude.{◌≡◌, ◌&&◌, string_bytes};
+ghost use Rattle.std.specs.Prelude.{◌≡◌, string_bytes};
 ghost use Rattle.log_singly.specs.Answer.{is_well};
 
 use crate::status::CallStatus;
+use log_run::BatchAnswer;
 use std::marker::Model;
 
 /// The lines that are written of a call, whole and each with its LF, and what they come to.
@@ -29,20 +30,6 @@ impl Answer {
         Answer { text, finding }
     }
 
-    /// The lines.
-    pub fn text(&self) -> &str
-        ensures { result.now ≡ self.now.text }
-    {
-        self.text.as_str()
-    }
-
-    /// What they come to.
-    pub fn finding(&self) -> CallStatus
-        ensures { result ≡ self.now.finding }
-    {
-        self.finding
-    }
-
     /// Nothing is wrong with the call.
     pub fn is_well(&self) -> bool
         ensures { result ≡ is_well self.now }
@@ -54,10 +41,11 @@ impl Answer {
         }
     }
 
-    /// All is well so far, and with this call.
-    pub(crate) fn keeps_well(&self, so_far: bool) -> bool
-        ensures { result ≡ (so_far && is_well self.now) }
+    /// The lines as those of a batch of this call alone.
+    pub(crate) fn into_batch(self) -> BatchAnswer
+        ensures { result ≡ record { text = self.text; well = is_well self } }
     {
-        so_far && self.is_well()
+        let well = self.is_well();
+        BatchAnswer::new(self.text.into_bytes(), well)
     }
 }

@@ -4,15 +4,15 @@ ghost use Rattle.call_log.specs.Entry.{most_message_length};
 ghost use Rattle.text_grammar.specs.Moment.{last_second};
 
 use crate::answer::Answer;
-use log_run::AnswerError;
 use call_log::Call;
+use log_run::AnswerError;
 use std::alloc::Global;
 use stir_outside::Shelf;
 
 /// What answers one call by itself, over a shelf of files.
 ///
 /// `answered` says what may be answered to a call, by the files that a shelf tells and the calls that were answered before. `behind` says which
-/// calls may have been answered before, and `stops` behind which lines of the call which file of certificates may stop the run.
+/// calls may have been answered before, and `stops` after which lines of the call which file of certificates may stop the run.
 pub trait Answerer {
     ghost use Rattle.stir_outside.specs.Stays.{ShelfStays};
     ghost use Rattle.call_log.specs.Entry.{Entry};

@@ -6,8 +6,8 @@ ghost use Rattle.call_log.specs.Entry.{most_message_length};
 ghost use Rattle.stir_outside.specs.Stays.{ShelfStays};
 ghost use Rattle.text_grammar.specs.Moment.{last_second};
 
-use call_log::Call;
 use crate::answerer::Answerer;
+use call_log::Call;
 use log_run::{AnswerError, BatchAnswer, LogCommand};
 use std::alloc::{AllocError, Global};
 use std::thread::Threads;
@@ -31,15 +31,9 @@ fn answer_one<A: Answerer, S: Shelf>(
     ensures stopped { IfErr result (OneStop (A.behind answerer.old (S.files shelf.old)) (A.stops answerer.old (S.files shelf.old)) (S.counts shelf.old).faults (S.counts shelf.new).faults call.now) }
     ensures shelf { ShelfStays S.Shelf shelf.old shelf.new }
 {
-    let answer = match answerer.answer(alloc, shelf, call) {
-        Ok(answer) => answer,
-        Err(stop) => return Err(stop),
-    };
-    let well = answer.is_well();
-    let mut text = Vec::new(alloc);
-    match text.extend_from_slice(answer.text().as_bytes()) {
-        Ok(()) => Ok(BatchAnswer::new(text, well)),
-        Err(_) => Err(AnswerError::Memory),
+    match answerer.answer(alloc, shelf, call) {
+        Ok(answer) => Ok(answer.into_batch()),
+        Err(stop) => Err(stop),
     }
 }
 

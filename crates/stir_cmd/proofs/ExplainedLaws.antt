@@ -1,12 +1,11 @@
 -- What was written for the words of `explain` and of `ask`, in the words of the rules.
-use Rattle.std.proofs.Common.{◌≡◌, ℕ, ◌+◌, ◌<◌, ◌≤◌, ◌⊎◌, inl, inr, true, List, [], ◌∷◌, ◌++◌, Option, Some, None, IfSome, refl, sym, ◌∙◌, ap, subst, arith, append-nil}
+use Rattle.std.proofs.Common.{◌≡◌, ℕ, ◌+◌, ◌<◌, inl, inr, true, List, [], ◌∷◌, ◌++◌, Option, Some, None, IfSome, refl, ◌∙◌, ap, subst, arith, append-nil}
 use Rattle.std.specs.Io.KnownBytes.{Appends}
 use Rattle.call_log.specs.Entry.{Entry}
 use Rattle.call_log.specs.Log.{LogText, start}
 use Rattle.log_run.specs.Batch.{Batch, calls_in, texts_in}
 use Rattle.log_singly.specs.Answer.{AnswerView, all_well, found_unread, texts_of, unread_in}
 use Rattle.log_singly.specs.Answering.{AreAnswered}
-use Rattle.log_singly.specs.declared.status.CallStatus.{CallStatus}
 use Rattle.log_run.specs.Ending.{report_status}
 use Rattle.log_run.specs.Words.{DoneReport, Words}
 use Rattle.single_calls.specs.Asker.{AskedBy, AskerView, StopsAsking, asking_world}
@@ -73,7 +72,7 @@ explained_told settings materials before now status (Some files) (Some bytes) sa
     let world = world_by materials files in
     let known = done.answered.known in
     let each = each_of (IsExplained world settings) [] (calls_in done.batches) known.answers
-        (subst (λ (x : Option Files). AreAnswered (ExplainedBy (explainer_by settings materials) x) [] (calls_in done.batches) known.answers) same known.each) in
+    (subst (λ (x : Option Files). AreAnswered (ExplainedBy (explainer_by settings materials) x) [] (calls_in done.batches) known.answers) same known.each) in
     record {
       calls = calls_in done.batches;
       answers = known.answers;

@@ -1,5 +1,5 @@
 -- What a command over a log promises, from what it came to.
-use Rattle.std.proofs.Common.{◌≡◌, ℕ, ◌≤◌, List}
+use Rattle.std.proofs.Common.{ℕ, ◌≤◌, List}
 use Rattle.call_log.specs.Entry.{Entry}
 use Rattle.call_log.specs.Log.{start}
 use Rattle.log_run.specs.Batch.{Batch}

@@ -17,7 +17,7 @@ use Rattle.call_log.specs.Log.{LogText, start}
 use Rattle.log_singly.specs.Answer.{AnswerView, all_well, texts_of, unread_in}
 use Rattle.log_run.specs.Ending.{report_status}
 use Rattle.single_calls.specs.Explainer.{Explains, IsExplained}
-use Rattle.stir_files.specs.Materials.{MaterialsOf, files_of}
+use Rattle.stir_files.specs.Materials.{MaterialsOf}
 use Rattle.stir_files.specs.Named.{first_fault}
 use Rattle.stir_files.specs.declared.materials.Materials.{Materials}
 use Rattle.stir_outside.proofs.CountLaws.{not_risen_behind, then_at_most}

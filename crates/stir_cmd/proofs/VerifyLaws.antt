@@ -12,7 +12,6 @@ use Rattle.log_rounds.specs.Rounds.{Round, outcomes_in, unread_pairs}
 use Rattle.stir_files.specs.Materials.{MaterialsOf}
 use Rattle.stir_files.specs.declared.materials.Materials.{Materials}
 use Rattle.stir_outside.proofs.CountLaws.{not_risen_behind, then_at_most}
-use Rattle.stir_outside.specs.Count.{NotRisen}
 use Rattle.stir_outside.specs.Files.{Files}
 use Rattle.stir_words.specs.Order.{JudgingView, VerifyBy}
 use Rattle.verify_rules.specs.declared.settings.Settings.{Settings}
@@ -22,8 +21,8 @@ use Rattle.stir_cmd.specs.Calls.{AnswersBy, bench_by, settings_by}
 use Rattle.stir_cmd.specs.Headline.{AreJudged, Headline, Verified}
 use Rattle.stir_cmd.specs.OverFiles.{counted}
 use Rattle.stir_cmd.specs.OverLog.{log_in}
-use Rattle.stir_cmd.specs.Verifying.{judging_course, verify_course, verify_over, verify_words}
-use Rattle.stir_cmd.proofs.Keeps.{Keeps, KeepsAll}
+use Rattle.stir_cmd.specs.Verifying.{verify_course, verify_over, verify_words}
+use Rattle.stir_cmd.proofs.Keeps.{KeepsAll}
 use Rattle.stir_cmd.proofs.LogCourseLaws.{log_keeps}
 use Rattle.stir_cmd.proofs.OverFilesLaws.{behind_files, over_keeps}
 

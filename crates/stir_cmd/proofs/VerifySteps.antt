@@ -1,5 +1,5 @@
 -- What `verify` came to, from what its steps came to.
-use Rattle.std.proofs.Common.{◌≡◌, ℕ, ◌≤◌, inl, inr, List, Option, None, Ok, refl, subst, arith}
+use Rattle.std.proofs.Common.{◌≡◌, ℕ, ◌≤◌, inl, inr, List, Option, None, Ok, refl, subst}
 use Rattle.replay_law.specs.Held.{nothing}
 use Rattle.log_rounds.specs.Judged.{StandsAtFirst}
 use Rattle.replay_desk.specs.Past.{found}

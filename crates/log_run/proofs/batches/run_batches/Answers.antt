@@ -1,5 +1,5 @@
 -- A batch joins those before it.
-use Rattle.std.proofs.Common.{Ok, refl, ◌∙◌, ap, arith}
+use Rattle.std.proofs.Common.{Ok, refl, ◌∙◌, ap}
 use Rattle.log_run.proofs.JoinLaws.{on_joined, out_joined}
 use Rattle.log_run.proofs.RunLaws.{on_none}
 use Rattle.log_run.proofs.StaysLaws.{shelf_stands, shelf_stays_on}

@@ -1,5 +1,5 @@
 -- One call more.
-use Rattle.std.proofs.Common.{◌≡◌, ◌+◌, ◌∷◌, ◌++◌, [], length, ap, arith, rules, length-append}
+use Rattle.std.proofs.Common.{◌≡◌, ◌∷◌, ◌++◌, [], length, ap, arith, rules, length-append}
 use Rattle.call_log.specs.Log.{Passed}
 use Rattle.log_run.proofs.ReadLaws.{read_more}
 use Rattle.log_run.proofs.reading.read_batch.Goals as goal

@@ -1,5 +1,4 @@
 -- What the run came to, in words.
-use Rattle.std.proofs.Common.{[]}
 use Rattle.log_run.proofs.WordsLaws.{first_says}
 use Rattle.log_singly.specs.Singly.{singly_words}
 use Rattle.log_singly.proofs.SinglyWords.{speaks}

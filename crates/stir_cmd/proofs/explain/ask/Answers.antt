@@ -6,7 +6,7 @@ use Rattle.stir_words.specs.Seen.{asking_view}
 use Rattle.verify_rules.specs.declared.settings.Settings.{Settings}
 use Rattle.stir_cmd.specs.Explained.{ask_over, asker_by}
 use Rattle.stir_cmd.proofs.OverFilesSteps.{goes_on}
-use Rattle.stir_cmd.proofs.SinglySteps.{as_viewed, behind_none}
+use Rattle.stir_cmd.proofs.SinglySteps.{as_viewed}
 use Rattle.stir_cmd.proofs.StopSteps.{stopped}
 use Rattle.stir_cmd.proofs.explain.ask.Goals as goal
 

@@ -1,9 +1,6 @@
 -- One call more was answered.
-use Rattle.std.proofs.Common.{◌≡◌, [], ◌∷◌, rules, sym, subst, List}
+use Rattle.std.proofs.Common.{◌≡◌, [], ◌∷◌, rules}
 use Rattle.std.proofs.lemmas.Grind.{common_steps}
-use Rattle.call_log.specs.Entry.{Entry}
-use Rattle.log_run.specs.Batch.{batch_of}
-use Rattle.log_run.specs.Commands.{Adds}
 use Rattle.log_singly.proofs.SinglyLaws.{adds, if_ok}
 use Rattle.log_singly.proofs.singly.SinglyLogCommand.answer.Goals as goal
 
