@@ -4,3 +4,5 @@ pub mod HeaderLaws
 pub mod LogLaws
 pub mod MessageSteps
 pub mod NumberSteps
+pub mod SupplyLaws
+pub mod AheadLaws

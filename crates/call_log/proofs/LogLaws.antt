@@ -148,3 +148,8 @@ bounds passed now call found e next same number place =
     let numbered : now.number ≡ passed.number + 1 = ap (λ (p : Passed). p.number) e ∙ ap (λ (x : Entry). x.number) same ∙ next.numbered in
     let short = size_short passed call found (length (entry_text call)) next same refl in
     (omega (arith, count, next.room), omega (arith, count, numbered, number), omega (arith, count, at, short, place))
+
+-- what holds in any case holds where there is no fault
+pub where_none : {P : Type 0} (stopped : Option LogFault) → P → IfNone stopped P
+where_none None p = p
+where_none (Some fault) p = tt

@@ -1,5 +1,5 @@
 -- What the readers of a byte and of a message take.
-use Rattle.std.specs.Prelude.{◌≡◌, ℕ, ◌<◌, List, [], ◌∷◌, length, Option, Some, None, Result, Ok, Err, Vec}
+use Rattle.std.specs.Prelude.{◌≡◌, ℕ, ◌<◌, ◌≤◌, List, [], ◌∷◌, ◌++◌, length, Option, Some, None, Result, Ok, Err, Vec}
 use Rattle.std.specs.Vec.{vec_items}
 use Rattle.std.specs.Io.KnownBytes.{Consumes, IsAtEnd}
 use Rattle.stir_outside.specs.declared.source.Failed.{Failed}
@@ -11,6 +11,19 @@ abbrev pub ByteFrom : Option (List ℕ) → Option (List ℕ) → Result (Option
 ByteFrom left left_now (Ok (Some byte)) = Consumes left left_now (byte ∷ [])
 ByteFrom left left_now (Ok None) = Consumes left left_now [] × IsAtEnd left_now
 ByteFrom left left_now (Err failed) = Consumes left left_now []
+
+-- some of the bytes, at most so many, were taken and stand now behind those that were held; none only where nothing is left
+pub record TakesPiece (most : ℕ) (left left_now : Option (List ℕ)) (held held_now : List ℕ) (count : ℕ) : Type 0 where
+  pub piece : List ℕ
+  pub taken : Consumes left left_now piece
+  pub behind : held_now ≡ held ++ piece
+  pub size : length piece ≡ count
+  pub within : count ≤ most
+  pub none : count ≡ 0 → IsAtEnd left_now
+
+abbrev pub PieceFrom : ℕ → Option (List ℕ) → Option (List ℕ) → List ℕ → List ℕ → Result ℕ ReadFault → Type 0
+PieceFrom most left left_now held held_now (Ok count) = TakesPiece most left left_now held held_now count
+PieceFrom most left left_now held held_now (Err fault) = Consumes left left_now []
 
 -- fewer bytes than said were taken
 pub record TakesFewer (said : ℕ) (left left_now : Option (List ℕ)) : Type 0 where

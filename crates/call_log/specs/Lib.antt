@@ -5,4 +5,5 @@ pub mod HandsOut
 pub mod Log
 pub mod Number
 pub mod Reading
+pub mod Supply
 pub mod Reads

@@ -1,27 +1,29 @@
 -- What the log's reader hands out, and what it takes for it.
-use Rattle.std.specs.Prelude.{◌≡◌, ℕ, ◌+◌, ◌*◌, ◌≤◌, List, [], Option, Some, None, Result, Ok, Err}
+use Rattle.std.specs.Prelude.{◌≡◌, ℕ, ◌+◌, ◌*◌, ◌≤◌, Bool, List, [], Option, Some, None, Result, Ok, Err}
 use Rattle.std.specs.Io.KnownBytes.{Consumes, IsAtEnd, prepend_known}
 use Rattle.call_log.specs.Entry.{Entry, entry_text, most_entries}
 use Rattle.call_log.specs.Fault.{Knows}
 use Rattle.call_log.specs.Log.{IsNext, Passed, after}
+use Rattle.call_log.specs.Supply.{unless_ended}
 use Rattle.call_log.specs.declared.fault.LogFault.{LogFault}
 
--- a reader: how far it has read, the bytes that it took and hasn't used yet, and the fault at which it stopped
+-- a reader: how far it has read, the bytes that it took and hasn't used yet, whether its source has said that it has ended, and the fault at
+-- which it stopped
 pub record LogState : Type 0 where
   pub passed : Passed
   pub ahead : List ℕ
+  pub ended : Bool
   pub fault : Option LogFault
 
--- the bounds within which a reader stays; none of the bytes that it took stays unused
-pub record Bounded (passed : Passed) (ahead : List ℕ) : Type 0 where
+-- the bounds within which a reader stays
+pub record Bounded (passed : Passed) : Type 0 where
   pub count : passed.count ≤ most_entries
   pub number : passed.number ≤ 4000000000 + passed.count
   pub place : passed.place ≤ 131093 * passed.count
-  pub none_ahead : ahead ≡ []
 
--- what is left to the reader: the bytes ahead, then what the source has left
+-- what is left to the reader: the bytes ahead, then what the source has left, unless it has said that it has ended
 abbrev pub left_to : LogState → Option (List ℕ) → Option (List ℕ)
-left_to reader left = prepend_known reader.ahead left
+left_to reader left = prepend_known reader.ahead (unless_ended reader.ended left)
 
 -- the call is the next of the log, and its entry was taken
 pub record ReadsEntry (passed : Passed) (left left_now : Option (List ℕ)) (call : Entry) : Type 0 where

@@ -1,8 +1,8 @@
-ghost use Rattle.std.specs.Prelude.{◌≡◌, ℕ, ◌+◌, ◌^◌, ◌<◌, ◌≤◌, ◌==◌, ◌&&◌, [], false};
+ghost use Rattle.std.specs.Prelude.{◌≡◌, ℕ, ◌+◌, ◌^◌, ◌<◌, ◌≤◌, ◌==◌, ◌&&◌, [], false, OnErr};
 ghost use Rattle.std.specs.Char.{is_ascii_digit};
-ghost use Rattle.std.specs.Io.KnownBytes.{prepend_known};
-ghost use Rattle.stir_outside.specs.Count.{HasCause};
+ghost use Rattle.stir_outside.specs.Count.{Rose};
 ghost use Rattle.call_log.specs.Number.{GoesOn, NumberFrom};
+ghost use Rattle.call_log.specs.Supply.{Draws, available, supply_of};
 
 use crate::ahead::Ahead;
 use stir_outside::{Failed, Source};
@@ -48,7 +48,7 @@ impl Digits {
 
 /// Reads a number of at most `most` in decimal digits, without a leading zero except in `0` itself, and the byte
 /// `last` behind it. `None` at the first byte with which no such number goes on, or where the source ends.
-#[tactic(auto, using(crate::proofs::NumberSteps::took_none, crate::proofs::NumberSteps::took_more, crate::proofs::NumberSteps::value_within, crate::proofs::NumberSteps::few_digits, crate::proofs::NumberSteps::number_taken, crate::proofs::NumberSteps::no_digit, crate::proofs::NumberSteps::breaks_off, crate::proofs::NumberSteps::number_ended, crate::proofs::NumberSteps::number_failed))]
+#[tactic(auto, using(crate::proofs::NumberSteps::took_none, crate::proofs::NumberSteps::took_more, crate::proofs::NumberSteps::value_within, crate::proofs::NumberSteps::few_digits, crate::proofs::NumberSteps::number_taken, crate::proofs::NumberSteps::no_digit, crate::proofs::NumberSteps::breaks_off, crate::proofs::NumberSteps::number_ended, crate::proofs::NumberSteps::number_failed, crate::proofs::SupplyLaws::draws_none, crate::proofs::SupplyLaws::draws_on))]
 pub(crate) fn next_number<I: Source>(
     ahead: &mut Ahead,
     source: &mut I,
@@ -58,9 +58,10 @@ pub(crate) fn next_number<I: Source>(
     requires most { most < 2 ^ 40 }
     requires last { is_ascii_digit last ≡ false }
     ensures number { NumberFrom most last
-        (prepend_known ahead.old (I.left source.old)) (prepend_known ahead.new (I.left source.new)) result }
-    ensures used_up { ahead.old ≡ [] → ahead.new ≡ [] }
-    ensures cause { HasCause (I.faults source.old) (I.faults source.new) result }
+        (available ahead.old (I.left source.old)) (available ahead.new (I.left source.new)) result }
+    ensures draws { Draws (supply_of I.Source ahead.old.ended source.old) (supply_of I.Source ahead.new.ended source.new) }
+    ensures rose { OnErr result (Rose (I.faults source.old) (I.faults source.new)) }
+    ensures drained { OnErr result (available ahead.new (I.left source.new) ≡ I.left source.new) }
 {
     let mut digits = Digits { value: 0, count: 0 };
     loop {

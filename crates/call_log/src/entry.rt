@@ -1,10 +1,10 @@
 ghost use Rattle.std.specs.Prelude.{◌≡◌, ◌^◌, ◌-◌, ◌+◌, ◌<◌, ◌≤◌, [], ◌∷◌, ◌++◌, Err};
 ghost use Rattle.std.specs.Fmt.{decimal};
-ghost use Rattle.std.specs.Io.KnownBytes.{prepend_known};
 ghost use Rattle.stir_outside.specs.Count.{Rose};
 ghost use Rattle.call_log.specs.Entry.{headed, most_entries, most_message_length};
 ghost use Rattle.call_log.specs.Number.{IsNumber};
 ghost use Rattle.call_log.specs.Reading.{Finds};
+ghost use Rattle.call_log.specs.Supply.{Draws, available, supply_of};
 ghost use Rattle.text_grammar.specs.Moment.{last_second};
 
 use crate::ahead::Ahead;
@@ -43,6 +43,7 @@ impl Model for Found {
 }
 
 /// Reads the next entry; `None` where the log has ended before it.
+#[tactic(auto, using(crate::proofs::SupplyLaws::draws_on))]
 pub(crate) fn next_entry<I: Source>(
     alloc: Global,
     ahead: &mut Ahead,
@@ -52,10 +53,10 @@ pub(crate) fn next_entry<I: Source>(
     requires count { passed.count ≤ most_entries }
     requires number { passed.number < 2 ^ 32 - 1 }
     ensures found { Finds passed []
-        (prepend_known ahead.old (I.left source.old)) (prepend_known ahead.new (I.left source.new)) result }
-    ensures never_falls { I.faults source.old ≤ I.faults source.new }
-    ensures used_up { ahead.old ≡ [] → ahead.new ≡ [] }
+        (available ahead.old (I.left source.old)) (available ahead.new (I.left source.new)) result }
+    ensures draws { Draws (supply_of I.Source ahead.old.ended source.old) (supply_of I.Source ahead.new.ended source.new) }
     ensures rose { result ≡ Err LogFault.Source → Rose (I.faults source.old) (I.faults source.new) }
+    ensures drained { result ≡ Err LogFault.Source → available ahead.new (I.left source.new) ≡ I.left source.new }
 {
     let place = passed.place;
     let Some(first) = ahead.next_byte(source)? else {
@@ -71,6 +72,7 @@ pub(crate) fn next_entry<I: Source>(
 }
 
 /// Reads on behind the `@`.
+#[tactic(auto, using(crate::proofs::SupplyLaws::draws_on))]
 fn after_at<I: Source>(
     alloc: Global,
     ahead: &mut Ahead,
@@ -80,10 +82,10 @@ fn after_at<I: Source>(
     requires count { passed.count < most_entries }
     requires number { passed.number < 2 ^ 32 - 1 }
     ensures found { Finds passed (64 ∷ [])
-        (prepend_known ahead.old (I.left source.old)) (prepend_known ahead.new (I.left source.new)) result }
-    ensures never_falls { I.faults source.old ≤ I.faults source.new }
-    ensures used_up { ahead.old ≡ [] → ahead.new ≡ [] }
+        (available ahead.old (I.left source.old)) (available ahead.new (I.left source.new)) result }
+    ensures draws { Draws (supply_of I.Source ahead.old.ended source.old) (supply_of I.Source ahead.new.ended source.new) }
     ensures rose { result ≡ Err LogFault.Source → Rose (I.faults source.old) (I.faults source.new) }
+    ensures drained { result ≡ Err LogFault.Source → available ahead.new (I.left source.new) ≡ I.left source.new }
 {
     let Some(moment) = next_number(ahead, source, LAST_SECOND, b' ')? else {
         return Err(LogFault::Grammar {
@@ -94,6 +96,7 @@ fn after_at<I: Source>(
 }
 
 /// Reads on behind the moment and its space.
+#[tactic(auto, using(crate::proofs::SupplyLaws::draws_on))]
 fn after_moment<I: Source>(
     alloc: Global,
     ahead: &mut Ahead,
@@ -105,10 +108,10 @@ fn after_moment<I: Source>(
     requires number { passed.number < 2 ^ 32 - 1 }
     requires moment { IsNumber last_second moment }
     ensures found { Finds passed (64 ∷ (decimal moment.value ++ 32 ∷ []))
-        (prepend_known ahead.old (I.left source.old)) (prepend_known ahead.new (I.left source.new)) result }
-    ensures never_falls { I.faults source.old ≤ I.faults source.new }
-    ensures used_up { ahead.old ≡ [] → ahead.new ≡ [] }
+        (available ahead.old (I.left source.old)) (available ahead.new (I.left source.new)) result }
+    ensures draws { Draws (supply_of I.Source ahead.old.ended source.old) (supply_of I.Source ahead.new.ended source.new) }
     ensures rose { result ≡ Err LogFault.Source → Rose (I.faults source.old) (I.faults source.new) }
+    ensures drained { result ≡ Err LogFault.Source → available ahead.new (I.left source.new) ≡ I.left source.new }
 {
     let place = passed.place;
     let Some(length) = next_number(ahead, source, MOST_LENGTH, b'\n')? else {
@@ -121,6 +124,7 @@ fn after_moment<I: Source>(
 }
 
 /// Reads on behind the header.
+#[tactic(auto, using(crate::proofs::SupplyLaws::draws_on))]
 fn after_header<I: Source>(
     alloc: Global,
     ahead: &mut Ahead,
@@ -135,10 +139,10 @@ fn after_header<I: Source>(
     requires length { IsNumber most_message_length length }
     requires forward { passed.moment ≤ moment.value }
     ensures found { Finds passed (headed moment.value length.value [])
-        (prepend_known ahead.old (I.left source.old)) (prepend_known ahead.new (I.left source.new)) result }
-    ensures never_falls { I.faults source.old ≤ I.faults source.new }
-    ensures used_up { ahead.old ≡ [] → ahead.new ≡ [] }
+        (available ahead.old (I.left source.old)) (available ahead.new (I.left source.new)) result }
+    ensures draws { Draws (supply_of I.Source ahead.old.ended source.old) (supply_of I.Source ahead.new.ended source.new) }
     ensures rose { result ≡ Err LogFault.Source → Rose (I.faults source.old) (I.faults source.new) }
+    ensures drained { result ≡ Err LogFault.Source → available ahead.new (I.left source.new) ≡ I.left source.new }
 {
     let Some(message) = next_message(alloc, ahead, source, length.value as usize)? else {
         return Err(LogFault::Grammar {

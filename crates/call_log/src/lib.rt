@@ -14,6 +14,6 @@ mod reader;
 
 pub use call::Call;
 pub use fault::LogFault;
-pub use laws::one_log;
+pub use laws::{one_log, reads_law};
 pub use reader::LogReader;
 pub use std::alloc::AllocError as Memory;

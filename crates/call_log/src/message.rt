@@ -1,14 +1,14 @@
 ghost use Rattle.std.specs.Prelude.{◌≡◌, ◌≤◌, [], Err};
-ghost use Rattle.std.specs.Io.KnownBytes.{prepend_known};
 ghost use Rattle.stir_outside.specs.Count.{Rose};
 ghost use Rattle.call_log.specs.Bytes.{MessageFrom};
+ghost use Rattle.call_log.specs.Supply.{Draws, available, supply_of};
 
 use crate::ahead::Ahead;
 use std::alloc::Global;
 use stir_outside::{ReadFault, Source};
 
 /// Reads so many bytes; `None` where the source ends before.
-#[tactic(auto, using(crate::proofs::MessageSteps::none_taken, crate::proofs::MessageSteps::byte_taken, crate::proofs::MessageSteps::fewer_taken, crate::proofs::MessageSteps::nothing_taken, crate::proofs::MessageSteps::some_taken))]
+#[tactic(auto, using(crate::proofs::MessageSteps::none_taken, crate::proofs::MessageSteps::piece_taken, crate::proofs::MessageSteps::fewer_taken, crate::proofs::MessageSteps::nothing_taken, crate::proofs::MessageSteps::some_taken, crate::proofs::SupplyLaws::draws_none, crate::proofs::SupplyLaws::draws_on))]
 pub(crate) fn next_message<I: Source>(
     alloc: Global,
     ahead: &mut Ahead,
@@ -16,19 +16,17 @@ pub(crate) fn next_message<I: Source>(
     length: usize,
 ) -> Result<Option<Vec<u8>>, ReadFault>
     ensures message { MessageFrom length
-        (prepend_known ahead.old (I.left source.old)) (prepend_known ahead.new (I.left source.new)) result }
-    ensures never_falls { I.faults source.old ≤ I.faults source.new }
-    ensures used_up { ahead.old ≡ [] → ahead.new ≡ [] }
+        (available ahead.old (I.left source.old)) (available ahead.new (I.left source.new)) result }
+    ensures draws { Draws (supply_of I.Source ahead.old.ended source.old) (supply_of I.Source ahead.new.ended source.new) }
     ensures rose { result ≡ Err ReadFault.Source → Rose (I.faults source.old) (I.faults source.new) }
+    ensures drained { result ≡ Err ReadFault.Source → available ahead.new (I.left source.new) ≡ I.left source.new }
 {
     let mut message = Vec::with_capacity(alloc, length)?;
-    for _ in 0..length {
-        let Some(byte) = ahead.next_byte(source)? else {
+    while message.len() < length {
+        let room = length - message.len();
+        let count = ahead.copy_to(source, &mut message, room)?;
+        if count == 0 {
             return Ok(None);
-        };
-        match message.push(byte) {
-            Ok(()) => {}
-            Err(_) => return Err(ReadFault::Memory),
         }
     }
     Ok(Some(message))

@@ -1,4 +1,4 @@
-ghost use Rattle.std.specs.Prelude.{◌≡◌, ℕ, ◌≤◌, [], Err, Ok, IfSome, IfNone};
+ghost use Rattle.std.specs.Prelude.{◌≡◌, ℕ, ◌≤◌, [], false, Err, Ok, IfSome, IfNone};
 ghost use Rattle.stir_outside.specs.Count.{Rose};
 
 use crate::ahead::Ahead;
@@ -24,9 +24,9 @@ impl Model for LogReader {
 
     ghost Value = { LogState };
 
-    ghost view = { λ r. record { passed = r.passed; ahead = r.ahead; fault = r.fault } };
+    ghost view = { λ r. record { passed = r.passed; ahead = r.ahead.bytes; ended = r.ahead.ended; fault = r.fault } };
 
-    ghost invariant = { λ r. Bounded r.passed r.ahead };
+    ghost invariant = { λ r. Bounded r.passed };
 }
 
 impl LogReader {
@@ -34,10 +34,11 @@ impl LogReader {
     ghost use Rattle.call_log.specs.Log.{start};
     ghost use Rattle.call_log.specs.HandsOut.{HandsOutOf, NoLongerLog, OneLog};
     ghost use Rattle.call_log.specs.Reads.{LogState, Moves, Reads, left_to};
+    ghost use Rattle.call_log.specs.Supply.{Draws, supply_of};
 
     /// A reader at the beginning of a log.
     pub fn new(alloc: Global) -> LogReader
-        ensures { result ≡ record { passed = start 0 0; ahead = []; fault = None } }
+        ensures { result ≡ record { passed = start 0 0; ahead = []; ended = false; fault = None } }
     {
         LogReader {
             alloc,
@@ -67,12 +68,17 @@ impl LogReader {
         ensures hands_out { IfNone self.old.fault (HandsOutOf self.old.passed
             (left_to self.old (I.left source.old)) (left_to self.new (I.left source.new)) result) }
         ensures moves { IfNone self.old.fault (Moves self.old.passed self.new result) }
-        ensures none_ahead { self.new.ahead ≡ [] }
         ensures bounded { self.new.passed.count ≤ most_entries }
 
-        // The source failed in this call, or in that which first said so.
+        // How often the source was asked: not after it said that it has ended, and where its reads are whole for blocks of 65,536 bytes alone,
+        // but for two (`reads_law`).
+        ensures draws { Draws (supply_of I.Source self.old.ended source.old) (supply_of I.Source self.new.ended source.new) }
+
+        // The source failed in this call, or in that which first said so, and then no byte is ahead.
         ensures rose { IfNone self.old.fault (result ≡ Err LogFault.Source
             → Rose (I.faults source.old) (I.faults source.new)) }
+        ensures drained { IfNone self.old.fault (result ≡ Err LogFault.Source
+            → left_to self.new (I.left source.new) ≡ I.left source.new) }
         ensures never_falls { I.faults source.old ≤ I.faults source.new }
 
         // Bytes are one log, and no longer one.
@@ -83,17 +89,18 @@ impl LogReader {
     }
 
     /// Reads the next call of the log.
-    #[tactic(auto, using(crate::proofs::LogLaws::reads))]
+    #[tactic(auto, using(crate::proofs::LogLaws::reads, crate::proofs::SupplyLaws::draws_none))]
     fn next_exactly<I: Source>(&mut self, source: &mut I) -> Result<Option<Call>, LogFault>
         ensures again { IfSome self.old.fault (λ fault. (result ≡ Err fault) × (self.new ≡ self.old) × (source.new ≡ source.old)) }
         ensures reads { IfNone self.old.fault (Reads self.old.passed
             (left_to self.old (I.left source.old)) (left_to self.new (I.left source.new)) result) }
         ensures moves { IfNone self.old.fault (Moves self.old.passed self.new result) }
-        ensures none_ahead { self.new.ahead ≡ [] }
         ensures bounded { self.new.passed.count ≤ most_entries }
+        ensures draws { Draws (supply_of I.Source self.old.ended source.old) (supply_of I.Source self.new.ended source.new) }
+        ensures drained { IfNone self.old.fault (result ≡ Err LogFault.Source
+            → left_to self.new (I.left source.new) ≡ I.left source.new) }
         ensures rose { IfNone self.old.fault (result ≡ Err LogFault.Source
             → Rose (I.faults source.old) (I.faults source.new)) }
-        ensures never_falls { I.faults source.old ≤ I.faults source.new }
     {
         if let Some(fault) = self.fault {
             return Err(fault);

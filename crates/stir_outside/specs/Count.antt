@@ -13,6 +13,10 @@ one_more count = min (count + 1) last_count
 abbrev pub faults_after : {T E : Type 0} → ℕ → Result T E → ℕ
 faults_after count result = if is_err result then one_more count else count
 
+-- the count of calls that succeeded: one more behind one that did, and else as it was
+abbrev pub reads_after : {T E : Type 0} → ℕ → Result T E → ℕ
+reads_after count result = if is_err result then count else one_more count
+
 -- a count that rose, or that stands at its last value
 abbrev pub Rose : ℕ → ℕ → Type 0
 Rose before now = now ≢ last_count → before < now

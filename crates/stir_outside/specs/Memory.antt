@@ -8,12 +8,18 @@ use Rattle.stir_outside.specs.Files.{Files, Counts}
 abbrev pub is_failing : ℕ → List ℕ → Bool
 is_failing calls failing = list_any (λ call. call == one_more calls) failing
 
--- the bytes left, the calls made, the calls that are to fail, and the count of faults
+-- the bytes left, the calls made, the calls that are to fail, and how many failed and how many didn't
 pub record SourceState : Type 0 where
   pub left : List ℕ
   pub calls : ℕ
   pub failing : List ℕ
   pub faults : ℕ
+  pub reads : ℕ
+
+-- the bytes left, and the count of reads
+pub record SlowState : Type 0 where
+  pub left : List ℕ
+  pub reads : ℕ
 
 -- the bytes written, the room for more, the calls made, the calls that are to fail, and the count of faults
 pub record SinkState : Type 0 where

@@ -1,7 +1,8 @@
-ghost use Rattle.std.specs.Prelude.{◌≡◌, ℕ, ◌-◌, ◌≤◌, ◌<◌, Option, Some, length, min, take, drop, IfOk, is_err};
+ghost use Rattle.std.specs.Prelude.{◌≡◌, ℕ, ◌-◌, ◌≤◌, ◌<◌, Option, Some, true, length, min, take, drop, IfOk, is_err};
 ghost use Rattle.std.specs.Io.KnownBytes.{ReadConsumes};
-ghost use Rattle.stir_outside.specs.Count.{HasCause, faults_after, one_more};
+ghost use Rattle.stir_outside.specs.Count.{HasCause, faults_after, one_more, reads_after};
 ghost use Rattle.stir_outside.specs.Memory.{is_failing};
+ghost use Rattle.stir_outside.specs.Told.{Fills};
 
 use crate::source::{Failed, Source};
 use std::marker::Model;
@@ -14,6 +15,7 @@ pub struct SourceMem {
     failing: Vec<u64>,
     calls: u64,
     faults: u64,
+    reads: u64,
 }
 
 impl Model for SourceMem {
@@ -22,7 +24,7 @@ impl Model for SourceMem {
 
     ghost Value = { SourceState };
 
-    ghost view = { λ s. record { left = drop s.taken s.bytes.items; calls = s.calls; failing = s.failing.items; faults = s.faults } };
+    ghost view = { λ s. record { left = drop s.taken s.bytes.items; calls = s.calls; failing = s.failing.items; faults = s.faults; reads = s.reads } };
 
     ghost invariant = { λ s. s.taken ≤ vec_len s.bytes };
 }
@@ -32,7 +34,7 @@ impl SourceMem {
 
     /// A source of these bytes. The calls of `read` that are listed, counted from 1, fail.
     pub fn new(bytes: Vec<u8>, failing: Vec<u64>) -> SourceMem
-        ensures { result ≡ record { left = bytes.items; calls = 0; failing = failing.items; faults = 0 } }
+        ensures { result ≡ record { left = bytes.items; calls = 0; failing = failing.items; faults = 0; reads = 0 } }
     {
         SourceMem {
             bytes,
@@ -40,6 +42,7 @@ impl SourceMem {
             failing,
             calls: 0,
             faults: 0,
+            reads: 0,
         }
     }
 
@@ -62,13 +65,20 @@ impl SourceMem {
 impl Source for SourceMem {
     ghost left = { λ s. Some s.left };
 
+    ghost whole = { λ _. true };
+
     ghost faults = { λ s. s.faults };
+
+    ghost reads = { λ s. s.reads };
 
     fn read(&mut self, buf: &mut [u8]) -> Result<usize, Failed>
         requires { 0 < length buf.old }
         ensures within { IfOk result (λ count. count ≤ length buf.new) }
         ensures bytes { ReadConsumes (Some self.old.left) (Some self.new.left) result buf.new }
         ensures cause { HasCause self.old.faults self.new.faults result }
+        ensures counted { self.new.reads ≡ reads_after self.old.reads result }
+        ensures fills { true ≡ true → IfOk result (Fills (Some self.new.left) (length buf.old)) }
+        ensures same_whole { true ≡ true }
 
         // Exactly the listed calls fail, and any other gives as much as there is room for.
         ensures fails { is_err result ≡ is_failing self.old.calls self.old.failing }
@@ -85,6 +95,7 @@ impl Source for SourceMem {
         let (_, left) = self.bytes.as_slice().split_at(self.taken);
         let count = copy_front(buf, left);
         self.taken += count;
+        self.reads = self.reads.saturating_add(1);
         Ok(count)
     }
 }
