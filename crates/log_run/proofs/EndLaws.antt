@@ -1,8 +1,10 @@
 -- How a run ends, by each of its statuses.
-use Rattle.std.proofs.Common.{◌≡◌, ℕ, ◌≤◌, ◌⊎◌, inl, inr, Bool, List, [], ◌∷◌, ◌++◌, string_bytes, Option, Some, None, Ok, Err, refl, sym, ◌∙◌, ap, subst, append-nil}
+use Rattle.std.proofs.Common.{◌≡◌, ℕ, ◌≤◌, ◌⊎◌, inl, inr, Bool, true, false, List, [], ◌∷◌, ◌++◌, string_bytes, Option, Some, None, Ok, Err, refl, sym, ◌∙◌, ap, subst, append-nil}
 use Rattle.std.specs.Io.KnownBytes.{Appends, IsAtEnd, prepend_known}
 use Rattle.std.proofs.KnownBytes.{Appends-trans, prepend_known-nil}
 use Rattle.call_log.specs.Entry.{Entry}
+use Rattle.call_log.specs.Reads.{LogState, left_to}
+use Rattle.call_log.specs.Supply.{unless_ended}
 use Rattle.call_log.specs.declared.fault.LogFault.{LogFault}
 use Rattle.call_log.specs.declared.fault.LogFault.TheVariants.{Grammar, Backward, Many, Source, Memory as WantOfMemory}
 use Rattle.log_run.specs.Batch.{Batch, texts_in}
@@ -22,13 +24,13 @@ use Rattle.stir_outside.specs.Ending.{EndsAs, memory_line}
 use Rattle.stir_outside.specs.Told.{AppendsFront}
 
 -- of a run whose batches were written, and what came then
-module _ (Known : Type 0) (Stopped : List Entry → AnswerError → Type 0) (Closed : List ℕ → Type 0) (mid : At) (ahead : List ℕ) (left_now : Option (List ℕ)) (lines : List ℕ) (s t u : Streams) (status : ℕ)
+module _ (Known : Type 0) (Stopped : List Entry → AnswerError → Type 0) (Closed : List ℕ → Type 0) (mid : At) (Drained : Type 0) (left_now : Option (List ℕ)) (lines : List ℕ) (s t u : Streams) (status : ℕ)
     (stay : s.write_faults ≤ t.write_faults) (wrote : Appends s.written t.written lines) where
   abbrev Goal : Type 0
-  Goal = EndedSo Known Stopped Closed mid ahead left_now lines s u status
+  Goal = EndedSo Known Stopped Closed mid Drained left_now lines s u status
 
   abbrev May : List ℕ → Type 0
-  May line = MayEnd mid ahead left_now s u line
+  May line = MayEnd mid Drained left_now s u line
 
   -- a line that may stand there wasn't written whole
   front : (line : List ℕ) → MayStand Known Stopped Closed May mid line → status ≡ 4 → Rose t.write_faults u.write_faults → AppendsFront t.written u.written line → Goal
@@ -86,7 +88,7 @@ module _ (Known : Type 0) (Stopped : List Entry → AnswerError → Type 0) (Clo
 
   -- the end after the text
   behind_by : (text : List ℕ) (between : Option (List ℕ)) (writes : ℕ) (good : Bool) (fault : Option LogFault) → Closed text → good ≡ mid.good → BehindBy {X = RunError} mid.passed mid.left left_now (Ok fault)
-      → SourceRose s u ahead fault → Appends t.written between text → t.write_faults ≤ writes → EndsAt between u.written writes u.write_faults status good fault → Goal
+      → SourceRose s u Drained fault → Appends t.written between text → t.write_faults ≤ writes → EndsAt between u.written writes u.write_faults status good fault → Goal
   behind_by text between writes good None closed same behind rose closing stays e = inl (record {
     text = text;
     closed = closed;
@@ -105,20 +107,20 @@ module _ (Known : Type 0) (Stopped : List Entry → AnswerError → Type 0) (Clo
       (λ said reported. inr (inr (inl (record { text = text; closed = closed; behind = behind; failed = rose; reported = reported; said = said }))))
   behind_by text between writes good (Some WantOfMemory) closed same behind rose closing stays e = memory_by text between writes closed closing stays e
 
-  closed_by : (text : List ℕ) (good : Bool) (fault : Option LogFault) → Closed text → good ≡ mid.good → BehindBy {X = RunError} mid.passed mid.left left_now (Ok fault) → SourceRose s u ahead fault
+  closed_by : (text : List ℕ) (good : Bool) (fault : Option LogFault) → Closed text → good ≡ mid.good → BehindBy {X = RunError} mid.passed mid.left left_now (Ok fault) → SourceRose s u Drained fault
       → EndsBehind t.written u.written t.write_faults u.write_faults status text good fault ⊎ FailsIn t.written u.written t.write_faults u.write_faults status text → Goal
   closed_by text good fault closed same behind rose (inl e) = behind_by text e.between e.writes_between good fault closed same behind rose e.wrote e.stay e.ends
   closed_by text good fault closed same behind rose (inr e) =
       front text (inr (inr (record { text = text; end = []; closed = closed; may_end = inl refl; says = sym (append-nil text) }))) e.answered e.rose e.front
 
 -- the source failed where no more was read of it
-pub rose_still : (s t u : Streams) (ahead : List ℕ) (fault : Option LogFault) → u.read_faults ≡ t.read_faults → SourceRose s t ahead fault → SourceRose s u ahead fault
-rose_still s t u ahead None same r = tt
-rose_still s t u ahead (Some (Grammar place)) same r = tt
-rose_still s t u ahead (Some (Backward place)) same r = tt
-rose_still s t u ahead (Some (Many place)) same r = tt
-rose_still s t u ahead (Some Source) same r = subst (λ (x : ℕ). SourceFailed s.read_faults x ahead) (sym same) r
-rose_still s t u ahead (Some WantOfMemory) same r = tt
+pub rose_still : (s t u : Streams) (Drained : Type 0) (fault : Option LogFault) → u.read_faults ≡ t.read_faults → SourceRose s t Drained fault → SourceRose s u Drained fault
+rose_still s t u Drained None same r = tt
+rose_still s t u Drained (Some (Grammar place)) same r = tt
+rose_still s t u Drained (Some (Backward place)) same r = tt
+rose_still s t u Drained (Some (Many place)) same r = tt
+rose_still s t u Drained (Some Source) same r = subst (λ (x : ℕ). SourceFailed s.read_faults x Drained) (sym same) r
+rose_still s t u Drained (Some WantOfMemory) same r = tt
 
 -- ---- the whole
 
@@ -126,7 +128,7 @@ rose_still s t u ahead (Some WantOfMemory) same r = tt
 pub log_closed : (most : ℕ) (Answered Known : List Batch → Type 0) (Halted Stopped : List Batch → List Entry → AnswerError → Type 0) (Closed : List Batch → List ℕ → Type 0) (Short : Type 0) (Closes : List ℕ → Type 0) (a b : At) (s t u : Streams)
     (good : Bool) (fault : Option LogFault) (status : ℕ) → ((batches : List Batch) (text : List ℕ) → Answered batches → Closes text → Closed batches text)
     → ((batches : List Batch) → Answered batches → Short → Stopped batches [] Memory) → good ≡ b.good → u.read_faults ≡ t.read_faults → RunsOut most Answered Halted a b s t (Ok fault)
-    → CloseRan Short Closes t.written u.written t.write_faults u.write_faults status good fault → LogRan most Known Stopped Closed a b.ahead b.left s u status
+    → CloseRan Short Closes t.written u.written t.write_faults u.write_faults status good fault → LogRan most Known Stopped Closed a (b.left ≡ b.source) b.left s u status
 log_closed most Answered Known Halted Stopped Closed Short Closes a b s t u good fault status to_closed to_short same reads r close = record {
   batches = r.batches;
   mid = r.mid;
@@ -135,18 +137,18 @@ log_closed most Answered Known Halted Stopped Closed Short Closes a b s t u good
   good_so = r.good_so;
   so = by_close close;
 } where
-  by_close : CloseRan Short Closes t.written u.written t.write_faults u.write_faults status good fault → EndedSo (Known r.batches) (Stopped r.batches) (Closed r.batches) r.mid b.ahead b.left (texts_in r.batches) s u status
+  by_close : CloseRan Short Closes t.written u.written t.write_faults u.write_faults status good fault → EndedSo (Known r.batches) (Stopped r.batches) (Closed r.batches) r.mid (b.left ≡ b.source) b.left (texts_in r.batches) s u status
   by_close (inl wanting) =
       let stops : StopsNext (Stopped r.batches) r.mid Memory = record { calls = []; next = record { mid = r.mid.passed; mid_left = r.mid.left; read = read_nothing r.mid.passed r.mid.left }; stopped = to_short r.batches r.ends.0 wanting.0 } in
-      memory (Known r.batches) (Stopped r.batches) (Closed r.batches) r.mid b.ahead b.left (texts_in r.batches) s t u status r.stay.write_faults r.ends.4
+      memory (Known r.batches) (Stopped r.batches) (Closed r.batches) r.mid (b.left ≡ b.source) b.left (texts_in r.batches) s t u status r.stay.write_faults r.ends.4
       (inr (inl (record { stop = Memory; stops = stops; says = refl }))) (inr (inl ((Memory, stops), refl))) wanting.1
   by_close (inr closed) =
-      closed_by (Known r.batches) (Stopped r.batches) (Closed r.batches) r.mid b.ahead b.left (texts_in r.batches) s t u status r.stay.write_faults r.ends.4 closed.text good fault
-      (to_closed r.batches closed.text r.ends.0 closed.closed) (same ∙ r.ends.2) r.ends.1 (rose_still s t u b.ahead fault reads r.ends.3) closed.wrote
+      closed_by (Known r.batches) (Stopped r.batches) (Closed r.batches) r.mid (b.left ≡ b.source) b.left (texts_in r.batches) s t u status r.stay.write_faults r.ends.4 closed.text good fault
+      (to_closed r.batches closed.text r.ends.0 closed.closed) (same ∙ r.ends.2) r.ends.1 (rose_still s t u (b.left ≡ b.source) fault reads r.ends.3) closed.wrote
 
 -- it was stopped before the log ended
 pub log_halted : (most : ℕ) (Known : List Batch → Type 0) (Stopped : List Batch → List Entry → AnswerError → Type 0) (Closed : List Batch → List ℕ → Type 0) (a b : At) (s t u : Streams) (stopped : RunError) (status : ℕ)
-    → RunsOut most Known Stopped a b s t (Err stopped) → EndsHalted t.written u.written t.write_faults u.write_faults status stopped → LogRan most Known Stopped Closed a b.ahead b.left s u status
+    → RunsOut most Known Stopped a b s t (Err stopped) → EndsHalted t.written u.written t.write_faults u.write_faults status stopped → LogRan most Known Stopped Closed a (b.left ≡ b.source) b.left s u status
 log_halted most Known Stopped Closed a b s t u error.Sink status r e = record {
   batches = r.batches;
   mid = r.mid;
@@ -167,7 +169,7 @@ log_halted most Known Stopped Closed a b s t u error.Memory status r e = record 
   cut = r.cut;
   read = r.read;
   good_so = r.good_so;
-  so = memory (Known r.batches) (Stopped r.batches) (Closed r.batches) r.mid b.ahead b.left (texts_in r.batches) s t u status r.stay.write_faults r.ends.1 (inl (r.ends.0, inr refl)) (inl (r.ends.0, refl)) e;
+  so = memory (Known r.batches) (Stopped r.batches) (Closed r.batches) r.mid (b.left ≡ b.source) b.left (texts_in r.batches) s t u status r.stay.write_faults r.ends.1 (inl (r.ends.0, inr refl)) (inl (r.ends.0, refl)) e;
 }
 log_halted most Known Stopped Closed a b s t u (error.Stopped stop) status r e = record {
   batches = r.batches;
@@ -175,70 +177,76 @@ log_halted most Known Stopped Closed a b s t u (error.Stopped stop) status r e =
   cut = r.cut;
   read = r.read;
   good_so = r.good_so;
-  so = stopped_by (Known r.batches) (Stopped r.batches) (Closed r.batches) r.mid b.ahead b.left (texts_in r.batches) s t u status r.stay.write_faults r.ends.1 stop r.ends.0 e;
+  so = stopped_by (Known r.batches) (Stopped r.batches) (Closed r.batches) r.mid (b.left ≡ b.source) b.left (texts_in r.batches) s t u status r.stay.write_faults r.ends.1 stop r.ends.0 e;
 }
 
 -- ---- what the source has left, where the log ended or the source failed, is all that is left to the reader
+
+-- at the end of the log nothing is left to the reader, and so nothing of the source
+abbrev pub IsAllAtEnd : Option (List ℕ) → Option (List ℕ) → Type 0
+IsAllAtEnd left source = IsAtEnd left → left ≡ source
 
 none_first : (xs ys : List ℕ) → xs ++ ys ≡ [] → xs ≡ []
 none_first [] ys e = refl
 none_first (x ∷ xs) ys e = absurd (cc)
 
-at_end : (ahead : List ℕ) (left : Option (List ℕ)) → IsAtEnd (prepend_known ahead left) → prepend_known ahead left ≡ left
-at_end ahead None e = refl
-at_end ahead (Some rest) e = ap (λ x. Some (x ++ rest)) (none_first ahead rest e)
+all_by : (ahead : List ℕ) (ended : Bool) (left : Option (List ℕ)) → (ended ≡ true → IsAtEnd left) → IsAllAtEnd (prepend_known ahead (unless_ended ended left)) left
+all_by ahead true None ends end = refl
+all_by ahead false None ends end = refl
+all_by ahead true (Some rest) ends end = ap (λ x. Some (x ++ [])) (none_first ahead [] end) ∙ ap Some (sym (ends refl))
+all_by ahead false (Some rest) ends end = ap (λ x. Some (x ++ rest)) (none_first ahead rest end)
 
-used_up : (ahead : List ℕ) (left : Option (List ℕ)) → ahead ≡ [] → prepend_known ahead left ≡ left
-used_up ahead left e = ap (λ x. prepend_known x left) e ∙ prepend_known-nil left
+pub all_at_end : (reader : LogState) (left : Option (List ℕ)) → (reader.ended ≡ true → IsAtEnd left) → IsAllAtEnd (left_to reader left) left
+all_at_end reader left ends = all_by reader.ahead reader.ended left ends
 
-end_used : (mid : At) (ahead : List ℕ) (left : Option (List ℕ)) (s t : Streams) (line : List ℕ) → MayEnd mid ahead (prepend_known ahead left) s t line → MayEnd mid ahead left s t line
-end_used mid ahead left s t line (inl e) = inl e
-end_used mid ahead left s t line (inr (inl e)) = inr (inl e)
-end_used mid ahead left s t line (inr (inr (inl e))) = inr (inr (inl (e.0, subst (λ x. ReadBehind mid.passed mid.left x (Err Source)) (used_up ahead left e.2.none_ahead) e.1, e.2)))
-end_used mid ahead left s t line (inr (inr (inr e))) = inr (inr (inr e))
+end_used : (mid : At) (left source : Option (List ℕ)) (s t : Streams) (line : List ℕ) → MayEnd mid (left ≡ source) left s t line → MayEnd mid (left ≡ source) source s t line
+end_used mid left source s t line (inl e) = inl e
+end_used mid left source s t line (inr (inl e)) = inr (inl e)
+end_used mid left source s t line (inr (inr (inl e))) = inr (inr (inl (e.0, subst (λ x. ReadBehind mid.passed mid.left x (Err Source)) e.2.drained e.1, e.2)))
+end_used mid left source s t line (inr (inr (inr e))) = inr (inr (inr e))
 
-may_used : (Known : Type 0) (Stopped : List Entry → AnswerError → Type 0) (Closed : List ℕ → Type 0) (mid : At) (ahead : List ℕ) (left : Option (List ℕ)) (s t : Streams) (line : List ℕ)
-    → MayStand Known Stopped Closed (MayEnd mid ahead (prepend_known ahead left) s t) mid line → MayStand Known Stopped Closed (MayEnd mid ahead left s t) mid line
-may_used Known Stopped Closed mid ahead left s t line (inl k) = inl k
-may_used Known Stopped Closed mid ahead left s t line (inr (inl n)) = inr (inl n)
-may_used Known Stopped Closed mid ahead left s t line (inr (inr c)) =
-    inr (inr (record { text = c.text; end = c.end; closed = c.closed; may_end = end_used mid ahead left s t c.end c.may_end; says = c.says }))
+may_used : (Known : Type 0) (Stopped : List Entry → AnswerError → Type 0) (Closed : List ℕ → Type 0) (mid : At) (left source : Option (List ℕ)) (s t : Streams) (line : List ℕ)
+    → MayStand Known Stopped Closed (MayEnd mid (left ≡ source) left s t) mid line → MayStand Known Stopped Closed (MayEnd mid (left ≡ source) source s t) mid line
+may_used Known Stopped Closed mid left source s t line (inl k) = inl k
+may_used Known Stopped Closed mid left source s t line (inr (inl n)) = inr (inl n)
+may_used Known Stopped Closed mid left source s t line (inr (inr c)) =
+    inr (inr (record { text = c.text; end = c.end; closed = c.closed; may_end = end_used mid left source s t c.end c.may_end; says = c.says }))
 
-so_used : (Known : Type 0) (Stopped : List Entry → AnswerError → Type 0) (Closed : List ℕ → Type 0) (mid : At) (ahead : List ℕ) (left : Option (List ℕ)) (lines : List ℕ) (s t : Streams) (status : ℕ)
-    → EndedSo Known Stopped Closed mid ahead (prepend_known ahead left) lines s t status → EndedSo Known Stopped Closed mid ahead left lines s t status
-so_used Known Stopped Closed mid ahead left lines s t status (inl e) = inl (record {
+so_used : (Known : Type 0) (Stopped : List Entry → AnswerError → Type 0) (Closed : List ℕ → Type 0) (mid : At) (left source : Option (List ℕ)) (lines : List ℕ) (s t : Streams) (status : ℕ)
+    → IsAllAtEnd left source → EndedSo Known Stopped Closed mid (left ≡ source) left lines s t status → EndedSo Known Stopped Closed mid (left ≡ source) source lines s t status
+so_used Known Stopped Closed mid left source lines s t status all (inl e) = inl (record {
   text = e.text;
   closed = e.closed;
-  behind = subst (λ x. ReadBehind mid.passed mid.left x (Ok None)) (at_end ahead left e.behind.reads.ended) e.behind;
+  behind = subst (λ x. ReadBehind mid.passed mid.left x (Ok None)) (all e.behind.reads.ended) e.behind;
   reported = e.reported;
   said = e.said;
 })
-so_used Known Stopped Closed mid ahead left lines s t status (inr (inl e)) = inr (inl e)
-so_used Known Stopped Closed mid ahead left lines s t status (inr (inr (inl e))) = inr (inr (inl (record {
+so_used Known Stopped Closed mid left source lines s t status all (inr (inl e)) = inr (inl e)
+so_used Known Stopped Closed mid left source lines s t status all (inr (inr (inl e))) = inr (inr (inl (record {
   text = e.text;
   closed = e.closed;
-  behind = subst (λ x. ReadBehind mid.passed mid.left x (Err Source)) (used_up ahead left e.failed.none_ahead) e.behind;
+  behind = subst (λ x. ReadBehind mid.passed mid.left x (Err Source)) e.failed.drained e.behind;
   failed = e.failed;
   reported = e.reported;
   said = e.said;
 })))
-so_used Known Stopped Closed mid ahead left lines s t status (inr (inr (inr (inl e)))) = inr (inr (inr (inl e)))
-so_used Known Stopped Closed mid ahead left lines s t status (inr (inr (inr (inr (inl e))))) = inr (inr (inr (inr (inl e))))
-so_used Known Stopped Closed mid ahead left lines s t status (inr (inr (inr (inr (inr e))))) = inr (inr (inr (inr (inr (record {
+so_used Known Stopped Closed mid left source lines s t status all (inr (inr (inr (inl e)))) = inr (inr (inr (inl e)))
+so_used Known Stopped Closed mid left source lines s t status all (inr (inr (inr (inr (inl e))))) = inr (inr (inr (inr (inl e))))
+so_used Known Stopped Closed mid left source lines s t status all (inr (inr (inr (inr (inr e))))) = inr (inr (inr (inr (inr (record {
   line = e.line;
-  may = may_used Known Stopped Closed mid ahead left s t e.line e.may;
+  may = may_used Known Stopped Closed mid left source s t e.line e.may;
   rose = e.rose;
   front = e.front;
   said = e.said;
 })))))
 
-pub log_used : (most : ℕ) (Known : List Batch → Type 0) (Stopped : List Batch → List Entry → AnswerError → Type 0) (Closed : List Batch → List ℕ → Type 0) (a : At) (ahead : List ℕ) (left : Option (List ℕ)) (s t : Streams) (status : ℕ)
-    → LogRan most Known Stopped Closed a ahead (prepend_known ahead left) s t status → LogRan most Known Stopped Closed a ahead left s t status
-log_used most Known Stopped Closed a ahead left s t status r = record {
+pub log_used : (most : ℕ) (Known : List Batch → Type 0) (Stopped : List Batch → List Entry → AnswerError → Type 0) (Closed : List Batch → List ℕ → Type 0) (a : At) (left source : Option (List ℕ)) (s t : Streams) (status : ℕ)
+    → IsAllAtEnd left source → LogRan most Known Stopped Closed a (left ≡ source) left s t status → LogRan most Known Stopped Closed a (left ≡ source) source s t status
+log_used most Known Stopped Closed a left source s t status all r = record {
   batches = r.batches;
   mid = r.mid;
   cut = r.cut;
   read = r.read;
   good_so = r.good_so;
-  so = so_used (Known r.batches) (Stopped r.batches) (Closed r.batches) r.mid ahead left (texts_in r.batches) s t status r.so;
+  so = so_used (Known r.batches) (Stopped r.batches) (Closed r.batches) r.mid left source (texts_in r.batches) s t status all r.so;
 }

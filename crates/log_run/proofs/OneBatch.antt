@@ -44,11 +44,11 @@ unread_stopped most Known Stopped first before now s t known stay wrote = record
 -- fewer than all were read, and none of them is there
 pub none_ran : (most : ℕ) (Known : List Batch → Type 0) (Stopped : List Batch → List Entry → AnswerError → Type 0) (first : List Batch) (before now : At) (s t : Streams) (next : Next) (calls : List Entry)
     → Known first → 1 ≤ most → ReadBatch {E = AllocError} most before.passed before.left now.left now.passed calls (Ok next) → calls ≡ [] → now.good ≡ before.good
-    → (◌≡◌ {A = Result Next AllocError} (Ok next) (Ok (Fault Source)) → SourceFailed s.read_faults t.read_faults now.ahead) → StreamsStay s t → Appends s.written t.written [] → RanBatch most Known Stopped first before now s t (Ok next)
+    → (◌≡◌ {A = Result Next AllocError} (Ok next) (Ok (Fault Source)) → SourceFailed s.read_faults t.read_faults (now.left ≡ now.source)) → StreamsStay s t → Appends s.written t.written [] → RanBatch most Known Stopped first before now s t (Ok next)
 none_ran most Known Stopped first before now s t More calls known some r none good rose stay wrote = absurd (omega (arith, r.full, ap length none, some))
 none_ran most Known Stopped first before now s t Whole calls known some r none good rose stay wrote = record {
   batches = [];
-  mid = record { passed = r.mid; ahead = now.ahead; left = r.mid_left; good = before.good };
+  mid = record { passed = r.mid; source = now.source; left = r.mid_left; good = before.good };
   cut = tt;
   read = subst (ReadCalls before.passed before.left r.mid_left r.mid) none r.read;
   good_so = and_true before.good;
@@ -57,11 +57,11 @@ none_ran most Known Stopped first before now s t Whole calls known some r none g
 }
 none_ran most Known Stopped first before now s t (Fault fault) calls known some r none good rose stay wrote = record {
   batches = [];
-  mid = record { passed = r.mid; ahead = now.ahead; left = r.mid_left; good = before.good };
+  mid = record { passed = r.mid; source = now.source; left = r.mid_left; good = before.good };
   cut = tt;
   read = subst (ReadCalls before.passed before.left r.mid_left r.mid) none r.read;
   good_so = and_true before.good;
-  ends = (none_more Known first known, r.behind, good, source_rose s t now.ahead fault (λ e. rose (ap (λ x. Ok (Fault x)) e)), wrote);
+  ends = (none_more Known first known, r.behind, good, source_rose s t (now.left ≡ now.source) fault (λ e. rose (ap (λ x. Ok (Fault x)) e)), wrote);
   stay = stay;
 }
 
@@ -75,7 +75,7 @@ one_calls before left left_now now calls r = subst (ReadCalls before left left_n
 
 pub all_ran : (most : ℕ) (Known : List Batch → Type 0) (Stopped : List Batch → List Entry → AnswerError → Type 0) (first : List Batch) (before now : At) (s t : Streams) (next : Next) (calls : List Entry) (answer : BatchAnswerView)
     → ReadBatch {E = AllocError} most before.passed before.left now.left now.passed calls (Ok next) → 0 < length calls → Known (first ++ batch_of calls answer ∷ []) → now.good ≡ (before.good && answer.well)
-    → (◌≡◌ {A = Result Next AllocError} (Ok next) (Ok (Fault Source)) → SourceFailed s.read_faults t.read_faults now.ahead) → StreamsStay s t → Appends s.written t.written answer.text → RanBatch most Known Stopped first before now s t (Ok next)
+    → (◌≡◌ {A = Result Next AllocError} (Ok next) (Ok (Fault Source)) → SourceFailed s.read_faults t.read_faults (now.left ≡ now.source)) → StreamsStay s t → Appends s.written t.written answer.text → RanBatch most Known Stopped first before now s t (Ok next)
 all_ran most Known Stopped first before now s t More calls answer r some known good rose stay wrote = record {
   batches = batch_of calls answer ∷ [];
   known = known;
@@ -87,7 +87,7 @@ all_ran most Known Stopped first before now s t More calls answer r some known g
 }
 all_ran most Known Stopped first before now s t Whole calls answer r some known good rose stay wrote = record {
   batches = batch_of calls answer ∷ [];
-  mid = record { passed = r.mid; ahead = now.ahead; left = r.mid_left; good = now.good };
+  mid = record { passed = r.mid; source = now.source; left = r.mid_left; good = now.good };
   cut = (omega (arith, some), omega (arith, r.few));
   read = one_calls before.passed before.left r.mid_left r.mid calls r.read;
   good_so = one_good before.good answer calls now.good good;
@@ -96,11 +96,11 @@ all_ran most Known Stopped first before now s t Whole calls answer r some known 
 }
 all_ran most Known Stopped first before now s t (Fault fault) calls answer r some known good rose stay wrote = record {
   batches = batch_of calls answer ∷ [];
-  mid = record { passed = r.mid; ahead = now.ahead; left = r.mid_left; good = now.good };
+  mid = record { passed = r.mid; source = now.source; left = r.mid_left; good = now.good };
   cut = (omega (arith, some), omega (arith, r.few));
   read = one_calls before.passed before.left r.mid_left r.mid calls r.read;
   good_so = one_good before.good answer calls now.good good;
-  ends = (known, r.behind, refl, source_rose s t now.ahead fault (λ e. rose (ap (λ x. Ok (Fault x)) e)), one_text answer.text (Appends s.written t.written) wrote);
+  ends = (known, r.behind, refl, source_rose s t (now.left ≡ now.source) fault (λ e. rose (ap (λ x. Ok (Fault x)) e)), one_text answer.text (Appends s.written t.written) wrote);
   stay = stay;
 }
 
@@ -113,7 +113,7 @@ sink_ran most Known Stopped first before now s t next calls answer r some known 
     let c = calls_read most before.passed now.passed before.left now.left calls next r in
     record {
       batches = batch_of calls answer ∷ [];
-      mid = record { passed = c.mid; ahead = now.ahead; left = c.mid_left; good = now.good };
+      mid = record { passed = c.mid; source = now.source; left = c.mid_left; good = now.good };
       cut = (omega (arith, some), few_read most before.passed now.passed before.left now.left calls next r);
       read = one_calls before.passed before.left c.mid_left c.mid calls c.read;
       good_so = one_good before.good answer calls now.good good;
@@ -142,7 +142,7 @@ stop_ran most Known Stopped first before now s t next calls stop r stopped stay 
 
 pub answers_ran : (most : ℕ) (Known : List Batch → Type 0) (Stopped : List Batch → List Entry → AnswerError → Type 0) (May : BatchAnswerView → Type 0) (first : List Batch) (before now : At) (s t : Streams) (next : Next) (calls : List Entry)
     → ((answer : BatchAnswerView) → May answer → Known (first ++ batch_of calls answer ∷ [])) → ReadBatch {E = AllocError} most before.passed before.left now.left now.passed calls (Ok next) → 0 < length calls
-    → (◌≡◌ {A = Result Next AllocError} (Ok next) (Ok (Fault Source)) → SourceFailed s.read_faults t.read_faults now.ahead) → StreamsStay s t → Answers May before.good now.good (λ lines. Appends s.written t.written lines)
+    → (◌≡◌ {A = Result Next AllocError} (Ok next) (Ok (Fault Source)) → SourceFailed s.read_faults t.read_faults (now.left ≡ now.source)) → StreamsStay s t → Answers May before.good now.good (λ lines. Appends s.written t.written lines)
     → RanBatch most Known Stopped first before now s t (Ok next)
 answers_ran most Known Stopped May first before now s t next calls to r some rose stay a =
     all_ran most Known Stopped first before now s t next calls a.answer r some (to a.answer a.may) a.so rose stay a.wrote

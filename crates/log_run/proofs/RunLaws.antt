@@ -26,20 +26,20 @@ front_behind a b c text more p f = record {
 }
 
 -- the source failed only where its count rose
-pub source_rose : (s t : Streams) (ahead : List ℕ) (fault : LogFault) → (fault ≡ Source → SourceFailed s.read_faults t.read_faults ahead) → SourceRose s t ahead (Some fault)
-source_rose s t ahead (Grammar place) r = tt
-source_rose s t ahead (Backward place) r = tt
-source_rose s t ahead (Many place) r = tt
-source_rose s t ahead Source r = r refl
-source_rose s t ahead Memory r = tt
+pub source_rose : (s t : Streams) (Drained : Type 0) (fault : LogFault) → (fault ≡ Source → SourceFailed s.read_faults t.read_faults Drained) → SourceRose s t Drained (Some fault)
+source_rose s t Drained (Grammar place) r = tt
+source_rose s t Drained (Backward place) r = tt
+source_rose s t Drained (Many place) r = tt
+source_rose s t Drained Source r = r refl
+source_rose s t Drained Memory r = tt
 
-pub source_behind : (a b c : Streams) (ahead : List ℕ) (fault : Option LogFault) → StreamsStay a b → SourceRose b c ahead fault → SourceRose a c ahead fault
-source_behind a b c ahead None s r = tt
-source_behind a b c ahead (Some (Grammar place)) s r = tt
-source_behind a b c ahead (Some (Backward place)) s r = tt
-source_behind a b c ahead (Some (Many place)) s r = tt
-source_behind a b c ahead (Some Source) s r = record { rose = λ e. omega (arith, s.read_faults, r.rose e); none_ahead = r.none_ahead }
-source_behind a b c ahead (Some Memory) s r = tt
+pub source_behind : (a b c : Streams) (Drained : Type 0) (fault : Option LogFault) → StreamsStay a b → SourceRose b c Drained fault → SourceRose a c Drained fault
+source_behind a b c Drained None s r = tt
+source_behind a b c Drained (Some (Grammar place)) s r = tt
+source_behind a b c Drained (Some (Backward place)) s r = tt
+source_behind a b c Drained (Some (Many place)) s r = tt
+source_behind a b c Drained (Some Source) s r = record { rose = λ e. omega (arith, s.read_faults, r.rose e); drained = r.drained }
+source_behind a b c Drained (Some Memory) s r = tt
 
 pub stay_both : (a b c : Streams) → StreamsStay a b → StreamsStay b c → StreamsStay a c
 stay_both a b c s t = record { read_faults = omega (arith, s.read_faults, t.read_faults); write_faults = omega (arith, s.write_faults, t.write_faults) }
@@ -78,7 +78,7 @@ ended_behind Known Stopped mid now xs ys s t u (Ok fault) stay wrote e = (
   e.0,
   e.1,
   e.2,
-  source_behind s t u now.ahead fault stay e.3,
+  source_behind s t u (now.left ≡ now.source) fault stay e.3,
   subst (Appends s.written u.written) (sym (texts_both xs ys)) (Appends-trans s.written t.written u.written (texts_in xs) (texts_in ys) wrote e.4),
 )
 ended_behind Known Stopped mid now xs ys s t u (Err error.Sink) stay wrote e = (

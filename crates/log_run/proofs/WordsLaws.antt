@@ -1,5 +1,5 @@
 -- The promises of a run in the words of its command, from how it ended.
-use Rattle.std.proofs.Common.{◌≡◌, ◌≢◌, ℕ, ◌≤◌, ◌⊎◌, inl, inr, Bool, true, false, ◌&&◌, List, [], ◌++◌, Option, Some, None, IfSome, Ok, Err, string_bytes, refl, sym, ◌∙◌, ap, subst, arith}
+use Rattle.std.proofs.Common.{false, ◌≡◌, ◌≢◌, ℕ, ◌≤◌, ◌⊎◌, inl, inr, Bool, true, false, ◌&&◌, List, [], ◌++◌, Option, Some, None, IfSome, Ok, Err, string_bytes, refl, sym, ◌∙◌, ap, subst, arith}
 use Rattle.std.specs.declared.alloc.Global.{Global}
 use Rattle.std.specs.declared.string.String.{String}
 use Rattle.std.proofs.KnownBytes.{Consumes-trans, prepend_known-nil}
@@ -54,7 +54,7 @@ low_status false = omega arith
 
 -- ---- of batches that were read, and what came then
 
-module _ (words : Words) (Known : List Batch → Type 0) (Stopped : List Batch → List Entry → AnswerError → Type 0) (Closed : List Batch → List ℕ → Type 0) (passed : Passed) (left left_now : Option (List ℕ)) (ahead_now : List ℕ)
+module _ (words : Words) (Known : List Batch → Type 0) (Stopped : List Batch → List Entry → AnswerError → Type 0) (Closed : List Batch → List ℕ → Type 0) (passed : Passed) (left left_now : Option (List ℕ)) (Drained : Type 0)
     (s t : Streams) (status : ℕ) (speaks : Speaks words passed Known Stopped Closed) (batches : List Batch) (mid : At) (cut : IsCut words.most batches) (read : ReadCalls passed left mid.left mid.passed (calls_in batches))
     (good_so : mid.good ≡ (true && all_well batches)) where
   abbrev before : RunState
@@ -135,7 +135,7 @@ module _ (words : Words) (Known : List Batch → Type 0) (Stopped : List Batch �
     reported = e.reported;
   }
 
-  failed_of : EndedFailed (Closed batches) mid ahead_now left_now (texts_in batches) s t status → FailedReport words passed before now
+  failed_of : EndedFailed (Closed batches) mid Drained left_now (texts_in batches) s t status → FailedReport words passed before now
   failed_of e = record {
     batches = batches;
     answered = first_by (speaks.closed batches e.text are e.closed);
@@ -172,7 +172,7 @@ module _ (words : Words) (Known : List Batch → Type 0) (Stopped : List Batch �
   -- the sink failed
 
   abbrev May : List ℕ → Type 0
-  May line = MayEnd mid ahead_now left_now s t line
+  May line = MayEnd mid Drained left_now s t line
 
   end_of : (line : List ℕ) → May line → MayEndWith passed before now (calls_in batches) line
   end_of line (inl none) = inl none
@@ -212,7 +212,7 @@ module _ (words : Words) (Known : List Batch → Type 0) (Stopped : List Batch �
   -- ---- by how it ended
 
   abbrev Ended : Type 0
-  Ended = EndedSo (Known batches) (Stopped batches) (Closed batches) mid ahead_now left_now (texts_in batches) s t status
+  Ended = EndedSo (Known batches) (Stopped batches) (Closed batches) mid Drained left_now (texts_in batches) s t status
 
   says_by : OneLog → Ended → LogSays words passed before now status
   says_by law (inl e) = record {
@@ -290,18 +290,18 @@ module _ (words : Words) (Known : List Batch → Type 0) (Stopped : List Batch �
 
 -- ---- the whole
 
-pub log_says : OneLog → (words : Words) (Known : List Batch → Type 0) (Stopped : List Batch → List Entry → AnswerError → Type 0) (Closed : List Batch → List ℕ → Type 0) (passed : Passed) (ahead ahead_now : List ℕ) (left left_now : Option (List ℕ)) (s t : Streams)
-    (status : ℕ) → Speaks words passed Known Stopped Closed → LogRan words.most Known Stopped Closed (at passed ahead left true) ahead_now left_now s t status → LogSays words passed (run_state left s) (run_state left_now t) status
-log_says law words Known Stopped Closed passed ahead ahead_now left left_now s t status speaks r =
-    says_by words Known Stopped Closed passed left left_now ahead_now s t status speaks r.batches r.mid r.cut r.read r.good_so law r.so
+pub log_says : OneLog → (words : Words) (Known : List Batch → Type 0) (Stopped : List Batch → List Entry → AnswerError → Type 0) (Closed : List Batch → List ℕ → Type 0) (passed : Passed) (source : Option (List ℕ)) (Drained : Type 0) (left left_now : Option (List ℕ)) (s t : Streams)
+    (status : ℕ) → Speaks words passed Known Stopped Closed → LogRan words.most Known Stopped Closed (at passed source left true) Drained left_now s t status → LogSays words passed (run_state left s) (run_state left_now t) status
+log_says law words Known Stopped Closed passed source Drained left left_now s t status speaks r =
+    says_by words Known Stopped Closed passed left left_now Drained s t status speaks r.batches r.mid r.cut r.read r.good_so law r.so
 
 -- from a reader at the beginning of a log
-first_at : (left : Option (List ℕ)) (reader : LogState) → reader ≡ record { passed = start 0 0; ahead = []; fault = None } → at reader.passed reader.ahead (left_to reader left) true ≡ at (start 0 0) [] left true
-first_at left reader new = λ i. at (ap (λ (x : LogState). x.passed) new i) (ap (λ (x : LogState). x.ahead) new i) ((ap (λ (x : LogState). left_to x left) new ∙ prepend_known-nil left) i) true
+first_at : (left : Option (List ℕ)) (reader : LogState) → reader ≡ record { passed = start 0 0; ahead = []; ended = false; fault = None } → at reader.passed left (left_to reader left) true ≡ at (start 0 0) left left true
+first_at left reader new = λ i. at (ap (λ (x : LogState). x.passed) new i) left ((ap (λ (x : LogState). left_to x left) new ∙ prepend_known-nil left) i) true
 
-pub first_says : OneLog → (words : Words) (Known : List Batch → Type 0) (Stopped : List Batch → List Entry → AnswerError → Type 0) (Closed : List Batch → List ℕ → Type 0) (reader : LogState) (ahead_now : List ℕ) (left left_now : Option (List ℕ)) (s t : Streams)
-    (status : ℕ) → reader ≡ record { passed = start 0 0; ahead = []; fault = None } → Speaks words (start 0 0) Known Stopped Closed
-    → LogRan words.most Known Stopped Closed (at reader.passed reader.ahead (left_to reader left) true) ahead_now left_now s t status → LogSays words (start 0 0) (run_state left s) (run_state left_now t) status
-first_says law words Known Stopped Closed reader ahead_now left left_now s t status new speaks r =
-    log_says law words Known Stopped Closed (start 0 0) [] ahead_now left left_now s t status speaks
-    (subst (λ (x : At). LogRan words.most Known Stopped Closed x ahead_now left_now s t status) (first_at left reader new) r)
+pub first_says : OneLog → (words : Words) (Known : List Batch → Type 0) (Stopped : List Batch → List Entry → AnswerError → Type 0) (Closed : List Batch → List ℕ → Type 0) (reader : LogState) (Drained : Type 0) (left left_now : Option (List ℕ)) (s t : Streams)
+    (status : ℕ) → reader ≡ record { passed = start 0 0; ahead = []; ended = false; fault = None } → Speaks words (start 0 0) Known Stopped Closed
+    → LogRan words.most Known Stopped Closed (at reader.passed left (left_to reader left) true) Drained left_now s t status → LogSays words (start 0 0) (run_state left s) (run_state left_now t) status
+first_says law words Known Stopped Closed reader Drained left left_now s t status new speaks r =
+    log_says law words Known Stopped Closed (start 0 0) left Drained left left_now s t status speaks
+    (subst (λ (x : At). LogRan words.most Known Stopped Closed x Drained left_now s t status) (first_at left reader new) r)

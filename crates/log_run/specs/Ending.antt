@@ -100,9 +100,9 @@ EndsHalted written written_now writes writes_now result (error.Stopped stop) = E
 -- ---- the whole
 
 -- a line that may stand after the report and its closing text, with its cause
-abbrev pub MayEnd : At → List ℕ → Option (List ℕ) → Streams → Streams → List ℕ → Type 0
-MayEnd mid ahead left_now outside outside_now line = (line ≡ []) ⊎ ((line ≡ memory_line)
-    ⊎ (((line ≡ failed_line) × ReadBehind mid.passed mid.left left_now (Err Source) × SourceFailed outside.read_faults outside_now.read_faults ahead)
+abbrev pub MayEnd : At → Type 0 → Option (List ℕ) → Streams → Streams → List ℕ → Type 0
+MayEnd mid Drained left_now outside outside_now line = (line ≡ []) ⊎ ((line ≡ memory_line)
+    ⊎ (((line ≡ failed_line) × ReadBehind mid.passed mid.left left_now (Err Source) × SourceFailed outside.read_faults outside_now.read_faults Drained)
     ⊎ ((place : ℕ) × (line ≡ refused_line place) × FaultyAt mid.passed mid.left place)))
 
 -- what is to be written of a stop
@@ -150,11 +150,11 @@ pub record EndedFaulty (Closed : List ℕ → Type 0) (mid : At) (lines : List �
   pub said : status ≡ 5
 
 -- 3: the source failed
-pub record EndedFailed (Closed : List ℕ → Type 0) (mid : At) (ahead_now : List ℕ) (left_now : Option (List ℕ)) (lines : List ℕ) (outside outside_now : Streams) (status : ℕ) : Type 0 where
+pub record EndedFailed (Closed : List ℕ → Type 0) (mid : At) (Drained : Type 0) (left_now : Option (List ℕ)) (lines : List ℕ) (outside outside_now : Streams) (status : ℕ) : Type 0 where
   pub text : List ℕ
   pub closed : Closed text
   pub behind : ReadBehind mid.passed mid.left left_now (Err Source)
-  pub failed : SourceFailed outside.read_faults outside_now.read_faults ahead_now
+  pub failed : SourceFailed outside.read_faults outside_now.read_faults Drained
   pub reported : Appends outside.written outside_now.written (lines ++ (text ++ failed_line))
   pub said : status ≡ 3
 
@@ -181,18 +181,18 @@ pub record EndedFront (May : List ℕ → Type 0) (lines : List ℕ) (outside ou
   pub front : AppendsFront outside.written outside_now.written (lines ++ line)
   pub said : status ≡ 4
 
-abbrev pub EndedSo : Type 0 → (List Entry → AnswerError → Type 0) → (List ℕ → Type 0) → At → List ℕ → Option (List ℕ) → List ℕ → Streams → Streams → ℕ → Type 0
-EndedSo Known Stopped Closed mid ahead_now left_now lines outside outside_now status =
-    EndedWhole Closed mid left_now lines outside outside_now status ⊎ (EndedFaulty Closed mid lines outside outside_now status ⊎ (EndedFailed Closed mid ahead_now left_now lines outside outside_now status
+abbrev pub EndedSo : Type 0 → (List Entry → AnswerError → Type 0) → (List ℕ → Type 0) → At → Type 0 → Option (List ℕ) → List ℕ → Streams → Streams → ℕ → Type 0
+EndedSo Known Stopped Closed mid Drained left_now lines outside outside_now status =
+    EndedWhole Closed mid left_now lines outside outside_now status ⊎ (EndedFaulty Closed mid lines outside outside_now status ⊎ (EndedFailed Closed mid Drained left_now lines outside outside_now status
     ⊎ (EndedStopped Stopped mid lines outside outside_now status ⊎ (EndedShort (MayBeShort Known Stopped Closed mid) lines outside outside_now status
-    ⊎ EndedFront (MayStand Known Stopped Closed (MayEnd mid ahead_now left_now outside outside_now) mid) lines outside outside_now status))))
+    ⊎ EndedFront (MayStand Known Stopped Closed (MayEnd mid Drained left_now outside outside_now) mid) lines outside outside_now status))))
 
 -- batches of the log were answered and their lines written, and then the run ended in one of these ways
-pub record LogRan (most : ℕ) (Known : List Batch → Type 0) (Stopped : List Batch → List Entry → AnswerError → Type 0) (Closed : List Batch → List ℕ → Type 0) (before : At) (ahead_now : List ℕ) (left_now : Option (List ℕ))
+pub record LogRan (most : ℕ) (Known : List Batch → Type 0) (Stopped : List Batch → List Entry → AnswerError → Type 0) (Closed : List Batch → List ℕ → Type 0) (before : At) (Drained : Type 0) (left_now : Option (List ℕ))
     (outside outside_now : Streams) (status : ℕ) : Type 0 where
   pub batches : List Batch
   pub mid : At
   pub cut : IsCut most batches
   pub read : ReadCalls before.passed before.left mid.left mid.passed (calls_in batches)
   pub good_so : mid.good ≡ (before.good && all_well batches)
-  pub so : EndedSo (Known batches) (Stopped batches) (Closed batches) mid ahead_now left_now (texts_in batches) outside outside_now status
+  pub so : EndedSo (Known batches) (Stopped batches) (Closed batches) mid Drained left_now (texts_in batches) outside outside_now status

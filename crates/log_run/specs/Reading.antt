@@ -28,10 +28,10 @@ pub record CallsRead (passed : Passed) (left : Option (List ℕ)) (calls : List 
   pub mid_left : Option (List ℕ)
   pub read : ReadCalls passed left mid_left mid calls
 
--- the source failed, and no byte that was taken of it is left to the reader
-pub record SourceFailed (faults faults_now : ℕ) (ahead_now : List ℕ) : Type 0 where
+-- the source failed, and what is left to the reader is what the source has left
+pub record SourceFailed (faults faults_now : ℕ) (Drained : Type 0) : Type 0 where
   pub rose : Rose faults faults_now
-  pub none_ahead : ahead_now ≡ []
+  pub drained : Drained
 
 -- nothing of the log was at fault, and the numbers leave room for all calls that may follow
 pub record ReadsOn (reader : LogState) : Type 0 where

@@ -17,19 +17,19 @@ use Rattle.stir_outside.specs.Count.{Rose}
 use Rattle.stir_outside.specs.Told.{AppendsFront}
 use Rattle.stir_outside.specs.declared.source.Source.{Ghosts as SourceOf}
 
--- how far a run has come: how far the log was read, the bytes that the reader has ahead, what is left to it, and whether all is well so far
+-- how far a run has come: how far the log was read, what the source has left, what is left to the reader, and whether all is well so far
 pub record At : Type 0 where
   pub passed : Passed
-  pub ahead : List ℕ
+  pub source : Option (List ℕ)
   pub left : Option (List ℕ)
   pub good : Bool
 
-abbrev pub at : Passed → List ℕ → Option (List ℕ) → Bool → At
-at passed ahead left good = record { passed = passed; ahead = ahead; left = left; good = good }
+abbrev pub at : Passed → Option (List ℕ) → Option (List ℕ) → Bool → At
+at passed source left good = record { passed = passed; source = source; left = left; good = good }
 
 -- of a reader and its source
 abbrev pub at_of : {I : Type 0} → SourceOf I → Bool → LogState → I → At
-at_of bytes good reader input = at reader.passed reader.ahead (left_to reader (bytes.left input)) good
+at_of bytes good reader input = at reader.passed (bytes.left input) (left_to reader (bytes.left input)) good
 
 -- full batches were read and answered, and their lines written
 pub record RunsOn (most : ℕ) (Known : List Batch → Type 0) (before now : At) (outside outside_now : Streams) : Type 0 where
@@ -54,7 +54,7 @@ pub record StopsNext (Stopped : List Entry → AnswerError → Type 0) (mid : At
 -- why it ended after these batches, and what was written of them
 abbrev pub EndedBy : (Known : Type 0) → (List Entry → AnswerError → Type 0) → At → At → List ℕ → Streams → Streams → RunEnd → Type 0
 EndedBy Known Stopped mid now text outside outside_now (Ok fault) =
-    Known × BehindBy {X = RunError} mid.passed mid.left now.left (Ok fault) × (now.good ≡ mid.good) × SourceRose outside outside_now now.ahead fault × Appends outside.written outside_now.written text
+    Known × BehindBy {X = RunError} mid.passed mid.left now.left (Ok fault) × (now.good ≡ mid.good) × SourceRose outside outside_now (now.left ≡ now.source) fault × Appends outside.written outside_now.written text
 EndedBy Known Stopped mid now text outside outside_now (Err error.Sink) = Known × Rose outside.write_faults outside_now.write_faults × AppendsFront outside.written outside_now.written text
 EndedBy Known Stopped mid now text outside outside_now (Err error.Memory) = Known × Appends outside.written outside_now.written text
 EndedBy Known Stopped mid now text outside outside_now (Err (error.Stopped stop)) = StopsNext Stopped mid stop × Appends outside.written outside_now.written text

@@ -31,11 +31,11 @@ BehindBy passed left left_now (Ok None) = ReadBehind passed left left_now (Ok No
 BehindBy passed left left_now (Ok (Some fault)) = ReadBehind passed left left_now (Err fault)
 BehindBy passed left left_now (Err stopped) = ⊤
 
--- the source failed where that ended the log
-abbrev pub SourceRose : Streams → Streams → List ℕ → Option LogFault → Type 0
-SourceRose before now ahead None = ⊤
-SourceRose before now ahead (Some (Grammar place)) = ⊤
-SourceRose before now ahead (Some (Backward place)) = ⊤
-SourceRose before now ahead (Some (Many place)) = ⊤
-SourceRose before now ahead (Some Source) = SourceFailed before.read_faults now.read_faults ahead
-SourceRose before now ahead (Some Memory) = ⊤
+-- the source failed where that ended the log, and then this holds besides
+abbrev pub SourceRose : Streams → Streams → Type 0 → Option LogFault → Type 0
+SourceRose before now Drained None = ⊤
+SourceRose before now Drained (Some (Grammar place)) = ⊤
+SourceRose before now Drained (Some (Backward place)) = ⊤
+SourceRose before now Drained (Some (Many place)) = ⊤
+SourceRose before now Drained (Some Source) = SourceFailed before.read_faults now.read_faults Drained
+SourceRose before now Drained (Some Memory) = ⊤

@@ -1,5 +1,6 @@
 //! The batches of a log: each is read, answered and written of before the next.
 ghost use Rattle.std.specs.Prelude.{◌≡◌, ◌+◌, ◌≤◌, ◌<◌, [], length, Ok, IfOk};
+ghost use Rattle.call_log.specs.Supply.{EndsRight, supply_of};
 ghost use Rattle.log_run.specs.Commands.{Adds, Follow, From, StandsOn, Stops};
 ghost use Rattle.log_run.specs.Running.{AnsweredBatch, RanBatch, RunsOut, at_of};
 ghost use Rattle.log_run.specs.declared.ends.Next.TheVariants.{More};
@@ -71,6 +72,7 @@ fn run_batch<R: Threads + Sync, C: LogCommand, S: Shelf, I: Source, O: Sink>(
     ensures more { result ≡ Ok More → reader.new.passed.count ≡ reader.old.passed.count + C.most command.old }
     ensures some { 0 < C.most command.old }
     ensures same_most { C.most command.new ≡ C.most command.old }
+    ensures ends { EndsRight (supply_of I.Source reader.old.ended input.old) → EndsRight (supply_of I.Source reader.new.ended input.new) }
     ensures shelf { ShelfStays S.Shelf shelf.old shelf.new }
 {
     let mut calls = Vec::new(alloc);
@@ -108,6 +110,7 @@ pub(crate) fn run_batches<R: Threads + Sync, C: LogCommand, S: Shelf, I: Source,
         (at_of I.Source all_good.new reader.new input.new)
         (streams_of I.Source O.Sink input.old sink.old)
         (streams_of I.Source O.Sink input.new sink.new) result }
+    ensures ends { EndsRight (supply_of I.Source reader.old.ended input.old) → EndsRight (supply_of I.Source reader.new.ended input.new) }
     ensures shelf { ShelfStays S.Shelf shelf.old shelf.new }
 {
     'batches: loop {

@@ -2,6 +2,7 @@
 ghost use Rattle.std.specs.Prelude.{◌≡◌, ◌+◌, ◌≤◌, ◌<◌, [], Ok, Err, None, IfOk};
 ghost use Rattle.call_log.specs.Entry.{most_entries};
 ghost use Rattle.call_log.specs.Reads.{Moves, left_to};
+ghost use Rattle.call_log.specs.Supply.{EndsRight, supply_of};
 ghost use Rattle.log_run.specs.Reading.{ReadBatch, ReadBehind, ReadsOn, SourceFailed};
 ghost use Rattle.log_run.specs.declared.ends.Next.TheVariants.{More, Fault};
 
@@ -17,7 +18,9 @@ fn next_call<I: Source>(reader: &mut LogReader, input: &mut I) -> Result<Option<
         (left_to reader.old (I.left input.old)) (left_to reader.new (I.left input.new)) result }
     ensures moves { Moves reader.old.passed reader.new result }
     ensures bounded { reader.new.passed.count ≤ most_entries }
-    ensures failed { result ≡ Err LogFault.Source → SourceFailed (I.faults input.old) (I.faults input.new) reader.new.ahead }
+    ensures failed { result ≡ Err LogFault.Source → SourceFailed (I.faults input.old) (I.faults input.new)
+        (left_to reader.new (I.left input.new) ≡ I.left input.new) }
+    ensures ends { EndsRight (supply_of I.Source reader.old.ended input.old) → EndsRight (supply_of I.Source reader.new.ended input.new) }
     ensures never_falls { I.faults input.old ≤ I.faults input.new }
 {
     reader.next(input)
@@ -36,7 +39,9 @@ pub(crate) fn read_batch<I: Source>(
     ensures read { ReadBatch most reader.old.passed
         (left_to reader.old (I.left input.old)) (left_to reader.new (I.left input.new)) reader.new.passed calls.new.items result }
     ensures reads_on { result ≡ Ok More → ReadsOn reader.new }
-    ensures failed { result ≡ Ok (Fault LogFault.Source) → SourceFailed (I.faults input.old) (I.faults input.new) reader.new.ahead }
+    ensures failed { result ≡ Ok (Fault LogFault.Source) → SourceFailed (I.faults input.old) (I.faults input.new)
+        (left_to reader.new (I.left input.new) ≡ I.left input.new) }
+    ensures ends { EndsRight (supply_of I.Source reader.old.ended input.old) → EndsRight (supply_of I.Source reader.new.ended input.new) }
     ensures never_falls { I.faults input.old ≤ I.faults input.new }
 {
     for _ in 0..most {

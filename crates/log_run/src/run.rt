@@ -1,6 +1,7 @@
 //! A run over a whole log: its batches, the text that closes the report, and the last line.
 ghost use Rattle.std.specs.Prelude.{◌≡◌, ◌≤◌, ◌++◌, [], string_bytes, true};
 ghost use Rattle.call_log.specs.Reads.{left_to};
+ghost use Rattle.call_log.specs.Supply.{EndsRight, supply_of};
 ghost use Rattle.log_run.specs.Commands.{Closes, IsShort};
 ghost use Rattle.log_run.specs.Ending.{CloseRan, EndsHalted, EndsStopped, EndsUnread, EndsAtFault, EndsRefused, LogRan, failed_line, refused_line, report_status, unread_line};
 ghost use Rattle.log_run.specs.Reading.{ReadsOn};
@@ -29,13 +30,14 @@ pub fn run_log<R: Threads + Sync, C: LogCommand, S: Shelf, I: Source, O: Sink>(
     sink: &mut O,
 ) -> u8
     requires reads_on { ReadsOn reader.old }
+    requires ends { EndsRight (supply_of I.Source reader.old.ended input.old) }
     requires stands { C.stands command.old (S.counts shelf.old) reader.old.passed }
     requires first { C.behind command.old (S.counts shelf.old) command.old (S.counts shelf.old) (S.files shelf.old) [] }
     // What is known of the batches is known from the command as it stood first on.
     ensures ran { LogRan (C.most command.old) (C.behind command.old (S.counts shelf.old) command.new (S.counts shelf.new) (S.files shelf.old))
         (C.stopped command.old (S.counts shelf.old) command.new (S.counts shelf.new) (S.files shelf.old))
         (C.closed command.old (S.counts shelf.old) command.new (S.counts shelf.new) (S.files shelf.old))
-        (at_of I.Source true reader.old input.old) reader.new.ahead (I.left input.new)
+        (at_of I.Source true reader.old input.old) (left_to reader.new (I.left input.new) ≡ I.left input.new) (I.left input.new)
         (streams_of I.Source O.Sink input.old sink.old)
         (streams_of I.Source O.Sink input.new sink.new) result }
     ensures shelf { ShelfStays S.Shelf shelf.old shelf.new }

@@ -6,7 +6,7 @@ use Rattle.log_run.proofs.StaysLaws.{shelf_stands, shelf_stays_on}
 use Rattle.log_run.proofs.batches.run_batches.Goals as goal
 
 pub batches-init : goal.batches-init
-batches-init g c = record { runs = on_none _ _ _ _ c.requires.first; reads_on = c.requires.reads_on; stands = c.requires.stands; most = refl; shelf = shelf_stands _ _ }
+batches-init g c = record { runs = on_none _ _ _ _ c.requires.first; reads_on = c.requires.reads_on; stands = c.requires.stands; most = refl; ends = λ right. right; shelf = shelf_stands _ _ }
 
 pub batches-preserved : goal.batches-preserved
 batches-preserved g c =
@@ -16,6 +16,7 @@ batches-preserved g c =
       reads_on = c.in-Ok-More.ensures.reads_on (ap Ok c.in-Ok-More.field-0-is);
       stands = c.in-Ok-More.ensures.stands (ap Ok c.in-Ok-More.field-0-is);
       most = c.in-Ok-More.ensures.same_most ∙ c.batches.invariant.most;
+      ends = λ right. c.in-Ok-More.ensures.ends (c.batches.invariant.ends right);
       shelf = shelf_stays_on _ _ _ _ c.batches.invariant.shelf c.in-Ok-More.ensures.shelf;
     }
 

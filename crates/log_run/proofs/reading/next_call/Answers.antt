@@ -8,4 +8,7 @@ pub returns-clause-moves : goal.returns-clause-moves
 returns-clause-moves g c = rw c.requires.good at c.next.ensures.moves
 
 pub returns-clause-failed : goal.returns-clause-failed
-returns-clause-failed g c = let rose = rw c.requires.good at c.next.ensures.rose in λ source. record { rose = rose source; none_ahead = c.next.ensures.none_ahead }
+returns-clause-failed g c = let rose = rw c.requires.good at c.next.ensures.rose in let drained = rw c.requires.good at c.next.ensures.drained in λ source. record { rose = rose source; drained = drained source }
+
+pub returns-clause-ends : goal.returns-clause-ends
+returns-clause-ends g c = c.next.ensures.draws.keeps

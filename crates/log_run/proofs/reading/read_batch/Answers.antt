@@ -17,5 +17,6 @@ loop-preserved g c =
         bounded = c.in-Ok-Some.ensures.bounded;
         room = omega (arith, ap (λ (p : Passed). p.number) moves.0, ap (λ (p : Passed). p.count) moves.0, behind.reads.next.numbered, c.loop.invariant.reads_on.room);
       };
+      ends = λ right. c.in-Ok-Some.ensures.ends (c.loop.invariant.ends right);
       never_falls = omega (arith, c.loop.invariant.never_falls, c.in-Ok-Some.ensures.never_falls);
     }
