@@ -3,3 +3,4 @@ pub mod LegalLaws
 pub mod TurnLaws
 pub mod Joining
 pub mod LogLaws
+pub mod OneLaws

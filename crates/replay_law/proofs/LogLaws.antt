@@ -12,10 +12,10 @@ use Rattle.replay_law.specs.Law.{FirstOfAll, NumbersRise, ReplayNamesOne}
 use Rattle.replay_law.proofs.Users.{valid_passes, replay_passes}
 
 -- two places are one, or one comes before the other
-abbrev AreOne : ℕ → ℕ → ℕ → ℕ → Type 0
+abbrev pub AreOne : ℕ → ℕ → ℕ → ℕ → Type 0
 AreOne round place other_round other = (round ≡ other_round) × (place ≡ other)
 
-places : (round place other_round other : ℕ)
+pub places : (round place other_round other : ℕ)
     → AreOne round place other_round other ⊎ (IsBefore round place other_round other ⊎ IsBefore other_round other round place)
 places round place other_round other =
     elim (cases_order round other_round) [
@@ -29,13 +29,13 @@ places round place other_round other =
     ]
 
 -- one row stands at one place
-one_row : (rounds : List Round) (round place other_round other : ℕ) (row same : Row) → AreOne round place other_round other
+pub one_row : (rounds : List Round) (round place other_round other : ℕ) (row same : Row) → AreOne round place other_round other
     → StandsIn rounds round place row → StandsIn rounds other_round other same → row ≡ same
 one_row rounds round place other_round other row same (rounds_are, places_are) stands there =
     same_Some row same (sym stands ∙ (ap (λ r. row_at rounds r place) rounds_are ∙ (ap (λ p. row_at rounds other_round p) places_are ∙ there)))
 
 -- a call that passes with the ticket is the valid one, or a replay of it
-valid_or_replay : (rounds : List Round) (ticket : List ℕ) (w : LogWinner rounds ticket) (round place : ℕ) (row : Row) → StandsIn rounds round place row
+pub valid_or_replay : (rounds : List Round) (ticket : List ℕ) (w : LogWinner rounds ticket) (round place : ℕ) (row : Row) → StandsIn rounds round place row
     → Uses ticket row → AreOne round place w.round w.place ⊎ (row.answer ≡ replay w.winner.number)
 valid_or_replay rounds ticket w round place row stands uses =
     elim (places round place w.round w.place) [

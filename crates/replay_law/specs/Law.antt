@@ -68,3 +68,20 @@ OneTurnMore = (held middle next : Held) (rows : List Row) (row : Row) → Turns 
 -- where the same is kept for each ticket, one stands for the other wherever it is spoken of
 abbrev pub SameIsOne : Type 0
 SameIsOne = (held next : Held) → Same held next → held ≡ next
+
+-- ---- the same calls, answered twice
+
+-- one call, whatever was answered to it
+pub record IsSameCall (row other : Row) : Type 0 where
+  pub number : row.number ≡ other.number
+  pub ticket : row.ticket ≡ other.ticket
+  pub passes : row.passes ≡ other.passes
+
+-- where a call stands in the one, the same call stands in the other
+abbrev pub HasEach : List Round → List Round → Type 0
+HasEach rounds others = (round place : ℕ) (row : Row) → StandsIn rounds round place row → (other : Row) × StandsIn others round place other × IsSameCall row other
+
+-- Where the same calls are answered twice, legally, and the first that passes with a ticket is the valid one, each has one answer.
+abbrev pub OneAnswer : Type 0
+OneAnswer = (rounds others : List Round) → HasEach rounds others → HasEach others rounds → RowsLegal rounds → FirstOfLogWins rounds → RowsLegal others
+    → FirstOfLogWins others → (round place : ℕ) (row other : Row) → StandsIn rounds round place row → StandsIn others round place other → row.answer ≡ other.answer

@@ -5,7 +5,7 @@
 //! clause is the law. Whoever needs the law calls the function, and has the clause.
 #![tactic(auto)]
 
-ghost use Rattle.replay_law.specs.Law.{LegalTogether, FirstOfAll, ReplayNamesOne, OneByOne, OneRoundMore, MoreRounds, PurgedAlone, OneTurnMore, SameIsOne};
+ghost use Rattle.replay_law.specs.Law.{LegalTogether, FirstOfAll, ReplayNamesOne, OneByOne, OneRoundMore, MoreRounds, PurgedAlone, OneTurnMore, SameIsOne, OneAnswer};
 
 /// Rounds that are settled one by one, from an empty past on, are legal together, where calls that pass are fresh,
 /// moments don't fall and tickets are apart. So purging lets no ticket pass a second time.
@@ -52,4 +52,9 @@ pub fn purged_alone()
 /// Where the same is kept for each ticket, one past stands for the other.
 pub fn same_is_one()
     ensures { SameIsOne }
+{}
+
+/// Where the same calls are answered twice, legally and the first with its ticket first, each has one answer.
+pub fn one_answer()
+    ensures { OneAnswer }
 {}

@@ -40,3 +40,4 @@ pub mod WorldEvents
 pub mod WorldLaws
 pub mod WorldVerdict
 pub mod OneField
+pub mod SameWorldLaws

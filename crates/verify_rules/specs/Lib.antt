@@ -18,3 +18,4 @@ pub mod Verdict
 pub mod Went
 pub mod Words
 pub mod World
+pub mod SameWorld

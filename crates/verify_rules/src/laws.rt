@@ -20,6 +20,7 @@ ghost use Rattle.verify_rules.specs.LatePlaces.{SpeaksOfLatePlace};
 ghost use Rattle.verify_rules.specs.LateWords.{CoversKind, SaysLateWords};
 ghost use Rattle.verify_rules.specs.Numbers.{IsCalledOf, IsCallingOf};
 ghost use Rattle.verify_rules.specs.Rules.{HoldAll, Rule, each, early_rules, first};
+ghost use Rattle.verify_rules.specs.SameWorld.{SayTheSame};
 ghost use Rattle.verify_rules.specs.Screened.{IsScreenedBy, ScreenedView, digest_in, last_of, last_of_call, ticket_of};
 ghost use Rattle.verify_rules.specs.Signed.{IsKnownAgain};
 ghost use Rattle.verify_rules.specs.States.{State, have, long, no_chain, unread};
@@ -30,7 +31,7 @@ ghost use Rattle.verify_rules.specs.declared.settings.Settings.{Settings};
 ghost use Rattle.verify_rules.specs.declared.verdict.Verdict.{Verdict};
 
 use cert_store::judged_law;
-use delegation::covers_law;
+use delegation::{covers_law, within_law};
 use identity_header::field_law;
 use passport_claims::{claims_law, order_law, signed_claims_law};
 use passport_json::{token_found_law, token_law};
@@ -161,4 +162,13 @@ pub fn numbers_law()
         → IsCalledOf message settings.local (facts (call_of settings moment bytes)) }
 {
     head_law();
+}
+
+/// In worlds in which the same is said of each thing, as two readings of the same files give them, each call breaks the same rule first at the
+/// same place, or none.
+pub fn same_world_law()
+    ensures { (world other : World) → SayTheSame world other → (call : Call) → First world call ≡ First other call }
+{
+    covers_law();
+    within_law();
 }
