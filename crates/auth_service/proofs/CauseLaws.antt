@@ -1,5 +1,5 @@
 -- The fault that the definition gives has its cause in the message, the order, the holder or the provider's answer.
-use Rattle.std.proofs.Common.{◌≡◌, ◌↔◌, ◌⊎◌, ℕ, Bool, true, false, not, cond, List, Option, Some, None, Result, Ok, Err, IsTrue, inl, inr, refl, sym, ap, subst, ◌∙◌, arith}
+use Rattle.std.proofs.Common.{◌≡◌, ◌⊎◌, ℕ, Bool, true, false, not, cond, List, Option, Some, None, Result, Ok, Err, inl, inr, refl, sym, ap, subst, ◌∙◌, arith}
 use Rattle.std.specs.Prelude.{IfErr}
 use Rattle.lists.proofs.Bytes.{same_byte}
 use Rattle.lists.specs.Given.{Gives}
@@ -10,12 +10,9 @@ use Rattle.sip_message.specs.Head.{Head}
 use Rattle.sip_message.specs.Message.{MessageView}
 use Rattle.sip_message.specs.Reading.{read}
 use Rattle.sip_message.specs.declared.fault.FormFault.{FormFault}
-use Rattle.tn_auth_list.specs.declared.entries.Entry.{Entry}
-use Rattle.delegation.specs.Coverage.{Table}
 use Rattle.passport_json.specs.Signing.{Ticket}
 use Rattle.passport_claims.specs.Passport.{ClaimsView}
 use Rattle.passport_claims.specs.Signed.{signing_of}
-use Rattle.passport_claims.specs.declared.kind.Kind.{Kind}
 use Rattle.verify_rules.specs.Late.{covers_kind}
 use Rattle.verify_rules.specs.LateWords.{CoversKind}
 use Rattle.auth_service.specs.declared.fault.SignFault.{SignFault}
@@ -30,11 +27,7 @@ use Rattle.auth_service.specs.Signed.{allowed, called_number, claims_by, claims_
 use Rattle.auth_service.specs.Written.{IsFor}
 use Rattle.auth_service.proofs.LineLaws.{CompactSize, FullSize, has_none, has_room, none_signature}
 use Rattle.auth_service.proofs.MadeLaws.{made_for}
-use Rattle.auth_service.proofs.SignedLaws.{HeadLaw, second_is}
-
--- the test of what a list must cover decides it
-abbrev pub CoversKindLaw : Type 0
-CoversKindLaw = (table : Table) (entries : List Entry) (orig : List ℕ) (kind : Kind) → IsTrue (covers_kind table entries orig kind) ↔ CoversKind table entries orig kind
+use Rattle.auth_service.proofs.SignedLaws.{CoversKindLaw, HeadLaw, dated_by, speaks}
 
 -- what the steps rest on
 pub record Laws : Type 0 where
@@ -51,10 +44,6 @@ to_cause : (bytes : List ℕ) (order : OrderView) (holder : Option HolderView) (
 to_cause bytes order holder signs f g e c = subst (IsCaused bytes order holder signs) e c
 
 -- ---- the Date
-
-dated_by : (shape : Shape) (iat : ℕ) (message : MessageView) → is_dated_as shape iat message ≡ true → shape ≡ shapes.Compact → date message ≡ Some iat
-dated_by (shapes.Full kind) iat message d e = absurd cc
-dated_by shapes.Compact iat message d e = second_is iat (date message) d
 
 second_again : (iat : ℕ) (seconds : Option ℕ) → seconds ≡ Some iat → is_second iat seconds ≡ true
 second_again iat seconds e = ap (is_second iat) e ∙ same_byte iat
@@ -120,10 +109,6 @@ room_of : Laws → (bytes : List ℕ) (order : OrderView) (claims : ClaimsView) 
 room_of laws bytes order claims f e signature s long =
     let short = has_room laws.full laws.compact bytes order.shape claims signature f.kind s e in absurd (omega (arith, short, long))
 
-speaks : Laws → (holder : Option HolderView) (claims : ClaimsView) → is_allowed holder claims ≡ true → MaySpeak holder claims
-speaks laws None claims h = tt
-speaks laws (Some one) claims h = (laws.covers one.table one.entries claims.orig claims.kind).0 h
-
 unspeaking : Laws → (bytes : List ℕ) (order : OrderView) (holder : Option HolderView) (message : MessageView) (claims : ClaimsView) → IsOrdered bytes order message claims
     → HasRoom bytes order claims → is_allowed holder claims ≡ false → IsUnauthorized bytes order holder
 unspeaking laws bytes order None message claims o room h = absurd cc
@@ -149,7 +134,7 @@ allowed_by : Laws → (bytes : List ℕ) (order : OrderView) (holder : Option Ho
     → Given bytes order holder (cond s (Err faults.Form) (cond (not t) (Err faults.Authority) (Ok claims)))
 allowed_by laws bytes order holder message claims true t o f es et =
     refused faults.Form refl (λ signs. too_long message claims o (λ signature s. has_none laws.full laws.compact bytes order.shape claims signature f.kind s es))
-allowed_by laws bytes order holder message claims false true o f es et = granted message claims refl o (room_of laws bytes order claims f es) (speaks laws holder claims et)
+allowed_by laws bytes order holder message claims false true o f es et = granted message claims refl o (room_of laws bytes order claims f es) (speaks laws.covers holder claims et)
 allowed_by laws bytes order holder message claims false false o f es et =
     refused faults.Authority refl (λ signs. unspeaking laws bytes order holder message claims o (room_of laws bytes order claims f es) et)
 

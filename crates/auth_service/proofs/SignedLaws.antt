@@ -1,5 +1,5 @@
 -- What a signed message is, from what its steps gave.
-use Rattle.std.proofs.Common.{◌≡◌, ◌↔◌, ℕ, ◌≤◌, Bool, true, false, not, cond, List, length, Option, Some, None, Result, Ok, Err, IfOk, refl, sym, ap, subst, ◌∙◌}
+use Rattle.std.proofs.Common.{◌≡◌, ◌↔◌, ℕ, ◌≤◌, Bool, true, false, not, cond, List, length, Option, Some, None, Result, Ok, Err, IfOk, IsTrue, refl, sym, ap, subst, ◌∙◌}
 use Rattle.std.proofs.lemmas.Bool.{eqb-true}
 use Rattle.lists.proofs.StepLaws.{came, inside}
 use Rattle.std.specs.Prelude.{IsErrAnd}
@@ -12,16 +12,22 @@ use Rattle.sip_message.specs.Head.{Head}
 use Rattle.sip_message.specs.Message.{MessageView}
 use Rattle.sip_message.specs.Reading.{read}
 use Rattle.sip_message.specs.declared.fault.FormFault.{FormFault}
+use Rattle.tn_auth_list.specs.declared.entries.Entry.{Entry}
+use Rattle.delegation.specs.Coverage.{Table}
 use Rattle.passport_json.specs.Signing.{Ticket}
 use Rattle.passport_json.specs.Spelled.{IsSignature}
 use Rattle.passport_claims.specs.Passport.{ClaimsView}
 use Rattle.passport_claims.specs.Signed.{IsSignable, IsTokenOf, signing_of}
+use Rattle.passport_claims.specs.declared.kind.Kind.{Kind}
 use Rattle.verify_rules.specs.Call.{facts_of, given_to_compact}
+use Rattle.verify_rules.specs.Late.{covers_kind}
+use Rattle.verify_rules.specs.LateWords.{CoversKind}
 use Rattle.auth_service.specs.declared.fault.SignFault.{SignFault}
 use Rattle.auth_service.specs.declared.fault.SignFault.TheVariants as faults
 use Rattle.auth_service.specs.declared.wanted.Shape.{Shape}
 use Rattle.auth_service.specs.declared.wanted.Shape.TheVariants as shapes
 use Rattle.auth_service.specs.Answer.{decided}
+use Rattle.auth_service.specs.Causes.{MaySpeak}
 use Rattle.auth_service.specs.Field.{field_name, field_of, token_by, value_of}
 use Rattle.auth_service.specs.Order.{HolderView, OrderView, kind_of}
 use Rattle.auth_service.specs.Outcome.{IsSigned}
@@ -150,6 +156,21 @@ its_token : (order : OrderView) (message : MessageView) (orig dest signature : L
     → called_number order message ≡ Some dest → IsSignable (claims_by order orig dest) → IsSignature signature → IsItsToken order message orig dest signature
 its_token order message orig dest signature d c t s is = token_of_shape order.shape order.key order.x5u order.iat order.local message orig dest signature d c t s is
 
+-- in words: in the compact form the Date is the order's second
+pub dated_by : (shape : Shape) (iat : ℕ) (message : MessageView) → is_dated_as shape iat message ≡ true → shape ≡ shapes.Compact → date message ≡ Some iat
+dated_by (shapes.Full kind) iat message d e = absurd cc
+dated_by shapes.Compact iat message d e = second_is iat (date message) d
+
+-- ---- what the holder covers
+
+-- the test of what a list must cover decides it
+abbrev pub CoversKindLaw : Type 0
+CoversKindLaw = (table : Table) (entries : List Entry) (orig : List ℕ) (kind : Kind) → IsTrue (covers_kind table entries orig kind) ↔ CoversKind table entries orig kind
+
+pub speaks : CoversKindLaw → (holder : Option HolderView) (claims : ClaimsView) → is_allowed holder claims ≡ true → MaySpeak holder claims
+speaks covers None claims h = tt
+speaks covers (Some one) claims h = (covers one.table one.entries claims.orig claims.kind).0 h
+
 -- ---- the record
 
 abbrev pub HeadLaw : Type 0
@@ -160,11 +181,11 @@ pub record IsPut (bytes value out : List ℕ) : Type 0 where
   pub placed : (message : MessageView) (head : Head bytes message) → out ≡ with_line_at head.empty.place bytes field_name value
   pub added : (message : MessageView) → Head bytes message → Head out (with_last message field_name value)
 
-pub is_signed : HeadLaw → (bytes : List ℕ) (order : OrderView) (holder : Option HolderView) (signs : List ℕ → List ℕ → Option (List ℕ)) (claims : ClaimsView)
+pub is_signed : HeadLaw → CoversKindLaw → (bytes : List ℕ) (order : OrderView) (holder : Option HolderView) (signs : List ℕ → List ℕ → Option (List ℕ)) (claims : ClaimsView)
     (signature value out : List ℕ) → claims_for bytes order holder ≡ Ok claims → IsSignable claims → signature_of signs order.key (signing_of claims) ≡ Ok signature
     → IsSignature signature → value ≡ value_of order.shape claims signature → IsWrittenField value (field_of order.shape claims signature) → IsPut bytes value out
     → IsSigned bytes order holder signs out
-is_signed law bytes order holder signs claims signature value out given able made is v w put =
+is_signed law covers bytes order holder signs claims signature value out given able made is v w put =
     let f = found bytes order holder claims given in
     let own : ClaimsView = claims_by order f.orig f.dest in
     let back : claims ≡ own = sym f.says in
@@ -177,14 +198,14 @@ is_signed law bytes order holder signs claims signature value out given able mad
       message = f.message;
       head = head;
       method = f.method;
-      dated = f.dated;
+      dated = dated_by order.shape order.iat f.message f.dated;
       orig = f.orig;
       calling = f.calling;
       dest = f.dest;
       called = f.called;
       signature = signature;
       is_signature = is;
-      authority = subst (λ (c : ClaimsView). is_allowed holder c ≡ true) back f.authority;
+      authority = speaks covers holder own (subst (λ (c : ClaimsView). is_allowed holder c ≡ true) back f.authority);
       made = subst (λ (c : ClaimsView). signs order.key (Ticket (signing_of c)) ≡ Some signature) back made_of;
       placed = subst (λ (x : List ℕ). out ≡ with_line_at head.empty.place bytes field_name x) written (put.placed f.message head);
       added = subst (λ (x : List ℕ). Head out (with_last f.message field_name x)) written (put.added f.message head);
@@ -244,13 +265,13 @@ unfolding signed
 answers_signed seen answer bytes order holder signs claims signature value given made v g =
     rw (given, made) (subst (λ (x : List ℕ). Gives decided seen answer (Ok (with_line bytes field_name x))) v g)
 
-pub answers_record : {X : Type 0} (seen : X → List ℕ) (answer : Result X SignFault) → HeadLaw → (bytes : List ℕ) (order : OrderView) (holder : Option HolderView)
+pub answers_record : {X : Type 0} (seen : X → List ℕ) (answer : Result X SignFault) → HeadLaw → CoversKindLaw → (bytes : List ℕ) (order : OrderView) (holder : Option HolderView)
     (signs : List ℕ → List ℕ → Option (List ℕ)) (claims : ClaimsView) (signature value : List ℕ) → claims_for bytes order holder ≡ Ok claims → IsSignable claims
     → signature_of signs order.key (signing_of claims) ≡ Ok signature → IsSignature signature → value ≡ value_of order.shape claims signature
     → IsWrittenField value (field_of order.shape claims signature)
     → ((message : MessageView) (head : Head bytes message) → IfOk answer (λ out. seen out ≡ with_line_at head.empty.place bytes field_name value))
     → ((message : MessageView) → Head bytes message → IfOk answer (λ out. Head (seen out) (with_last message field_name value)))
     → IfOk answer (λ out. IsSigned bytes order holder signs (seen out))
-answers_record seen (Ok out) law bytes order holder signs claims signature value given able made is v w placed added =
-    is_signed law bytes order holder signs claims signature value (seen out) given able made is v w (record { placed = placed; added = added })
-answers_record seen (Err fault) law bytes order holder signs claims signature value given able made is v w placed added = tt
+answers_record seen (Ok out) law covers bytes order holder signs claims signature value given able made is v w placed added =
+    is_signed law covers bytes order holder signs claims signature value (seen out) given able made is v w (record { placed = placed; added = added })
+answers_record seen (Err fault) law covers bytes order holder signs claims signature value given able made is v w placed added = tt

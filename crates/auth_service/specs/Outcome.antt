@@ -2,7 +2,7 @@
 use Rattle.std.specs.Prelude.{◌≡◌, ℕ, true, List, Option, Some, Ok}
 use Rattle.identity_header.specs.FieldText.{FieldText}
 use Rattle.identity_header.specs.Read.{read as read_field}
-use Rattle.sip_message.specs.Accessors.{calling_number, is_invite}
+use Rattle.sip_message.specs.Accessors.{calling_number, date, is_invite}
 use Rattle.sip_message.specs.Added.{with_last, with_line_at}
 use Rattle.sip_message.specs.Head.{Head}
 use Rattle.sip_message.specs.Message.{MessageView}
@@ -10,16 +10,19 @@ use Rattle.passport_json.specs.Signing.{Ticket}
 use Rattle.passport_json.specs.Spelled.{IsSignature}
 use Rattle.passport_claims.specs.Signed.{IsTokenOf, signing_of}
 use Rattle.verify_rules.specs.Call.{facts_of, given_to_compact}
+use Rattle.auth_service.specs.declared.wanted.Shape.TheVariants as shapes
+use Rattle.auth_service.specs.Causes.{MaySpeak}
 use Rattle.auth_service.specs.Field.{field_name, field_of, token_by, value_of}
 use Rattle.auth_service.specs.Order.{HolderView, OrderView}
-use Rattle.auth_service.specs.Signed.{called_number, claims_by, is_allowed, is_dated}
+use Rattle.auth_service.specs.Signed.{called_number, claims_by}
 
 pub record IsSigned (bytes : List ℕ) (order : OrderView) (holder : Option HolderView) (signs : List ℕ → List ℕ → Option (List ℕ)) (out : List ℕ) : Type 0 where
-  -- the message, an INVITE, its two numbers, and the signature
+  -- the message, an INVITE; in the compact form its Date says when the PASSporT was issued (RFC 8225, section 7)
   pub message : MessageView
   pub head : Head bytes message
   pub method : is_invite message ≡ true
-  pub dated : is_dated order message ≡ true
+  pub dated : order.shape ≡ shapes.Compact → date message ≡ Some order.iat
+  -- its two numbers, and the signature
   pub orig : List ℕ
   pub calling : calling_number message order.local ≡ Some orig
   pub dest : List ℕ
@@ -27,7 +30,7 @@ pub record IsSigned (bytes : List ℕ) (order : OrderView) (holder : Option Hold
   pub signature : List ℕ
   pub is_signature : IsSignature signature
   -- the holder may speak for what the PASSporT vouches for, and the key signed the digest of what is signed of the PASSporT
-  pub authority : is_allowed holder (claims_by order orig dest) ≡ true
+  pub authority : MaySpeak holder (claims_by order orig dest)
   pub made : signs order.key (Ticket (signing_of (claims_by order orig dest))) ≡ Some signature
   -- the outcome is the message with the field's line before its empty one, which is the message with this field behind all others
   pub placed : out ≡ with_line_at head.empty.place bytes field_name (value_of order.shape (claims_by order orig dest) signature)

@@ -135,6 +135,7 @@ fn sign_exactly<P: Provider>(
 {
     head_law();
     token_bytes_law();
+    covers_kind_law();
     let one = to_sign(alloc, bytes, wanted, holder)?;
     let signature = signature_of(wanted.key, &one.signing, provider)?;
     let value = field_value(alloc, wanted, &one, &signature)?;

@@ -7,7 +7,7 @@ use Rattle.delegation.specs.Coverage.{Table}
 use Rattle.delegation.specs.Decided.{is_within}
 use Rattle.delegation.specs.Path.{is_listed, shape_of}
 use Rattle.cert_store.specs.declared.judged.Period.{Period}
-use Rattle.cert_store.specs.Links.{Link, chain_in, links_of, path_of, read_file}
+use Rattle.cert_store.specs.Links.{Link, chain_in, links_of, read_file}
 
 -- ---- rule 11: the bytes are at most 49,152, and at most six certificates of the profile
 
@@ -49,9 +49,6 @@ is_in_date moment period = int_le period.not_before (pos moment) && int_le (pos 
 abbrev pub first_out : ℕ → List Period → Option ℕ
 first_out moment [] = None
 first_out moment (period ∷ periods) = if is_in_date moment period then first_out moment periods else Some period.number
-
-abbrev pub rule_13 : List CertView → ℕ → List ℕ → Option ℕ
-rule_13 anchors moment bytes = first_out moment (periods_from anchors 1 (path_of anchors (chain_in bytes)))
 
 -- ---- rule 14: the leaf has an authority list, and each lies within its issuer (RFC 9060)
 

@@ -1,12 +1,16 @@
 -- What is explained is told by the first rule that is broken.
 use Rattle.std.proofs.Common.{◌≡◌, ℕ, suc, ◌-◌, ◌≤◌, List, [], ◌∷◌, ◌++◌, length, append_assoc, Option, Some, None, refl, sym, ◌∙◌, ap, subst, arith}
+use Rattle.std.specs.Option.{option_or}
 use Rattle.std.proofs.lemmas.Option.{same_Some}
+use Rattle.verify_rules.proofs.FirstLaws.{none_first}
+use Rattle.verify_rules.proofs.WorldEvents.{first_append}
 use Rattle.verify_rules.specs.Call.{Call}
 use Rattle.verify_rules.specs.Rules.{Rule, early_rules, first, or_later, refusal}
-use Rattle.verify_rules.specs.World.{First, World, late_rules}
+use Rattle.verify_rules.specs.World.{First, MayBeUnasked, MayBeUnread, World, certificate_rules, late_rules}
 use Rattle.verify_rules.specs.declared.refusal.Place.{Place}
 use Rattle.verify_rules.specs.declared.refusal.Refusal.{Refusal}
-use Rattle.single_calls.specs.Explain.{Explain, broken_line, broken_text, explain_rules, line_or_more, ok_line, ok_lines}
+use Rattle.verify_service.specs.declared.finding.Finding.TheVariants.{Unasked, Unread}
+use Rattle.single_calls.specs.Explain.{Explain, broken_line, broken_text, explain_rules, explained, line_or_more, ok_line, ok_lines, unread_line}
 
 not_none : {A : Type 0} → (a : A) → ◌≡◌ {A = Option A} (Some a) None → ⊥
 not_none a e = cc
@@ -82,3 +86,25 @@ explains_met world number call none = met_all number 1 (early_rules ++ late_rule
 pub explains_broken : (world : World) (number : ℕ) (call : Call) (refused : Refusal) → First world call ≡ Some refused → Explain world number call ≡ broken_text number refused
 unfolding Explain
 explains_broken world number call refused is = (broken_from number 1 (early_rules ++ late_rules world) call refused (all_numbered world) is).1
+
+-- ---- where a call is set aside
+
+early_numbered : AreNumbered 1 early_rules
+early_numbered = (refl, (refl, (refl, (refl, (refl, (refl, (refl, (refl, (refl, tt)))))))))
+
+unsigned_numbered : (world : World) → AreNumbered 1 (early_rules ++ certificate_rules world)
+unsigned_numbered world = (refl, (refl, (refl, (refl, (refl, (refl, (refl, (refl, (refl, (refl, (refl, (refl, (refl, (refl, tt))))))))))))))
+
+pub explains_unread : (world : World) (number : ℕ) (call : Call) (bad : Place) → MayBeUnread world call bad
+    → explained number (Unread bad) ≡ explain_rules number early_rules call ++ unread_line number bad
+explains_unread world number call bad may =
+    ap (λ (x : List ℕ). x ++ unread_line number bad) (sym (met_all number 1 early_rules call early_numbered (none_first early_rules call may.early)))
+
+pub explains_unasked : (world : World) (number : ℕ) (call : Call) (bad : Place) → MayBeUnasked world call bad
+    → explained number (Unasked bad) ≡ explain_rules number (early_rules ++ certificate_rules world) call
+explains_unasked world number call bad may =
+    let none : first (early_rules ++ certificate_rules world) call ≡ None =
+    first_append early_rules (certificate_rules world) call
+    ∙ ap (λ (x : Option Refusal). option_or x (first (certificate_rules world) call)) (none_first early_rules call may.early)
+    ∙ none_first (certificate_rules world) call may.chains in
+    sym (met_all number 1 (early_rules ++ certificate_rules world) call (unsigned_numbered world) none)

@@ -5,6 +5,7 @@ pub mod ExplainerLaws
 pub mod FreshLaws
 pub mod WriteLaws
 pub mod AskSteps
+pub mod AskedLaws
 pub mod OwnSteps
 pub mod StateLaws
 pub mod VerdictLaws

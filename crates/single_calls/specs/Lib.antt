@@ -1,6 +1,7 @@
 pub mod AlwaysYes
 pub mod Explain
 pub mod CallQuestions
+pub mod Asked
 pub mod Asks
 pub mod ToldApart
 pub mod Written

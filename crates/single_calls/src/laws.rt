@@ -1,24 +1,27 @@
 //! Laws: a function here does nothing, and its clauses are the law.
 ghost use Rattle.std.specs.Fmt.{decimal};
-ghost use Rattle.std.specs.Prelude.{◌≡◌, ◌<◌, ◌∷◌, codes, ℕ, List, [], Option, Some, None, true};
+ghost use Rattle.std.specs.Prelude.{◌≡◌, ◌↔◌, ◌<◌, ◌∷◌, ◌++◌, codes, ℕ, List, [], Option, Some, None, true};
 ghost use Rattle.call_log.specs.Entry.{Entry};
 ghost use Rattle.log_singly.specs.Answer.{AnswerView, all_well, texts_of};
 ghost use Rattle.log_singly.specs.Answering.{AreAnswered};
 ghost use Rattle.cert_store.specs.Questions.{AgreeOn};
-ghost use Rattle.cert_store.specs.Rules.{Says};
+ghost use Rattle.cert_store.specs.Rules.{QuestionView, Says};
 ghost use Rattle.single_calls.specs.Agreement.{JudgedAlike};
 ghost use Rattle.single_calls.specs.Asker.{AskedBy, AskerView, asking_world};
+ghost use Rattle.single_calls.specs.Asked.{IsAmong, IsAskedOf, IsOnce};
 ghost use Rattle.single_calls.specs.Asks.{Asks, asked_of};
-ghost use Rattle.single_calls.specs.Explain.{Explain, broken_line, broken_text, explained, ok_line, ok_lines, unread_line};
+ghost use Rattle.single_calls.specs.Explain.{Explain, broken_line, broken_text, explain_rules, explained, ok_line, ok_lines, unread_line};
 ghost use Rattle.single_calls.specs.ToldApart.{AreToldAlike, FindingFits, IsBrokenLine, line_of};
 ghost use Rattle.stir_outside.specs.Files.{Files};
 ghost use Rattle.verify_rules.specs.Call.{Call};
-ghost use Rattle.verify_rules.specs.World.{First, World, with_says};
+ghost use Rattle.verify_rules.specs.Rules.{early_rules};
+ghost use Rattle.verify_rules.specs.World.{First, MayBeUnasked, MayBeUnread, World, certificate_rules, with_says};
 ghost use Rattle.verify_rules.specs.declared.refusal.Place.{Place};
 ghost use Rattle.verify_rules.specs.declared.refusal.Refusal.{Refusal};
 ghost use Rattle.verify_rules.specs.declared.settings.Settings.{Settings};
 ghost use Rattle.verify_service.specs.Report.{place_text};
 ghost use Rattle.verify_service.specs.declared.finding.Finding.{Finding};
+ghost use Rattle.verify_service.specs.declared.finding.Finding.TheVariants.{Unasked, Unread};
 
 use cert_store::questions_law;
 use verify_rules::{code_law, provider_law};
@@ -28,6 +31,11 @@ use verify_rules::{code_law, provider_law};
 pub fn explain_law()
     ensures met { (world : World) (number : ℕ) (call : Call) → First world call ≡ None → Explain world number call ≡ ok_lines number 1 17 }
     ensures broken { (world : World) (number : ℕ) (call : Call) (refused : Refusal) → First world call ≡ Some refused → Explain world number call ≡ broken_text number refused }
+    // Before an unread file stand the lines of rules 1 to 9; and where a signature is left open, those of rules 1 to 14 stand alone.
+    ensures unread { (world : World) (number : ℕ) (call : Call) (bad : Place) → MayBeUnread world call bad
+        → explained number (Unread bad) ≡ explain_rules number early_rules call ++ unread_line number bad }
+    ensures unasked { (world : World) (number : ℕ) (call : Call) (bad : Place) → MayBeUnasked world call bad
+        → explained number (Unasked bad) ≡ explain_rules number (early_rules ++ certificate_rules world) call }
 {}
 
 /// What is asked call by call is what is asked for the log, and nothing is wrong with any call of it.
@@ -36,6 +44,12 @@ pub fn asks_law()
         → texts_of answers ≡ Asks (asking_world asker.materials files) asker.settings calls }
     ensures well { (asker : AskerView) (told : Option Files) (calls : List Entry) (answers : List AnswerView) → AreAnswered (AskedBy asker told) [] calls answers
         → all_well answers ≡ true }
+{}
+
+/// Which questions are asked for the calls of a log: exactly those that one of the calls asks, whichever its place is, and each once.
+pub fn asked_law()
+    ensures listed { (world : World) (settings : Settings) (calls : List Entry) (asked : QuestionView) → IsAmong asked (asked_of world settings calls) ↔ IsAskedOf world settings calls asked }
+    ensures once { (world : World) (settings : Settings) (calls : List Entry) → IsOnce (asked_of world settings calls) }
 {}
 
 /// What is asked depends on no provider. Where two providers agree on all of it, each call breaks the same rule first by both, or none.

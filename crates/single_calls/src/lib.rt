@@ -17,4 +17,4 @@ mod written;
 pub use always_yes::AlwaysYes;
 pub use asker::Asker;
 pub use explainer::Explainer;
-pub use laws::{agreement_law, asks_law, explain_law, lines_law};
+pub use laws::{agreement_law, asked_law, asks_law, explain_law, lines_law};

@@ -17,3 +17,4 @@ pub mod Answer
 pub mod Showing
 pub mod Headline
 pub mod Causes
+pub mod OneReport

@@ -3,6 +3,7 @@ ghost use Rattle.std.specs.Prelude.{◌≡◌, ◌≤◌, List};
 ghost use Rattle.stir_cmd.specs.Outside.{outside_of};
 ghost use Rattle.stir_cmd.specs.Causes.{HasCauses, IsComplete, IsSaid, IsThrough, Ran, RanOrShort};
 ghost use Rattle.stir_cmd.specs.Headline.{Headline};
+ghost use Rattle.stir_cmd.specs.OneReport.{GivesOneReport};
 ghost use Rattle.call_log.specs.Entry.{Entry};
 ghost use Rattle.cert_store.specs.Questions.{AgreeOn};
 ghost use Rattle.cert_store.specs.Rules.{Says};
@@ -17,11 +18,14 @@ use crate::explain::{ask, explain};
 use crate::show::show;
 use crate::sign::{SignerCommand, sign_message};
 use crate::verify::verify;
+use call_log::one_log;
+use replay_law::one_answer;
 use single_calls::{agreement_law, asks_law};
 use std::alloc::Global;
 use std::thread::Threads;
 use stir_outside::{Shelf, Sink, Source, Status, end_with, memory_line};
 use stir_words::{Order, WordsFault};
+use verify_rules::same_world_law;
 
 /// The program: takes the words after its name, reads the named files and the input, writes what the command says, and gives the status with
 /// which the program ends.
@@ -54,6 +58,12 @@ pub fn run<R: Threads + Sync, S: Shelf, I: Source, O: Sink>(
     ensures headline { Headline (order_of (texts words.now))
         (outside_of S.Shelf I.Source O.Sink shelf.old input.old sink.old)
         (outside_of S.Shelf I.Source O.Sink shelf.new input.new sink.new) result }
+    // The report is one function of the files and the log: where no read of a file fails, each other run of the same words over the same files
+    // and the same log in which none fails either writes the same bytes and ends with the same status, unless memory is wanting.
+    ensures one_report { GivesOneReport (order_of (texts words.now))
+        (outside_of S.Shelf I.Source O.Sink shelf.old input.old sink.old)
+        (outside_of S.Shelf I.Source O.Sink shelf.new input.new sink.new) result }
+
     // Where the status is 0 or 1, the input was read to its end, or is a message that is too long; and what was written is what the command says
     // in the words of its subject: of `explain` the rules that each call of the log meets, up to the first that it breaks; of `ask` what is asked
     // for its calls; of `sign` and `divert` the message with a new Identity field, which is read as the PASSporT that the words ask for and the
@@ -80,6 +90,9 @@ pub fn run<R: Threads + Sync, S: Shelf, I: Source, O: Sink>(
 {
     asks_law();
     agreement_law();
+    one_log();
+    one_answer();
+    same_world_law();
     carry_out(rt, alloc, words, shelf, input, sink)
 }
 

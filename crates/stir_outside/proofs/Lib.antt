@@ -2,4 +2,6 @@ pub mod AnswerLaws
 pub mod CountLaws
 pub mod FileLaws
 pub mod HeldLaws
+pub mod HexLaws
+pub mod RowLineLaws
 pub mod Transfers

@@ -1,4 +1,5 @@
 pub mod Adapters
+pub mod AnswersLine
 pub mod AnswersText
 pub mod Count
 pub mod Ending

@@ -1,4 +1,5 @@
 pub mod LineLaws
+pub mod LineOfLaws
 pub mod Parts
 pub mod ReachedLaws
 pub mod ReadingLaws

@@ -1,6 +1,7 @@
 -- The words of a line (this project's own rule).
-use Rattle.std.specs.Prelude.{ℕ, Bool, not, ◌&&◌, ◌==◌, nat_le, List, [], ◌∷◌, length, Option, Some, None, if◌then◌else◌}
-use Rattle.std.specs.List.{slice_split, list_all}
+use Rattle.std.specs.Prelude.{◌≡◌, ⊤, ℕ, ◌≤◌, Bool, true, not, ◌&&◌, ◌==◌, nat_le, List, [], ◌∷◌, length, Option, Some, None, if◌then◌else◌}
+use Rattle.std.specs.List.{slice_split, list_all, join_with_byte}
+use Rattle.text_grammar.specs.Cut.{lacks}
 use Rattle.text_file.specs.declared.words.Words.{Words}
 use Rattle.text_file.specs.declared.words.Words.TheVariants.{Two, Three, Four}
 
@@ -18,6 +19,26 @@ none_empty parts = if list_all is_word parts then Some parts else None
 -- the words of a line that has two to four, each parted from the next by exactly one space
 unfoldable pub line_words : List ℕ → Option (List (List ℕ))
 line_words line = if nat_le 2 (length (parts line)) && nat_le (length (parts line)) 4 then none_empty (parts line) else None
+
+-- ---- the same in other words
+
+-- it has a byte, and no space
+pub record IsWord (word : List ℕ) : Type 0 where
+  pub some : 1 ≤ length word
+  pub spaceless : lacks 32 word ≡ true
+
+abbrev pub EachIsWord : List (List ℕ) → Type 0
+EachIsWord [] = ⊤
+EachIsWord (word ∷ words) = IsWord word × EachIsWord words
+
+-- the line is these two to four words, with one space between each two
+pub record IsLineOf (line : List ℕ) (words : List (List ℕ)) : Type 0 where
+  pub some : 2 ≤ length words
+  pub few : length words ≤ 4
+  pub each : EachIsWord words
+  pub joined : line ≡ join_with_byte 32 words
+
+-- ---- as they are handed out
 
 abbrev pub word_list : Words → List (List ℕ)
 word_list (Two a b) = a.now ∷ b.now ∷ []

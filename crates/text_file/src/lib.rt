@@ -5,4 +5,4 @@ mod lines;
 mod words;
 
 pub use lines::{Line, Lines, line_count};
-pub use words::{Words, words_of};
+pub use words::{Words, words_law, words_of};

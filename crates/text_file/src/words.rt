@@ -1,7 +1,7 @@
 //! The words of a line.
-ghost use Rattle.std.specs.Prelude.{◌≡◌};
+ghost use Rattle.std.specs.Prelude.{◌≡◌, ◌↔◌, ℕ, List, Some};
 ghost use Rattle.std.specs.Option.{option_map};
-ghost use Rattle.text_file.specs.LineWords.{line_words, none_empty, word_list};
+ghost use Rattle.text_file.specs.LineWords.{IsLineOf, line_words, none_empty, word_list};
 
 use text_grammar::cut;
 
@@ -47,3 +47,9 @@ fn with_none_empty(words: Words<'_>) -> Option<Words<'_>>
     };
     if some_empty { None } else { Some(words) }
 }
+
+/// A law, with nothing to do: a line has these words exactly where it is two to four words without a space, with one space between each
+/// two.
+pub fn words_law()
+    ensures { (line : List ℕ) (words : List (List ℕ)) → (line_words line ≡ Some words) ↔ IsLineOf line words }
+{}

@@ -3,6 +3,7 @@ pub mod CountLaws
 pub mod GroupLaws
 pub mod HeldLaws
 pub mod TableLaws
+pub mod TableLineLaws
 pub mod EntryLaws
 pub mod ListLaws
 pub mod WriteLaws

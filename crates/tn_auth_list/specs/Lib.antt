@@ -8,3 +8,4 @@ pub mod Entry
 pub mod ListText
 pub mod Read
 pub mod Refused
+pub mod TableLine

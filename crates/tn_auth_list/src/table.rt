@@ -1,6 +1,7 @@
 //! The code table.
-ghost use Rattle.std.specs.Prelude.{◌≡◌, ◌<◌, ◌↔◌, ℕ, List, length, IfOk, IfErr, Ok, Err};
-ghost use Rattle.tn_auth_list.specs.CodeTable.{FirstBad, TableText, table_rows};
+ghost use Rattle.std.specs.Prelude.{◌≡◌, ◌<◌, ◌↔◌, ℕ, List, length, IfOk, IfErr, Some, Ok, Err};
+ghost use Rattle.tn_auth_list.specs.CodeTable.{FirstBad, TableText, row_of, table_rows};
+ghost use Rattle.tn_auth_list.specs.TableLine.{IsTableLine};
 ghost use Rattle.tn_auth_list.specs.declared.table_rows.Row.{Row};
 ghost use Rattle.tn_auth_list.specs.Grant.{FaultOf, GrantOf, TableOf, grant_in, grant_view};
 
@@ -11,7 +12,7 @@ use std::collections::BTreeMap;
 use std::error::Error;
 use std::fmt;
 use std::marker::Model;
-use text_file::Lines;
+use text_file::{Lines, words_law};
 use tn_values::NumberSet;
 
 /// Which telephone numbers each service provider code stands for.
@@ -87,7 +88,10 @@ impl CodeTable {
         // what a table is, and which line is the first bad one
         ensures rows { (rows : List Row) → (table_rows text.now ≡ Ok rows) ↔ TableText text.now rows }
         ensures first_bad { (number : ℕ) → (table_rows text.now ≡ Err number) ↔ FirstBad text.now number }
+        // what a line says, in the words of the format
+        ensures line { (line : List ℕ) (row : Row) → (row_of line ≡ Some row) ↔ IsTableLine line row }
     {
+        words_law();
         read_table(alloc, text)
     }
 

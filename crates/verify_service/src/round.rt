@@ -1,13 +1,13 @@
 //! A round on one worker.
 ghost use Rattle.stir_outside.specs.Stays.{ProviderStays, ShelfStays};
-ghost use Rattle.std.specs.Prelude.{◌≡◌, ◌≤◌, length, IfErr, IfOk, vec_len, slice_index_or};
+ghost use Rattle.std.specs.Prelude.{◌≡◌, ◌≤◌, length, IfErr, IfOk, Some, vec_len, slice_index_or};
 ghost use Rattle.replay_law.specs.Round.{RoundSettled, round_of};
 ghost use Rattle.replay_law.specs.Turn.{FirstWins};
 ghost use Rattle.stir_outside.specs.Count.{NotRisen};
-ghost use Rattle.stir_outside.specs.Files.{CountsGoOn};
+ghost use Rattle.stir_outside.specs.Files.{CountsGoOn, Files};
 ghost use Rattle.verify_service.specs.Causes.{NoneUnasked, NoneUnread, UnaskedIsCounted, UnreadIsCounted};
-ghost use Rattle.verify_service.specs.Rows.{EachOwed, held, rows_of};
-ghost use Rattle.verify_service.specs.Service.{AreJudged, Follow, IsPurged, IsSameConfig, last_moment_of, last_number};
+ghost use Rattle.verify_service.specs.Rows.{EachOwed, RoundLegal, held, rows_of};
+ghost use Rattle.verify_service.specs.Service.{AreJudged, Follow, IsPurged, IsSameConfig, last_moment_of, last_number, world_of};
 
 use crate::judge::judge_all;
 use crate::outcome::Outcome;
@@ -41,6 +41,10 @@ impl Service {
         // says.
         ensures counted { IfOk result (λ outcomes. vec_len outcomes ≡ length calls.now) }
         ensures judged { (d : _) → IfOk result (λ outcomes. AreJudged (S.files shelf.old) self.old (P.says (slice_index_or workers.old 0 d).provider) calls.now outcomes.items) }
+
+        // Over files that are told, the outcomes are legal from the past that was held to the one that is left.
+        ensures legal { (d : _) (files : Files) → S.files shelf.old ≡ Some files → IfOk result (λ outcomes. RoundLegal self.old.settings
+            (world_of self.old files (P.says (slice_index_or workers.old 0 d).provider)) (held self.old.past) calls.now outcomes.items (held self.new.past)) }
 
         // Of the calls that pass with one ticket one is valid, and each other is a replay of it; and it is the first.
         ensures settled { IfOk result (λ outcomes. RoundSettled (held self.old.past) (round_of (rows_of self.old.settings calls.now outcomes.items)) (held self.new.past)) }

@@ -2,3 +2,4 @@ pub mod ContentLaws
 pub mod ExtensionLaws
 pub mod CertLaws
 pub mod ChainLaws
+pub mod AuthorityLaws

@@ -11,3 +11,4 @@ pub mod WrongExtensions
 pub mod Cert
 pub mod Refused
 pub mod Chain
+pub mod Authority

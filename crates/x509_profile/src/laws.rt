@@ -1,7 +1,8 @@
 //! Laws: a function here does nothing, and its clauses are the law.
-ghost use Rattle.std.specs.Prelude.{◌≡◌, ◌↔◌, ◌-◌, ℕ, List, Ok, Err};
+ghost use Rattle.std.specs.Prelude.{◌≡◌, ◌↔◌, ◌-◌, ℕ, List, Ok, Err, true};
 ghost use Rattle.der_reader.specs.Elem.{AllBytes};
 ghost use Rattle.der_reader.specs.declared.part.Fault.{Fault};
+ghost use Rattle.x509_profile.specs.Authority.{SaysAuthority};
 ghost use Rattle.x509_profile.specs.Cert.{Cert};
 ghost use Rattle.x509_profile.specs.Chain.{Chain, EndsAt, RefusedCertificate, Whole, certificates_in};
 ghost use Rattle.x509_profile.specs.Read.{read_certificate};
@@ -24,4 +25,10 @@ pub fn chain_law()
     ensures found { (bytes : List ℕ) (certificates : List CertView) → AllBytes bytes → certificates_in bytes ≡ Ok certificates → Chain bytes certificates }
     ensures ends { (bytes : List ℕ) (refused : RefusedCertificate) → AllBytes bytes → certificates_in bytes ≡ Err refused → EndsAt bytes refused }
     ensures whole { (bytes : List ℕ) (refused : RefusedCertificate) → EndsAt bytes refused → Whole bytes (refused.number - 1) }
+{}
+
+/// A certificate is one of a certification authority only if one of its extensions is basicConstraints, whose cA is true (RFC 5280, section
+/// 4.2.1.9): without that extension it is none.
+pub fn authority_law()
+    ensures { (bytes : List ℕ) (c : CertView) → (certificate : Cert bytes c) → c.is_ca ≡ true → SaysAuthority certificate.parts.extensions }
 {}

@@ -16,4 +16,4 @@ mod tbs;
 pub use certificate::Certificate;
 pub use chain::{CertChainFault, MOST_CHAIN_BYTES, read_chain};
 pub use fault::CertFault;
-pub use laws::{certificate_law, chain_law};
+pub use laws::{authority_law, certificate_law, chain_law};

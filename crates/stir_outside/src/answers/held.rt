@@ -1,6 +1,7 @@
 //! What an answers file says, kept for one look-up a question.
-ghost use Rattle.std.specs.Prelude.{◌≡◌, ◌-◌, ◌^◌, ◌<◌, ◌↔◌, ℕ, List, Ok, Err, IfOk, IfErr, length};
-ghost use Rattle.stir_outside.specs.AnswersText.{AnswersText, FirstBad, answer_rows};
+ghost use Rattle.std.specs.Prelude.{◌≡◌, ◌-◌, ◌^◌, ◌<◌, ◌↔◌, ℕ, List, Ok, Err, IfOk, IfErr, Some, length};
+ghost use Rattle.stir_outside.specs.AnswersLine.{IsRowLine};
+ghost use Rattle.stir_outside.specs.AnswersText.{AnswersText, FirstBad, answer_rows, row_of};
 ghost use Rattle.stir_outside.specs.declared.answers.rows.Row.{Row};
 
 use crate::answers::key_name::KeyName;
@@ -10,7 +11,7 @@ use crate::answers::steady::SteadyProvider;
 use std::alloc::{AllocError, Global};
 use std::collections::{HashMap, HashSet};
 use std::marker::Model;
-use text_file::Lines;
+use text_file::{Lines, words_law};
 
 /// Why a text is no answers file.
 #[derive(Clone, Copy, Debug, PartialEq, Eq)]
@@ -66,7 +67,10 @@ impl Answers {
         // What an answers file is, and which line is the first bad one.
         ensures rows { (rows : List Row) → (answer_rows text.now ≡ Ok rows) ↔ AnswersText text.now rows }
         ensures first_bad { (number : ℕ) → (answer_rows text.now ≡ Err number) ↔ FirstBad text.now number }
+        // What a line says, in the words of the format.
+        ensures line { (line : List ℕ) (row : Row) → (row_of line ≡ Some row) ↔ IsRowLine line row }
     {
+        words_law();
         Answers::read_lines(alloc, text)
     }
 

@@ -26,7 +26,7 @@ returns-clause-exact g c =
 
 pub returns-clause-signed : goal.returns-clause-signed
 returns-clause-signed g c =
-    answers_record (λ out. out.items) c.with_identity.result c.head_law.ensures c.args.bytes.now (wanted_of c.args.wanted.now) (holder_seen c.args.holder) (g.P.Provider.signs c.args.provider.now) c.in_ok-one.one.passport
+    answers_record (λ out. out.items) c.with_identity.result c.head_law.ensures c.covers_kind_law.ensures c.args.bytes.now (wanted_of c.args.wanted.now) (holder_seen c.args.holder) (g.P.Provider.signs c.args.provider.now) c.in_ok-one.one.passport
     c.in_ok-signature.signature c.deref-2.result.now c.in_ok-one.ensures.exact c.in_ok-one.ensures.signable
     (sym (ap (signature_of (g.P.Provider.signs c.args.provider.now) c.args.wanted.now.key.now) (c.deref.ensures.value ∙ c.in_ok-one.ensures.signing)) ∙ c.in_ok-signature.ensures.exact)
     c.in_ok-value.ensures.signature (c.deref-2.ensures.value ∙ c.in_ok-value.ensures.exact)

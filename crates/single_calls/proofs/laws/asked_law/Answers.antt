@@ -1,0 +1,9 @@
+-- The laws of which questions are asked.
+use Rattle.single_calls.proofs.AskedLaws.{asked_once, asked_where}
+use Rattle.single_calls.proofs.laws.asked_law.Goals as goal
+
+pub returns-clause-listed : goal.returns-clause-listed
+returns-clause-listed c = asked_where
+
+pub returns-clause-once : goal.returns-clause-once
+returns-clause-once c = asked_once

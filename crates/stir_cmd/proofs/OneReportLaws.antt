@@ -1,0 +1,143 @@
+-- Two runs of `verify` over the same files and the same log give one report.
+use Rattle.std.proofs.Common.{◌≡◌, ◌↔◌, ℕ, ◌≤◌, Bool, List, [], ◌++◌, Option, Some, None, Result, Ok, refl, sym, ◌∙◌, ap, subst}
+use Rattle.std.specs.Io.KnownBytes.{Appends}
+use Rattle.std.proofs.lemmas.Option.{same_Some}
+use Rattle.call_log.specs.Entry.{Entry}
+use Rattle.call_log.specs.HandsOut.{OneLog}
+use Rattle.call_log.specs.Log.{LogText, start}
+use Rattle.cert_store.specs.ChainMap.{MapOf, file_in, listed}
+use Rattle.cert_store.specs.Files.{Files as ChainFiles}
+use Rattle.log_run.specs.AllValid.{all_valid}
+use Rattle.log_run.specs.Ending.{report_status}
+use Rattle.log_run.specs.Rounds.{IsApart, Round, calls_in, outcomes_in, row_rounds}
+use Rattle.replay_law.specs.Law.{OneAnswer}
+use Rattle.verify_rules.specs.SameWorld.{SayTheSame}
+use Rattle.stir_files.specs.Materials.{MaterialsOf}
+use Rattle.stir_files.specs.Named.{AnchorsOf, NamedFile, ReadOf, anchor_file, answers_file, chain_map, code_table}
+use Rattle.stir_files.specs.declared.materials.Materials.{Materials}
+use Rattle.stir_outside.specs.Count.{NotRisen}
+use Rattle.stir_outside.specs.Files.{Files}
+use Rattle.stir_outside.specs.AnswersText.{says as says_in}
+use Rattle.stir_outside.specs.Held.{AnswersOf, Held, held_says}
+use Rattle.stir_words.specs.Order.{JudgingView, OrderView, VerifyBy}
+use Rattle.tn_auth_list.specs.CodeTable.{Grants}
+use Rattle.tn_auth_list.specs.Grant.{GrantHolds, TableOf, grant_in}
+use Rattle.tn_auth_list.specs.declared.table_groups.Held.{Held as Granted}
+use Rattle.verify_rules.specs.Call.{Call}
+use Rattle.verify_rules.specs.World.{First, World}
+use Rattle.verify_rules.specs.declared.settings.Settings.{Settings}
+use Rattle.verify_service.specs.Report.{report}
+use Rattle.verify_service.specs.Judging.{call_in}
+use Rattle.verify_service.specs.declared.outcome.Outcome.{Outcome}
+use Rattle.stir_cmd.specs.Calls.{bench_by, settings_by, world_by}
+use Rattle.stir_cmd.specs.Headline.{AreJudged, Headline, Verified}
+use Rattle.stir_cmd.specs.OneReport.{AreOneReport, GivesOneReport, IsLogApart, IsOneReport, JudgedTheSame}
+use Rattle.stir_cmd.specs.Outside.{IfTold, Outside}
+use Rattle.stir_cmd.proofs.AnswersAlike.{NoneAside, OneAnswerEach, RoundsAlike, all_same, has_each, rounds_alike, rounds_turned, same_cut}
+
+-- ---- what was read of the same files
+
+-- one file was read twice
+one_content : (files : Files) (named : NamedFile) (P Q : List ℕ → Type 0) (mine : ReadOf (Some files) named P) (yours : ReadOf (Some files) named Q) → mine.content ≡ yours.content
+one_content files named P Q mine yours = let first = mine.told in let second = yours.told in same_Some mine.content yours.content (sym first ∙ second)
+
+one_ok : {X : Type 0} (a b : X) (r : Result X ℕ) → r ≡ Ok a → r ≡ Ok b → a ≡ b
+one_ok a b r is there = let both : Ok a ≡ Ok b = sym is ∙ there in cc
+
+one_map : (content : List ℕ) (mine yours : ChainFiles) → MapOf content mine → MapOf content yours → (x5u : List ℕ) → listed mine x5u ≡ listed yours x5u
+one_map content mine yours a b x5u = a.files x5u ∙ ap (λ rows. file_in rows x5u) (one_ok a.rows b.rows _ a.read b.read) ∙ sym (b.files x5u)
+
+one_table : (content : List ℕ) (mine yours : List (List ℕ × Granted)) → TableOf content mine → TableOf content yours → (code number : List ℕ)
+    → GrantHolds (grant_in mine code) number ↔ GrantHolds (grant_in yours code) number
+one_table content mine yours a b code number =
+    let rows = one_ok a.rows b.rows _ a.read b.read in
+    ((λ h. ((b.grants code).holds number).1 (subst (λ r. Grants r code number) rows (((a.grants code).holds number).0 h))),
+     (λ h. ((a.grants code).holds number).1 (subst (λ r. Grants r code number) (sym rows) (((b.grants code).holds number).0 h))))
+
+one_answers : (content : List ℕ) (mine yours : Held) → AnswersOf content mine → AnswersOf content yours → held_says mine ≡ held_says yours
+one_answers content mine yours a b = a.says ∙ ap says_in (one_ok a.rows b.rows _ a.read b.read) ∙ sym b.says
+
+same_says : (files : Files) (judging : JudgingView) (mine yours : Materials) → MaterialsOf (Some files) judging mine → MaterialsOf (Some files) judging yours
+    → SayTheSame (world_by mine files) (world_by yours files)
+same_says files judging mine yours a b = record {
+  chains = one_map b.chains.content mine.chains yours.chains (subst (λ c. MapOf c mine.chains) (one_content files (chain_map judging.chains) _ _ a.chains b.chains) a.chains.holds) b.chains.holds;
+  files = refl;
+  anchors =
+      one_ok mine.anchors yours.anchors _ (subst (λ c. AnchorsOf c mine.anchors) (one_content files (anchor_file judging.anchors) _ _ a.anchors b.anchors) a.anchors.holds).read
+      b.anchors.holds.read;
+  grants = one_table b.table.content mine.table yours.table (subst (λ c. TableOf c mine.table) (one_content files (code_table judging.table) _ _ a.table b.table) a.table.holds) b.table.holds;
+  says = one_answers b.answers.content mine.answers yours.answers
+      (subst (λ c. AnswersOf c mine.answers) (one_content files (answers_file judging.answers) _ _ a.answers b.answers) a.answers.holds) b.answers.holds;
+}
+
+-- ---- the report
+
+abbrev pub SameWorldLaw : Type 0
+SameWorldLaw = (world other : World) → SayTheSame world other → (call : Call) → First world call ≡ First other call
+
+-- the laws of the crates below that are needed
+pub record OneReportLawsOf : Type 0 where
+  pub one_log : OneLog
+  pub one_answer : OneAnswer
+  pub same_world : SameWorldLaw
+
+none_aside : (settings : Settings) (materials : Materials) (files : Files) (before now : Outside) (rounds : List Round)
+    → AreJudged settings materials files before now rounds → NotRisen before.counts.faults now.counts.faults → NoneAside (outcomes_in rounds)
+none_aside settings materials files before now rounds judged quiet = record { read = judged.quiet quiet; asked = judged.answered }
+
+one_outcomes : OneReportLawsOf → (judging : JudgingView) (files : Files) (bytes : List ℕ) (before now other other_now : Outside) (status other_status : ℕ)
+    → IsLogApart judging bytes → (mine : Verified judging files bytes before now status) (yours : Verified judging files bytes other other_now other_status)
+    → NotRisen before.counts.faults now.counts.faults → NotRisen other.counts.faults other_now.counts.faults → outcomes_in mine.rounds ≡ outcomes_in yours.rounds
+one_outcomes laws judging files bytes before now other other_now status other_status apart mine yours quiet quiet_other =
+    let settings = settings_by judging.settings in
+    let bench = bench_by settings in
+    let world = world_by mine.materials files in
+    let world_other = world_by yours.materials files in
+    let calls = (laws.one_log (start 0 0) bytes (calls_in mine.rounds) (calls_in yours.rounds) [] [] mine.log yours.log).0 in
+    let same : (entry : Entry) → First world (call_in settings entry) ≡ First world_other (call_in settings entry) =
+    λ entry. laws.same_world world world_other (same_says files judging mine.materials yours.materials mine.stands yours.stands) (call_in settings entry) in
+    let cut = same_cut mine.rounds yours.rounds mine.judged.cut yours.judged.cut calls in
+    let alike : RoundsAlike mine.rounds yours.rounds =
+    rounds_alike world world_other settings same mine.rounds yours.rounds cut mine.judged.each yours.judged.each
+    (none_aside settings mine.materials files before now mine.rounds mine.judged quiet) (none_aside settings yours.materials files other other_now yours.rounds yours.judged quiet_other) in
+    let apart_mine : IsApart bench (calls_in mine.rounds) = apart (calls_in mine.rounds) mine.log in
+    let apart_yours : IsApart bench (calls_in yours.rounds) = apart (calls_in yours.rounds) yours.log in
+    let one : OneAnswerEach bench mine.rounds yours.rounds =
+    laws.one_answer (row_rounds bench mine.rounds) (row_rounds bench yours.rounds) (has_each bench mine.rounds yours.rounds alike)
+    (has_each bench yours.rounds mine.rounds (rounds_turned mine.rounds yours.rounds alike))
+    (mine.judged.legal apart_mine).once (mine.judged.first_wins apart_mine) (yours.judged.legal apart_yours).once (yours.judged.first_wins apart_yours) in
+    all_same world world_other bench mine.rounds yours.rounds alike mine.judged.each yours.judged.each one
+
+one_report : OneReportLawsOf → (judging : JudgingView) (files : Files) (bytes : List ℕ) (before now other other_now : Outside) (status other_status : ℕ)
+    → IsLogApart judging bytes → Verified judging files bytes before now status → Verified judging files bytes other other_now other_status
+    → NotRisen before.counts.faults now.counts.faults → NotRisen other.counts.faults other_now.counts.faults → AreOneReport before now status other other_now other_status
+one_report laws judging files bytes before now other other_now status other_status apart mine yours quiet quiet_other =
+    let same = one_outcomes laws judging files bytes before now other other_now status other_status apart mine yours quiet quiet_other in
+    record {
+      text = report 1 (outcomes_in mine.rounds);
+      written = mine.reported;
+      other_written = subst (λ outcomes. Appends other.written other_now.written (report 1 outcomes)) (sym same) yours.reported;
+      same_status = mine.said ∙ ap (λ outcomes. report_status (all_valid outcomes)) same ∙ sym yours.said;
+    }
+
+-- what the headline says of a run whose files and log these are
+said_of : (judging : JudgingView) (files : Files) (bytes : List ℕ) (told : Option Files) (left : Option (List ℕ)) (other other_now : Outside) (status : ℕ)
+    → told ≡ Some files → left ≡ Some bytes → IfTold told left (λ f b. Verified judging f b other other_now status) → Verified judging files bytes other other_now status
+said_of judging files bytes told left other other_now status same_files same_log said =
+    subst (λ f. IfTold (Some files) f (λ f b. Verified judging f b other other_now status)) same_log
+    (subst (λ f. IfTold f left (λ f b. Verified judging f b other other_now status)) same_files said)
+
+gives_by : OneReportLawsOf → (judging : JudgingView) (before now : Outside) (status : ℕ) (told : Option Files) (left : Option (List ℕ))
+    → NotRisen before.counts.faults now.counts.faults → IfTold told left (λ files bytes. Verified judging files bytes before now status)
+    → IfTold told left (λ files bytes. IsOneReport judging files bytes before now status)
+gives_by laws judging before now status None left quiet said = tt
+gives_by laws judging before now status (Some files) None quiet said = tt
+gives_by laws judging before now status (Some files) (Some bytes) quiet said = record {
+  same = λ apart other other_now other_status ran.
+      one_report laws judging files bytes before now other other_now status other_status apart said
+      (said_of judging files bytes other.files other.left other other_now other_status ran.same_files ran.same_log (ran.headline ran.done)) quiet ran.quiet;
+}
+
+pub gives_one_report : OneReportLawsOf → (order : Option OrderView) (before now : Outside) (status : ℕ) → Headline order before now status → GivesOneReport order before now status
+gives_one_report laws (Some (VerifyBy judging)) before now status said = λ done quiet. gives_by laws judging before now status before.files before.left quiet (said done)
+gives_one_report laws other before now status said = _

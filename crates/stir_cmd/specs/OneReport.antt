@@ -1,0 +1,41 @@
+-- What any two runs of `verify` have in common that judge one log by the same files: the report is one function of both.
+use Rattle.std.specs.Prelude.{◌≡◌, ℕ, ◌≤◌, List, [], Option, Some, None}
+use Rattle.std.specs.Io.KnownBytes.{Appends}
+use Rattle.call_log.specs.Entry.{Entry}
+use Rattle.call_log.specs.Log.{LogText, start}
+use Rattle.log_run.specs.Rounds.{IsApart}
+use Rattle.stir_outside.specs.Count.{NotRisen}
+use Rattle.stir_outside.specs.Files.{Files}
+use Rattle.stir_words.specs.Order.{JudgingView, OrderView, VerifyBy}
+use Rattle.stir_cmd.specs.Calls.{bench_by, settings_by}
+use Rattle.stir_cmd.specs.Headline.{Headline}
+use Rattle.stir_cmd.specs.Outside.{IfTold, Outside}
+
+-- no two different texts that were signed as last PASSporTs of the log's calls have one digest
+abbrev pub IsLogApart : JudgingView → List ℕ → Type 0
+IsLogApart judging bytes = (calls : List Entry) → LogText (start 0 0) bytes calls [] → IsApart (bench_by (settings_by judging.settings)) calls
+
+-- a run over these files and this log that kept the headline's promise, ended with 0 or 1, and in which no read of the shelf failed
+pub record JudgedTheSame (order : Option OrderView) (files : Files) (bytes : List ℕ) (before now : Outside) (status : ℕ) : Type 0 where
+  pub same_files : before.files ≡ Some files
+  pub same_log : before.left ≡ Some bytes
+  pub headline : Headline order before now status
+  pub done : status ≤ 1
+  pub quiet : NotRisen before.counts.faults now.counts.faults
+
+-- both wrote the same bytes, and ended with the same status
+pub record AreOneReport (before now : Outside) (status : ℕ) (other other_now : Outside) (other_status : ℕ) : Type 0 where
+  pub text : List ℕ
+  pub written : Appends before.written now.written text
+  pub other_written : Appends other.written other_now.written text
+  pub same_status : status ≡ other_status
+
+-- each other run over the same files and log gave the same report
+pub record IsOneReport (judging : JudgingView) (files : Files) (bytes : List ℕ) (before now : Outside) (status : ℕ) : Type 0 where
+  pub same : IsLogApart judging bytes → (other other_now : Outside) (other_status : ℕ)
+      → JudgedTheSame (Some (VerifyBy judging)) files bytes other other_now other_status → AreOneReport before now status other other_now other_status
+
+abbrev pub GivesOneReport : Option OrderView → Outside → Outside → ℕ → Type 0
+GivesOneReport (Some (VerifyBy judging)) before now status = status ≤ 1 → NotRisen before.counts.faults now.counts.faults
+    → IfTold before.files before.left (λ files bytes. IsOneReport judging files bytes before now status)
+GivesOneReport other before now status = Unit {0}
