@@ -27,7 +27,7 @@ one_less : (x : List ℕ) (ys : List (List ℕ)) → has x ys ≡ true → suc (
 one_less x [] is = absurd (false_is_not_true is)
 one_less x (y ∷ ys) is = less_by x y ys (bytes_eq x y) (one_less x ys) is
 
-same_text : (a b : List ℕ) → bytes_eq a b ≡ true → a ≡ b
+pub same_text : (a b : List ℕ) → bytes_eq a b ≡ true → a ≡ b
 same_text a b e = (bytes_decides a b).0 e
 
 still_by : (z x y : List ℕ) (ys : List (List ℕ)) → bytes_eq z x ≡ false → (b : Bool) → bytes_eq x y ≡ b → (has z ys ≡ true → has z (without x ys) ≡ true)
@@ -73,7 +73,7 @@ once_by text texts false is once = (is, once)
 pub once_joined : (text : List ℕ) (texts : List (List ℕ)) → IsOnce texts → IsOnce (joined text texts)
 once_joined text texts once = once_by text texts (has text texts) refl once
 
-has_more : (z x : List ℕ) (xs : List (List ℕ)) → has z (xs ++ x ∷ []) ≡ (has z xs || bytes_eq z x)
+pub has_more : (z x : List ℕ) (xs : List (List ℕ)) → has z (xs ++ x ∷ []) ≡ (has z xs || bytes_eq z x)
 has_more z x [] = or-false (bytes_eq z x)
 has_more z x (y ∷ ys) = has_by (bytes_eq z y) (has z (ys ++ x ∷ [])) (has z ys) (bytes_eq z x) (has_more z x ys)
   where

@@ -17,3 +17,4 @@ mod KeptLaws
 mod RightLaws
 mod NearLaws
 mod FewLaws
+mod RoundTextLaws

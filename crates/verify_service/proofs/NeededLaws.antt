@@ -34,7 +34,7 @@ once_by : (b : Bool) (f g xs ys : List (List ℕ)) → once (once f xs) ys ≡ o
 once_by true f g xs ys one other = one
 once_by false f g xs ys one other = other
 
-once_more : (f xs ys : List (List ℕ)) → once (once f xs) ys ≡ once f (xs ++ ys)
+pub once_more : (f xs ys : List (List ℕ)) → once (once f xs) ys ≡ once f (xs ++ ys)
 once_more f [] ys = refl
 once_more f (x ∷ xs) ys = once_by (list_any (bytes_eq x) f) f (f ++ x ∷ []) xs ys (once_more f xs ys) (once_more (f ++ x ∷ []) xs ys)
 
@@ -42,7 +42,7 @@ needed_by : {X : Type 0} (b : Bool) (x : X) (zs ys rest : List X) → zs ++ ys �
 needed_by true x zs ys rest same = ap (λ l. x ∷ l) same
 needed_by false x zs ys rest same = same
 
-filter_more : {X : Type 0} (p : X → Bool) (xs ys : List X) → filter p xs ++ filter p ys ≡ filter p (xs ++ ys)
+pub filter_more : {X : Type 0} (p : X → Bool) (xs ys : List X) → filter p xs ++ filter p ys ≡ filter p (xs ++ ys)
 filter_more p [] ys = refl
 filter_more p (x ∷ xs) ys = needed_by (p x) x (filter p xs) (filter p ys) (filter p (xs ++ ys)) (filter_more p xs ys)
 

@@ -74,6 +74,11 @@ IsOnce (x ∷ xs) = (has x xs ≡ false) × IsOnce xs
 abbrev pub round_texts : Files → Chains → List (List ℕ) → List (List ℕ)
 round_texts files held texts = once [] (needed files held texts)
 
+-- a list begins with another
+pub record BeginsWith (first all : List (List ℕ)) : Type 0 where
+  pub others : List (List ℕ)
+  pub all_are : all ≡ first ++ others
+
 -- ---- those whose chains are held
 
 -- each of them is used, in turn

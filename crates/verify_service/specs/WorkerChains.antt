@@ -15,8 +15,8 @@ abbrev pub IsChainOf : Materials → Says → List ℕ → Option JudgedView →
 IsChainOf materials says bytes (Some judged) = JudgedAs (judged_of materials.anchors materials.table says bytes) judged
 IsChainOf materials says bytes None = ⊥
 
--- At a place that is the worker's own stands what the rules say of the bytes that were read there. Where none were read, and at the place of
--- another worker, stands nothing.
+-- At a place of the worker's own stands what the rules say of the bytes that were read there, or nothing if none were read. At the place of
+-- another worker stands nothing.
 abbrev pub IsOwn : Materials → Says → Bool → Fetched → Option JudgedView → Type 0
 IsOwn materials says true (fetched.Bytes bytes) chain = IsChainOf materials says bytes.items chain
 IsOwn materials says true fetched.NoChain chain = chain ≡ None

@@ -23,7 +23,7 @@ ghost use Rattle.cert_store.specs.Holding.{Chains, Holding};
 ghost use Rattle.cert_store.specs.declared.world.World.{World as Materials};
 ghost use Rattle.verify_service.specs.Causes.{joined};
 ghost use Rattle.verify_service.specs.Kept.{Kept, StoresChain};
-ghost use Rattle.verify_service.specs.Needed.{IsOnce, all_named, has, named, needed, once};
+ghost use Rattle.verify_service.specs.Needed.{BeginsWith, IsOnce, all_named, has, named, needed, once, round_texts};
 ghost use Rattle.verify_service.specs.RightChains.{AreRightHeld, IsNear, IsThere, held_count};
 ghost use Rattle.verify_service.specs.Screening.{IsReady};
 ghost use Rattle.verify_service.specs.declared.screening.ReadyCall.{ReadyCall};
@@ -72,6 +72,11 @@ pub fn report_law()
 pub(crate) fn texts_law()
     ensures named { (settings : Settings) (entries : List Entry) (calls : List ReadyCall) → EachPair (IsReady settings) entries calls → all_named calls ≡ named settings entries }
     ensures once { (found texts : List (List ℕ)) → IsOnce found → IsOnce (once found texts) }
+
+    // The texts of a round are those that are needed; and those of its first calls come first, whatever others name after them.
+    ensures these { (files : ChainFiles) (held : Chains) (texts : List (List ℕ)) (x5u : List ℕ) → has x5u (round_texts files held texts) ≡ has x5u (needed files held texts) }
+    ensures first { (files : ChainFiles) (held : Chains) (texts others : List (List ℕ)) → BeginsWith (round_texts files held texts) (round_texts files held (texts ++ others)) }
+
     ensures joined { (text : List ℕ) (texts : List (List ℕ)) → IsOnce texts → IsOnce (joined text texts) }
 
     // Texts of which none is another are no more than those that they are among. Those that are read are no more than those that are needed; and
