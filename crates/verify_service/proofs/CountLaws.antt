@@ -69,6 +69,12 @@ at_most_more : (t : Bool) (n before mid now : ℕ) → AtMost n before mid → m
 at_most_more true n before mid now so_far further cause = both_at_most n 1 before mid now so_far (at_most_of_rose mid now (cause refl))
 at_most_more false n before mid now so_far further cause = both_at_most n 0 before mid now so_far (none_at mid now further)
 
+-- of a list that grows by one, as many at most as were counted
+pub most_next : {X : Type 0} (p : X → Bool) (xs : List X) (x : X) (before mid now : ℕ) → AtMost (length (filter p xs)) before mid → mid ≤ now → HasCauseIf (p x) mid now
+    → AtMost (length (filter p (xs ++ x ∷ []))) before now
+most_next p xs x before mid now so_far further cause =
+    subst (λ n. AtMost n before now) (sym (filter_more p xs x)) (at_most_more (p x) (length (filter p xs)) before mid now so_far further cause)
+
 -- one call more that may be set aside
 pub counted_more : (p : Finding → Bool) (findings : List Finding) (finding : Finding) (before mid now : ℕ) → before ≤ mid → mid ≤ now
     → AreCounted p findings before mid → HasCauseIf (p finding) mid now → AreCounted p (findings ++ finding ∷ []) before now

@@ -9,3 +9,12 @@ pub mod ReadBack
 pub mod ReadLaws
 pub mod RoundLaws
 pub mod SettleLaws
+mod TextLaws
+mod NeededLaws
+mod FetchedLaws
+mod WorkerChainLaws
+mod KeptLaws
+mod RightLaws
+mod NearLaws
+mod FewLaws
+mod RoundTextLaws

@@ -65,12 +65,12 @@ right_none (Some files) materials says = tt
 -- ---- the PASSporTs in turn
 
 -- a PASSporT that stands at an index, with those before it
-record StandsAt (readings : List Reading) (i : ℕ) (passport : ClaimsView) : Type 0 where
-  one : Reading
-  more : take (i + 1) readings ≡ take i readings ++ one ∷ []
-  says : one.passport ≡ passport
+pub record StandsAt (readings : List Reading) (i : ℕ) (passport : ClaimsView) : Type 0 where
+  pub one : Reading
+  pub more : take (i + 1) readings ≡ take i readings ++ one ∷ []
+  pub says : one.passport ≡ passport
 
-stands_at : (readings : List Reading) (i : ℕ) (passport : ClaimsView) → i < length readings → option_map passport_in (slice_get readings i) ≡ Some passport
+pub stands_at : (readings : List Reading) (i : ℕ) (passport : ClaimsView) → i < length readings → option_map passport_in (slice_get readings i) ≡ Some passport
     → StandsAt readings i passport
 stands_at [] i passport within is = absurd (omega arith)
 stands_at (r ∷ readings) zero passport within is = record { one = r; more = refl; says = same_Some r.passport passport is }

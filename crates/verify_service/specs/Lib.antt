@@ -5,3 +5,9 @@ pub mod Report
 pub mod ReportLine
 pub mod Rows
 pub mod Service
+pub mod Screening
+pub mod Needed
+pub mod Fetched
+pub mod WorkerChains
+pub mod Kept
+pub mod RightChains

@@ -1,7 +1,7 @@
 //! Laws: a function here does nothing, and its clauses are the law.
 ghost use Rattle.std.specs.List.{slice_get};
 ghost use Rattle.std.specs.Option.{option_map};
-ghost use Rattle.std.specs.Prelude.{◌≡◌, ◌<◌, ◌+◌, ◌++◌, ◌∷◌, [], ℕ, List, length, take, Option, Some, None, Result};
+ghost use Rattle.std.specs.Prelude.{◌≡◌, ◌<◌, ◌≤◌, ◌+◌, ◌++◌, ◌∷◌, [], ℕ, suc, true, List, length, take, Option, Some, None, Result};
 ghost use Rattle.call_log.specs.Entry.{Entry};
 ghost use Rattle.cert_store.specs.Rules.{Says};
 ghost use Rattle.passport_claims.specs.Passport.{ClaimsView};
@@ -14,12 +14,21 @@ ghost use Rattle.verify_rules.specs.States.{State};
 ghost use Rattle.verify_rules.specs.declared.refusal.ScreenFault.{ScreenFault};
 ghost use Rattle.verify_rules.specs.declared.settings.Settings.{Settings};
 ghost use Rattle.verify_service.specs.Chains.{AreRightWhere, IsRightWhere};
-ghost use Rattle.verify_service.specs.Judging.{call_in, last_second};
+ghost use Rattle.verify_service.specs.Judging.{EachPair, call_in, last_second};
 ghost use Rattle.verify_service.specs.Report.{report, report_text};
 ghost use Rattle.verify_service.specs.ReportLine.{AllFit, Fits, IsLine};
 ghost use Rattle.verify_service.specs.declared.outcome.Outcome.{Outcome};
+ghost use Rattle.cert_store.specs.Files.{Files as ChainFiles};
+ghost use Rattle.cert_store.specs.Holding.{Chains, Holding};
 ghost use Rattle.cert_store.specs.declared.world.World.{World as Materials};
+ghost use Rattle.verify_service.specs.Causes.{joined};
+ghost use Rattle.verify_service.specs.Kept.{Kept, StoresChain};
+ghost use Rattle.verify_service.specs.Needed.{BeginsWith, IsOnce, all_named, has, named, needed, once, round_texts};
+ghost use Rattle.verify_service.specs.RightChains.{AreRightHeld, IsNear, IsThere, held_count};
+ghost use Rattle.verify_service.specs.Screening.{IsReady};
+ghost use Rattle.verify_service.specs.declared.screening.ReadyCall.{ReadyCall};
 
+use cert_store::cache_law;
 use verify_rules::{code_law, last_second_law, right_law};
 
 /// A call of a log is judged as what its message and its moment are.
@@ -57,4 +66,37 @@ pub fn report_law()
         → report number xs ≡ report number ys → xs ≡ ys }
 {
     code_law();
+}
+
+/// The texts of a round: those that its calls name, in the order of the log, each once; and how many there are at most.
+pub(crate) fn texts_law()
+    ensures named { (settings : Settings) (entries : List Entry) (calls : List ReadyCall) → EachPair (IsReady settings) entries calls → all_named calls ≡ named settings entries }
+    ensures once { (found texts : List (List ℕ)) → IsOnce found → IsOnce (once found texts) }
+
+    // The texts of a round are those that are needed; and those of its first calls come first, whatever others name after them.
+    ensures these { (files : ChainFiles) (held : Chains) (texts : List (List ℕ)) (x5u : List ℕ) → has x5u (round_texts files held texts) ≡ has x5u (needed files held texts) }
+    ensures first { (files : ChainFiles) (held : Chains) (texts others : List (List ℕ)) → BeginsWith (round_texts files held texts) (round_texts files held (texts ++ others)) }
+
+    ensures joined { (text : List ℕ) (texts : List (List ℕ)) → IsOnce texts → IsOnce (joined text texts) }
+
+    // Texts of which none is another are no more than those that they are among. Those that are read are no more than those that are needed; and
+    // those that are held and those that are needed are no more than all.
+    ensures no_more { (texts others : List (List ℕ)) → IsOnce texts → ((x5u : List ℕ) → has x5u texts ≡ true → has x5u others ≡ true) → length texts ≤ length others }
+    ensures most { (found texts : List (List ℕ)) → length (once found texts) ≤ length found + length texts }
+    ensures apart { (files : ChainFiles) (held : Chains) (texts : List (List ℕ)) → held_count held texts + length (needed files held texts) ≤ length texts }
+{}
+
+/// One chain more is held or kept: if it is right, all stay right. A chain that is kept, or held among the n most recently used, is from then on
+/// kept or among the n + 1 most recently used, and so is the new one; none of these has left.
+pub(crate) fn stored_law()
+    ensures right { (told : Option Files) (materials : Materials) (says : Says) (x5u : List ℕ) (state : State) (held held_now : Holding) (kept kept_now : Kept)
+        → StoresChain x5u state held held_now kept kept_now → IsRightWhere told materials says x5u state
+        → AreRightHeld told materials says held.entries kept → AreRightHeld told materials says held_now.entries kept_now }
+    ensures near { (n : ℕ) (x5u other : List ℕ) (state : State) (held held_now : Holding) (kept kept_now : Kept) → suc n ≤ held.capacity
+        → StoresChain x5u state held held_now kept kept_now → IsNear n held.entries kept other → IsNear (suc n) held_now.entries kept_now other }
+    ensures here { (n : ℕ) (x5u : List ℕ) (state : State) (held held_now : Holding) (kept kept_now : Kept)
+        → StoresChain x5u state held held_now kept kept_now → IsNear (suc n) held_now.entries kept_now x5u }
+    ensures there { (n : ℕ) (x5u : List ℕ) (held : Chains) (kept : Kept) → IsNear n held kept x5u → IsThere held kept x5u }
+{
+    cache_law();
 }

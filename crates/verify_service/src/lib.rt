@@ -8,16 +8,22 @@
 #![tactic(auto)]
 
 mod chains;
+mod fetching;
 mod finding;
 mod judge;
+mod kept;
 mod laws;
 mod outcome;
 mod reading;
 mod report;
 mod round;
+mod round_chains;
+mod screening;
 mod service;
 mod settle;
+mod texts;
 mod worker;
+mod worker_chains;
 
 pub use call_log::{Call, LogFault, LogReader};
 pub use cert_store::World;

@@ -2,6 +2,7 @@
 ghost use Rattle.std.specs.Prelude.{◌≡◌};
 
 use crate::chains::CallChains;
+use cert_store::Judged;
 use std::alloc::Global;
 
 /// Judges calls: with a provider of signatures, and a gate that it passes before each call.
@@ -13,6 +14,10 @@ pub struct Worker<P, G> {
     pub gate: G,
     /// The chains of the call that is judged.
     pub(crate) chains: CallChains,
+    /// The chains that it judged of the texts of a round: at the place of each of its own that was read.
+    pub(crate) judged: Vec<Option<Judged>>,
+    /// Memory ran out when it judged them.
+    pub(crate) out_of_memory: bool,
 }
 
 impl<P, G> Worker<P, G> {
@@ -25,6 +30,8 @@ impl<P, G> Worker<P, G> {
             provider,
             gate,
             chains: CallChains::new(alloc),
+            judged: Vec::new(alloc),
+            out_of_memory: false,
         }
     }
 }

@@ -1,0 +1,43 @@
+-- What rules 1 to 9 say of a call, as a round keeps it.
+use Rattle.std.specs.Prelude.{◌≡◌, ◌<◌, ⊤, ℕ, Bool, true, false, List, length, slice_index_or, Ok, Err}
+use Rattle.call_log.specs.Entry.{Entry}
+use Rattle.verify_rules.specs.Call.{Call}
+use Rattle.verify_rules.specs.Rules.{early_rules}
+use Rattle.verify_rules.specs.Screened.{IsScreenedBy}
+use Rattle.verify_rules.specs.declared.refusal.ScreenFault.TheVariants as faults
+use Rattle.verify_rules.specs.declared.settings.Settings.{Settings}
+use Rattle.verify_service.specs.Judging.{call_in}
+use Rattle.verify_service.specs.declared.screening.ReadyCall.{ReadyCall}
+use Rattle.verify_service.specs.declared.screening.Screening.{Screening}
+use Rattle.verify_service.specs.declared.screening.Screening.TheVariants.{Open, Refused, Passed}
+
+-- it isn't known, or it is what rules 1 to 9 say of the call
+abbrev pub IsScreening : Call → Screening → Type 0
+IsScreening call Open = ⊤
+IsScreening call (Refused refused) = IsScreenedBy early_rules call (Err (faults.Refused refused))
+IsScreening call (Passed screened) = IsScreenedBy early_rules call (Ok screened)
+
+-- the call is screened into its place, and all else of the place stays
+pub record Screens (call : Call) (old new : ReadyCall) : Type 0 where
+  pub screening : IsScreening call new.screening
+  pub number : new.number ≡ old.number
+  pub moment : new.moment ≡ old.moment
+  pub class : new.class ≡ old.class
+
+-- the same of the call at this index
+pub record ScreensAt (settings : Settings) (entries : List Entry) (at : ℕ) (old new : ReadyCall) : Type 0 where
+  pub screens : (d : Entry) → at < length entries → Screens (call_in settings (slice_index_or entries at d)) old new
+
+-- ---- a round whose calls are all screened
+
+abbrev pub is_open : Screening → Bool
+is_open Open = true
+is_open (Refused refused) = false
+is_open (Passed screened) = false
+
+-- it is this call of the log, screened
+pub record IsReady (settings : Settings) (entry : Entry) (call : ReadyCall) : Type 0 where
+  pub number : call.number ≡ entry.number
+  pub moment : call.moment ≡ entry.moment
+  pub screening : IsScreening (call_in settings entry) call.screening
+  pub known : is_open call.screening ≡ false

@@ -1,0 +1,71 @@
+-- The chains that a worker judged of a round's texts, place by place.
+use Rattle.std.specs.Prelude.{◌≡◌, ℕ, suc, ◌%◌, ◌==◌, ◌+◌, ◌≤◌, ⊤, List, [], ◌∷◌, Bool, true, false, Option, Some, None, length, filter}
+use Rattle.cert_store.specs.Asking.{is_failed}
+use Rattle.cert_store.specs.Judged.{JudgedAs, JudgedView, judged_of}
+use Rattle.cert_store.specs.Rules.{Says}
+use Rattle.cert_store.specs.declared.world.World.{World as Materials}
+use Rattle.stir_outside.specs.Count.{AtMost}
+use Rattle.verify_service.specs.declared.fetching.Fetched.{Fetched}
+use Rattle.verify_service.specs.declared.fetching.Fetched.TheVariants as fetched
+
+-- ---- which are judged
+
+-- what the rules on a chain say of these bytes, as far as the provider answered
+abbrev pub IsChainOf : Materials → Says → List ℕ → Option JudgedView → Type 0
+IsChainOf materials says bytes (Some judged) = JudgedAs (judged_of materials.anchors materials.table says bytes) judged
+IsChainOf materials says bytes None = ⊥
+
+-- At a place of the worker's own stands what the rules say of the bytes that were read there, or nothing if none were read. At the place of
+-- another worker stands nothing.
+abbrev pub IsOwn : Materials → Says → Bool → Fetched → Option JudgedView → Type 0
+IsOwn materials says true (fetched.Bytes bytes) chain = IsChainOf materials says bytes.items chain
+IsOwn materials says true fetched.NoChain chain = chain ≡ None
+IsOwn materials says true fetched.Long chain = chain ≡ None
+IsOwn materials says true fetched.Unread chain = chain ≡ None
+IsOwn materials says false file chain = chain ≡ None
+
+-- The same of each place from this one on, for the worker of this index among so many. Its own are those that leave its index as remainder.
+abbrev pub EachOwn : Materials → Says → ℕ → ℕ → ℕ → List Fetched → List (Option JudgedView) → Type 0
+EachOwn materials says index count place [] [] = ⊤
+EachOwn materials says index count place [] (chain ∷ chains) = ⊥
+EachOwn materials says index count place (file ∷ files) [] = ⊥
+EachOwn materials says index count place (file ∷ files) (chain ∷ chains) =
+    IsOwn materials says (place % count == index) file chain × EachOwn materials says index count (suc place) files chains
+
+-- unless memory ran out
+abbrev pub EachOwnUnless : Bool → Materials → Says → ℕ → ℕ → List Fetched → List (Option JudgedView) → Type 0
+EachOwnUnless true materials says index count files chains = ⊤
+EachOwnUnless false materials says index count files chains = EachOwn materials says index count 0 files chains
+
+-- ---- what is asked for them
+
+-- how many certificates were judged here
+abbrev pub certificates_in : Option JudgedView → ℕ
+certificates_in None = 0
+certificates_in (Some judged) = length judged.certificates
+
+abbrev pub certificates : List (Option JudgedView) → ℕ
+certificates [] = 0
+certificates (chain ∷ chains) = certificates_in chain + certificates chains
+
+-- the provider failed at a signature of this chain
+abbrev pub has_failed : Option JudgedView → Bool
+has_failed None = false
+has_failed (Some judged) = is_failed judged.asked
+
+-- A worker asked its provider no more questions than there are certificates in the chains that it judged. As many of these at most have a
+-- question that failed as faults of its provider were counted.
+pub record ChainsCounted (asks asks_now faults faults_now : ℕ) (chains : List (Option JudgedView)) : Type 0 where
+  pub asks_most : asks_now ≤ asks + certificates chains
+  pub asks_stay : asks ≤ asks_now
+  pub failed : AtMost (length (filter has_failed chains)) faults faults_now
+  pub faults_stay : faults ≤ faults_now
+
+-- if memory ran out, the counts didn't fall
+pub record CountsStay (asks asks_now faults faults_now : ℕ) : Type 0 where
+  pub asks_stay : asks ≤ asks_now
+  pub faults_stay : faults ≤ faults_now
+
+abbrev pub CountedUnless : Bool → ℕ → ℕ → ℕ → ℕ → List (Option JudgedView) → Type 0
+CountedUnless true asks asks_now faults faults_now chains = CountsStay asks asks_now faults faults_now
+CountedUnless false asks asks_now faults faults_now chains = ChainsCounted asks asks_now faults faults_now chains

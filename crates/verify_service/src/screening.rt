@@ -1,0 +1,83 @@
+//! Screening the calls of a round: what rules 1 to 9 say of each, tried in several threads.
+ghost use Rattle.std.specs.Prelude.{◌≡◌, ◌<◌, ◌≤◌, ℕ, length, slice_index_or};
+ghost use Rattle.verify_service.specs.Judging.{call_in};
+ghost use Rattle.verify_service.specs.Screening.{IsScreening, ScreensAt};
+ghost use Rattle.verify_service.specs.declared.screening.ReadyCall.{ReadyCall};
+
+use crate::laws::call_law;
+use call_log::Call;
+use std::alloc::Global;
+use std::thread;
+use std::thread::Threads;
+use verify_rules::{Refusal, ScreenFault, Screened, Settings, screen};
+
+/// What rules 1 to 9 say of a call.
+#[derive(Drop)]
+pub enum Screening {
+    /// It isn't known: the call wasn't screened yet, or memory ran out when it was.
+    Open,
+    /// This is the first of them that it breaks.
+    Refused(Refusal),
+    /// It breaks none of them.
+    Passed(Screened),
+}
+
+/// A call of a round that is prepared.
+#[derive(Drop)]
+pub struct ReadyCall {
+    pub(crate) number: u32,
+    /// Unix time, in seconds.
+    pub(crate) moment: u64,
+    pub(crate) screening: Screening,
+    /// The class of its ticket, if it breaks none of rules 1 to 9.
+    pub(crate) class: Option<u32>,
+}
+
+/// Screens each call into its own place, in at most this many threads. A place stays open only if memory ran out.
+pub(crate) fn screen_all<R: Threads + Sync>(
+    rt: &R,
+    alloc: Global,
+    settings: &Settings,
+    calls: &[Call],
+    threads: usize,
+    places: &mut [ReadyCall],
+)
+    requires window { settings.now.window ≤ 86400 }
+    requires threads { 0 < threads }
+    requires places { length places.old ≡ length calls.now }
+    ensures counted { length places.new ≡ length calls.now }
+    ensures screened { (at : ℕ) (place : ReadyCall) → at < length calls.now
+        → ScreensAt settings.now calls.now at (slice_index_or places.old at place) (slice_index_or places.new at place) }
+{
+    thread::for_each_mut(
+        rt,
+        places,
+        threads,
+        &|at, place| { screen_at(alloc, settings, calls, at, place) },
+    );
+}
+
+/// Screens the call at this index into its place.
+fn screen_at(alloc: Global, settings: &Settings, calls: &[Call], at: usize, place: &mut ReadyCall)
+    requires window { settings.now.window ≤ 86400 }
+    ensures { ScreensAt settings.now calls.now at place.old place.new }
+{
+    if let Some(call) = calls.get(at) {
+        place.screening = screen_call(alloc, settings, call);
+    }
+}
+
+/// Screens a call.
+fn screen_call(alloc: Global, settings: &Settings, call: &Call) -> Screening
+    requires window { settings.now.window ≤ 86400 }
+    ensures { IsScreening (call_in settings.now call.now) result }
+{
+    call_law();
+    match screen(alloc, call.message(), call.moment(), settings) {
+        Ok(screened) => Screening::Passed(screened),
+        Err(fault) => match fault {
+            ScreenFault::Refused(refusal) => Screening::Refused(refusal),
+            ScreenFault::Memory => Screening::Open,
+        },
+    }
+}

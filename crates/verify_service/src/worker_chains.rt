@@ -1,0 +1,137 @@
+//! Judging the chains of a round's texts, each by the worker whose text it is.
+ghost use Rattle.std.specs.Prelude.{◌≡◌, ◌<◌, ◌≤◌, ◌==◌, ◌%◌, ◌+◌, ℕ, [], length, slice_index_or, IfOk, OnOk};
+ghost use Rattle.stir_outside.specs.Stays.{ProviderStays};
+ghost use Rattle.verify_service.specs.Causes.{HasCauseIf};
+ghost use Rattle.verify_service.specs.WorkerChains.{ChainsCounted, CountedUnless, EachOwn, EachOwnUnless, IsChainOf, IsOwn, certificates_in, has_failed};
+
+use crate::fetching::Fetched;
+use crate::worker::Worker;
+use cert_store::{Judged, World, judge_chain};
+use std::alloc::{AllocError, Global};
+use std::thread;
+use std::thread::Threads;
+use stir_outside::{Gate, Provider};
+
+/// Has each worker judge the chains of its texts, in a thread of its own. Worker w, counted from 0, has the texts at the places w, w + W and so
+/// on, if there are W workers.
+pub(crate) fn judge_texts<R: Threads + Sync, P: Provider + Send, G: Gate + Send>(
+    rt: &R,
+    alloc: Global,
+    world: &World,
+    files: &[Fetched],
+    workers: &mut [Worker<P, G>],
+)
+    requires some { 0 < length workers.old }
+    ensures counted { length workers.new ≡ length workers.old }
+    ensures judged { (w : ℕ) (d : _) → w < length workers.old → EachOwnUnless (slice_index_or workers.new w d).out_of_memory world.now
+        (P.says (slice_index_or workers.old w d).provider) w (length workers.old) files.now (slice_index_or workers.new w d).judged.items }
+    ensures asked { (w : ℕ) (d : _) → w < length workers.old → CountedUnless (slice_index_or workers.new w d).out_of_memory
+        (P.asks (slice_index_or workers.old w d).provider) (P.asks (slice_index_or workers.new w d).provider)
+        (P.faults (slice_index_or workers.old w d).provider) (P.faults (slice_index_or workers.new w d).provider)
+        (slice_index_or workers.new w d).judged.items }
+    ensures provider { (w : ℕ) (d : _) → w < length workers.old
+        → ProviderStays P.Provider (slice_index_or workers.old w d).provider (slice_index_or workers.new w d).provider }
+{
+    let count = workers.len();
+    thread::for_each_mut(
+        rt,
+        workers,
+        count,
+        &|index, worker| { judge_own(alloc, world, files, index, count, worker) },
+    );
+}
+
+/// Has one worker of so many judge the chains of its texts.
+fn judge_own<P: Provider, G: Gate>(
+    alloc: Global,
+    world: &World,
+    files: &[Fetched],
+    index: usize,
+    count: usize,
+    worker: &mut Worker<P, G>,
+)
+    requires some { 0 < count }
+    ensures judged { EachOwnUnless worker.new.out_of_memory world.now (P.says worker.old.provider) index count files.now worker.new.judged.items }
+    ensures asked { CountedUnless worker.new.out_of_memory (P.asks worker.old.provider) (P.asks worker.new.provider) (P.faults worker.old.provider)
+        (P.faults worker.new.provider) worker.new.judged.items }
+    ensures provider { ProviderStays P.Provider worker.old.provider worker.new.provider }
+{
+    worker.judged.clear();
+    let judged = judge_files(
+        alloc,
+        world,
+        files,
+        index,
+        count,
+        &mut worker.provider,
+        &mut worker.judged,
+    );
+    worker.out_of_memory = judged.is_err();
+}
+
+/// Judges the chains of the worker's texts into a list that is empty: at each place its own, and nothing at the places of others.
+/// `AllocError` is the only error.
+pub(crate) fn judge_files<P: Provider>(
+    alloc: Global,
+    world: &World,
+    files: &[Fetched],
+    index: usize,
+    count: usize,
+    provider: &mut P,
+    judged: &mut Vec<Option<Judged>>,
+) -> Result<(), AllocError>
+    requires some { 0 < count }
+    requires empty { judged.old.items ≡ [] }
+    ensures judged { OnOk result (EachOwn world.now (P.says provider.old) index count 0 files.now judged.new.items) }
+    ensures asked { OnOk result (ChainsCounted (P.asks provider.old) (P.asks provider.new) (P.faults provider.old) (P.faults provider.new) judged.new.items) }
+    ensures asks { P.asks provider.old ≤ P.asks provider.new }
+    ensures provider { ProviderStays P.Provider provider.old provider.new }
+{
+    'files: for (place, file) in files.iter().enumerate() {
+        let chain = judge_file(alloc, world, file, place % count == index, provider)?;
+        judged.push(chain)?;
+    }
+    Ok(())
+}
+
+/// Judges a chain, if it is the worker's own and was read.
+fn judge_file<P: Provider>(
+    alloc: Global,
+    world: &World,
+    file: &Fetched,
+    own: bool,
+    provider: &mut P,
+) -> Result<Option<Judged>, AllocError>
+    ensures judged { IfOk result (IsOwn world.now (P.says provider.old) own file.now) }
+    ensures asked { IfOk result (λ chain. P.asks provider.new ≤ P.asks provider.old + certificates_in chain) }
+    ensures failed { IfOk result (λ chain. HasCauseIf (has_failed chain) (P.faults provider.old) (P.faults provider.new)) }
+    ensures asks { P.asks provider.old ≤ P.asks provider.new }
+    ensures provider { ProviderStays P.Provider provider.old provider.new }
+{
+    if !own {
+        return Ok(None);
+    }
+    match file {
+        Fetched::Bytes(bytes) => judge_bytes(alloc, world, bytes.as_slice(), provider),
+        Fetched::NoChain => Ok(None),
+        Fetched::Long => Ok(None),
+        Fetched::Unread => Ok(None),
+    }
+}
+
+/// Judges the chain that these bytes are.
+fn judge_bytes<P: Provider>(
+    alloc: Global,
+    world: &World,
+    bytes: &[u8],
+    provider: &mut P,
+) -> Result<Option<Judged>, AllocError>
+    ensures judged { IfOk result (IsChainOf world.now (P.says provider.old) bytes.now) }
+    ensures asked { IfOk result (λ chain. P.asks provider.new ≤ P.asks provider.old + certificates_in chain) }
+    ensures failed { IfOk result (λ chain. HasCauseIf (has_failed chain) (P.faults provider.old) (P.faults provider.new)) }
+    ensures asks { P.asks provider.old ≤ P.asks provider.new }
+    ensures provider { ProviderStays P.Provider provider.old provider.new }
+{
+    let judged = judge_chain(alloc, bytes, &world.anchors, &world.table, provider)?;
+    Ok(Some(judged))
+}
