@@ -1,11 +1,10 @@
 -- What was written for the words of `explain` and of `ask`, in the words of the rules.
-use Rattle.std.proofs.Common.{◌≡◌, ℕ, ◌+◌, ◌<◌, ◌≤◌, ◌⊎◌, inl, inr, true, List, [], ◌∷◌, ◌++◌, Option, Some, None, IfSome, refl, sym, ◌∙◌, ap, subst, arith}
+use Rattle.std.proofs.Common.{◌≡◌, ℕ, ◌+◌, ◌<◌, inl, inr, true, List, [], ◌∷◌, ◌++◌, Option, Some, None, IfSome, ◌∙◌, ap, subst, arith}
 use Rattle.std.specs.Io.KnownBytes.{Appends}
 use Rattle.call_log.specs.Entry.{Entry}
 use Rattle.call_run.specs.Answer.{AnswerView, all_well, found_unread, texts_of, unread_in}
 use Rattle.call_run.specs.Answering.{AreAnswered}
 use Rattle.call_run.specs.Clauses.{WholeAnswer}
-use Rattle.call_run.specs.declared.status.CallStatus.{CallStatus}
 use Rattle.log_run.specs.Ending.{report_status}
 use Rattle.single_calls.specs.Asker.{AskedBy, AskerView, asking_world}
 use Rattle.single_calls.specs.Asks.{Asks}

@@ -1,10 +1,9 @@
 -- What a command over a whole input promises, from what it came to.
 use Rattle.std.proofs.Common.{◌≡◌, ℕ, ◌+◌, ◌<◌, ◌≤◌, ◌⊎◌, inl, inr, List, [], ◌++◌, length, Option, Some, None, refl, sym, ◌∙◌, ap, subst, arith, append-nil, length-append}
 use Rattle.std.specs.Io.KnownBytes.{Appends, Consumes, IsAtEnd}
-use Rattle.log_run.specs.Ending.{failed_line}
 use Rattle.stir_outside.proofs.CountLaws.{not_rose}
 use Rattle.stir_outside.specs.Ending.{EndsAs, memory_line}
-use Rattle.stir_cmd.specs.Input.{Answered, Answering, CameInput, InputComplete, InputFailed, InputShort, InputThrough, IsReply, IsSaid, MayGive, MayRefuse, RanInput, Replied, RepliedLong, TakesAtMost, input_course}
+use Rattle.stir_cmd.specs.Input.{Answered, Answering, CameInput, InputComplete, InputThrough, IsReply, IsSaid, MayGive, MayRefuse, TakesAtMost, input_course}
 use Rattle.stir_cmd.specs.Outside.{Io, IsUntouched, Outside, io_in}
 use Rattle.stir_cmd.specs.Stopping.{Ends, IsQuiet}
 use Rattle.stir_cmd.proofs.Keeps.{CausesIn, Keeps, KeepsAll}

@@ -1,11 +1,10 @@
 -- A course over named files keeps what it promises where the course behind them does.
-use Rattle.std.proofs.Common.{◌≡◌, ℕ, ◌≤◌, ◌⊎◌, inl, inr, Option, Some, None, arith}
-use Rattle.stir_outside.specs.Ending.{memory_line}
-use Rattle.stir_files.specs.Named.{Stop, first_fault}
+use Rattle.std.proofs.Common.{◌≡◌, ℕ, ◌≤◌, ◌⊎◌, inl, inr, Some, None, arith}
+use Rattle.stir_files.specs.Named.{first_fault}
 use Rattle.stir_outside.specs.Files.{Files}
-use Rattle.stir_cmd.specs.Outside.{IsUntouched, Outside}
-use Rattle.stir_cmd.specs.OverFiles.{AnswersFiles, Behind, OverFiles, counted, over_files}
-use Rattle.stir_cmd.specs.Stopping.{AnswersFault, EndsEarly, Ends, IsQuiet}
+use Rattle.stir_cmd.specs.Outside.{Outside}
+use Rattle.stir_cmd.specs.OverFiles.{Behind, OverFiles, counted, over_files}
+use Rattle.stir_cmd.specs.Stopping.{AnswersFault, IsQuiet}
 use Rattle.stir_cmd.proofs.Keeps.{CausesIn, Keeps, KeepsAll}
 use Rattle.stir_cmd.proofs.StopLaws.{early_causes, early_fault, early_high, early_six, no_such}
 

@@ -1,11 +1,10 @@
 -- What `show` answers to bytes is what its words say, and what it promises follows.
-use Rattle.std.proofs.Common.{◌≡◌, ℕ, ◌≤◌, ◌⊎◌, inl, inr, List, Result, Ok, Err, refl, sym, ◌∙◌, ap, subst, arith}
-use Rattle.stir_outside.specs.Status.{status_number}
+use Rattle.std.proofs.Common.{◌≡◌, ℕ, ◌⊎◌, inl, inr, List, Result, Ok, Err, refl, sym, ◌∙◌, arith}
 use Rattle.x509_profile.specs.Chain.{Chain, RefusedCertificate, certificates_in}
 use Rattle.x509_profile.specs.View.{CertView}
-use Rattle.stir_cmd.specs.Answer.{Reply, refused_input, shown, shown_reply}
+use Rattle.stir_cmd.specs.Answer.{refused_input, shown}
 use Rattle.stir_cmd.specs.Show.{show}
-use Rattle.stir_cmd.specs.Showing.{IsNoChain, ShowGives, ShowRefuses, Shows, show_answering, show_course}
+use Rattle.stir_cmd.specs.Showing.{IsNoChain, ShowGives, Shows, show_answering, show_course}
 use Rattle.stir_cmd.proofs.InputLaws.{Decides, IsAnswer, keeps_whole}
 use Rattle.stir_cmd.proofs.Keeps.{KeepsAll}
 

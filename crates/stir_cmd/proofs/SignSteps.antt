@@ -1,5 +1,5 @@
 -- The steps of `sign` and `divert`: what the call gives of bytes is what is answered to them.
-use Rattle.std.proofs.Common.{◌≡◌, ℕ, ◌≤◌, inl, inr, nat_le, Bool, true, false, List, Option, Some, None, Result, Ok, Err, IfErr, IfOk, IsTrue, refl, sym, ◌∙◌, ap, subst, arith}
+use Rattle.std.proofs.Common.{◌≡◌, ℕ, ◌≤◌, inl, inr, nat_le, true, List, Option, Some, None, Result, Ok, Err, IfErr, IfOk, IsTrue, refl, ◌∙◌, ap, subst, arith}
 use Rattle.std.proofs.lemmas.Bool.Decides.{nat_tests}
 use Rattle.lists.specs.Given.{Gives}
 use Rattle.text_grammar.specs.Moment.{last_second}

@@ -13,8 +13,8 @@ use Rattle.verify_rules.specs.declared.settings.Settings.{Settings}
 use Rattle.stir_cmd.specs.Outside.{IfTold, Outside}
 use Rattle.stir_cmd.specs.Calls.{AnswersBy, bench_by, settings_by}
 use Rattle.stir_cmd.specs.Headline.{AreJudged, Headline, Verified}
-use Rattle.stir_cmd.specs.Verifying.{ByService, LogSays, run_state_by, judging_course, verify_course, verify_over}
-use Rattle.stir_cmd.proofs.Keeps.{CausesIn, Keeps, KeepsAll}
+use Rattle.stir_cmd.specs.Verifying.{ByService, run_state_by, judging_course, verify_course, verify_over}
+use Rattle.stir_cmd.proofs.Keeps.{Keeps, KeepsAll}
 use Rattle.stir_cmd.proofs.OverFilesLaws.{behind_files, over_keeps}
 
 -- ---- how the log's run is seen from the whole run

@@ -1,5 +1,5 @@
 -- What `verify` came to, from what its steps came to.
-use Rattle.std.proofs.Common.{◌≡◌, ℕ, ◌≤◌, inl, inr, List, Option, None, Ok, refl, subst, arith}
+use Rattle.std.proofs.Common.{◌≡◌, ℕ, ◌≤◌, inl, inr, List, Option, None, Ok, refl, subst}
 use Rattle.log_run.specs.Bench.{Standing}
 use Rattle.replay_law.specs.Held.{nothing}
 use Rattle.log_run.specs.Steps.{StandsAtFirst}

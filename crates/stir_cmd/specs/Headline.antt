@@ -1,6 +1,6 @@
 -- What a run promises for the words of `verify` where shelf and input are told: each call gets the code of the first rule that it breaks, and a
 -- call that breaks none is valid, save that each last PASSporT lets exactly one such call pass.
-use Rattle.std.specs.Prelude.{◌≡◌, ℕ, ◌≤◌, List, [], Option, Some, None}
+use Rattle.std.specs.Prelude.{◌≡◌, ℕ, ◌≤◌, List, [], Option, Some}
 use Rattle.std.specs.Io.KnownBytes.{Appends}
 use Rattle.call_log.specs.Log.{LogText, start}
 use Rattle.log_run.specs.Ending.{report_status}
