@@ -6,8 +6,8 @@ use Rattle.std.proofs.lemmas.Bool.{or_parts}
 use Rattle.std.proofs.lemmas.List.{append-nil, length-append}
 use Rattle.std.proofs.lemmas.Option.{none-some, same_Some}
 use Rattle.call_log.specs.Entry.{Entry}
-use Rattle.log_run.specs.Bench.{Bench}
-use Rattle.log_run.specs.Rounds.{InEach, IsCut, Round, calls_in, outcomes_in, row_rounds}
+use Rattle.log_rounds.specs.Bench.{Bench}
+use Rattle.log_rounds.specs.Rounds.{InEach, IsCut, Round, calls_in, outcomes_in, row_rounds}
 use Rattle.replay_law.specs.Law.{HasEach, IsSameCall}
 use Rattle.replay_law.specs.Log.{StandsIn}
 use Rattle.replay_law.specs.Row.{Row, Stands}

@@ -7,9 +7,9 @@ use Rattle.call_log.specs.HandsOut.{OneLog}
 use Rattle.call_log.specs.Log.{LogText, start}
 use Rattle.cert_store.specs.ChainMap.{MapOf, file_in, listed}
 use Rattle.cert_store.specs.Files.{Files as ChainFiles}
-use Rattle.log_run.specs.AllValid.{all_valid}
+use Rattle.log_rounds.specs.AllValid.{all_valid}
 use Rattle.log_run.specs.Ending.{report_status}
-use Rattle.log_run.specs.Rounds.{IsApart, Round, calls_in, outcomes_in, row_rounds}
+use Rattle.log_rounds.specs.Rounds.{IsApart, Round, calls_in, outcomes_in, row_rounds}
 use Rattle.replay_law.specs.Law.{OneAnswer}
 use Rattle.verify_rules.specs.SameWorld.{SayTheSame}
 use Rattle.stir_files.specs.Materials.{MaterialsOf}

@@ -3,7 +3,7 @@ use Rattle.std.specs.Prelude.{◌≡◌, ℕ, ◌≤◌, List, [], Option, Some,
 use Rattle.std.specs.Io.KnownBytes.{Appends}
 use Rattle.call_log.specs.Entry.{Entry}
 use Rattle.call_log.specs.Log.{LogText, start}
-use Rattle.log_run.specs.Rounds.{IsApart}
+use Rattle.log_rounds.specs.Rounds.{IsApart}
 use Rattle.stir_outside.specs.Count.{NotRisen}
 use Rattle.stir_outside.specs.Files.{Files}
 use Rattle.stir_words.specs.Order.{JudgingView, OrderView, VerifyBy}
