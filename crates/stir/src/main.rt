@@ -2,13 +2,13 @@
 #![tactic(auto)]
 
 use std::alloc::Global;
-use std::io::{BufReader, ErrorKind};
+use std::io::ErrorKind;
 use std::process::ExitCode;
 use std::{env, io};
 use stir_cmd::run;
 use stir_outside::{FileShelf, Sink, StdinSource, StdoutSink, write_whole};
 
-/// The line for want of memory, where not even the words or the block of the input could be held.
+/// The line for want of memory, where not even the words could be held.
 const NO_MEMORY: &[u8] = b"want of memory\n";
 
 /// The status for want of memory.
@@ -29,12 +29,8 @@ fn main(rt: HostRuntime) -> ExitCode {
     let Ok(words) = words_of(rt.alloc(), args.as_slice()) else {
         return without_memory(&mut sink);
     };
+    let mut input = StdinSource::new(rt.stdin());
     let mut shelf = FileShelf::new(rt);
-    // The log is read a byte at a time, so the standard input is read ahead in blocks.
-    let Ok(ahead) = BufReader::new(rt.alloc(), rt.stdin()) else {
-        return without_memory(&mut sink);
-    };
-    let mut input = StdinSource::new(ahead);
     let status = run(
         &rt,
         rt.alloc(),

@@ -9,11 +9,15 @@ pub struct Drip {
 }
 
 impl Source for Drip {
-    ghost use Rattle.std.specs.Prelude.{Some};
+    ghost use Rattle.std.specs.Prelude.{Some, false};
 
     ghost left = { λ s. Some s.source.left };
 
+    ghost whole = { λ _. false };
+
     ghost faults = { λ s. s.source.faults };
+
+    ghost reads = { λ s. s.source.reads };
 
     fn read(&mut self, buf: &mut [u8]) -> Result<usize, Failed> {
         self.source.read(&mut buf[..1])
