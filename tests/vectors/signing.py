@@ -1,7 +1,7 @@
 """Prints the lines on messages that are signed, and what they must answer.
 
-    signing.py CRATE          prints the lines of the `stdin` of `vectors` or `vectors_runs`
-    signing.py CRATE answers  prints the lines of its `stdout`
+    signing.py parts|messages          prints the lines of the `stdin` of crates/vectors on what a signer puts together, or on messages that it signs
+    signing.py parts|messages answers  prints the lines of its `stdout`
 
 The messages are put together by RFC 3261, section 7, the PASSporTs by RFC 8225, RFC 8588 and RFC 8946, the digests by FIPS 180-4. The
 lines name what `stdin` defines in front of them: START, FIELDS, INFO and INVITE.
@@ -88,7 +88,7 @@ COME_OUT = ((SHAKEN, "shaken", ZEROS), (BASE, None, ONES))
 
 
 def rows_of_parts():
-    """Each line of `vectors` with what it answers; comments and definitions answer themselves."""
+    """Each line on what a signer puts together with what it answers; comments and definitions answer themselves."""
     yield ("", "")
     yield comment("signing: messages with one more header field, and what is signed of a PASSporT (RFC 8224, section 4.1; RFC 8225, section 8)")
     yield ("", "")
@@ -123,8 +123,8 @@ def rows_of_parts():
         yield (f"identity.read {value}", f"ok {text}.{base64url(signature)} {INFO % 'passport'} alg=ES256" + (f" ppt={ppt}" if ppt else ""))
 
 
-def rows_of_runs():
-    """Each line of `vectors_runs` with what it answers."""
+def rows_of_messages():
+    """Each line on messages that are signed with what it answers."""
     yield ("", "")
     yield comment("signing: messages that are signed (RFC 8224, section 4.1; RFC 8946, section 4.1)")
     yield ("", "")
@@ -243,4 +243,4 @@ def crlf():
 
 
 if __name__ == "__main__":
-    columns.write({"vectors": rows_of_parts, "vectors_runs": rows_of_runs}[sys.argv[1]]())
+    columns.write({"parts": rows_of_parts, "messages": rows_of_messages}[sys.argv[1]]())

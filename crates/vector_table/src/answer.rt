@@ -2,6 +2,7 @@
 
 use crate::table::Unread;
 use std::alloc::{AllocError, Global};
+use std::cmp::Ordering;
 use std::fmt::{Debug, Display, Write};
 
 /// The words of a line, put one behind the other. Where memory ran out on the way, [`Answer::line`] says so.
@@ -140,6 +141,15 @@ pub fn ok_or_line<T: Drop>(alloc: Global, read: Result<T, u32>) -> Result<String
     match read {
         Ok(_) => word(alloc, "ok"),
         Err(bad) => line(alloc, bad),
+    }
+}
+
+/// The word of an order.
+pub fn ordering(order: Ordering) -> &'static str {
+    match order {
+        Ordering::Less => "less",
+        Ordering::Equal => "equal",
+        Ordering::Greater => "greater",
     }
 }
 

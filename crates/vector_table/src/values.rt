@@ -1,12 +1,10 @@
-//! The words of a call as the values of the crates below: numbers, authority lists, and the files by which calls are judged.
+//! The words of a call as the values of the crates below: numbers and answers files.
 
-use crate::table::{Unread, number, text};
+use crate::answer::Answer;
+use crate::table::{Unread, number};
 use crate::words::given;
-use cert_store::{ChainMap, Judged, MapFault, judge_chain};
-use delegation::{AnchorFault, Anchors};
-use std::alloc::{AllocError, Global};
-use stir_outside::{AnswerFault, AnswerProvider, Answers};
-use tn_auth_list::{AuthList, Code, CodeTable, Entry, TableFault};
+use std::alloc::Global;
+use stir_outside::{AnswerFault, Answers};
 use tn_values::{Local, Number, Span};
 
 /// A length that no text of lines may reach.
@@ -44,44 +42,6 @@ pub fn span_of(start: &str, size: &str) -> Result<Span, Unread> {
     Span::new(number_of(start.as_bytes())?, size).ok_or(Unread::Value)
 }
 
-/// The code that a word is.
-pub fn code_of(text: &[u8]) -> Result<Code, Unread> {
-    Code::new(text).ok_or(Unread::Value)
-}
-
-/// The list of entries `=NUMBER`, `START+COUNT` and `CODE`, with commas between.
-pub fn list_of(alloc: Global, words: &[u8]) -> Result<AuthList, Unread> {
-    AuthList::build(entries_of(alloc, words)?).ok_or(Unread::Value)
-}
-
-/// Entries as those of [`list_of`].
-pub fn entries_of(alloc: Global, words: &[u8]) -> Result<Vec<Entry>, Unread> {
-    let mut entries = Vec::new(alloc);
-    for word in text(words)?.split(',') {
-        put_entry_of(word, &mut entries)?;
-    }
-    Ok(entries)
-}
-
-/// Puts the entry that a word is behind others; an empty word is none.
-fn put_entry_of(word: &str, entries: &mut Vec<Entry>) -> Result<(), Unread> {
-    if !word.is_empty() {
-        entries.push(entry_of(word)?)?;
-    }
-    Ok(())
-}
-
-/// The entry that a word is.
-fn entry_of(word: &str) -> Result<Entry, Unread> {
-    if let Some(number) = word.strip_prefix('=') {
-        return Ok(Entry::Single(number_of(number.as_bytes())?));
-    }
-    match word.split_once('+') {
-        Some((start, count)) => Ok(Entry::Range(span_of(start, count)?)),
-        None => Ok(Entry::Code(code_of(word.as_bytes())?)),
-    }
-}
-
 /// The answers that a text holds, or its first bad line.
 pub fn read_answers(alloc: Global, text: &[u8]) -> Result<Result<Answers, u32>, Unread> {
     if text.len() >= TOO_LONG {
@@ -94,43 +54,9 @@ pub fn read_answers(alloc: Global, text: &[u8]) -> Result<Result<Answers, u32>, 
     }
 }
 
-/// The code table that a text is, or its first bad line.
-pub fn read_table(alloc: Global, text: &[u8]) -> Result<Result<CodeTable, u32>, Unread> {
-    if text.len() >= TOO_LONG {
-        return Err(Unread::Value);
-    }
-    match CodeTable::read(alloc, text) {
-        Ok(table) => Ok(Ok(table)),
-        Err(TableFault::Line { line }) => Ok(Err(line)),
-        Err(TableFault::Memory) => Err(Unread::Memory),
-    }
-}
-
-/// The chain map that a text is, or its first bad line.
-pub fn read_map(alloc: Global, text: &[u8]) -> Result<Result<ChainMap, u32>, Unread> {
-    if text.len() >= TOO_LONG {
-        return Err(Unread::Value);
-    }
-    match ChainMap::read(alloc, text) {
-        Ok(map) => Ok(Ok(map)),
-        Err(MapFault::Line { line }) => Ok(Err(line)),
-        Err(MapFault::Memory) => Err(Unread::Memory),
-    }
-}
-
 /// The answers that a text holds.
 pub fn answers_of(alloc: Global, text: &[u8]) -> Result<Answers, Unread> {
     whole(read_answers(alloc, text)?)
-}
-
-/// The code table that a text is.
-pub fn table_of(alloc: Global, text: &[u8]) -> Result<CodeTable, Unread> {
-    whole(read_table(alloc, text)?)
-}
-
-/// The chain map that a text is.
-pub fn map_of(alloc: Global, text: &[u8]) -> Result<ChainMap, Unread> {
-    whole(read_map(alloc, text)?)
 }
 
 /// What was read of a text that has no bad line.
@@ -141,22 +67,21 @@ fn whole<T: Drop>(read: Result<T, u32>) -> Result<T, Unread> {
     }
 }
 
-/// The anchors that some bytes are.
-pub fn anchors_of(alloc: Global, bytes: &[u8]) -> Result<Anchors, Unread> {
-    match Anchors::read(alloc, bytes) {
-        Ok(anchors) => Ok(anchors),
-        Err(AnchorFault::At { .. }) => Err(Unread::Value),
-        Err(AnchorFault::Memory) => Err(Unread::Memory),
-    }
+/// Puts the country and the national length of a local numbering behind other words.
+pub fn put_local(answer: Answer, local: &Local) -> Answer {
+    answer.word(local.country()).word(local.national())
 }
 
-/// A chain as the rules on it judge it.
-pub fn judged(
-    alloc: Global,
-    chain: &[u8],
-    anchors: &Anchors,
-    table: &CodeTable,
-    provider: &mut AnswerProvider<'_>,
-) -> Result<Judged, AllocError> {
-    judge_chain(alloc, chain, anchors, table, provider)
+/// Puts the start and the size of a span behind other words.
+pub fn put_span(answer: Answer, span: &Span) -> Answer {
+    answer.word(span.start()).word(span.size())
+}
+
+/// Puts numbers behind other words.
+pub fn put_numbers(answer: Answer, numbers: &[Number]) -> Answer {
+    let mut answer = answer;
+    for number in numbers {
+        answer = answer.word(*number);
+    }
+    answer
 }

@@ -1,12 +1,11 @@
 //! Words of command lines, and the files that they name: the calls of `stir_words` and `stir_files`.
 
-use crate::numbers::put_local;
 use passport_claims::Form;
 use std::alloc::Global;
 use stir_files::read_materials;
 use stir_outside::ShelfMem;
 use stir_words::{Asking, Diverting, HolderFiles, Judging, Order, Settings, Signing, WordsFault};
-use vector_table::{Answer, Unread, files_of, numbers_of, text, word};
+use vector_table::{Answer, Unread, files_of, numbers_of, put_local, text, word};
 
 /// What a call on words answers.
 pub fn words(alloc: Global, call: &str, words: &[&[u8]]) -> Result<String, Unread> {

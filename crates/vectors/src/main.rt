@@ -1,81 +1,62 @@
 //! Reads a table of cases from its standard input, makes the call that each line names, and writes one line with what
-//! the call answers. The head of `stdin` says how a line is written. The calls are those of the crates that read: files,
-//! certificates, messages, tokens and words.
+//! the call answers. The head of `stdin` says how a line is written. The calls are those of all crates but `stir_cmd`.
 #![tactic(auto)]
 
-mod answers;
-mod authority;
-mod cache;
-mod certificates;
-mod chains;
-mod claims;
 mod commands;
-mod der;
-mod identity;
-mod log;
-mod messages;
-mod numbers;
-mod order;
-mod outside;
-mod paths;
-mod signing;
-mod text;
-mod tokens;
 
 use std::alloc::Global;
 use std::process::ExitCode;
-use vector_table::{Names, Step, TableError, Unread, next_step, slices};
+use std::thread::Threads;
+use vector_calls::{rounds, rules, verdicts};
+use vector_chains::{authority, cache, certificates, chains, paths};
+use vector_messages::{claims, identity, messages, order, tokens};
+use vector_table::{Subjects, Unread, answer_table};
+use vector_texts::{answers, der, log, numbers, outside, text};
 
-/// Answers a table, and says why where it can't be answered to its end.
+/// Answers a table.
 fn main(rt: HostRuntime) -> ExitCode {
-    match run(&rt) {
-        Ok(()) => ExitCode::SUCCESS,
-        Err(error) => {
-            let _ = eprintln!(rt; "{error}");
-            ExitCode::from(error.status())
+    let alloc = rt.alloc();
+    answer_table(&rt, alloc, &Cases)
+}
+
+/// All subjects of the table.
+#[derive(Clone, Copy)]
+struct Cases;
+
+impl Subjects for Cases {
+    fn called<R: Threads + Sync>(
+        &self,
+        rt: &R,
+        alloc: Global,
+        subject: &str,
+        call: &str,
+        words: &[&[u8]],
+    ) -> Result<String, Unread> {
+        match subject {
+            "text" => text::answer(alloc, call, words),
+            "numbers" => numbers::answer(alloc, call, words),
+            "der" => der::answer(alloc, call, words),
+            "answers" => answers::answer(alloc, call, words),
+            "log" => log::answer(alloc, call, words),
+            "outside" => outside::answer(alloc, call, words),
+            "words" => commands::words(alloc, call, words),
+            "files" => commands::files(alloc, call, words),
+            "rounds" => rounds::answer(rt, alloc, call, words),
+            _ => called(alloc, subject, call, words),
         }
     }
 }
 
-/// Answers each line of the table.
-fn run(rt: &HostRuntime) -> Result<(), TableError> {
-    let mut names = Names::new(rt.alloc());
-    let mut number: u64 = 0;
-    for line in rt.lines(rt.alloc()) {
-        let line = line?;
-        number = number.saturating_add(1);
-        match answered(rt.alloc(), &mut names, line.as_str()) {
-            Ok(text) => rt.println(text.as_str())?,
-            Err(reason) => return Err(TableError::Line(number, reason)),
-        }
-    }
-    Ok(())
-}
-
-/// What is written for a line.
-fn answered(alloc: Global, names: &mut Names, line: &str) -> Result<String, Unread> {
-    match next_step(alloc, names, line)? {
-        Step::Write(text) => Ok(text),
-        Step::Call {
-            subject,
-            call,
-            words,
-        } => {
-            let words = slices(alloc, words.as_slice())?;
-            called(alloc, subject, call, words.as_slice())
-        }
-    }
-}
-
-/// What a call answers.
+/// What a call answers about chains, messages, rules and signatures.
 fn called(alloc: Global, subject: &str, call: &str, words: &[&[u8]]) -> Result<String, Unread> {
     match subject {
-        "text" => text::answer(alloc, call, words),
-        "numbers" => numbers::answer(alloc, call, words),
-        "der" => der::answer(alloc, call, words),
         "authority" => authority::answer(alloc, call, words),
         "certificates" => certificates::answer(alloc, call, words),
         "paths" => paths::answer(alloc, call, words),
+        "chains" => chains::answer(alloc, call, words),
+        "cache" => cache::answer(alloc, call, words),
+        "rules" => rules::answer(alloc, call, words),
+        "verdicts" => verdicts::answer(alloc, call, words),
         _ => called_of_messages(alloc, subject, call, words),
     }
 }
@@ -93,26 +74,15 @@ fn called_of_messages(
         "tokens" => tokens::answer(alloc, call, words),
         "claims" => claims::answer(alloc, call, words),
         "order" => order::answer(alloc, call, words),
-        "signing" => signing::answer(alloc, call, words),
-        _ => called_of_files(alloc, subject, call, words),
+        "signing" => signing(alloc, call, words),
+        _ => Err(Unread::Call),
     }
 }
 
-/// What a call answers about chains, answers files, logs and the words of command lines.
-fn called_of_files(
-    alloc: Global,
-    subject: &str,
-    call: &str,
-    words: &[&[u8]],
-) -> Result<String, Unread> {
-    match subject {
-        "chains" => chains::answer(alloc, call, words),
-        "cache" => cache::answer(alloc, call, words),
-        "answers" => answers::answer(alloc, call, words),
-        "log" => log::answer(alloc, call, words),
-        "outside" => outside::answer(alloc, call, words),
-        "words" => commands::words(alloc, call, words),
-        "files" => commands::files(alloc, call, words),
-        _ => Err(Unread::Call),
+/// What a call answers about what a signer puts together and what it signs.
+fn signing(alloc: Global, call: &str, words: &[&[u8]]) -> Result<String, Unread> {
+    match call {
+        "with_field" | "text" => vector_messages::signing::answer(alloc, call, words),
+        _ => vector_calls::signing::answer(alloc, call, words),
     }
 }

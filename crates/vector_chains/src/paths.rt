@@ -1,11 +1,10 @@
 //! Authorities, trust anchors and paths up to them: the calls of `delegation`.
 
+use crate::judging::{anchors_of, list_of, table_of};
 use delegation::{AnchorFault, Anchors, Authority, PathFault, Shape, covers, shape, within};
 use std::alloc::Global;
 use tn_auth_list::AuthList;
-use vector_table::{
-    Answer, Unread, anchors_of, fault, list_of, number, number_of, ok, table_of, word,
-};
+use vector_table::{Answer, Unread, fault, number, number_of, ok, word};
 use x509_profile::{Certificate, read_chain};
 
 /// What a call answers.

@@ -1,11 +1,10 @@
 //! Authority lists and code tables: the calls of `tn_auth_list`.
 
-use crate::numbers::{ordering, put_span};
+use crate::judging::{code_of, entries_of, read_table, table_of};
 use std::alloc::Global;
 use tn_auth_list::{AuthList, Code, Entry, Grant, ListFault, TableFault};
 use vector_table::{
-    Answer, Unread, code_of, entries_of, fault, number, number_of, ok_or_line, or_none, read_table,
-    shown, table_of, word,
+    Answer, Unread, fault, number, number_of, ok_or_line, or_none, ordering, put_span, shown, word,
 };
 
 /// What a call answers.

@@ -5,9 +5,10 @@ use passport_claims::Attest;
 use std::alloc::Global;
 use stir_outside::{AnswerProvider, Answers};
 use tn_auth_list::{AuthList, CodeTable};
+use tn_values::Local;
+use vector_chains::{list_of, table_of};
 use vector_table::{
-    Answer, Unread, answers_of, given, joined, list_of, local_of, number, number_of, numbers_of,
-    table_of, text, word,
+    Answer, Unread, answers_of, given, joined, local_of, number, number_of, numbers_of, text, word,
 };
 
 /// What a call answers.
@@ -20,89 +21,88 @@ pub fn answer(alloc: Global, call: &str, words: &[&[u8]]) -> Result<String, Unre
     }
 }
 
-/// What signing a message comes to, by the form, the key's name, the certificates' URI, the second, the local numbering, and what
-/// [`Asked::of`] takes.
+/// What signing a message comes to, by the form and the other words of a [`Row`].
 fn signed(alloc: Global, words: &[&[u8]]) -> Result<String, Unread> {
-    let [
-        form,
-        key,
-        x5u,
-        iat,
-        country,
-        national,
-        list,
-        table,
-        answers,
-        failing,
-        message @ ..,
-    ] = words
-    else {
-        return Err(Unread::Call);
-    };
+    let row = Row::of(alloc, words)?;
     let order = SignOrder {
-        form: form_of(form)?,
-        key,
-        x5u,
-        iat: number(iat)?,
-        local: local_of(country, national)?,
+        form: form_of(row.first)?,
+        key: row.key,
+        x5u: row.x5u,
+        iat: row.iat,
+        local: row.local,
     };
-    let bytes = joined(alloc, message)?;
-    let asked = Asked::of(alloc, list, table, answers, failing)?;
     if !order.is_valid() {
         return word(alloc, "order");
     }
-    let holder = asked.holder();
-    let mut provider = asked.provider()?;
-    let made = sign(
-        alloc,
-        bytes.as_slice(),
-        &order,
-        holder.as_ref(),
-        &mut provider,
-    );
+    let holder = row.asked.holder();
+    let mut provider = row.asked.provider()?;
+    let message = row.message.as_slice();
+    let made = sign(alloc, message, &order, holder.as_ref(), &mut provider);
     put_signed(alloc, made, provider.asks())
 }
 
-/// What signing a message that goes to another number than before comes to, by the earlier number and the same other words.
+/// What signing a message that goes to another number than before comes to, by the earlier number and the other words of a [`Row`].
 fn diverted(alloc: Global, words: &[&[u8]]) -> Result<String, Unread> {
-    let [
-        earlier,
-        key,
-        x5u,
-        iat,
-        country,
-        national,
-        list,
-        table,
-        answers,
-        failing,
-        message @ ..,
-    ] = words
-    else {
-        return Err(Unread::Call);
-    };
+    let row = Row::of(alloc, words)?;
     let order = DivertOrder {
-        earlier: number_of(earlier)?,
-        key,
-        x5u,
-        iat: number(iat)?,
-        local: local_of(country, national)?,
+        earlier: number_of(row.first)?,
+        key: row.key,
+        x5u: row.x5u,
+        iat: row.iat,
+        local: row.local,
     };
-    let bytes = joined(alloc, message)?;
-    let asked = Asked::of(alloc, list, table, answers, failing)?;
     if !order.is_valid() {
         return word(alloc, "order");
     }
-    let holder = asked.holder();
-    let mut provider = asked.provider()?;
-    let made = divert(
-        alloc,
-        bytes.as_slice(),
-        &order,
-        holder.as_ref(),
-        &mut provider,
-    );
+    let holder = row.asked.holder();
+    let mut provider = row.asked.provider()?;
+    let message = row.message.as_slice();
+    let made = divert(alloc, message, &order, holder.as_ref(), &mut provider);
     put_signed(alloc, made, provider.asks())
+}
+
+/// The words of a call that signs: the first, the key's name, the certificates' URI, the second, the local numbering, whom the signer asks, and the
+/// message.
+#[derive(Drop)]
+struct Row<'a> {
+    first: &'a [u8],
+    key: &'a [u8],
+    x5u: &'a [u8],
+    iat: u64,
+    local: Local,
+    asked: Asked,
+    message: Vec<u8>,
+}
+
+impl<'a> Row<'a> {
+    /// The row that these words are: country and national length make the local numbering, and [`Asked::of`] takes the four words behind them.
+    fn of(alloc: Global, words: &[&'a [u8]]) -> Result<Row<'a>, Unread> {
+        let [
+            first,
+            key,
+            x5u,
+            iat,
+            country,
+            national,
+            list,
+            table,
+            answers,
+            failing,
+            message @ ..,
+        ] = words
+        else {
+            return Err(Unread::Call);
+        };
+        Ok(Row {
+            first,
+            key,
+            x5u,
+            iat: number(iat)?,
+            local: local_of(country, national)?,
+            asked: Asked::of(alloc, list, table, answers, failing)?,
+            message: joined(alloc, message)?,
+        })
+    }
 }
 
 /// Whom a signer asks: the holder, where there is one, and the provider.

@@ -5,8 +5,8 @@ use Rattle.std.specs.Option.{option_map}
 use Rattle.std.proofs.lemmas.List.{length-map}
 use Rattle.std.proofs.lemmas.Option.{slice_get-get_or, slice_get-map}
 use Rattle.verify_rules.specs.States.{State}
-use Rattle.vectors_runs.specs.Known.{known_seen}
-use Rattle.vectors_runs.specs.declared.verdicts.Known.{Known}
+use Rattle.vector_calls.specs.Known.{known_seen}
+use Rattle.vector_calls.specs.declared.verdicts.Known.{Known}
 
 pub known_count : (known : List Known) → length known ≡ length (map known_seen known)
 known_count known = sym (length-map known known_seen)

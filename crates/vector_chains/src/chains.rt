@@ -1,14 +1,12 @@
 //! Chain maps and the rules on a chain: the calls of `cert_store`.
 
+use crate::judging::{anchors_of, judged, map_of, read_map, table_of};
 use cert_store::{Asked, Judged, MapFault, Question};
 use delegation::Anchors;
 use std::alloc::{AllocError, Global};
 use stir_outside::{AnswerProvider, Answers};
 use tn_auth_list::CodeTable;
-use vector_table::{
-    Answer, Unread, anchors_of, answers_of, judged, map_of, number, numbers_of, ok_or_line,
-    or_none, read_map, table_of, word,
-};
+use vector_table::{Answer, Unread, answers_of, number, numbers_of, ok_or_line, or_none, word};
 
 /// What a call answers.
 pub fn answer(alloc: Global, call: &str, words: &[&[u8]]) -> Result<String, Unread> {

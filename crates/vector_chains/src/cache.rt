@@ -1,11 +1,12 @@
 //! The cache of judged chains: `Cache` of `cert_store`.
 
-use cert_store::{Asked, Cache, Judged, judge_chain};
+use crate::judging::{anchors_of, judged, table_of};
+use cert_store::{Asked, Cache, Judged};
 use delegation::Anchors;
 use std::alloc::Global;
 use stir_outside::AnswerProvider;
 use tn_auth_list::CodeTable;
-use vector_table::{Answer, Unread, anchors_of, answers_of, number, table_of, text};
+use vector_table::{Answer, Unread, answers_of, number, text};
 
 /// What a call answers.
 pub fn answer(alloc: Global, call: &str, words: &[&[u8]]) -> Result<String, Unread> {
@@ -80,7 +81,7 @@ impl Case<'_> {
 
     /// Judges a chain and puts it. The provider must not fail at it.
     fn put(&mut self, x5u: &[u8], chain: &[u8]) -> Result<(), Unread> {
-        let judged = judge_chain(
+        let judged = judged(
             self.alloc,
             chain,
             &self.anchors,

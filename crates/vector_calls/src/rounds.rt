@@ -3,9 +3,8 @@
 use std::alloc::Global;
 use std::thread::Threads;
 use stir_outside::{AnswerProvider, Gate, ShelfMem, SourceMem};
-use vector_table::{
-    Answer, Unread, anchors_of, answers_of, files_of, local_of, map_of, numbers_of, table_of,
-};
+use vector_chains::{anchors_of, map_of, table_of};
+use vector_table::{Answer, Unread, answers_of, files_of, local_of, numbers_of};
 use verify_rules::Settings;
 use verify_service::{Call, LogReader, Outcome, Service, Worker, World, report_line};
 
@@ -41,18 +40,28 @@ fn passed<R: Threads + Sync>(rt: &R, alloc: Global, words: &[&[u8]]) -> Result<S
         return Err(Unread::Call);
     };
     let answers = answers_of(alloc, b"")?;
-    let rounds = numbers_of(alloc, rounds)?;
     let provider = answers.provider(&[])?;
     let mut case = Case::new(alloc, world, Vec::new(alloc), provider)?;
-    let log = Vec::from_slice(alloc, log)?;
-    let _ = case.report(rt, alloc, log, rounds.as_slice())?;
-    let mut answer = Answer::new(alloc);
-    for worker in &case.workers {
-        for (who, call) in &worker.gate.passed {
-            answer = answer.word(*who).word(*call);
-        }
+    let _ = case.report(rt, alloc, log, rounds)?;
+    put_workers(Answer::new(alloc), case.workers.as_slice()).line()
+}
+
+/// Puts what the gate of each worker noted behind other words.
+fn put_workers(answer: Answer, workers: &[Worker<AnswerProvider<'_>, Notes>]) -> Answer {
+    let mut answer = answer;
+    for worker in workers {
+        answer = put_notes(answer, worker.gate.passed.as_slice());
     }
-    answer.line()
+    answer
+}
+
+/// Puts workers, each with the number of a call, behind other words.
+fn put_notes(answer: Answer, passed: &[(u8, u32)]) -> Answer {
+    let mut answer = answer;
+    for (who, call) in passed {
+        answer = answer.word(*who).word(*call);
+    }
+    answer
 }
 
 /// The report of a log, cut into rounds, where some calls of the provider and some reads of the shelf fail.
@@ -63,11 +72,9 @@ fn report<R: Threads + Sync>(rt: &R, alloc: Global, words: &[&[u8]]) -> Result<S
     let answers = answers_of(alloc, answers)?;
     let questions = numbers_of(alloc, questions)?;
     let reads = numbers_of(alloc, reads)?;
-    let rounds = numbers_of(alloc, rounds)?;
     let provider = answers.provider(questions.as_slice())?;
     let mut case = Case::new(alloc, world, reads, provider)?;
-    let log = Vec::from_slice(alloc, log)?;
-    case.report(rt, alloc, log, rounds.as_slice())
+    case.report(rt, alloc, log, rounds)
 }
 
 /// A service with its one worker, and a shelf.
@@ -108,18 +115,19 @@ impl<'a> Case<'a> {
         })
     }
 
-    /// The report of the calls of a log, cut into rounds of so many calls.
+    /// The report of the calls of a log, cut into rounds of so many calls, which are numbers with commas between.
     fn report<R: Threads + Sync>(
         &mut self,
         rt: &R,
         alloc: Global,
-        log: Vec<u8>,
-        rounds: &[u64],
+        log: &[u8],
+        rounds: &[u8],
     ) -> Result<String, Unread> {
-        let mut source = SourceMem::new(log, Vec::new(alloc));
+        let rounds = numbers_of(alloc, rounds)?;
+        let mut source = SourceMem::new(log.to_vec(alloc)?, Vec::new(alloc));
         let mut reader = LogReader::new(alloc);
         let mut report = Vec::new(alloc);
-        for count in rounds {
+        for count in &rounds {
             let calls = calls_of(alloc, &mut reader, &mut source, *count)?;
             let outcomes = self.round(rt, alloc, calls.as_slice())?;
             put_lines(alloc, &mut report, calls.as_slice(), outcomes.as_slice())?;

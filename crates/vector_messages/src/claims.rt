@@ -1,13 +1,12 @@
 //! The claims of a PASSporT: the calls of `passport_claims`.
 
-use crate::numbers::put_numbers;
 use crate::tokens::put_value;
 use passport_claims::{Attest, ClaimFault, Kind, Passport};
 use passport_json::{Token, View, signing_input};
 use std::alloc::Global;
 use text_grammar::is_uri;
 use tn_values::Number;
-use vector_table::{Answer, Unread, number, number_of, text, word};
+use vector_table::{Answer, Unread, number, number_of, put_numbers, text, word};
 
 /// What a call answers.
 pub fn answer(alloc: Global, call: &str, words: &[&[u8]]) -> Result<String, Unread> {

@@ -1,10 +1,10 @@
 //! Numbers, the local numbering, spans and sets: the calls of `tn_values`.
 
 use std::alloc::Global;
-use std::cmp::Ordering;
 use tn_values::{Local, Number, NumberSet, Span};
 use vector_table::{
-    Answer, Unread, local_of, number, number_of, or_none, shown, span_of, text, word,
+    Answer, Unread, local_of, number, number_of, or_none, ordering, put_local, put_numbers,
+    put_span, shown, span_of, text, word,
 };
 
 /// What a call answers.
@@ -51,15 +51,6 @@ fn compared(alloc: Global, words: &[&[u8]]) -> Result<String, Unread> {
     word(alloc, ordering(number_of(left)?.cmp(&number_of(right)?)))
 }
 
-/// The word of an order.
-pub fn ordering(order: Ordering) -> &'static str {
-    match order {
-        Ordering::Less => "less",
-        Ordering::Equal => "equal",
-        Ordering::Greater => "greater",
-    }
-}
-
 /// A number as it is printed.
 fn show(alloc: Global, words: &[&[u8]]) -> Result<String, Unread> {
     let [digits] = words else {
@@ -87,11 +78,6 @@ fn local(alloc: Global, words: &[&[u8]]) -> Result<String, Unread> {
     }
 }
 
-/// Puts the country and the national length of a local numbering behind other words.
-pub fn put_local(answer: Answer, local: &Local) -> Answer {
-    answer.word(local.country()).word(local.national())
-}
-
 /// The start and the size of a span, or `none`.
 fn span(alloc: Global, words: &[&[u8]]) -> Result<String, Unread> {
     let [start, size] = words else {
@@ -101,11 +87,6 @@ fn span(alloc: Global, words: &[&[u8]]) -> Result<String, Unread> {
         Some(span) => put_span(Answer::new(alloc), &span).line(),
         None => word(alloc, "none"),
     }
-}
-
-/// Puts the start and the size of a span behind other words.
-pub fn put_span(answer: Answer, span: &Span) -> Answer {
-    answer.word(span.start()).word(span.size())
 }
 
 /// The spans and the single numbers of a set, in their order.
@@ -119,15 +100,6 @@ fn set(alloc: Global, words: &[&[u8]]) -> Result<String, Unread> {
         answer = put_span(answer, span);
     }
     put_numbers(answer.word("singles"), set.singles()).line()
-}
-
-/// Puts numbers behind other words.
-pub fn put_numbers(answer: Answer, numbers: &[Number]) -> Answer {
-    let mut answer = answer;
-    for number in numbers {
-        answer = answer.word(*number);
-    }
-    answer
 }
 
 /// How many spans and single numbers a set has.

@@ -1,7 +1,7 @@
 //! Calls judged by rules 10 to 17 over the chains of their PASSporTs: `screen` and then `finish` of `verify_rules`.
 ghost use Rattle.std.specs.Prelude.{◌≡◌};
 ghost use Rattle.verify_rules.specs.States.{seen};
-ghost use Rattle.vectors_runs.specs.Known.{known_seen};
+ghost use Rattle.vector_calls.specs.Known.{known_seen};
 
 use crate::rules::{put_place, put_refusal};
 use cert_store::Judged;
@@ -9,9 +9,8 @@ use delegation::Anchors;
 use std::alloc::Global;
 use stir_outside::AnswerProvider;
 use tn_auth_list::CodeTable;
-use vector_table::{
-    Answer, Unread, anchors_of, answers_of, judged, local_of, number, numbers_of, table_of,
-};
+use vector_chains::{anchors_of, judged, table_of};
+use vector_table::{Answer, Unread, answers_of, local_of, number, numbers_of};
 use verify_rules::{ChainState, Chains, Screened, Settings, Verdict, finish, screen};
 
 /// What a call answers.
@@ -95,7 +94,7 @@ struct KnownChains {
 
 impl Chains for KnownChains {
     ghost use Rattle.std.specs.Prelude.{map};
-    ghost use Rattle.vectors_runs.specs.Known.{known_seen};
+    ghost use Rattle.vector_calls.specs.Known.{known_seen};
 
     ghost states = { λ chains. map known_seen chains.known.items };
 
