@@ -75,7 +75,7 @@ struct Row<'a> {
 }
 
 impl<'a> Row<'a> {
-    /// The row that these words are: country and national length make the local numbering, and [`Asked::of`] takes the four words behind them.
+    /// The row that these words are: country and national length make the local numbering, and [`Asked::of`] takes the four words after them.
     fn of(alloc: Global, words: &[&'a [u8]]) -> Result<Row<'a>, Unread> {
         let [
             first,

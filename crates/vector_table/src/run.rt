@@ -10,7 +10,7 @@ use std::thread::Threads;
 pub trait Subjects {
     ghost use Rattle.std.specs.Thread.{IsSync};
 
-    /// What a call of a subject answers, where `rt` starts the threads that it wants.
+    /// What a call of a subject answers; `rt` starts the threads that it wants.
     fn called<R: Threads + Sync>(
         &self,
         rt: &R,
@@ -22,7 +22,7 @@ pub trait Subjects {
         requires shared { IsSync R.row };
 }
 
-/// Answers the table on the standard input, and says why where it can't be answered to its end.
+/// Answers the table on the standard input, and says why if it can't be answered to its end.
 pub fn answer_table<R: Input + Print + Eprint + Threads + Sync, S: Subjects>(
     rt: &R,
     alloc: Global,
