@@ -1,5 +1,5 @@
 -- How a run ends, by each of its statuses.
-use Rattle.std.proofs.Common.{◌≡◌, ℕ, ◌≤◌, ◌⊎◌, inl, inr, Bool, true, false, List, [], ◌∷◌, ◌++◌, string_bytes, Option, Some, None, Ok, Err, refl, sym, ◌∙◌, ap, subst, append-nil}
+use Rattle.std.proofs.Common.{◌≡◌, ℕ, ◌≤◌, ◌⊎◌, inl, inr, Bool, true, false, List, [], ◌∷◌, ◌++◌, string_bytes, Option, Some, None, Ok, Err, refl, arith, sym, ◌∙◌, ap, subst, append-nil}
 use Rattle.std.specs.Io.KnownBytes.{Appends, IsAtEnd, prepend_known}
 use Rattle.std.proofs.KnownBytes.{Appends-trans, prepend_known-nil}
 use Rattle.call_log.specs.Entry.{Entry}
@@ -93,6 +93,7 @@ module _ (Known : Type 0) (Stopped : List Entry → AnswerError → Type 0) (Clo
     text = text;
     closed = closed;
     behind = behind;
+    stay = let same_writes = e.same_writes in omega (arith, stay, stays, same_writes);
     reported = Appends-trans s.written t.written u.written lines text wrote (subst (λ (x : Option (List ℕ)). Appends t.written x text) (sym e.same_written) closing);
     said = e.answered ∙ ap report_status same;
   })
@@ -135,6 +136,7 @@ log_closed most Answered Known Halted Stopped Closed Short Closes a b s t u good
   cut = r.cut;
   read = r.read;
   good_so = r.good_so;
+  stay = let low = r.stay.read_faults in omega (arith, reads, low);
   so = by_close close;
 } where
   by_close : CloseRan Short Closes t.written u.written t.write_faults u.write_faults status good fault → EndedSo (Known r.batches) (Stopped r.batches) (Closed r.batches) r.mid (b.left ≡ b.source) b.left (texts_in r.batches) s u status
@@ -148,13 +150,14 @@ log_closed most Answered Known Halted Stopped Closed Short Closes a b s t u good
 
 -- it was stopped before the log ended
 pub log_halted : (most : ℕ) (Known : List Batch → Type 0) (Stopped : List Batch → List Entry → AnswerError → Type 0) (Closed : List Batch → List ℕ → Type 0) (a b : At) (s t u : Streams) (stopped : RunError) (status : ℕ)
-    → RunsOut most Known Stopped a b s t (Err stopped) → EndsHalted t.written u.written t.write_faults u.write_faults status stopped → LogRan most Known Stopped Closed a (b.left ≡ b.source) b.left s u status
-log_halted most Known Stopped Closed a b s t u error.Sink status r e = record {
+    → u.read_faults ≡ t.read_faults → RunsOut most Known Stopped a b s t (Err stopped) → EndsHalted t.written u.written t.write_faults u.write_faults status stopped → LogRan most Known Stopped Closed a (b.left ≡ b.source) b.left s u status
+log_halted most Known Stopped Closed a b s t u error.Sink status reads r e = record {
   batches = r.batches;
   mid = r.mid;
   cut = r.cut;
   read = r.read;
   good_so = r.good_so;
+  stay = let low = r.stay.read_faults in omega (arith, reads, low);
   so = inr (inr (inr (inr (inr (record {
     line = [];
     may = inl (r.ends.0, inl refl);
@@ -163,20 +166,22 @@ log_halted most Known Stopped Closed a b s t u error.Sink status r e = record {
     said = e.answered;
   })))));
 }
-log_halted most Known Stopped Closed a b s t u error.Memory status r e = record {
+log_halted most Known Stopped Closed a b s t u error.Memory status reads r e = record {
   batches = r.batches;
   mid = r.mid;
   cut = r.cut;
   read = r.read;
   good_so = r.good_so;
+  stay = let low = r.stay.read_faults in omega (arith, reads, low);
   so = memory (Known r.batches) (Stopped r.batches) (Closed r.batches) r.mid (b.left ≡ b.source) b.left (texts_in r.batches) s t u status r.stay.write_faults r.ends.1 (inl (r.ends.0, inr refl)) (inl (r.ends.0, refl)) e;
 }
-log_halted most Known Stopped Closed a b s t u (error.Stopped stop) status r e = record {
+log_halted most Known Stopped Closed a b s t u (error.Stopped stop) status reads r e = record {
   batches = r.batches;
   mid = r.mid;
   cut = r.cut;
   read = r.read;
   good_so = r.good_so;
+  stay = let low = r.stay.read_faults in omega (arith, reads, low);
   so = stopped_by (Known r.batches) (Stopped r.batches) (Closed r.batches) r.mid (b.left ≡ b.source) b.left (texts_in r.batches) s t u status r.stay.write_faults r.ends.1 stop r.ends.0 e;
 }
 
@@ -218,6 +223,7 @@ so_used Known Stopped Closed mid left source lines s t status all (inl e) = inl 
   text = e.text;
   closed = e.closed;
   behind = subst (λ x. ReadBehind mid.passed mid.left x (Ok None)) (all e.behind.reads.ended) e.behind;
+  stay = e.stay;
   reported = e.reported;
   said = e.said;
 })
@@ -248,5 +254,6 @@ log_used most Known Stopped Closed a left source s t status all r = record {
   cut = r.cut;
   read = r.read;
   good_so = r.good_so;
+  stay = r.stay;
   so = so_used (Known r.batches) (Stopped r.batches) (Closed r.batches) r.mid left source (texts_in r.batches) s t status all r.so;
 }

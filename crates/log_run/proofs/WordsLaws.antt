@@ -56,7 +56,7 @@ low_status false = omega arith
 
 module _ (words : Words) (Known : List Batch → Type 0) (Stopped : List Batch → List Entry → AnswerError → Type 0) (Closed : List Batch → List ℕ → Type 0) (passed : Passed) (left left_now : Option (List ℕ)) (Drained : Type 0)
     (s t : Streams) (status : ℕ) (speaks : Speaks words passed Known Stopped Closed) (batches : List Batch) (mid : At) (cut : IsCut words.most batches) (read : ReadCalls passed left mid.left mid.passed (calls_in batches))
-    (good_so : mid.good ≡ (true && all_well batches)) where
+    (good_so : mid.good ≡ (true && all_well batches)) (stay : s.read_faults ≤ t.read_faults) where
   abbrev before : RunState
   before = run_state left s
 
@@ -118,6 +118,7 @@ module _ (words : Words) (Known : List Batch → Type 0) (Stopped : List Batch �
     batches = batches;
     answered = first_by (speaks.closed batches e.text are e.closed);
     log = whole_if left refl e.behind;
+    stay = e.stay;
     text = e.text;
     closes = speaks.closes batches e.text e.closed;
     reported = e.reported;
@@ -218,6 +219,7 @@ module _ (words : Words) (Known : List Batch → Type 0) (Stopped : List Batch �
   says_by law (inl e) = record {
     known = omega (arith, e.said, low_status mid.good);
     no_words = λ two. omega (arith, e.said, low_status mid.good, two);
+    stay = stay;
     done = λ low. done_of e;
     ended = λ low. e.behind.reads.ended;
     fails = λ three. absurd (omega (arith, e.said, low_status mid.good, three));
@@ -230,6 +232,7 @@ module _ (words : Words) (Known : List Batch → Type 0) (Stopped : List Batch �
   says_by law (inr (inl e)) = record {
     known = omega (arith, e.said);
     no_words = λ two. omega (arith, e.said, two);
+    stay = stay;
     done = λ low. absurd (omega (arith, e.said, low));
     ended = λ low. absurd (omega (arith, e.said, low));
     fails = λ three. absurd (omega (arith, e.said, three));
@@ -242,6 +245,7 @@ module _ (words : Words) (Known : List Batch → Type 0) (Stopped : List Batch �
   says_by law (inr (inr (inl e))) = record {
     known = omega (arith, e.said);
     no_words = λ two. omega (arith, e.said, two);
+    stay = stay;
     done = λ low. absurd (omega (arith, e.said, low));
     ended = λ low. absurd (omega (arith, e.said, low));
     fails = λ three. inl (failed_of e);
@@ -254,6 +258,7 @@ module _ (words : Words) (Known : List Batch → Type 0) (Stopped : List Batch �
   says_by law (inr (inr (inr (inl e)))) = record {
     known = omega (arith, e.said);
     no_words = λ two. omega (arith, e.said, two);
+    stay = stay;
     done = λ low. absurd (omega (arith, e.said, low));
     ended = λ low. absurd (omega (arith, e.said, low));
     fails = λ three. inr (stopped_of e);
@@ -266,6 +271,7 @@ module _ (words : Words) (Known : List Batch → Type 0) (Stopped : List Batch �
   says_by law (inr (inr (inr (inr (inl e))))) = record {
     known = omega (arith, e.said);
     no_words = λ two. omega (arith, e.said, two);
+    stay = stay;
     done = λ low. absurd (omega (arith, e.said, low));
     ended = λ low. absurd (omega (arith, e.said, low));
     fails = λ three. absurd (omega (arith, e.said, three));
@@ -278,6 +284,7 @@ module _ (words : Words) (Known : List Batch → Type 0) (Stopped : List Batch �
   says_by law (inr (inr (inr (inr (inr e))))) = record {
     known = omega (arith, e.said);
     no_words = λ two. omega (arith, e.said, two);
+    stay = stay;
     done = λ low. absurd (omega (arith, e.said, low));
     ended = λ low. absurd (omega (arith, e.said, low));
     fails = λ three. absurd (omega (arith, e.said, three));
@@ -293,7 +300,7 @@ module _ (words : Words) (Known : List Batch → Type 0) (Stopped : List Batch �
 pub log_says : OneLog → (words : Words) (Known : List Batch → Type 0) (Stopped : List Batch → List Entry → AnswerError → Type 0) (Closed : List Batch → List ℕ → Type 0) (passed : Passed) (source : Option (List ℕ)) (Drained : Type 0) (left left_now : Option (List ℕ)) (s t : Streams)
     (status : ℕ) → Speaks words passed Known Stopped Closed → LogRan words.most Known Stopped Closed (at passed source left true) Drained left_now s t status → LogSays words passed (run_state left s) (run_state left_now t) status
 log_says law words Known Stopped Closed passed source Drained left left_now s t status speaks r =
-    says_by words Known Stopped Closed passed left left_now Drained s t status speaks r.batches r.mid r.cut r.read r.good_so law r.so
+    says_by words Known Stopped Closed passed left left_now Drained s t status speaks r.batches r.mid r.cut r.read r.good_so r.stay law r.so
 
 -- from a reader at the beginning of a log
 first_at : (left : Option (List ℕ)) (reader : LogState) → reader ≡ record { passed = start 0 0; ahead = []; ended = false; fault = None } → at reader.passed left (left_to reader left) true ≡ at (start 0 0) left left true

@@ -137,6 +137,7 @@ pub record EndedWhole (Closed : List ℕ → Type 0) (mid : At) (left_now : Opti
   pub text : List ℕ
   pub closed : Closed text
   pub behind : ReadBehind mid.passed mid.left left_now (Ok None)
+  pub stay : outside.write_faults ≤ outside_now.write_faults
   pub reported : Appends outside.written outside_now.written (lines ++ text)
   pub said : status ≡ report_status mid.good
 
@@ -195,4 +196,5 @@ pub record LogRan (most : ℕ) (Known : List Batch → Type 0) (Stopped : List B
   pub cut : IsCut most batches
   pub read : ReadCalls before.passed before.left mid.left mid.passed (calls_in batches)
   pub good_so : mid.good ≡ (before.good && all_well batches)
+  pub stay : outside.read_faults ≤ outside_now.read_faults
   pub so : EndedSo (Known batches) (Stopped batches) (Closed batches) mid Drained left_now (texts_in batches) outside outside_now status

@@ -62,13 +62,14 @@ pub record StopsWith (words : Words) (passed : Passed) (left : Option (List ℕ)
 -- ---- status 0 and 1
 
 -- The log was read to its end; its calls were answered; their lines and the closing text were written, and nothing else; and the status says
--- whether all is well. If the bytes are told, they are a whole log.
+-- whether all is well; and the count of failed writes didn't fall. If the bytes are told, they are a whole log.
 pub record DoneReport (words : Words) (passed : Passed) (before now : RunState) (status : ℕ) : Type 0 where
   pub batches : List Batch
   pub answered : FirstBatches words passed before.left batches
   pub log : IfSome before.left (λ bytes. LogText passed bytes (calls_in batches) [])
   pub text : List ℕ
   pub closes : words.Closes batches text
+  pub stay : before.streams.write_faults ≤ now.streams.write_faults
   pub reported : Appends before.streams.written now.streams.written (texts_in batches ++ text)
   pub said : status ≡ report_status (all_well batches)
 
@@ -159,10 +160,11 @@ AnswersFaulty words passed before now status = (bytes rest : List ℕ) (calls : 
 
 -- ---- the whole
 
--- each status with what came of it, and which status comes
+-- each status with what came of it, and which status comes; the count of failed reads of the log never falls
 pub record LogSays (words : Words) (passed : Passed) (before now : RunState) (status : ℕ) : Type 0 where
   pub known : status ≤ 6
   pub no_words : status ≢ 2
+  pub stay : before.streams.read_faults ≤ now.streams.read_faults
   pub done : status ≤ 1 → DoneReport words passed before now status
   pub ended : status ≤ 1 → IsAtEnd now.left
   pub fails : status ≡ 3 → FailedReport words passed before now ⊎ StoppedReport words passed before now
