@@ -16,26 +16,32 @@ use Rattle.call_log.specs.Entry.{Entry}
 use Rattle.call_log.specs.Log.{LogText, start}
 use Rattle.log_singly.specs.Answer.{AnswerView, all_well, texts_of, unread_in}
 use Rattle.log_run.specs.Ending.{report_status}
+use Rattle.single_calls.specs.Asker.{asking_world}
+use Rattle.single_calls.specs.Asks.{Asks}
 use Rattle.single_calls.specs.Explainer.{Explains, IsExplained}
+use Rattle.cert_store.specs.declared.world.World.{World}
+use Rattle.stir_files.specs.Signing.{SigningOf}
+use Rattle.stir_files.specs.World.{WorldOf}
 use Rattle.stir_files.specs.Materials.{MaterialsOf, files_of}
 use Rattle.stir_files.specs.Named.{first_fault}
 use Rattle.stir_files.specs.declared.materials.Materials.{Materials}
 use Rattle.stir_outside.proofs.CountLaws.{not_risen_behind, then_at_most}
-use Rattle.stir_outside.specs.Count.{AtMost, last_count}
+use Rattle.stir_outside.specs.Count.{AtMost, NotRisen, last_count}
 use Rattle.stir_outside.specs.Files.{Counts, CountsGoOn, Files}
 use Rattle.stir_words.specs.Order.{AskingView, JudgingView}
 use Rattle.stir_cmd.specs.Input.{Answered, InputComplete, InputThrough, IsReply, MayGive, MayRefuse}
 use Rattle.stir_cmd.specs.Outside.{IfTold, Io, Outside, io_in}
 use Rattle.stir_cmd.specs.Show.{show}
-use Rattle.stir_cmd.specs.Showing.{IsNoChain, ShowGives, Shows, show_answering}
+use Rattle.stir_cmd.specs.Showing.{IsNoChain, ShowGives, Shows, show_answering, show_course}
 use Rattle.stir_cmd.specs.Calls.{settings_by, world_by}
-use Rattle.stir_cmd.specs.Explained.{EachCall, ExplainedLog, ask_over, explain_over}
+use Rattle.stir_cmd.specs.Explained.{AskedLog, EachCall, ExplainedLog, ask_course, ask_over, asker_by, explain_course, explain_over}
 use Rattle.stir_cmd.specs.OverFiles.{AnswersFiles, Behind, OverFiles, counted}
 use Rattle.stir_cmd.specs.OverLog.{AnswersBytes}
-use Rattle.stir_cmd.specs.Signing.{GivesFault, GivesMessage, SignCommand, SignGives, fault_line, holder_by, sign_answering, sign_course, sign_over, signed_by}
+use Rattle.stir_cmd.specs.Signing.{GivesFault, GivesMessage, SignCommand, SignGives, fault_line, files_named, holder_by, sign_answering, sign_course, sign_over, signed_by}
 use Rattle.stir_cmd.specs.Stopping.{IsQuiet}
-use Rattle.stir_cmd.specs.Verifying.{verify_over}
+use Rattle.stir_cmd.specs.Verifying.{verify_course, verify_over}
 use Rattle.stir_cmd.proofs.OverFilesLaws.{saying}
+use Rattle.stir_cmd.proofs.ShowLaws as showing
 
 -- ---- completeness of the commands over a log: `verify`, `explain` and `ask`
 
@@ -86,25 +92,60 @@ pub record ExplainedBefore (judging : JudgingView) (files : Files) (bytes : List
   pub reported : Appends before.written now.written (texts_of answers)
   pub said : status ≡ report_status (all_well answers)
 
-explained_told : (judging : JudgingView) (before now : Outside) (status mid : ℕ) (materials : Materials) (files : Option Files) (left : Option (List ℕ)) → MaterialsOf files judging materials → before.counts.faults ≤ mid → mid ≤ now.counts.faults
-    → IfTold files left (λ told bytes. (b : Outside) → b.counts.faults ≡ mid → b.written ≡ before.written → ExplainedLog (settings_by judging.settings) materials told bytes b now status)
-    → IfTold files left (λ told bytes. (b : Outside) → b.counts.faults ≡ mid → b.written ≡ before.written → ExplainedBefore judging told bytes before now status)
-explained_told judging before now status mid materials None left stands low high e = tt
-explained_told judging before now status mid materials (Some files) None stands low high e = tt
-explained_told judging before now status mid materials (Some files) (Some bytes) stands low high e = λ b same wrote.
-    let x = e b same wrote in
-    record {
-      materials = materials;
-      stands = stands;
-      calls = x.calls;
-      answers = x.answers;
-      log = x.log;
-      each = x.each;
-      unread = then_at_most _ before.counts.faults mid now.counts.faults low (subst (λ n. AtMost (unread_in x.answers) n now.counts.faults) same x.unread);
-      quiet = λ still below. x.quiet (omega (arith, still, same, low, high)) (omega (arith, below, still, same, low, high));
-      reported = subst (λ w. Appends w now.written (texts_of x.answers)) wrote x.reported;
-      said = x.said;
-    }
+explained_told : (judging : JudgingView) (before now : Outside) (status : ℕ) (counts : Counts) (materials : Materials) (files : Option Files) (left : Option (List ℕ)) → MaterialsOf files judging materials
+    → before.counts.faults ≤ counts.faults → counts.faults ≤ now.counts.faults
+    → IfTold files left (λ told bytes. ExplainedLog (settings_by judging.settings) materials told bytes (counted before counts) now status)
+    → IfTold files left (λ told bytes. ExplainedBefore judging told bytes before now status)
+explained_told judging before now status counts materials None left stands low high x = tt
+explained_told judging before now status counts materials (Some files) None stands low high x = tt
+explained_told judging before now status counts materials (Some files) (Some bytes) stands low high x = record {
+  materials = materials;
+  stands = stands;
+  calls = x.calls;
+  answers = x.answers;
+  log = x.log;
+  each = x.each;
+  unread = then_at_most _ before.counts.faults counts.faults now.counts.faults low x.unread;
+  quiet = λ still below. x.quiet (omega (arith, still, low, high)) (omega (arith, below, still, low, high));
+  reported = x.reported;
+  said = x.said;
+}
+
+-- as the clause `explained` had it
+pub explained : (judging : JudgingView) (before now : Outside) (status : ℕ) → (status ≤ 1 → (explain_course judging).Says before now status) → status ≤ 1
+    → IfTold before.files before.left (λ files bytes. ExplainedBefore judging files bytes before now status)
+explained judging before now status says low =
+    let b = says low in explained_told judging before now status b.counts b.read before.files before.left b.stands b.go_on.faults.never_falls b.stay b.says
+
+-- `ask`, as `AskedLog` had it
+pub record AskedBefore (words : AskingView) (files : Files) (bytes : List ℕ) (before now : Outside) : Type 0 where
+  pub world : World
+  pub stands : WorldOf (Some files) words world
+  pub calls : List Entry
+  pub log : LogText (start 0 0) bytes calls []
+  pub reported : Appends before.written now.written (Asks (asking_world (asker_by (settings_by words.settings) world).materials files) (settings_by words.settings) calls)
+
+asked_told : (words : AskingView) (before now : Outside) (counts : Counts) (world : World) (files : Option Files) (left : Option (List ℕ)) → WorldOf files words world
+    → IfTold files left (λ told bytes. AskedLog (settings_by words.settings) world told bytes (counted before counts) now) → IfTold files left (λ told bytes. AskedBefore words told bytes before now)
+asked_told words before now counts world None left stands x = tt
+asked_told words before now counts world (Some files) None stands x = tt
+asked_told words before now counts world (Some files) (Some bytes) stands x = record { world = world; stands = stands; calls = x.calls; log = x.log; reported = x.reported }
+
+-- as the clause `asked` had it
+pub asked : (words : AskingView) (before now : Outside) (status : ℕ) → (status ≤ 1 → (ask_course words).Says before now status) → status ≤ 1
+    → (status ≡ 0) × IfTold before.files before.left (λ files bytes. AskedBefore words files bytes before now)
+asked words before now status says low = let b = says low in (b.says.0, asked_told words before now b.counts b.read before.files before.left b.stands b.says.1)
+
+-- ---- the log was read to its end
+
+pub verify_ended : (judging : JudgingView) (before now : Outside) (status : ℕ) → (verify_course judging).Through before now status → IsAtEnd now.left
+verify_ended judging before now status b = b.says
+
+pub explain_ended : (judging : JudgingView) (before now : Outside) (status : ℕ) → (explain_course judging).Through before now status → IsAtEnd now.left
+explain_ended judging before now status b = b.says
+
+pub ask_ended : (words : AskingView) (before now : Outside) (status : ℕ) → (ask_course words).Through before now status → IsAtEnd now.left
+ask_ended words before now status b = b.says
 
 -- ---- the input, as it was spoken of
 
@@ -120,7 +161,7 @@ pub record IsInput (left left_now : Option (List ℕ)) (bytes : List ℕ) : Type
   pub all : IsAll left taken bytes
   pub through : IsAtEnd left_now ⊎ (65535 < length taken)
 
-all_taken : (left left_now : Option (List ℕ)) (bytes : List ℕ) → Consumes left left_now bytes → IsAtEnd left_now → IsAll left bytes bytes
+pub all_taken : (left left_now : Option (List ℕ)) (bytes : List ℕ) → Consumes left left_now bytes → IsAtEnd left_now → IsAll left bytes bytes
 all_taken None left_now bytes from ended = refl
 all_taken (Some known) None bytes from ended = absurd from
 all_taken (Some known) (Some rest) bytes from ended =
@@ -136,6 +177,15 @@ pub record WasSigned (order : OrderView) (materials : SigningMaterials) (left le
   pub ended : IsAtEnd left_now
   pub gave : GivesMessage order (holder_by materials.holder) (held_signs materials.answers) bytes out
 
+pub was_signed : (order : OrderView) (materials : SigningMaterials) (left left_now : Option (List ℕ)) (bytes out : List ℕ) → Consumes left left_now bytes → IsAtEnd left_now
+    → GivesMessage order (holder_by materials.holder) (held_signs materials.answers) bytes out → WasSigned order materials left left_now out
+was_signed order materials left left_now bytes out taken ended gave = record {
+  bytes = bytes;
+  input = record { taken = bytes; from_front = taken; all = all_taken left left_now bytes taken ended; through = inl ended };
+  ended = ended;
+  gave = gave;
+}
+
 -- 0: the message was signed, and what is signed of it was written
 pub record SignedMessage (order : OrderView) (materials : SigningMaterials) (before now : Io) : Type 0 where
   pub out : List ℕ
@@ -147,16 +197,7 @@ signed_reply : (order : OrderView) (materials : SigningMaterials) (before now : 
 signed_reply order materials before now text (inl r) reported = by_gives r.gives
   where
     by_gives : SignGives order materials r.bytes text 0 → SignedMessage order materials before now
-    by_gives (inl signs) = record {
-      out = text;
-      was = record {
-        bytes = r.bytes;
-        input = record { taken = r.bytes; from_front = r.taken; all = all_taken before.left now.left r.bytes r.taken r.ended; through = inl r.ended };
-        ended = r.ended;
-        gave = signs.gave;
-      };
-      reported = reported;
-    }
+    by_gives (inl signs) = record { out = text; was = was_signed order materials before.left now.left r.bytes text r.taken r.ended signs.gave; reported = reported }
     by_gives (inr refuses) = let k : 0 ≡ 1 = refuses.said in absurd (omega (arith, k))
 signed_reply order materials before now text (inr r) reported = let k : 0 ≡ 1 = r.gives.1 in absurd (omega (arith, k))
 
@@ -194,12 +235,20 @@ pub record WasRefused (order : OrderView) (materials : SigningMaterials) (left l
   pub input : IsInput left left_now bytes
   pub refuses : GivesFault order (holder_by materials.holder) (held_signs materials.answers) bytes fault
 
+pub was_refused : (order : OrderView) (materials : SigningMaterials) (left left_now : Option (List ℕ)) (bytes : List ℕ) (fault : SignFault) → Consumes left left_now bytes → IsAtEnd left_now
+    → GivesFault order (holder_by materials.holder) (held_signs materials.answers) bytes fault → WasRefused order materials left left_now fault
+was_refused order materials left left_now bytes fault taken ended refuses = record {
+  bytes = bytes;
+  input = record { taken = bytes; from_front = taken; all = all_taken left left_now bytes taken ended; through = inl ended };
+  refuses = refuses;
+}
+
 pub record RefusedMessage (order : OrderView) (materials : SigningMaterials) (before now : Io) : Type 0 where
   pub fault : SignFault
   pub was : WasRefused order materials before.left now.left fault
   pub reported : Appends before.written now.written (fault_line order.key fault)
 
-long_form : (order : OrderView) (materials : SigningMaterials) (left left_now : Option (List ℕ)) (bytes : List ℕ) → Consumes left left_now bytes → 65535 < length bytes
+pub long_form : (order : OrderView) (materials : SigningMaterials) (left left_now : Option (List ℕ)) (bytes : List ℕ) → Consumes left left_now bytes → 65535 < length bytes
     → WasRefused order materials left left_now faults.Form
 long_form order materials None left_now bytes from long = record {
   bytes = bytes;
@@ -222,11 +271,7 @@ refused_reply order materials before now text (inl r) reported = by_gives r.give
     by_gives (inl signs) = let k : 1 ≡ 0 = signs.said in absurd (omega (arith, k))
     by_gives (inr refuses) = record {
       fault = refuses.fault;
-      was = record {
-        bytes = r.bytes;
-        input = record { taken = r.bytes; from_front = r.taken; all = all_taken before.left now.left r.bytes r.taken r.ended; through = inl r.ended };
-        refuses = refuses.refuses;
-      };
+      was = was_refused order materials before.left now.left r.bytes refuses.fault r.taken r.ended refuses.refuses;
       reported = subst (Appends before.written now.written) refuses.line reported;
     }
 refused_reply order materials before now text (inr r) reported = record {
@@ -253,6 +298,10 @@ pub sign_through : (order : OrderView) (materials : SigningMaterials) (before no
 sign_through order materials before now status (inl ended) = inl ended
 sign_through order materials before now status (inr long) = inr (long.1.gives.1, record { taken = long.1.bytes; from_front = long.1.taken; more = long.1.more })
 
+pub sign_ended : (command : SignCommand) (before now : Outside) (status : ℕ) → (sign_course command).Through before now status
+    → IsAtEnd now.left ⊎ ((status ≡ 1) × IsTooLong before.left now.left)
+sign_ended command before now status b = sign_through command.order b.read (io_in (counted before b.counts)) (io_in now) status b.says
+
 -- the status is that of what the call gives for the bytes of the input
 abbrev pub status_for : Result (List ℕ) SignFault → ℕ
 status_for (Ok out) = 0
@@ -277,6 +326,28 @@ sign_complete order materials before now status c bytes told q = by_size (nat_le
     by_size : (t : Bool) → nat_le (length bytes) 65535 ≡ t → (status ≡ status_for (signed_by order materials bytes)) ⊎ (status ≡ 6)
     by_size true e = by_short (c.short bytes told (grind (arith, nat_tests)) q)
     by_size false e = let long : 65535 < length bytes = grind (arith, nat_tests) in by_long long (c.long bytes told long q)
+
+-- .. by what the files say
+pub record AnswersCall (command : SignCommand) (files : Option Files) (bytes : List ℕ) (status : ℕ) : Type 0 where
+  pub materials : SigningMaterials
+  pub stands : SigningOf files command.answers command.holder materials
+  pub answered : status ≡ status_for (signed_by command.order materials bytes)
+
+-- where the files have no fault and the bytes are told
+pub sign_answers : (command : SignCommand) (before now : Outside) (status : ℕ) → (sign_course command).Answers before now status → (files : Files) (bytes : List ℕ) → before.files ≡ Some files
+    → first_fault files (files_named command) ≡ None → before.left ≡ Some bytes → IsQuiet before now → AnswersCall command before.files bytes status ⊎ (status ≡ 6)
+sign_answers command before now status answers files bytes told none left q = by_behind (answers.none files told none q)
+  where
+    by_call : (materials : SigningMaterials) → SigningOf before.files command.answers command.holder materials → (status ≡ status_for (signed_by command.order materials bytes)) ⊎ (status ≡ 6)
+        → AnswersCall command before.files bytes status ⊎ (status ≡ 6)
+    by_call materials stands (inl answered) = inl (record { materials = materials; stands = stands; answered = answered })
+    by_call materials stands (inr six) = inr six
+
+    by_behind : Behind (sign_over command) before now (λ materials mid. InputComplete (sign_answering command.order materials) mid now status) ⊎ (status ≡ 6)
+        → AnswersCall command before.files bytes status ⊎ (status ≡ 6)
+    by_behind (inl b) =
+        by_call b.read b.stands (sign_complete command.order b.read (counted before b.counts) now status b.says bytes left (quiet_behind before now b.counts b.go_on b.stay q))
+    by_behind (inr six) = inr six
 
 -- 5 is for a named file alone
 pub sign_refused : (order : OrderView) (materials : SigningMaterials) (before now : Io) → Answered (sign_answering order materials) before now 5 → ⊥
@@ -405,3 +476,23 @@ show_no_chain before now status c bytes told (inr none) q = by_size (nat_le (len
     by_size : (t : Bool) → nat_le (length bytes) 49152 ≡ t → (status ≡ 5) ⊎ (status ≡ 6)
     by_size true e = by_short (c.short bytes told (grind (arith, nat_tests)) q)
     by_size false e = by_long (c.long bytes told (grind (arith, nat_tests)) q)
+
+-- `show` reads no file, so it needs no quiet shelf
+abbrev no_counts : Counts
+no_counts = record { reads = 0; misses = 0; longs = 0; faults = 0 }
+
+quiet_streams : (before now : Outside) → NotRisen before.read_faults now.read_faults → NotRisen before.write_faults now.write_faults → IsQuiet (counted before no_counts) (counted now no_counts)
+quiet_streams before now reads writes = record { files = record { same = refl; below_last = λ last. omega (arith, last) }; read_faults = reads; write_faults = writes }
+
+show_answers : (before now : Outside) (status : ℕ) → show_course.Came before now status → InputComplete show_answering (counted before no_counts) (counted now no_counts) status
+show_answers before now status came = showing.keeps_all.keeps.answers (counted before no_counts) (counted now no_counts) status (record { counts = refl; ran = came.ran })
+
+pub chain_shown : (before now : Outside) (status : ℕ) → show_course.Came before now status → (bytes : List ℕ) (certificates : List CertView) → before.left ≡ Some bytes → length bytes ≤ 49152
+    → Chain bytes certificates → NotRisen before.read_faults now.read_faults → NotRisen before.write_faults now.write_faults → (status ≡ 0) ⊎ (status ≡ 6)
+chain_shown before now status came bytes certificates told short chain reads writes =
+    show_chain (counted before no_counts) (counted now no_counts) status (show_answers before now status came) bytes certificates told short chain (quiet_streams before now reads writes)
+
+pub chain_refused : (before now : Outside) (status : ℕ) → show_course.Came before now status → (bytes : List ℕ) → before.left ≡ Some bytes → IsRefusedChain bytes
+    → NotRisen before.read_faults now.read_faults → NotRisen before.write_faults now.write_faults → (status ≡ 5) ⊎ (status ≡ 6)
+chain_refused before now status came bytes told refused reads writes =
+    show_no_chain (counted before no_counts) (counted now no_counts) status (show_answers before now status came) bytes told refused (quiet_streams before now reads writes)
