@@ -1,10 +1,8 @@
--- Why a run over a log ended with its status, and what it came to, as both were promised before, follow from the courses.
-use Rattle.std.proofs.Common.{◌≡◌, ℕ, ◌≤◌, ◌⊎◌, inl, inr, List, Option, Some, None, IfSome, arith}
+-- Why a run over a log ended with its status, as it was promised before one loop ran all, follows from the courses.
+use Rattle.std.proofs.Common.{◌≡◌, ℕ, ◌≤◌, ◌⊎◌, inl, inr, List, Option, Some, None, IfSome, refl}
 use Rattle.call_log.specs.Entry.{Entry}
-use Rattle.call_run.specs.Answer.{AnswerView}
-use Rattle.call_run.specs.Clauses as answers
-use Rattle.log_run.specs.Bench.{Standing}
-use Rattle.log_run.specs.Clauses as log
+use Rattle.log_rounds.specs.Bench.{Standing}
+use Rattle.log_singly.specs.Answer.{AnswerView}
 use Rattle.single_calls.specs.Asker.{AskedBy, StopsAsking}
 use Rattle.single_calls.specs.Explainer.{ExplainedBy, NeverStops}
 use Rattle.cert_store.specs.declared.world.World.{World}
@@ -19,10 +17,13 @@ use Rattle.stir_cmd.specs.Causes.{HasCauses, Ran, course}
 use Rattle.stir_cmd.specs.Course.{Course}
 use Rattle.stir_cmd.specs.Explained.{AskedLog, ExplainedLog, asker_by, explainer_by}
 use Rattle.stir_cmd.specs.Outside.{IfTold, Outside}
-use Rattle.stir_cmd.specs.OverFiles.{Behind, OverFiles, over_files}
-use Rattle.stir_cmd.specs.Singly.{LogAnswers, answering_course, calls_at}
+use Rattle.stir_cmd.specs.OverFiles.{Behind, OverFiles, counted, over_files}
+use Rattle.stir_cmd.specs.Singly.{answering_course}
 use Rattle.stir_cmd.specs.Stopping.{Early, EndsEarly, FileFailed, FileRefused, Front, HaveNoFault, IsEarly}
-use Rattle.stir_cmd.specs.Verifying.{ByService, LogSays, run_state_by, verify_over}
+use Rattle.stir_cmd.specs.Verifying.{verify_over}
+use Rattle.stir_cmd.proofs.OldCauses as old
+use Rattle.stir_cmd.proofs.OldCausesLaws.{called_done, called_failed, called_front, called_part, called_short, judged_done, judged_failed, judged_front, judged_part, judged_short, stood}
+use Rattle.stir_cmd.proofs.OldRunLaws.{calls_say, judged_says}
 use Rattle.stir_cmd.proofs.StatusCauses.{CauseOf}
 
 -- ---- the causes of a course
@@ -64,7 +65,7 @@ files_causes over before now status to_done to_unread to_unwritten to_refused to
 
 -- The files were read, and this is said of a run over the log by what they say. The shelf's failed reads are counted from after the named files
 -- on, and the provider never fails.
-pub record ByFiles (judging : JudgingView) (before now : Outside) (Says : Materials → Option Files → log.RunState → log.RunState → Type 0) : Type 0 where
+pub record ByFiles (judging : JudgingView) (before now : Outside) (Says : Materials → Option Files → old.JudgeState → old.JudgeState → Type 0) : Type 0 where
   pub materials : Materials
   pub stands : MaterialsOf before.files judging materials
   pub no_fault : HaveNoFault before.files (files_of judging)
@@ -75,42 +76,41 @@ pub record ByFiles (judging : JudgingView) (before now : Outside) (Says : Materi
   pub shelf_now : standing_now.shelf ≡ now.counts.faults
   pub provider : standing.provider ≡ 0
   pub provider_now : standing_now.provider ≡ 0
-  pub says : Says materials before.files (run_state_by before standing) (run_state_by now standing_now)
+  pub says : Says materials before.files (old.judge_state before standing) (old.judge_state now standing_now)
 
-by_files : (judging : JudgingView) (before now : Outside) (Says : Materials → Option Files → log.RunState → log.RunState → Type 0)
-    → Behind (verify_over judging) before now (λ materials mid. ByService mid now (Says materials mid.files)) → ByFiles judging before now Says
-by_files judging before now Says b =
-    let by = b.says in
-    record {
-      materials = b.read;
-      stands = b.stands;
-      no_fault = b.no_fault;
-      standing = by.standing;
-      standing_now = by.standing_now;
-      shelf = omega (arith, b.go_on.faults.never_falls, by.shelf);
-      shelf_stays = by.shelf_stays;
-      shelf_now = by.shelf_now;
-      provider = by.provider;
-      provider_now = by.provider_now;
-      says = by.says;
-    }
+by_files : (judging : JudgingView) (before now : Outside) (P : Materials → Outside → Type 0) (Says : Materials → Option Files → old.JudgeState → old.JudgeState → Type 0)
+    → ((materials : Materials) (mid : Outside) → P materials mid → Says materials mid.files (old.judge_state mid (stood mid.counts.faults)) (old.judge_state now (stood now.counts.faults)))
+    → Behind (verify_over judging) before now P → ByFiles judging before now Says
+by_files judging before now P Says so b = record {
+  materials = b.read;
+  stands = b.stands;
+  no_fault = b.no_fault;
+  standing = stood b.counts.faults;
+  standing_now = stood now.counts.faults;
+  shelf = b.go_on.faults.never_falls;
+  shelf_stays = b.stay;
+  shelf_now = refl;
+  provider = refl;
+  provider_now = refl;
+  says = so b.read (counted before b.counts) b.says;
+}
 
 -- what was said of the run over the log, by the status
-module _ (judging : JudgingView) (materials : Materials) (files : Option Files) (before now : log.RunState) where
+module _ (judging : JudgingView) (materials : Materials) (files : Option Files) (before now : old.JudgeState) where
   abbrev pub LogDone : ℕ → Type 0
-  LogDone status = log.DoneReport (AnswersBy materials (settings_by judging.settings) files) (bench_by (settings_by judging.settings)) before now status
+  LogDone status = old.DoneReport (AnswersBy materials (settings_by judging.settings) files) (bench_by (settings_by judging.settings)) before now status
 
   abbrev pub LogFailed : Type 0
-  LogFailed = log.FailedReport (AnswersBy materials (settings_by judging.settings) files) (bench_by (settings_by judging.settings)) before now
+  LogFailed = old.FailedReport (AnswersBy materials (settings_by judging.settings) files) (bench_by (settings_by judging.settings)) before now
 
   abbrev pub LogFront : Type 0
-  LogFront = log.FrontReport (AnswersBy materials (settings_by judging.settings) files) (bench_by (settings_by judging.settings)) before now
+  LogFront = old.FrontReport (AnswersBy materials (settings_by judging.settings) files) (bench_by (settings_by judging.settings)) before now
 
   abbrev pub LogRefused : Type 0
-  LogRefused = IfSome before.left (log.PartReport (AnswersBy materials (settings_by judging.settings) files) (bench_by (settings_by judging.settings)) before now)
+  LogRefused = IfSome before.left (old.PartReport (AnswersBy materials (settings_by judging.settings) files) (bench_by (settings_by judging.settings)) before now)
 
   abbrev pub LogShort : Type 0
-  LogShort = log.ShortReport (AnswersBy materials (settings_by judging.settings) files) (bench_by (settings_by judging.settings)) before now
+  LogShort = old.ShortReport (AnswersBy materials (settings_by judging.settings) files) (bench_by (settings_by judging.settings)) before now
 
 abbrev pub VerifyCauses : JudgingView → Outside → Outside → ℕ → Type 0
 VerifyCauses judging before now status =
@@ -119,13 +119,23 @@ VerifyCauses judging before now status =
 
 pub verify_causes : (judging : JudgingView) (before now : Outside) (status : ℕ) → HasCauses (Some (VerifyBy judging)) before now status → VerifyCauses judging before now status
 verify_causes judging before now status c =
-    files_causes (verify_over judging) before now status (by_files judging before now (λ m f b n. LogDone judging m f b n status)) (by_files judging before now (LogFailed judging))
-    (by_files judging before now (LogFront judging)) (by_files judging before now (LogRefused judging)) (by_files judging before now (LogShort judging))
+    let settings = settings_by judging.settings in
+    files_causes (verify_over judging) before now status
+    (by_files judging before now _ (λ m f b n. LogDone judging m f b n status) (λ m mid. judged_done (AnswersBy m settings mid.files) (bench_by settings) mid now status))
+    (by_files judging before now _ (LogFailed judging) (λ m mid. judged_failed (AnswersBy m settings mid.files) (bench_by settings) mid now))
+    (by_files judging before now _ (LogFront judging) (λ m mid. judged_front (AnswersBy m settings mid.files) (bench_by settings) mid now))
+    (by_files judging before now _ (LogRefused judging) (λ m mid. judged_part (AnswersBy m settings mid.files) (bench_by settings) mid now))
+    (by_files judging before now _ (LogShort judging) (λ m mid. judged_short (AnswersBy m settings mid.files) (bench_by settings) mid now))
     (causes_by (Some (VerifyBy judging)) before now status c)
 
+-- what was said of the run over the log, whatever its status
+abbrev pub VerifySays : JudgingView → ℕ → Materials → Option Files → old.JudgeState → old.JudgeState → Type 0
+VerifySays judging status materials files before now = old.JudgedSays (AnswersBy materials (settings_by judging.settings) files) (bench_by (settings_by judging.settings)) before now status
+
 pub verify_ran : (judging : JudgingView) (before now : Outside) (status : ℕ) → Ran (Some (VerifyBy judging)) before now status
-    → ByFiles judging before now (λ m f b n. LogSays m (settings_by judging.settings) f b n status) ⊎ EndsEarly (files_of judging) before now status
-verify_ran judging before now status (inl b) = inl (by_files judging before now (λ m f b n. LogSays m (settings_by judging.settings) f b n status) b)
+    → ByFiles judging before now (VerifySays judging status) ⊎ EndsEarly (files_of judging) before now status
+verify_ran judging before now status (inl b) = let settings = settings_by judging.settings in
+    inl (by_files judging before now _ (VerifySays judging status) (λ m mid. judged_says (AnswersBy m settings mid.files) (bench_by settings) mid now status) b)
 verify_ran judging before now status (inr early) = inr early
 
 -- ---- `explain` and `ask`
@@ -143,40 +153,44 @@ pub record Way : Type 1 where
 abbrev pub over_way : Way → OverFiles
 over_way way = record { named = way.named; Read = way.Read; Stands = way.Stands; course = λ read. answering_course (way.answered read) (way.stops read) (way.Subject read) }
 
--- what stands around the run over the log, with so many failed reads of files
-abbrev pub with_faults : Outside → ℕ → answers.RunState
-with_faults stands faults = answers.run_state stands.left faults stands.read_faults stands.written stands.write_faults
-
 -- The files were read, and this is said of a run over the log by what they say. The shelf's failed reads are counted from after the named files on.
-pub record ByRead (way : Way) (before now : Outside) (Says : way.Read → Option Files → answers.RunState → answers.RunState → Type 0) : Type 0 where
+pub record ByRead (way : Way) (before now : Outside) (Says : way.Read → Option Files → old.CallsState → old.CallsState → Type 0) : Type 0 where
   pub read : way.Read
   pub stands : way.Stands before.files read
   pub no_fault : HaveNoFault before.files way.named
   pub faults : ℕ
   pub low : before.counts.faults ≤ faults
   pub high : faults ≤ now.counts.faults
-  pub says : Says read before.files (with_faults before faults) (with_faults now now.counts.faults)
+  pub says : Says read before.files (old.calls_state before faults) (old.calls_state now now.counts.faults)
 
-by_read : (way : Way) (before now : Outside) (Says : way.Read → Option Files → answers.RunState → answers.RunState → Type 0)
-    → Behind (over_way way) before now (λ read mid. Says read mid.files (calls_at mid) (calls_at now)) → ByRead way before now Says
-by_read way before now Says b =
-    record { read = b.read; stands = b.stands; no_fault = b.no_fault; faults = b.counts.faults; low = b.go_on.faults.never_falls; high = b.stay; says = b.says }
+by_read : (way : Way) (before now : Outside) (P : way.Read → Outside → Type 0) (Says : way.Read → Option Files → old.CallsState → old.CallsState → Type 0)
+    → ((read : way.Read) (mid : Outside) → P read mid → Says read mid.files (old.calls_state mid mid.counts.faults) (old.calls_state now now.counts.faults))
+    → Behind (over_way way) before now P → ByRead way before now Says
+by_read way before now P Says so b = record {
+  read = b.read;
+  stands = b.stands;
+  no_fault = b.no_fault;
+  faults = b.counts.faults;
+  low = b.go_on.faults.never_falls;
+  high = b.stay;
+  says = so b.read (counted before b.counts) b.says;
+}
 
-module _ (way : Way) (read : way.Read) (files : Option Files) (before now : answers.RunState) where
+module _ (way : Way) (read : way.Read) (files : Option Files) (before now : old.CallsState) where
   abbrev pub CallsDone : ℕ → Type 0
-  CallsDone status = answers.DoneAnswer (way.answered read files) before now status
+  CallsDone status = old.DoneAnswer (way.answered read files) before now status
 
   abbrev pub CallsFailed : Type 0
-  CallsFailed = answers.FailedAnswer (way.answered read files) before now ⊎ answers.UnreadAnswer (way.answered read files) (way.stops read files) before now
+  CallsFailed = old.FailedAnswer (way.answered read files) before now ⊎ old.UnreadAnswer (way.answered read files) (way.stops read files) before now
 
   abbrev pub CallsFront : Type 0
-  CallsFront = answers.FrontAnswer (way.answered read files) (way.stops read files) before now
+  CallsFront = old.FrontAnswer (way.answered read files) (way.stops read files) before now
 
   abbrev pub CallsRefused : Type 0
-  CallsRefused = IfSome before.left (answers.PartAnswer (way.answered read files) before now)
+  CallsRefused = IfSome before.left (old.PartAnswer (way.answered read files) before now)
 
   abbrev pub CallsShort : Type 0
-  CallsShort = answers.ShortAnswer (way.answered read files) before now
+  CallsShort = old.ShortAnswer (way.answered read files) before now
 
 abbrev pub SinglyCauses : Way → Type 0 → Outside → Outside → ℕ → Type 0
 SinglyCauses way Words before now status =
@@ -185,14 +199,21 @@ SinglyCauses way Words before now status =
 
 singly_causes : {Words : Type 0} (way : Way) (before now : Outside) (status : ℕ) → CausesBy (over_files (over_way way)) Words before now status → SinglyCauses way Words before now status
 singly_causes way before now status c =
-    files_causes (over_way way) before now status (by_read way before now (λ r f b n. CallsDone way r f b n status)) (by_read way before now (CallsFailed way))
-    (by_read way before now (CallsFront way)) (by_read way before now (CallsRefused way)) (by_read way before now (CallsShort way)) c
+    files_causes (over_way way) before now status
+    (by_read way before now _ (λ r f b n. CallsDone way r f b n status) (λ r mid. called_done (way.answered r mid.files) (way.stops r mid.files) mid now status))
+    (by_read way before now _ (CallsFailed way) (λ r mid. called_failed (way.answered r mid.files) (way.stops r mid.files) mid now))
+    (by_read way before now _ (CallsFront way) (λ r mid. called_front (way.answered r mid.files) (way.stops r mid.files) mid now))
+    (by_read way before now _ (CallsRefused way) (λ r mid. called_part (way.answered r mid.files) (way.stops r mid.files) mid now))
+    (by_read way before now _ (CallsShort way) (λ r mid. called_short (way.answered r mid.files) (way.stops r mid.files) mid now)) c
+
+abbrev pub SinglySays : (way : Way) → ℕ → way.Read → Option Files → old.CallsState → old.CallsState → Type 0
+SinglySays way status read files before now = old.CallsSay (way.answered read files) (way.stops read files) before now status
 
 abbrev pub SinglyRan : Way → Outside → Outside → ℕ → Type 0
-SinglyRan way before now status = ByRead way before now (λ r f b n. LogAnswers (way.answered r f) (way.stops r f) b n status) ⊎ EndsEarly way.named before now status
+SinglyRan way before now status = ByRead way before now (SinglySays way status) ⊎ EndsEarly way.named before now status
 
 singly_ran : (way : Way) (before now : Outside) (status : ℕ) → (over_files (over_way way)).Came before now status → SinglyRan way before now status
-singly_ran way before now status (inl b) = inl (by_read way before now (λ r f b n. LogAnswers (way.answered r f) (way.stops r f) b n status) b)
+singly_ran way before now status (inl b) = inl (by_read way before now _ (SinglySays way status) (λ r mid. calls_say (way.answered r mid.files) (way.stops r mid.files) mid now status) b)
 singly_ran way before now status (inr early) = inr early
 
 abbrev pub explain_way : JudgingView → Way
