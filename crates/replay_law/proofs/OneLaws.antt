@@ -1,5 +1,5 @@
 -- The same calls, answered twice, have the same answers.
-use Rattle.std.proofs.Common.{◌≡◌, ℕ, Bool, true, false, List, Some, ◌⊎◌, inl, inr, refl, sym, ◌∙◌, ap, subst}
+use Rattle.std.proofs.Common.{◌≡◌, ℕ, Bool, true, false, List, inl, inr, refl, sym, ◌∙◌, ap, subst}
 use Rattle.std.proofs.lemmas.Option.{same_Some}
 use Rattle.replay_law.specs.Law.{HasEach, IsSameCall, OneAnswer}
 use Rattle.replay_law.specs.Log.{IsBefore, LogWinner, RowsLegal, StandsIn}
@@ -71,9 +71,9 @@ by_passes rounds others each each_other legal first legal_other first_other roun
     let v : LogWinner others row.ticket = winner_of others legal_other round place row other stands_other same is in
     passing rounds others row.ticket w v each (one_place rounds others row.ticket w v each each_other first first_other) round place row other stands stands_other uses uses_other
   where
-  winner_of : (others : List Round) → RowsLegal others → (round place : ℕ) (row other : Row) → StandsIn others round place other → IsSameCall row other
-      → row.passes ≡ true → LogWinner others row.ticket
-  winner_of others legal round place row other stands same is = subst (LogWinner others) (sym same.ticket) (legal.once round place other stands (sym same.passes ∙ is))
+    winner_of : (others : List Round) → RowsLegal others → (round place : ℕ) (row other : Row) → StandsIn others round place other → IsSameCall row other
+        → row.passes ≡ true → LogWinner others row.ticket
+    winner_of others legal round place row other stands same is = subst (LogWinner others) (sym same.ticket) (legal.once round place other stands (sym same.passes ∙ is))
 
 pub one_answer : OneAnswer
 one_answer rounds others each each_other legal first legal_other first_other round place row other stands stands_other =

@@ -150,9 +150,10 @@ all_alike world other settings same (call ∷ calls) [] yours a b none none_othe
 all_alike world other settings same (call ∷ calls) (mine ∷ more) [] a b none none_other = absurd b
 all_alike world other settings same (call ∷ calls) (mine ∷ more) (yours ∷ others) a b none none_other =
     let (read, asked, rest) = first_aside mine more none in
-    let (read_other, asked_other, rest_other) = first_aside yours others none_other in
-    (outcomes_of world other settings call mine yours (same call) a.0 b.0 read asked read_other asked_other,
-     all_alike world other settings same calls more others a.1 b.1 rest rest_other)
+    let (read_other, asked_other, rest_other) = first_aside yours others none_other in (
+      outcomes_of world other settings call mine yours (same call) a.0 b.0 read asked read_other asked_other,
+      all_alike world other settings same calls more others a.1 b.1 rest rest_other,
+    )
 
 -- each row of the one has the row of the same call in the other
 rows_alike : (settings : Settings) (calls : List Entry) (mine yours : List Outcome) → AllAlike mine yours → (place : ℕ) (row : Row)
@@ -219,10 +220,11 @@ rounds_alike world other settings same [] (next ∷ others) calls a b none none_
 rounds_alike world other settings same (round ∷ rounds) [] calls a b none none_other = calls
 rounds_alike world other settings same (round ∷ rounds) (next ∷ others) (here, later) a b none none_other =
     let parts = parts_aside round.outcomes (outcomes_in rounds) none in
-    let parts_other = parts_aside next.outcomes (outcomes_in others) none_other in
-    (here,
-     all_alike world other settings same round.calls round.outcomes next.outcomes a.0 (subst (λ calls. EachPair (Answers other settings) calls next.outcomes) (sym here) b.0) parts.0 parts_other.0,
-     rounds_alike world other settings same rounds others later a.1 b.1 parts.1 parts_other.1)
+    let parts_other = parts_aside next.outcomes (outcomes_in others) none_other in (
+      here,
+      all_alike world other settings same round.calls round.outcomes next.outcomes a.0 (subst (λ calls. EachPair (Answers other settings) calls next.outcomes) (sym here) b.0) parts.0 parts_other.0,
+      rounds_alike world other settings same rounds others later a.1 b.1 parts.1 parts_other.1,
+    )
 
 -- the same calls stand in both
 pub has_each : (bench : Bench) (rounds others : List Round) → RoundsAlike rounds others → HasEach (row_rounds bench rounds) (row_rounds bench others)

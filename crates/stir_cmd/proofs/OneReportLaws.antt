@@ -50,9 +50,10 @@ one_map content mine yours a b x5u = a.files x5u ∙ ap (λ rows. file_in rows x
 one_table : (content : List ℕ) (mine yours : List (List ℕ × Granted)) → TableOf content mine → TableOf content yours → (code number : List ℕ)
     → GrantHolds (grant_in mine code) number ↔ GrantHolds (grant_in yours code) number
 one_table content mine yours a b code number =
-    let rows = one_ok a.rows b.rows _ a.read b.read in
-    ((λ h. ((b.grants code).holds number).1 (subst (λ r. Grants r code number) rows (((a.grants code).holds number).0 h))),
-     (λ h. ((a.grants code).holds number).1 (subst (λ r. Grants r code number) (sym rows) (((b.grants code).holds number).0 h))))
+    let rows = one_ok a.rows b.rows _ a.read b.read in (
+      (λ h. ((b.grants code).holds number).1 (subst (λ r. Grants r code number) rows (((a.grants code).holds number).0 h))),
+      (λ h. ((a.grants code).holds number).1 (subst (λ r. Grants r code number) (sym rows) (((b.grants code).holds number).0 h))),
+    )
 
 one_answers : (content : List ℕ) (mine yours : Held) → AnswersOf content mine → AnswersOf content yours → held_says mine ≡ held_says yours
 one_answers content mine yours a b = a.says ∙ ap says_in (one_ok a.rows b.rows _ a.read b.read) ∙ sym b.says

@@ -67,16 +67,18 @@ within_other table other same (Some child) (Some parent) h =
 covers_same : CoversLaw → (table other : Table) → GrantSame table other → (entries : List Entry) (number : List ℕ)
     → covers_number entries table number ≡ covers_number entries other number
 covers_same law table other same entries number =
-    same_from_decides (covers_number entries table number) (covers_number entries other number)
-    ((λ is. covers_other table other same entries number ((law entries table number).0 is)),
-     (λ h. (law entries table number).1 (covers_other other table (turned table other same) entries number h)))
+    same_from_decides (covers_number entries table number) (covers_number entries other number) (
+      (λ is. covers_other table other same entries number ((law entries table number).0 is)),
+      (λ h. (law entries table number).1 (covers_other other table (turned table other same) entries number h)),
+    )
     (law entries other number)
 
 within_same : WithinLaw → (table other : Table) → GrantSame table other → (child parent : Option (List Entry)) → is_within child parent table ≡ is_within child parent other
 within_same law table other same child parent =
-    same_from_decides (is_within child parent table) (is_within child parent other)
-    ((λ is. within_other table other same child parent ((law child parent table).0 is)),
-     (λ h. (law child parent table).1 (within_other other table (turned table other same) child parent h)))
+    same_from_decides (is_within child parent table) (is_within child parent other) (
+      (λ is. within_other table other same child parent ((law child parent table).0 is)),
+      (λ h. (law child parent table).1 (within_other other table (turned table other same) child parent h)),
+    )
     (law child parent other)
 
 -- ---- a chain
