@@ -1,7 +1,7 @@
 -- Two lists of outcomes of the same calls, by worlds in which each call breaks the same rule first, are one list.
-use Rattle.std.proofs.Common.{◌≡◌, ℕ, zero, suc, ◌+◌, ◌≤◌, Bool, true, false, ◌||◌, List, [], ◌∷◌, ◌++◌, length, Option, Some, None, refl, sym, ◌∙◌, ap, arith, subst}
+use Rattle.std.proofs.Common.{◌≡◌, ℕ, zero, suc, ◌+◌, ◌≤◌, Bool, false, ◌||◌, List, [], ◌∷◌, ◌++◌, length, Some, None, refl, sym, ◌∙◌, ap, arith, subst}
 use Rattle.std.specs.Prelude.{⊤}
-use Rattle.std.specs.List.{list_any, slice_get}
+use Rattle.std.specs.List.{list_any}
 use Rattle.std.proofs.lemmas.Bool.{or_parts}
 use Rattle.std.proofs.lemmas.List.{append-nil, length-append}
 use Rattle.std.proofs.lemmas.Option.{none-some, same_Some}
@@ -13,7 +13,6 @@ use Rattle.replay_law.specs.Log.{StandsIn}
 use Rattle.replay_law.specs.Row.{Row, Stands}
 use Rattle.verify_rules.specs.World.{First, World}
 use Rattle.verify_rules.specs.declared.settings.Settings.{Settings}
-use Rattle.verify_rules.specs.declared.refusal.Refusal.{Refusal}
 use Rattle.verify_service.specs.Causes.{NoneUnasked, NoneUnread, is_unasked, is_unread}
 use Rattle.verify_service.specs.Judging.{EachPair, call_in}
 use Rattle.verify_service.specs.Rows.{answer_of, passes, row_of, rows_of}

@@ -1,10 +1,10 @@
 -- Two runs of `verify` over the same files and the same log give one report.
-use Rattle.std.proofs.Common.{◌≡◌, ◌↔◌, ℕ, ◌≤◌, Bool, List, [], ◌++◌, Option, Some, None, Result, Ok, refl, sym, ◌∙◌, ap, subst}
+use Rattle.std.proofs.Common.{◌≡◌, ◌↔◌, ℕ, List, [], Option, Some, None, Result, Ok, refl, sym, ◌∙◌, ap, subst}
 use Rattle.std.specs.Io.KnownBytes.{Appends}
 use Rattle.std.proofs.lemmas.Option.{same_Some}
 use Rattle.call_log.specs.Entry.{Entry}
 use Rattle.call_log.specs.HandsOut.{OneLog}
-use Rattle.call_log.specs.Log.{LogText, start}
+use Rattle.call_log.specs.Log.{start}
 use Rattle.cert_store.specs.ChainMap.{MapOf, file_in, listed}
 use Rattle.cert_store.specs.Files.{Files as ChainFiles}
 use Rattle.log_rounds.specs.AllValid.{all_valid}
@@ -28,10 +28,9 @@ use Rattle.verify_rules.specs.World.{First, World}
 use Rattle.verify_rules.specs.declared.settings.Settings.{Settings}
 use Rattle.verify_service.specs.Report.{report}
 use Rattle.verify_service.specs.Judging.{call_in}
-use Rattle.verify_service.specs.declared.outcome.Outcome.{Outcome}
 use Rattle.stir_cmd.specs.Calls.{bench_by, settings_by, world_by}
 use Rattle.stir_cmd.specs.Headline.{AreJudged, Headline, Verified}
-use Rattle.stir_cmd.specs.OneReport.{AreOneReport, GivesOneReport, IsLogApart, IsOneReport, JudgedTheSame}
+use Rattle.stir_cmd.specs.OneReport.{AreOneReport, GivesOneReport, IsLogApart, IsOneReport}
 use Rattle.stir_cmd.specs.Outside.{IfTold, Outside}
 use Rattle.stir_cmd.proofs.AnswersAlike.{NoneAside, OneAnswerEach, RoundsAlike, all_same, has_each, rounds_alike, rounds_turned, same_cut}
 
