@@ -1,5 +1,6 @@
 pub mod RoundLaws
-pub mod FollowLaws
+pub mod FewLaws
+mod FollowLaws
 pub mod ReportLaws
 pub mod LegalLaws
 pub mod StatusLaws

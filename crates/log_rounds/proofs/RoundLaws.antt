@@ -3,7 +3,7 @@ use Rattle.std.proofs.Common.{◌≡◌, ◌+◌, ◌≤◌, Bool, true, false, 
 use Rattle.std.specs.List.{list_any}
 use Rattle.call_log.specs.Entry.{Entry}
 use Rattle.log_rounds.specs.AllValid.{all_valid, is_valid}
-use Rattle.log_rounds.specs.Bench.{Bench, FaultCounts}
+use Rattle.log_rounds.specs.Bench.{Bench, OutsideCounts}
 use Rattle.log_rounds.specs.Judged.{SetAside}
 use Rattle.log_rounds.specs.Rounds.{AllInOrder, InEach, Round, calls_in, outcomes_in, row_round, row_rounds, unread_pairs}
 use Rattle.stir_outside.proofs.CountLaws.{at_most_then, both_at_most, not_risen_before, not_risen_behind}
@@ -86,14 +86,14 @@ pub pairs_both : (bench : Bench) (xs ys : List Round) → unread_pairs bench (xs
 pairs_both bench [] ys = omega arith
 pairs_both bench (x ∷ xs) ys = omega (arith, pairs_both bench xs ys)
 
-pub aside_none : (bench : Bench) (counts : FaultCounts) → SetAside bench counts counts []
+pub aside_none : (bench : Bench) (counts : OutsideCounts) → SetAside bench counts counts []
 aside_none bench counts = record {
   unread = inl (omega arith);
   quiet_shelf = λ n. refl;
   quiet_provider = λ n. refl;
 }
 
-pub aside_both : (bench : Bench) (a b c : FaultCounts) (xs ys : List Round) → a.shelf ≤ b.shelf → b.shelf ≤ c.shelf → a.provider ≤ b.provider → b.provider ≤ c.provider
+pub aside_both : (bench : Bench) (a b c : OutsideCounts) (xs ys : List Round) → a.shelf ≤ b.shelf → b.shelf ≤ c.shelf → a.provider ≤ b.provider → b.provider ≤ c.provider
     → SetAside bench a b xs → SetAside bench b c ys → SetAside bench a c (xs ++ ys)
 aside_both bench a b c xs ys s t p q f g = record {
   unread = subst (λ n. AtMost n a.shelf c.shelf) (sym (pairs_both bench xs ys)) (both_at_most (unread_pairs bench xs) (unread_pairs bench ys) a.shelf b.shelf c.shelf f.unread g.unread);
@@ -102,7 +102,7 @@ aside_both bench a b c xs ys s t p q f g = record {
 }
 
 -- more faults may be counted later
-pub aside_on : (bench : Bench) (a b c : FaultCounts) (rounds : List Round) → a.shelf ≤ b.shelf → b.shelf ≤ c.shelf → a.provider ≤ b.provider → b.provider ≤ c.provider → SetAside bench a b rounds → SetAside bench a c rounds
+pub aside_on : (bench : Bench) (a b c : OutsideCounts) (rounds : List Round) → a.shelf ≤ b.shelf → b.shelf ≤ c.shelf → a.provider ≤ b.provider → b.provider ≤ c.provider → SetAside bench a b rounds → SetAside bench a c rounds
 aside_on bench a b c rounds s t p q f = record {
   unread = at_most_then (unread_pairs bench rounds) a.shelf b.shelf c.shelf f.unread t;
   quiet_shelf = λ n. f.quiet_shelf (not_risen_before a.shelf b.shelf c.shelf s t n);

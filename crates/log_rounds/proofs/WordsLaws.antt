@@ -1,14 +1,17 @@
 -- What a run over rounds says of the batches of a log.
-use Rattle.std.proofs.Common.{◌≡◌, ◌+◌, ◌≤◌, ◌&&◌, List, [], ◌∷◌, ◌++◌, length, refl, sym, ◌∙◌, ap, subst, arith}
+use Rattle.std.proofs.Common.{◌≡◌, ℕ, ◌+◌, ◌≤◌, ◌&&◌, List, [], ◌∷◌, ◌++◌, length, refl, sym, ◌∙◌, ap, subst, arith}
 use Rattle.call_log.specs.Entry.{Entry}
 use Rattle.call_log.specs.Log.{AreCalls, Passed, after, after_all}
 use Rattle.log_run.specs.Batch.{Batch, IsCut, all_well, calls_in, texts_in}
+use Rattle.cert_store.specs.Files.{Files as ChainFiles}
+use Rattle.log_rounds.proofs.FewLaws.{few_named}
 use Rattle.log_rounds.proofs.FollowLaws.{counted_on}
 use Rattle.log_rounds.proofs.ReportLaws.{report_append}
 use Rattle.log_rounds.proofs.RoundLaws.{aside_on, one_for_each, valid_both}
 use Rattle.log_rounds.specs.AllValid.{all_valid}
-use Rattle.log_rounds.specs.Bench.{Bench, Standing, faults_of}
-use Rattle.log_rounds.specs.Judged.{AreJudged, JudgedBatches, rounds_words}
+use Rattle.log_rounds.specs.Bench.{Bench, Standing, counts_of}
+use Rattle.log_rounds.specs.Judged.{AreJudged, ClosesRounds, JudgedBatches, StandsAtFirst, rounds_words}
+use Rattle.log_rounds.specs.Reads.{ReadsNamed}
 use Rattle.log_rounds.specs.Rounds.{InEach, IsCut as IsCutInRounds, Round, calls_in as calls_of, outcomes_in, row_rounds}
 use Rattle.log_run.specs.Speaks.{AreBatches, Speaks}
 use Rattle.log_run.specs.declared.stop.AnswerError.{AnswerError}
@@ -74,26 +77,26 @@ same_lines judged passed (x ∷ xs) (y ∷ ys) a each follow =
 -- ---- in words
 
 -- the rounds that were judged, with what was counted since
-are_judged : LegalTogether → FirstOfAll → (judged : Entry → Outcome → Type 0) (bench : Bench) (passed : Passed) (a mid b : Standing) (xs : List Batch) → a.past ≡ nothing → mid.shelf ≤ b.shelf → mid.provider ≤ b.provider
-    → AreBatches 256 passed xs → (j : JudgedRounds judged bench a mid xs) → AreJudged judged bench (faults_of a) (faults_of b) j.rounds
-are_judged legal first judged bench passed a mid b xs empty shelf provider are j =
+are_judged : LegalTogether → FirstOfAll → (judged : Entry → Outcome → Type 0) (bench : Bench) (chains : ChainFiles) (passed : Passed) (a mid b : Standing) (xs : List Batch) → a.past ≡ nothing → mid.shelf ≤ b.shelf → mid.provider ≤ b.provider
+    → AreBatches 256 passed xs → (j : JudgedRounds judged bench chains a mid xs) → AreJudged judged bench (counts_of a) (counts_of b) j.rounds
+are_judged legal first judged bench chains passed a mid b xs empty shelf provider are j =
     let follow = subst (AreCalls passed) (same_calls xs j.rounds j.are) are.follow in
     record {
       cut = same_cut xs j.rounds j.are are.cut;
       each = j.each;
       legal = λ apart. legal_of legal judged bench passed a.past mid.past j.rounds empty j.settled j.each j.owed follow apart;
       first_wins = λ one apart. first_of first judged bench j.rounds (legal_of legal judged bench passed a.past mid.past j.rounds empty j.settled j.each j.owed follow apart) (j.in_order one);
-      aside = aside_on bench (faults_of a) (faults_of mid) (faults_of b) j.rounds j.shelf_stays shelf j.provider_stays provider j.aside;
+      aside = aside_on bench (counts_of a) (counts_of mid) (counts_of b) j.rounds j.shelf_stays shelf j.provider_stays provider j.aside;
     }
 
-judged_batches : LegalTogether → FirstOfAll → (judged : Entry → Outcome → Type 0) (bench : Bench) (passed : Passed) (a mid b : Standing) (xs : List Batch) → a.past ≡ nothing → mid.shelf ≤ b.shelf → mid.provider ≤ b.provider
-    → AreBatches 256 passed xs → JudgedRounds judged bench a mid xs → JudgedBatches judged bench passed (faults_of a) (faults_of b) xs
-judged_batches legal first judged bench passed a mid b xs empty shelf provider are j = record {
+judged_batches : LegalTogether → FirstOfAll → (judged : Entry → Outcome → Type 0) (bench : Bench) (chains : ChainFiles) (passed : Passed) (a mid b : Standing) (xs : List Batch) → a.past ≡ nothing → mid.shelf ≤ b.shelf → mid.provider ≤ b.provider
+    → AreBatches 256 passed xs → JudgedRounds judged bench chains a mid xs → JudgedBatches judged bench passed (counts_of a) (counts_of b) xs
+judged_batches legal first judged bench chains passed a mid b xs empty shelf provider are j = record {
   rounds = j.rounds;
   calls = same_calls xs j.rounds j.are;
   lines = same_lines judged passed xs j.rounds j.are j.each (subst (AreCalls passed) (same_calls xs j.rounds j.are) are.follow);
   well = same_good xs j.rounds j.are;
-  are_judged = are_judged legal first judged bench passed a mid b xs empty shelf provider are j;
+  are_judged = are_judged legal first judged bench chains passed a mid b xs empty shelf provider are j;
   are_settled = record { owed = j.owed; past = mid.past; settled = subst (λ (h : Held). Rounds h (row_rounds bench j.rounds) mid.past) empty j.settled; in_order = j.in_order };
   shelf_stays = omega (arith, j.shelf_stays, shelf);
   provider_stays = omega (arith, j.provider_stays, provider);
@@ -102,12 +105,21 @@ judged_batches legal first judged bench passed a mid b xs empty shelf provider a
 other_stop : {X : Type 0} (text name : String Global) → ◌≡◌ {A = AnswerError} (Unread text name) Memory → X
 other_stop text name e = absurd (cc)
 
-pub speaks : LegalTogether → FirstOfAll → (judged judged_now : Entry → Outcome → Type 0) (bench bench_now : Bench) (passed : Passed) (a b : Standing) → a.past ≡ nothing
-    → Speaks (rounds_words judged bench passed (faults_of a) (faults_of b)) passed (RoundsBehind judged judged_now bench bench_now a b) (λ batches calls stop. RoundsStopped judged bench a b batches stop) (λ batches text. RoundsClosed judged bench a b batches text)
-speaks legal first judged judged_now bench bench_now passed a b empty = record {
-  known = λ batches are k. judged_batches legal first judged bench passed a b b batches empty (omega arith) (omega arith) are k.so;
-  stopped = λ batches calls stop are h. judged_batches legal first judged bench passed a h.mid b batches empty h.shelf_stays h.provider_stays are h.so;
+closes : (judged : Entry → Outcome → Type 0) (bench : Bench) (chains : ChainFiles) (a b : Standing) (batches : List Batch) (text : List ℕ) → a.held ≡ [] → RoundsClosed judged bench chains a b batches text
+    → ClosesRounds bench chains (counts_of a) (counts_of b) batches text
+closes judged bench chains a b batches text none c = record {
+  none = c.none;
+  few_reads = λ quiet. subst (λ calls. ReadsNamed bench.settings chains calls a.reads b.reads) (sym (same_calls batches c.so.rounds c.so.are))
+      (few_named bench chains a b (calls_of c.so.rounds) none (c.so.few_reads quiet));
+}
+
+pub speaks : LegalTogether → FirstOfAll → (judged judged_now : Entry → Outcome → Type 0) (bench bench_now : Bench) (chains chains_now : ChainFiles) (passed : Passed) (a b : Standing) → StandsAtFirst a
+    → Speaks (rounds_words judged bench chains passed (counts_of a) (counts_of b)) passed (RoundsBehind judged judged_now bench bench_now chains chains_now a b) (λ batches calls stop. RoundsStopped judged bench chains a b batches stop)
+    (λ batches text. RoundsClosed judged bench chains a b batches text)
+speaks legal first judged judged_now bench bench_now chains chains_now passed a b at_first = record {
+  known = λ batches are k. judged_batches legal first judged bench chains passed a b b batches at_first.past (omega arith) (omega arith) are k.so;
+  stopped = λ batches calls stop are h. judged_batches legal first judged bench chains passed a h.mid b batches at_first.past h.shelf_stays h.provider_stays are h.so;
   stops = λ batches calls text name h. other_stop text name h.memory;
-  closed = λ batches text are c. judged_batches legal first judged bench passed a b b batches empty (omega arith) (omega arith) are c.so;
-  closes = λ batches text c. c.none;
+  closed = λ batches text are c. judged_batches legal first judged bench chains passed a b b batches at_first.past (omega arith) (omega arith) are c.so;
+  closes = λ batches text c. closes judged bench chains a b batches text at_first.held c;
 }

@@ -2,14 +2,17 @@
 use Rattle.std.specs.Prelude.{◌≡◌, ℕ, ◌≤◌, List, [], ◌∷◌}
 use Rattle.call_log.specs.Entry.{Entry}
 use Rattle.call_log.specs.Log.{Passed}
+use Rattle.cert_store.specs.Files.{Files as ChainFiles}
 use Rattle.log_run.specs.Batch.{BatchAnswerView, Batch}
 use Rattle.log_rounds.specs.AllValid.{all_valid}
-use Rattle.log_rounds.specs.Bench.{Bench, Implies, RoundJudged, Standing, faults_of}
+use Rattle.log_rounds.specs.Bench.{Bench, Implies, RoundJudged, Standing, counts_of}
 use Rattle.log_rounds.specs.Judged.{SetAside}
-use Rattle.log_rounds.specs.Rounds.{AllInOrder, InEach, Round, row_rounds}
+use Rattle.log_rounds.specs.Rounds.{AllInOrder, InEach, Round, calls_in, row_rounds}
 use Rattle.log_run.specs.declared.stop.AnswerError.{AnswerError}
 use Rattle.log_run.specs.declared.stop.AnswerError.TheVariants.{Memory}
 use Rattle.replay_law.specs.Round.{Rounds}
+use Rattle.stir_outside.specs.Count.{NotRisen}
+use Rattle.verify_service.specs.Reads.{ReadsFew}
 use Rattle.verify_service.specs.Report.{report}
 use Rattle.verify_service.specs.Rows.{IsOwed}
 use Rattle.verify_service.specs.declared.outcome.Outcome.{Outcome}
@@ -27,43 +30,46 @@ AreRounds (batch ∷ batches) (round ∷ rounds) =
     (batch.calls ≡ round.calls) × (batch.answer.text ≡ report (first_number round.calls) round.outcomes) × (batch.answer.well ≡ all_valid round.outcomes) × AreRounds batches rounds
 
 -- each round was judged over what the one before it left
-pub record JudgedRounds (judged : Entry → Outcome → Type 0) (bench : Bench) (before now : Standing) (batches : List Batch) : Type 0 where
+pub record JudgedRounds (judged : Entry → Outcome → Type 0) (bench : Bench) (chains : ChainFiles) (before now : Standing) (batches : List Batch) : Type 0 where
   pub rounds : List Round
   pub are : AreRounds batches rounds
   pub each : InEach judged rounds
   pub owed : InEach (IsOwed bench.settings) rounds
   pub settled : Rounds before.past (row_rounds bench rounds) now.past
   pub in_order : bench.workers ≡ 1 → AllInOrder bench rounds
-  pub aside : SetAside bench (faults_of before) (faults_of now) rounds
+  pub aside : SetAside bench (counts_of before) (counts_of now) rounds
+  pub few_reads : NotRisen before.provider now.provider → ReadsFew bench.settings chains (calls_in rounds) before.held now.held before.reads now.reads
   pub shelf_stays : before.shelf ≤ now.shelf
   pub provider_stays : before.provider ≤ now.provider
 
-pub record RoundsBehind (judged judged_now : Entry → Outcome → Type 0) (bench bench_now : Bench) (before now : Standing) (batches : List Batch) : Type 0 where
-  pub so : JudgedRounds judged bench before now batches
+pub record RoundsBehind (judged judged_now : Entry → Outcome → Type 0) (bench bench_now : Bench) (chains chains_now : ChainFiles) (before now : Standing) (batches : List Batch) : Type 0 where
+  pub so : JudgedRounds judged bench chains before now batches
   pub same : bench_now ≡ bench
+  pub same_chains : chains_now ≡ chains
   pub still : Implies judged_now judged
 
 -- only memory stops a run; more may have been counted since
-pub record RoundsStopped (judged : Entry → Outcome → Type 0) (bench : Bench) (before now : Standing) (batches : List Batch) (stop : AnswerError) : Type 0 where
+pub record RoundsStopped (judged : Entry → Outcome → Type 0) (bench : Bench) (chains : ChainFiles) (before now : Standing) (batches : List Batch) (stop : AnswerError) : Type 0 where
   pub memory : stop ≡ Memory
   pub mid : Standing
-  pub so : JudgedRounds judged bench before mid batches
+  pub so : JudgedRounds judged bench chains before mid batches
   pub shelf_stays : mid.shelf ≤ now.shelf
   pub provider_stays : mid.provider ≤ now.provider
 
-pub record RoundsClosed (judged : Entry → Outcome → Type 0) (bench : Bench) (before now : Standing) (batches : List Batch) (text : List ℕ) : Type 0 where
-  pub so : JudgedRounds judged bench before now batches
+pub record RoundsClosed (judged : Entry → Outcome → Type 0) (bench : Bench) (chains : ChainFiles) (before now : Standing) (batches : List Batch) (text : List ℕ) : Type 0 where
+  pub so : JudgedRounds judged bench chains before now batches
   pub none : text ≡ []
 
--- the judge stands there
-pub record RoundsStand (standing : Standing) (passed : Passed) : Type 0 where
+-- the judge stands there, and what it holds of chains is right
+pub record RoundsStand (standing : Standing) (Trusts : Type 0) (passed : Passed) : Type 0 where
   pub number : standing.number ≡ passed.number
   pub moment : standing.moment ≡ passed.moment
+  pub trusts : Trusts
 
 -- ---- one round
 
-pub record OneRound (judged : Entry → Outcome → Type 0) (bench : Bench) (before now : Standing) (calls : List Entry) (answer : BatchAnswerView) : Type 0 where
+pub record OneRound (judged : Entry → Outcome → Type 0) (bench : Bench) (chains : ChainFiles) (before now : Standing) (calls : List Entry) (answer : BatchAnswerView) : Type 0 where
   pub outcomes : List Outcome
-  pub round : RoundJudged judged bench before now calls outcomes
+  pub round : RoundJudged judged bench chains before now calls outcomes
   pub text : answer.text ≡ report (first_number calls) outcomes
   pub well : answer.well ≡ all_valid outcomes

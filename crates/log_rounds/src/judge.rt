@@ -9,13 +9,15 @@ use verify_service::Outcome;
 
 /// A judge of rounds of calls, as the verification service over a shelf of files and a provider of signatures.
 ///
-/// `judged` says what may be answered to a call, by the files that a shelf tells. `bench` is what stays from round to round, and `standing`
-/// what moves, with the shelf's count of failed reads.
+/// `judged` says what may be answered to a call, by the files that a shelf tells. `bench` and `chains`, the chain map, are what stays from round
+/// to round, and `standing` what moves, with the shelf's counts. `trusts` says that what is held of chains is right, by the files that a shelf
+/// tells: each round needs it, and leaves it so.
 pub trait Judge {
     ghost use Rattle.stir_outside.specs.Stays.{ShelfStays};
     ghost use Rattle.call_log.specs.Entry.{Entry};
+    ghost use Rattle.cert_store.specs.Files.{Files as ChainFiles};
     ghost use Rattle.log_rounds.specs.Bench.{Bench, Implies, Moves, RoundJudged, Standing};
-    ghost use Rattle.stir_outside.specs.Files.{Files};
+    ghost use Rattle.stir_outside.specs.Files.{Counts, Files};
     ghost use Rattle.std.specs.Prelude.{Option};
     ghost use Rattle.std.specs.Thread.{IsSync};
     ghost use Rattle.verify_service.specs.Service.{EachFollows};
@@ -25,7 +27,11 @@ pub trait Judge {
 
     ghost bench: { Self → Bench };
 
-    ghost standing: { Self → ℕ → Standing };
+    ghost chains: { Self → ChainFiles };
+
+    ghost trusts: { Self → Option Files → Type 0 };
+
+    ghost standing: { Self → Counts → Standing };
 
     /// Judges the calls of a round, of which there are 1 to 256. Their numbers rise and their moments don't fall, from those of the last
     /// call before them on. `AllocError` is the only error.
@@ -39,12 +45,15 @@ pub trait Judge {
         requires shared { IsSync R.row }
         requires some { 0 < length calls.now }
         requires few { length calls.now ≤ 256 }
-        requires follow { EachFollows (standing self.old (S.counts shelf.old).faults).number (standing self.old (S.counts shelf.old).faults).moment calls.now }
+        requires follow { EachFollows (standing self.old (S.counts shelf.old)).number (standing self.old (S.counts shelf.old)).moment calls.now }
+        requires trusts { trusts self.old (S.files shelf.old) }
         ensures round { IfOk result (λ outcomes.
-            RoundJudged (judged self.old (S.files shelf.old)) (bench self.old) (standing self.old (S.counts shelf.old).faults) (standing self.new (S.counts shelf.new).faults) calls.now outcomes.items) }
+            RoundJudged (judged self.old (S.files shelf.old)) (bench self.old) (chains self.old) (standing self.old (S.counts shelf.old)) (standing self.new (S.counts shelf.new)) calls.now outcomes.items) }
         // What changes, also where memory was wanting, and what doesn't.
-        ensures moves { Moves (standing self.old (S.counts shelf.old).faults) (standing self.new (S.counts shelf.new).faults) calls.now }
+        ensures trusts { trusts self.new (S.files shelf.new) }
+        ensures moves { Moves (standing self.old (S.counts shelf.old)) (standing self.new (S.counts shelf.new)) calls.now }
         ensures same { bench self.new ≡ bench self.old }
+        ensures same_chains { chains self.new ≡ chains self.old }
         ensures shelf { ShelfStays S.Shelf shelf.old shelf.new }
         ensures still { Implies (judged self.new (S.files shelf.new)) (judged self.old (S.files shelf.old)) };
 }

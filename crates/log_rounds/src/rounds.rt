@@ -40,11 +40,14 @@ fn answer_round<R: Threads + Sync, J: Judge, S: Shelf>(
     requires shared { IsSync R.row }
     requires some { 0 < length calls.now }
     requires few { length calls.now ≤ 256 }
-    requires follow { EachFollows (J.standing judge.old (S.counts shelf.old).faults).number (J.standing judge.old (S.counts shelf.old).faults).moment calls.now }
-    ensures judged { IfOk result (OneRound (J.judged judge.old (S.files shelf.old)) (J.bench judge.old) (J.standing judge.old (S.counts shelf.old).faults) (J.standing judge.new (S.counts shelf.new).faults) calls.now) }
+    requires follow { EachFollows (J.standing judge.old (S.counts shelf.old)).number (J.standing judge.old (S.counts shelf.old)).moment calls.now }
+    requires trusts { J.trusts judge.old (S.files shelf.old) }
+    ensures judged { IfOk result (OneRound (J.judged judge.old (S.files shelf.old)) (J.bench judge.old) (J.chains judge.old) (J.standing judge.old (S.counts shelf.old)) (J.standing judge.new (S.counts shelf.new)) calls.now) }
     ensures memory { IfErr result (λ stop. stop ≡ AnswerError.Memory) }
-    ensures moves { Moves (J.standing judge.old (S.counts shelf.old).faults) (J.standing judge.new (S.counts shelf.new).faults) calls.now }
+    ensures moves { Moves (J.standing judge.old (S.counts shelf.old)) (J.standing judge.new (S.counts shelf.new)) calls.now }
+    ensures trusts { J.trusts judge.new (S.files shelf.new) }
     ensures same { J.bench judge.new ≡ J.bench judge.old }
+    ensures same_chains { J.chains judge.new ≡ J.chains judge.old }
     ensures still { Implies (J.judged judge.new (S.files shelf.new)) (J.judged judge.old (S.files shelf.old)) }
     ensures shelf { ShelfStays S.Shelf shelf.old shelf.new }
 {
@@ -61,13 +64,13 @@ fn answer_round<R: Threads + Sync, J: Judge, S: Shelf>(
 impl<J: Judge> LogCommand for Rounds<J> {
     ghost use Rattle.log_rounds.specs.Batches.{RoundsBehind, RoundsClosed, RoundsStand, RoundsStopped};
 
-    ghost behind = { λ first before now counts files batches. RoundsBehind (J.judged first.0 files) (J.judged now.0 files) (J.bench first.0) (J.bench now.0) (J.standing first.0 before.faults) (J.standing now.0 counts.faults) batches };
+    ghost behind = { λ first before now counts files batches. RoundsBehind (J.judged first.0 files) (J.judged now.0 files) (J.bench first.0) (J.bench now.0) (J.chains first.0) (J.chains now.0) (J.standing first.0 before) (J.standing now.0 counts) batches };
 
-    ghost stopped = { λ first before now counts files batches calls stop. RoundsStopped (J.judged first.0 files) (J.bench first.0) (J.standing first.0 before.faults) (J.standing now.0 counts.faults) batches stop };
+    ghost stopped = { λ first before now counts files batches calls stop. RoundsStopped (J.judged first.0 files) (J.bench first.0) (J.chains first.0) (J.standing first.0 before) (J.standing now.0 counts) batches stop };
 
-    ghost closed = { λ first before now counts files batches text. RoundsClosed (J.judged first.0 files) (J.bench first.0) (J.standing first.0 before.faults) (J.standing now.0 counts.faults) batches text };
+    ghost closed = { λ first before now counts files batches text. RoundsClosed (J.judged first.0 files) (J.bench first.0) (J.chains first.0) (J.standing first.0 before) (J.standing now.0 counts) batches text };
 
-    ghost stands = { λ s counts passed. RoundsStand (J.standing s.0 counts.faults) passed };
+    ghost stands = { λ s counts files passed. RoundsStand (J.standing s.0 counts) (J.trusts s.0 files) passed };
 
     ghost most = { λ s. 256 };
 

@@ -2,7 +2,7 @@
 ghost use Rattle.call_log.specs.Log.{start};
 ghost use Rattle.log_run.specs.Streams.{streams_of};
 ghost use Rattle.log_run.specs.Words.{LogSays, run_state};
-ghost use Rattle.log_rounds.specs.Bench.{faults_of};
+ghost use Rattle.log_rounds.specs.Bench.{counts_of};
 ghost use Rattle.log_rounds.specs.Judged.{StandsAtFirst, rounds_words};
 ghost use Rattle.stir_outside.specs.Stays.{ShelfStays};
 
@@ -28,9 +28,10 @@ pub fn judge_log<R: Threads + Sync, J: Judge, S: Shelf, I: Source, O: Sink>(
     input: &mut I,
     sink: &mut O,
 ) -> u8
-    requires { StandsAtFirst (J.standing judge.old.0 (S.counts shelf.old).faults) }
-    ensures says { LogSays (rounds_words (J.judged judge.old.0 (S.files shelf.old)) (J.bench judge.old.0) (start 0 0)
-        (faults_of (J.standing judge.old.0 (S.counts shelf.old).faults)) (faults_of (J.standing judge.new.0 (S.counts shelf.new).faults)))
+    requires first { StandsAtFirst (J.standing judge.old.0 (S.counts shelf.old)) }
+    requires trusts { J.trusts judge.old.0 (S.files shelf.old) }
+    ensures says { LogSays (rounds_words (J.judged judge.old.0 (S.files shelf.old)) (J.bench judge.old.0) (J.chains judge.old.0) (start 0 0)
+        (counts_of (J.standing judge.old.0 (S.counts shelf.old))) (counts_of (J.standing judge.new.0 (S.counts shelf.new))))
         (start 0 0) (run_state (I.left input.old) (streams_of I.Source O.Sink input.old sink.old)) (run_state (I.left input.new) (streams_of I.Source O.Sink input.new sink.new)) result }
     ensures shelf { ShelfStays S.Shelf shelf.old shelf.new }
 {

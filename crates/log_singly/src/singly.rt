@@ -47,7 +47,7 @@ impl<A: Answerer> LogCommand for Singly<A> {
 
     ghost closed = { λ first before now counts files batches text. SinglyClosed (A.answered first.0 files) before.faults counts.faults batches text };
 
-    ghost stands = { λ s counts passed. ⊤ };
+    ghost stands = { λ s counts files passed. ⊤ };
 
     ghost most = { λ s. 1 };
 

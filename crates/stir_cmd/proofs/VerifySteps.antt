@@ -1,5 +1,9 @@
 -- What `verify` came to, from what its steps came to.
-use Rattle.std.proofs.Common.{◌≡◌, ℕ, ◌≤◌, inl, inr, List, Option, None, Ok, refl, subst}
+use Rattle.std.proofs.Common.{◌≡◌, ℕ, ◌+◌, ◌≤◌, inl, inr, List, [], length, Option, None, Ok, refl, sym, ap, subst}
+use Rattle.std.proofs.lemmas.Option.{none-some}
+use Rattle.cert_store.specs.Holding.{Chains}
+use Rattle.cert_store.specs.Rules.{Says}
+use Rattle.cert_store.specs.Using.{names}
 use Rattle.replay_law.specs.Held.{nothing}
 use Rattle.log_rounds.specs.Judged.{StandsAtFirst}
 use Rattle.replay_desk.specs.Past.{found}
@@ -10,7 +14,8 @@ use Rattle.stir_outside.specs.Files.{Counts, CountsGoOn, Files}
 use Rattle.stir_words.specs.Order.{JudgingView}
 use Rattle.verify_rules.specs.declared.settings.Settings.{Settings}
 use Rattle.verify_service.specs.Rows.{held}
-use Rattle.verify_service.specs.Service.{IsNew, ServiceView}
+use Rattle.verify_service.specs.RightChains.{AreRightHeld}
+use Rattle.verify_service.specs.Service.{HoldsRight, IsNew, ServiceView, materials_of}
 use Rattle.cert_store.specs.declared.world.World.{World as Told}
 use Rattle.stir_cmd.specs.Outside.{Outside, outside}
 use Rattle.stir_cmd.specs.Calls.{settings_by}
@@ -21,13 +26,13 @@ use Rattle.stir_cmd.proofs.OverFilesSteps.{goes_on, short_behind}
 -- ---- the files were read
 
 pub from_files : (judging : JudgingView) (materials : Materials) (settings : Settings) (files files_now : Option Files) (counts counts_now : Counts) (left : Option (List ℕ)) (reads : ℕ) (written : Option (List ℕ)) (writes : ℕ)
-    (now : Outside) (status : ℕ) → MaterialsOf files judging materials → Truly files (files_of judging) (Ok materials) → files_now ≡ files → CountsGoOn counts counts_now
+    (now : Outside) (status : ℕ) → MaterialsOf files judging materials → Truly files (files_of judging) (Ok materials) → files_now ≡ files → CountsGoOn counts counts_now → counts_now.reads ≤ counts.reads + length (files_of judging)
     → settings ≡ settings_by judging.settings → counts_now.faults ≤ now.counts.faults → RanBy settings materials (outside files_now counts_now left reads written writes) now status
     → (verify_course judging).Came (outside files counts left reads written writes) now status
-from_files judging materials settings files files_now counts counts_now left reads written writes now status stands truly same goes given stay (inl by) =
-    goes_on (verify_over judging) materials files files_now counts counts_now left reads written writes now status stands truly same goes stay
+from_files judging materials settings files files_now counts counts_now left reads written writes now status stands truly same goes few given stay (inl by) =
+    goes_on (verify_over judging) materials files files_now counts counts_now left reads written writes now status stands truly same goes few stay
     (subst (λ (x : Settings). (judging_course x materials).Came (outside files_now counts_now left reads written writes) now status) given by)
-from_files judging materials settings files files_now counts counts_now left reads written writes now status stands truly same goes given stay (inr none) =
+from_files judging materials settings files files_now counts counts_now left reads written writes now status stands truly same goes few given stay (inr none) =
     short_behind (verify_over judging) files files_now counts counts_now left reads written writes now status none
 
 -- ---- a new service stands at first
@@ -38,8 +43,15 @@ same_past service none = λ i ticket. by_ticket ticket i
     by_ticket : (ticket : List ℕ) → held service.past ticket ≡ None
     by_ticket ticket = rw (none ticket) refl
 
-pub stands_at_first : (settings : Settings) (told : Told) (service : ServiceView) (faults : ℕ) → IsNew settings told service → StandsAtFirst (standing_by service faults)
-stands_at_first settings told service faults new = record { past = same_past service new.past; number = new.number; moment = new.moment }
+pub stands_at_first : (settings : Settings) (told : Told) (service : ServiceView) (counts : Counts) → IsNew settings told service → StandsAtFirst (standing_by service counts)
+stands_at_first settings told service counts new = record { past = same_past service new.past; held = ap names new.held; number = new.number; moment = new.moment }
+
+-- what it holds of chains, which is nothing, is right
+none_right : (told : Option Files) (says : Says) (materials : Told) → AreRightHeld told materials says [] []
+none_right told says materials = record { cached = λ x5u judged e. absurd (none-some judged e); others = λ x5u state e. absurd (none-some state e) }
+
+pub trusts_at_first : (settings : Settings) (told : Told) (service : ServiceView) (files : Option Files) (says : Says) → IsNew settings told service → HoldsRight files says service
+trusts_at_first settings told service files says new = subst (λ (x : Chains). AreRightHeld files (materials_of service) says x []) (sym new.held) (none_right files says (materials_of service))
 
 -- ---- the log was judged by a new service
 

@@ -16,5 +16,6 @@ pub mod Show
 pub mod Answer
 pub mod Showing
 pub mod Headline
+pub mod FewReads
 pub mod Causes
 pub mod OneReport

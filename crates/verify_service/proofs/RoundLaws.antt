@@ -13,7 +13,7 @@ use Rattle.verify_rules.specs.World.{World}
 use Rattle.verify_rules.specs.declared.settings.Settings.{Settings}
 use Rattle.verify_service.specs.Judging.{ComesOf, EachComesOf, EachFoundWhere, EachHasSigned, HasSigned, IsFound, IsJudged, call_in}
 use Rattle.verify_service.specs.Rows.{EachOwed, IsOwed, passes, rows_of}
-use Rattle.verify_service.specs.Service.{AreJudged, IsSameConfig, ServiceView, first_moment_of, world_of}
+use Rattle.verify_service.specs.Service.{AreJudged, IsSameConfig, ServiceView, first_moment_of, materials_of, world_of}
 use Rattle.verify_service.specs.declared.finding.Finding.{Finding}
 use Rattle.verify_service.specs.declared.finding.Finding.TheVariants as found
 use Rattle.cert_store.specs.declared.world.World.{World as Materials}
@@ -34,10 +34,6 @@ judged_so world call (found.Passes pass) (Refused refused) right is = absurd is
 judged_so world call (found.Passes pass) (Replay winner) right is = right
 judged_so world call (found.Passes pass) (Unread bad) right is = absurd is
 judged_so world call (found.Passes pass) (Unasked bad) right is = absurd is
-
--- what a service judges by
-abbrev pub materials_of : ServiceView → Materials
-materials_of service = record { chains = service.chains; anchors = service.anchors; table = service.table }
 
 pub all_judged : (told : Option Files) (service : ServiceView) (says : Says) (entries : List Entry) (findings : List Finding) (outcomes : List Outcome)
     → EachFoundWhere told (materials_of service) says service.settings entries findings → EachComesOf findings outcomes → AreJudged told service says entries outcomes

@@ -5,7 +5,7 @@ use Rattle.std.proofs.lemmas.Option.{same_Some}
 use Rattle.call_log.specs.Entry.{Entry}
 use Rattle.replay_desk.specs.Past.{PastView, found}
 use Rattle.replay_desk.specs.Past.{unless_below as desk_unless_below}
-use Rattle.replay_desk.specs.declared.kept.Kept.{Kept as Passed}
+use Rattle.state_text.specs.declared.kept.Kept.{Kept as Passed}
 use Rattle.replay_law.specs.Held.{Held, Kept, Same, kept_of, purged, unless_below}
 use Rattle.replay_law.specs.Row.{Row, neither, replay}
 use Rattle.replay_law.specs.Turn.{Turn}

@@ -118,6 +118,6 @@ abbrev pub HasCauseIf : Bool → ℕ → ℕ → Type 0
 HasCauseIf set_aside faults faults_now = set_aside ≡ true → Rose faults faults_now
 
 -- Of these as many at most are set aside as faults were counted, and one only where the count rose.
-pub record AreCounted (set_aside : Finding → Bool) (findings : List Finding) (faults faults_now : ℕ) : Type 0 where
-  pub most : AtMost (length (filter set_aside findings)) faults faults_now
-  pub cause : HasCauseIf (list_any set_aside findings) faults faults_now
+pub record AreCounted {X : Type 0} (set_aside : X → Bool) (xs : List X) (faults faults_now : ℕ) : Type 0 where
+  pub most : AtMost (length (filter set_aside xs)) faults faults_now
+  pub cause : HasCauseIf (list_any set_aside xs) faults faults_now

@@ -11,3 +11,11 @@ pub mod Fetched
 pub mod WorkerChains
 pub mod Kept
 pub mod RightChains
+pub mod Aside
+pub mod RoundRead
+pub mod Reads
+pub mod Ready
+pub mod Claiming
+pub mod Carrying
+pub mod Adding
+pub mod Carried

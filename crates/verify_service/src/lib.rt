@@ -7,25 +7,35 @@
 //! [`judge_call`] judges a call by itself, without the calls around it, and [`chain_in`] reads one chain.
 #![tactic(auto)]
 
+mod carried;
+mod carrying;
 mod chains;
+mod claiming;
+mod closing;
 mod fetching;
+mod find;
 mod finding;
 mod judge;
 mod kept;
 mod laws;
 mod outcome;
+mod preparing;
 mod reading;
+mod ready;
 mod report;
 mod round;
 mod round_chains;
 mod screening;
 mod service;
 mod settle;
+mod storing;
 mod texts;
 mod worker;
 mod worker_chains;
+mod working;
 
 pub use call_log::{Call, LogFault, LogReader};
+pub use carried::Carried;
 pub use cert_store::World;
 pub use chains::{CallChain, CallChains};
 pub use finding::{Finding, Pass};
