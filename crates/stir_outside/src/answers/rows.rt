@@ -1,7 +1,8 @@
 //! The lines of an answers file.
 ghost use Rattle.std.specs.Prelude.{◌≡◌};
-ghost use Rattle.stir_outside.specs.AnswersText.{bytes_of, confirm_of, key_of, of_kind, row_of, sign_of};
+ghost use Rattle.stir_outside.specs.AnswersText.{confirm_of, key_of, of_kind, row_of, sign_of};
 
+use crate::answers::hex_word::bytes_of;
 use crate::answers::key_name::KeyName;
 use text_file::{Words, words_of};
 
@@ -105,16 +106,5 @@ fn key_of(word: &[u8]) -> Option<[u8; 65]>
         Some(key)
     } else {
         None
-    }
-}
-
-/// The bytes that a word of 2 N hex digits writes.
-fn bytes_of<const N: usize>(word: &[u8]) -> Option<[u8; N]>
-    ensures { result ≡ bytes_of N word.now }
-{
-    let mut bytes = [0; N];
-    match hex::decode_to_slice(word, &mut bytes) {
-        Ok(()) => Some(bytes),
-        Err(_) => None,
     }
 }
