@@ -5,7 +5,7 @@ use Rattle.call_log.specs.Entry.{Entry}
 use Rattle.cert_store.specs.Files.{Files as ChainFiles}
 use Rattle.cert_store.specs.Using.{AreAmong, has}
 use Rattle.log_rounds.proofs.RoundLaws.{calls_both}
-use Rattle.log_rounds.specs.Bench.{Bench, Standing}
+use Rattle.log_rounds.specs.Judge.{JudgeConfig, JudgeState}
 use Rattle.log_rounds.specs.Reads.{ReadsNamed}
 use Rattle.log_rounds.specs.Rounds.{Round, calls_in}
 use Rattle.stir_outside.proofs.CountLaws.{not_risen_before, not_risen_behind}
@@ -53,20 +53,20 @@ reads_both settings chains xs ys held mid now reads reads_mid reads_now f g = λ
     let then : ReadOnce texts mid now reads_mid reads_now = g texts (record { few = are.few; named = λ x5u n l. are.named x5u (named_behind settings x5u xs ys n) l; held_among = first.among }) in
     record { fewer = omega (arith, first.fewer, then.fewer); among = then.among }
 
-pub few_none : (bench : Bench) (chains : ChainFiles) (a : Standing) → NotRisen a.provider a.provider → ReadsFew bench.settings chains [] a.held a.held a.reads a.reads
-few_none bench chains a quiet = λ texts are. record { fewer = omega arith; among = are.held_among }
+pub few_none : (config : JudgeConfig) (chains : ChainFiles) (a : JudgeState) → NotRisen a.provider a.provider → ReadsFew config.settings chains [] a.held a.held a.reads a.reads
+few_none config chains a quiet = λ texts are. record { fewer = omega arith; among = are.held_among }
 
 -- of a round by itself
-pub few_one : (bench : Bench) (chains : ChainFiles) (a b : Standing) (calls : List Entry) (outcomes : List Outcome) → (NotRisen a.provider b.provider → ReadsFew bench.settings chains calls a.held b.held a.reads b.reads)
-    → NotRisen a.provider b.provider → ReadsFew bench.settings chains (calls_in (record { calls = calls; outcomes = outcomes } ∷ [])) a.held b.held a.reads b.reads
-few_one bench chains a b calls outcomes f quiet = subst (λ t. ReadsFew bench.settings chains t a.held b.held a.reads b.reads) (sym (append-nil calls)) (f quiet)
+pub few_one : (config : JudgeConfig) (chains : ChainFiles) (a b : JudgeState) (calls : List Entry) (outcomes : List Outcome) → (NotRisen a.provider b.provider → ReadsFew config.settings chains calls a.held b.held a.reads b.reads)
+    → NotRisen a.provider b.provider → ReadsFew config.settings chains (calls_in (record { calls = calls; outcomes = outcomes } ∷ [])) a.held b.held a.reads b.reads
+few_one config chains a b calls outcomes f quiet = subst (λ t. ReadsFew config.settings chains t a.held b.held a.reads b.reads) (sym (append-nil calls)) (f quiet)
 
-pub few_both : (bench : Bench) (chains : ChainFiles) (a b c : Standing) (xs ys : List Round) → a.provider ≤ b.provider → b.provider ≤ c.provider
-    → (NotRisen a.provider b.provider → ReadsFew bench.settings chains (calls_in xs) a.held b.held a.reads b.reads) → (NotRisen b.provider c.provider → ReadsFew bench.settings chains (calls_in ys) b.held c.held b.reads c.reads)
-    → NotRisen a.provider c.provider → ReadsFew bench.settings chains (calls_in (xs ++ ys)) a.held c.held a.reads c.reads
-few_both bench chains a b c xs ys p q f g quiet =
-    subst (λ t. ReadsFew bench.settings chains t a.held c.held a.reads c.reads) (sym (calls_both xs ys))
-    (reads_both bench.settings chains (calls_in xs) (calls_in ys) a.held b.held c.held a.reads b.reads c.reads
+pub few_both : (config : JudgeConfig) (chains : ChainFiles) (a b c : JudgeState) (xs ys : List Round) → a.provider ≤ b.provider → b.provider ≤ c.provider
+    → (NotRisen a.provider b.provider → ReadsFew config.settings chains (calls_in xs) a.held b.held a.reads b.reads) → (NotRisen b.provider c.provider → ReadsFew config.settings chains (calls_in ys) b.held c.held b.reads c.reads)
+    → NotRisen a.provider c.provider → ReadsFew config.settings chains (calls_in (xs ++ ys)) a.held c.held a.reads c.reads
+few_both config chains a b c xs ys p q f g quiet =
+    subst (λ t. ReadsFew config.settings chains t a.held c.held a.reads c.reads) (sym (calls_both xs ys))
+    (reads_both config.settings chains (calls_in xs) (calls_in ys) a.held b.held c.held a.reads b.reads c.reads
     (f (not_risen_before a.provider b.provider c.provider p q quiet)) (g (not_risen_behind a.provider b.provider c.provider p q quiet)))
 
 -- ---- where no chain was held at first
@@ -78,8 +78,8 @@ none_held (x ∷ xs) = omega (arith, none_held xs)
 among_none : (texts : List (List ℕ)) → AreAmong [] texts
 among_none texts x h = absurd (cc)
 
-pub few_named : (bench : Bench) (chains : ChainFiles) (a b : Standing) (calls : List Entry) → a.held ≡ [] → ReadsFew bench.settings chains calls a.held b.held a.reads b.reads → ReadsNamed bench.settings chains calls a.reads b.reads
-few_named bench chains a b calls none few = λ texts have.
-    let from_none : ReadsFew bench.settings chains calls [] b.held a.reads b.reads = subst (λ t. ReadsFew bench.settings chains calls t b.held a.reads b.reads) none few in
+pub few_named : (config : JudgeConfig) (chains : ChainFiles) (a b : JudgeState) (calls : List Entry) → a.held ≡ [] → ReadsFew config.settings chains calls a.held b.held a.reads b.reads → ReadsNamed config.settings chains calls a.reads b.reads
+few_named config chains a b calls none few = λ texts have.
+    let from_none : ReadsFew config.settings chains calls [] b.held a.reads b.reads = subst (λ t. ReadsFew config.settings chains calls t b.held a.reads b.reads) none few in
     let once = from_none texts (record { few = have.few; named = have.named; held_among = among_none texts }) in
     omega (arith, once.fewer, none_held texts)

@@ -1,3 +1,4 @@
+pub mod ServiceLaws
 pub mod RoundLaws
 pub mod FewLaws
 mod FollowLaws

@@ -1,4 +1,6 @@
-pub mod Bench
+pub mod Judge
+pub mod Answers
+pub mod Verifier
 pub mod AllValid
 pub mod Rounds
 pub mod Reads

@@ -4,8 +4,12 @@ use Rattle.std.proofs.lemmas.Option.{none-some}
 use Rattle.cert_store.specs.Holding.{Chains}
 use Rattle.cert_store.specs.Rules.{Says}
 use Rattle.cert_store.specs.Using.{names}
+use Rattle.call_log.specs.Log.{start}
+use Rattle.log_run.specs.Words.{LogSays}
 use Rattle.replay_law.specs.Held.{nothing}
+use Rattle.log_rounds.specs.Batches.{words_by}
 use Rattle.log_rounds.specs.Judged.{StandsAtFirst}
+use Rattle.log_rounds.specs.Verifier.{JudgeBasis, basis_by, state_by}
 use Rattle.replay_desk.specs.Past.{found}
 use Rattle.stir_files.specs.Materials.{MaterialsOf, files_of}
 use Rattle.stir_files.specs.Stop.{Truly}
@@ -18,8 +22,8 @@ use Rattle.verify_service.specs.RightChains.{AreRightHeld}
 use Rattle.verify_service.specs.Service.{HoldsRight, IsNew, ServiceView, materials_of}
 use Rattle.cert_store.specs.declared.world.World.{World as Told}
 use Rattle.stir_cmd.specs.Outside.{Outside, outside}
-use Rattle.stir_cmd.specs.Calls.{settings_by}
-use Rattle.stir_cmd.specs.Standing.{materials_by, standing_by}
+use Rattle.stir_cmd.specs.Calls.{basis_of, settings_by}
+use Rattle.stir_cmd.specs.OverLog.{log_in}
 use Rattle.stir_cmd.specs.Verifying.{RanBy, judging_course, verify_course, verify_over}
 use Rattle.stir_cmd.proofs.OverFilesSteps.{goes_on, short_behind}
 
@@ -43,7 +47,7 @@ same_past service none = λ i ticket. by_ticket ticket i
     by_ticket : (ticket : List ℕ) → held service.past ticket ≡ None
     by_ticket ticket = rw (none ticket) refl
 
-pub stands_at_first : (settings : Settings) (told : Told) (service : ServiceView) (counts : Counts) → IsNew settings told service → StandsAtFirst (standing_by service counts)
+pub stands_at_first : (settings : Settings) (told : Told) (service : ServiceView) (counts : Counts) → IsNew settings told service → StandsAtFirst (state_by service counts)
 stands_at_first settings told service counts new = record { past = same_past service new.past; held = ap names new.held; number = new.number; moment = new.moment }
 
 -- what it holds of chains, which is nothing, is right
@@ -55,12 +59,15 @@ trusts_at_first settings told service files says new = subst (λ (x : Chains). A
 
 -- ---- the log was judged by a new service
 
-same_materials : (settings : Settings) (materials : Materials) (service : ServiceView) → IsNew settings (record { chains = materials.chains; anchors = materials.anchors; table = materials.table }) service
-    → materials_by service materials.answers ≡ materials
-same_materials settings materials service new = λ i. record { chains = new.chains i; anchors = new.anchors i; table = new.table i; answers = materials.answers }
+same_basis : (settings : Settings) (materials : Materials) (service : ServiceView) → IsNew settings (record { chains = materials.chains; anchors = materials.anchors; table = materials.table }) service
+    → basis_by service materials.answers ≡ basis_of settings materials
+same_basis settings materials service new = λ i. record {
+  settings = new.settings_are i;
+  materials = record { chains = new.chains i; anchors = new.anchors i; table = new.table i };
+  answers = materials.answers;
+}
 
 pub log_by : (settings : Settings) (materials : Materials) (service : ServiceView) (before now : Outside) (status : ℕ) → IsNew settings (record { chains = materials.chains; anchors = materials.anchors; table = materials.table }) service
-    → (judging_course service.settings (materials_by service materials.answers)).Came before now status → RanBy settings materials before now status
-log_by settings materials service before now status new says = inl (
-    subst (λ (x : Settings). (judging_course x materials).Came before now status) new.settings_are
-    (subst (λ (x : Materials). (judging_course service.settings x).Came before now status) (same_materials settings materials service new) says))
+    → LogSays (words_by (basis_by service materials.answers) before.files (start 0 0) before.counts now.counts) (start 0 0) (log_in before) (log_in now) status → RanBy settings materials before now status
+log_by settings materials service before now status new says =
+    inl (subst (λ (x : JudgeBasis). LogSays (words_by x before.files (start 0 0) before.counts now.counts) (start 0 0) (log_in before) (log_in now) status) (same_basis settings materials service new) says)

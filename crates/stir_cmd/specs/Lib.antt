@@ -6,7 +6,6 @@ pub mod OverLog
 pub mod Input
 pub mod InputCode
 pub mod Calls
-pub mod Standing
 pub mod Verifying
 pub mod Singly
 pub mod Explained

@@ -181,16 +181,16 @@ impl<'a> Case<'a> {
             return Err(Unread::Value);
         }
         let before = self.shelf.reads();
-        let outcomes = self
+        let carried = self
             .service
             .round(rt, alloc, &mut self.shelf, workers, calls)?;
         self.reads.push(self.shelf.reads() - before)?;
-        Ok(outcomes)
+        Ok(carried.close())
     }
 }
 
 /// A service for country 1, national numbers of ten digits and a window of 60 seconds.
-fn service_of(alloc: Global, world: World) -> Result<Service, Unread>
+pub(crate) fn service_of(alloc: Global, world: World) -> Result<Service, Unread>
     ensures none_held { IfOk result (λ service. service.held.entries ≡ []) }
 {
     let local = local_of(b"1", b"10")?;
@@ -199,7 +199,7 @@ fn service_of(alloc: Global, world: World) -> Result<Service, Unread>
 }
 
 /// The next so many calls of a log.
-fn calls_of(
+pub(crate) fn calls_of(
     alloc: Global,
     reader: &mut LogReader,
     source: &mut SourceMem,
@@ -217,7 +217,7 @@ fn calls_of(
 }
 
 /// Puts the lines of a round behind others.
-fn put_lines(
+pub(crate) fn put_lines(
     alloc: Global,
     report: &mut Vec<u8>,
     calls: &[Call],

@@ -7,7 +7,7 @@ mod commands;
 use std::alloc::Global;
 use std::process::ExitCode;
 use std::thread::Threads;
-use vector_calls::{rounds, rules, verdicts};
+use vector_calls::{rounds, rules, verdicts, workers};
 use vector_chains::{authority, cache, certificates, chains, paths};
 use vector_messages::{claims, constraints, identity, messages, order, tokens};
 use vector_table::{Subjects, Unread, answer_table};
@@ -43,6 +43,7 @@ impl Subjects for Cases {
             "words" => commands::words(alloc, call, words),
             "files" => commands::files(alloc, call, words),
             "rounds" => rounds::answer(rt, alloc, call, words),
+            "workers" => workers::answer(rt, alloc, call, words),
             _ => called(alloc, subject, call, words),
         }
     }

@@ -8,6 +8,7 @@ use Rattle.stir_outside.specs.Count.{AtMost}
 use Rattle.stir_outside.specs.Stays.{ProviderStays}
 use Rattle.stir_outside.specs.declared.provider.Provider.{Ghosts as ProviderOf}
 use Rattle.stir_outside.proofs.CountLaws.{at_most_of_rose, both_at_most, none_at, rose_then, then_rose}
+use Rattle.verify_service.proofs.CountLaws.{cause_then, then_cause}
 use Rattle.verify_rules.specs.Call.{Reading}
 use Rattle.verify_rules.specs.States.{State}
 use Rattle.verify_rules.specs.Verdict.{IsVerdict}
@@ -72,6 +73,7 @@ pub answered_none : {P : Type 0} → (on : Basis) (provider : ProviderOf P) (p :
     → Answered on (provided provider p p) calls count worker 0 outs
 answered_none on provider p calls count worker outs = record {
   said = λ at call stands below own. absurd (omega arith);
+  cause = λ at below own. absurd (omega arith);
   asks_most = omega arith;
   asks_stay = omega arith;
   unasked = inl (omega arith);
@@ -92,6 +94,10 @@ module _ (on : Basis) (by : Provided) (calls : List ReadyCall) (count worker upt
       record {
         said = λ at call stands below own. elim (below_more at upto below) [
           | inl less ↦ w.said at call stands less own
+          | inr same ↦ absurd (other (sym (ap (λ k. k % count) same) ∙ own))
+        ];
+        cause = λ at below own. elim (below_more at upto below) [
+          | inl less ↦ w.cause at less own
           | inr same ↦ absurd (other (sym (ap (λ k. k % count) same) ∙ own))
         ];
         asks_most = (let a = w.asks_most in omega arith);
@@ -140,6 +146,14 @@ module _ {P : Type 0} (on : Basis) (provider : ProviderOf P) (p mid now : P) (ca
       (subst (λ (c : ReadyCall). OutcomeSays on (provided provider p now) c outcome) (same_Some call other (sym stands ∙ ap (slice_get calls) (sym same) ∙ is))
       (said_on on (provided provider mid now) (provided provider p now) last call outcome said))
 
+  caused_by : (at : ℕ) → at % count ≡ worker → (at < upto) ⊎ (at ≡ upto) → HasCauseIf (is_unasked_passport (out_at outs_now at)) (provider.faults p) (provider.faults now)
+  caused_by at mine (inl less) =
+      subst (λ (o : Outcome). HasCauseIf (is_unasked_passport o) (provider.faults p) (provider.faults now)) (sym (same_elsewhere outs upto at outcome (λ e. absurd (omega arith))))
+      (cause_then (is_unasked_passport (out_at outs at)) (provider.faults p) (provider.faults mid) (provider.faults now) w.faults_stay (w.cause at less mine) stay.faults)
+  caused_by at mine (inr same) =
+      subst (λ (o : Outcome). HasCauseIf (is_unasked_passport o) (provider.faults p) (provider.faults now)) (sym (ap (out_at outs_now) same ∙ same_here outs upto outcome within))
+      (then_cause (is_unasked_passport outcome) (provider.faults p) (provider.faults mid) (provider.faults now) w.faults_stay cause)
+
   open_one : own_open count worker outs_now (suc upto) ≡ one_if (is_unasked_passport outcome) + own_open count worker outs upto
   open_one =
       ap (λ b. one_if (b && is_unasked_passport (out_at outs_now upto)) + own_open count worker outs_now upto) (own_test count worker upto own)
@@ -161,6 +175,7 @@ module _ {P : Type 0} (on : Basis) (provider : ProviderOf P) (p mid now : P) (ca
       let turned : own_open count worker outs upto + one_if (is_unasked_passport outcome) ≡ one_if (is_unasked_passport outcome) + own_open count worker outs upto = omega arith in
       record {
         said = λ at other is below mine. said_by at other is mine (below_more at upto below);
+        cause = λ at below mine. caused_by at mine (below_more at upto below);
         asks_most = (let a = w.asks_most in let b = pass_one in omega arith);
         asks_stay = (let a = w.asks_stay in omega arith);
         unasked = subst (λ n. AtMost n (provider.faults p) (provider.faults now)) (turned ∙ sym open_one) more;
@@ -190,6 +205,7 @@ pub answered_as : (on : Basis) (by : Provided) (calls : List ReadyCall) (count w
     → ((at : ℕ) → at < upto → at % count ≡ worker → out_at outs at ≡ out_at mine at) → Answered on by calls count worker upto mine → Answered on by calls count worker upto outs
 answered_as on by calls count worker upto mine outs same w = record {
   said = λ at call stands below own. subst (λ (o : Outcome). OutcomeSays on by call o) (sym (same at below own)) (w.said at call stands below own);
+  cause = λ at below own. subst (λ (o : Outcome). HasCauseIf (is_unasked_passport o) by.faults by.faults_now) (sym (same at below own)) (w.cause at below own);
   asks_most = w.asks_most;
   asks_stay = w.asks_stay;
   unasked = subst (λ n. AtMost n by.faults by.faults_now) (sym (open_as count worker upto mine outs same)) w.unasked;

@@ -8,10 +8,8 @@ use Rattle.call_log.specs.Entry.{Entry}
 use Rattle.cert_store.specs.Asking.{is_failed}
 use Rattle.cert_store.specs.Holding.{AreAnswered, Chains, chain_of}
 use Rattle.cert_store.specs.Judged.{JudgedView}
-use Rattle.cert_store.specs.Rules.{Says}
 use Rattle.cert_store.specs.Using.{AreAmong, IsOnce, has}
 use Rattle.cert_store.specs.declared.judged.Asked.TheVariants.{Failed}
-use Rattle.cert_store.specs.declared.world.World.{World as Materials}
 use Rattle.verify_rules.specs.Call.{Call, Reading, in_call_order}
 use Rattle.verify_rules.specs.Causes.{IsUnknownAt}
 use Rattle.verify_rules.specs.Screened.{ScreenedView, screened_by}
@@ -19,19 +17,17 @@ use Rattle.verify_rules.specs.States.{State, have, no_chain, unread}
 use Rattle.verify_rules.specs.Verdict.{IsLeftOpen}
 use Rattle.verify_rules.specs.declared.refusal.Place.{Place}
 use Rattle.verify_rules.specs.declared.settings.Settings.{Settings}
-use Rattle.verify_service.specs.Aside.{IsFoundAsideFor, IsFoundReady, found_unasked_passport}
+use Rattle.verify_service.specs.Aside.{IsAsideFor}
 use Rattle.verify_service.specs.Causes.{is_passport, is_unasked, is_unasked_passport, is_unread, joined, unasked_texts, unread_texts, with_unasked, with_unread, x5u_at, x5u_in}
-use Rattle.verify_service.specs.Judging.{ComesOf, EachComesOf, EachPair, call_in}
+use Rattle.verify_service.specs.Judging.{EachPair, call_in}
 use Rattle.verify_service.specs.Kept.{Kept, kept_state, state_at, state_by, states_for}
 use Rattle.verify_service.specs.Screening.{IsReady, IsScreening, readings_in}
-use Rattle.verify_service.specs.declared.finding.Finding.{Finding}
-use Rattle.verify_service.specs.declared.finding.Finding.TheVariants as found
 use Rattle.verify_service.specs.declared.outcome.Outcome.{Outcome}
 use Rattle.verify_service.specs.declared.outcome.Outcome.TheVariants.{Valid, Refused, Replay, Unread, Unasked}
 use Rattle.verify_service.specs.declared.screening.ReadyCall.{ReadyCall}
 use Rattle.verify_service.specs.declared.screening.Screening.{Screening}
 use Rattle.verify_service.specs.declared.screening.Screening.TheVariants as screenings
-use Rattle.verify_service.proofs.FindLaws.{map_at}
+use Rattle.verify_service.proofs.ListLaws.{map_at}
 
 false_is_not_true : false ≡ true → ⊥
 false_is_not_true e = cc
@@ -166,33 +162,32 @@ joined_has x t ts is = by (list_any (bytes_eq t) ts) is
     by true given = inr given
     by false given = first (bytes_eq x t) refl given
 
-module _ (field : FieldLaw) (materials : Materials) (says : Says) (held : Chains) (kept : Kept) (settings : Settings) where
-  unread_one : (entry : Entry) (call : ReadyCall) (finding : Finding) (outcome : Outcome) (texts : List (List ℕ)) → IsReady settings entry call → IsFoundReady materials says held kept call finding
-      → ComesOf finding outcome → (x : List ℕ) → has x (with_unread (call_in settings entry) outcome texts) ≡ true → IsKeptUnread kept x ⊎ (has x texts ≡ true)
-  unread_one entry call (found.Refused refused) outcome texts ready so is x given = inr (subst (λ (o : Outcome). has x (with_unread (call_in settings entry) o texts) ≡ true) is given)
-  unread_one entry call (found.Unasked bad) outcome texts ready so is x given = inr (subst (λ (o : Outcome). has x (with_unread (call_in settings entry) o texts) ≡ true) is given)
-  unread_one entry call (found.Passes pass) Valid texts ready so is x given = inr given
-  unread_one entry call (found.Passes pass) (Replay winner) texts ready so is x given = inr given
-  unread_one entry call (found.Passes pass) (Refused refused) texts ready so is x given = absurd is
-  unread_one entry call (found.Passes pass) (Unread bad) texts ready so is x given = absurd is
-  unread_one entry call (found.Passes pass) (Unasked bad) texts ready so is x given = absurd is
-  unread_one entry call (found.Unread bad) outcome texts ready so is x given =
-      elim (joined_has x (x5u_at (call_in settings entry) bad) texts (subst (λ (o : Outcome). has x (with_unread (call_in settings entry) o texts) ≡ true) is given)) [
-        | inl here ↦ inl (subst (IsKeptUnread kept) (sym here) (unread_call field kept held (call_in settings entry) call.screening bad ready.screening so.aside))
-        | inr later ↦ inr later
-      ]
+-- what a call is set aside for, by what is known of its chains
+abbrev pub IsAsideIn : Kept → Chains → ReadyCall → Outcome → Type 0
+IsAsideIn kept held call outcome = IsAsideFor (readings_in call.screening) kept held outcome
 
-  pub all_unread : (entries : List Entry) (calls : List ReadyCall) (findings : List Finding) (outcomes : List Outcome) → EachPair (IsReady settings) entries calls
-      → EachPair (IsFoundReady materials says held kept) calls findings → EachComesOf findings outcomes → (x : List ℕ) → has x (unread_texts settings entries outcomes) ≡ true → IsKeptUnread kept x
-  all_unread [] [] findings outcomes ready so comes x given = absurd (false_is_not_true given)
-  all_unread [] (call ∷ calls) findings outcomes ready so comes x given = absurd ready
-  all_unread (entry ∷ entries) [] findings outcomes ready so comes x given = absurd ready
-  all_unread (entry ∷ entries) (call ∷ calls) [] outcomes ready so comes x given = absurd so
-  all_unread (entry ∷ entries) (call ∷ calls) (finding ∷ findings) [] ready so comes x given = absurd comes
-  all_unread (entry ∷ entries) (call ∷ calls) (finding ∷ findings) (outcome ∷ outcomes) ready so comes x given =
-      elim (unread_one entry call finding outcome (unread_texts settings entries outcomes) ready.0 so.0 comes.0 x given) [
+module _ (field : FieldLaw) (held : Chains) (kept : Kept) (settings : Settings) where
+  unread_one : (entry : Entry) (call : ReadyCall) (outcome : Outcome) (texts : List (List ℕ)) → IsReady settings entry call → IsAsideIn kept held call outcome
+      → (x : List ℕ) → has x (with_unread (call_in settings entry) outcome texts) ≡ true → IsKeptUnread kept x ⊎ (has x texts ≡ true)
+  unread_one entry call Valid texts ready aside x given = inr given
+  unread_one entry call (Refused refused) texts ready aside x given = inr given
+  unread_one entry call (Replay winner) texts ready aside x given = inr given
+  unread_one entry call (Unasked bad) texts ready aside x given = inr given
+  unread_one entry call (Unread bad) texts ready aside x given = elim (joined_has x (x5u_at (call_in settings entry) bad) texts given) [
+    | inl here ↦ inl (subst (IsKeptUnread kept) (sym here) (unread_call field kept held (call_in settings entry) call.screening bad ready.screening aside))
+    | inr later ↦ inr later
+  ]
+
+  pub all_unread : (entries : List Entry) (calls : List ReadyCall) (outcomes : List Outcome) → EachPair (IsReady settings) entries calls
+      → EachPair (IsAsideIn kept held) calls outcomes → (x : List ℕ) → has x (unread_texts settings entries outcomes) ≡ true → IsKeptUnread kept x
+  all_unread [] [] outcomes ready aside x given = absurd (false_is_not_true given)
+  all_unread [] (call ∷ calls) outcomes ready aside x given = absurd ready
+  all_unread (entry ∷ entries) [] outcomes ready aside x given = absurd ready
+  all_unread (entry ∷ entries) (call ∷ calls) [] ready aside x given = absurd aside
+  all_unread (entry ∷ entries) (call ∷ calls) (outcome ∷ outcomes) ready aside x given =
+      elim (unread_one entry call outcome (unread_texts settings entries outcomes) ready.0 aside.0 x given) [
         | inl here ↦ here
-        | inr later ↦ all_unread entries calls findings outcomes ready.1 so.1 comes.1 x later
+        | inr later ↦ all_unread entries calls outcomes ready.1 aside.1 x later
       ]
 
   failed_one : AreAnswered held → (entry : Entry) (call : ReadyCall) (bad : Place) (texts : List (List ℕ)) → IsReady settings entry call
@@ -205,30 +200,24 @@ module _ (field : FieldLaw) (materials : Materials) (says : Says) (held : Chains
     | inr later ↦ inr later
   ]
 
-  unasked_one : AreAnswered held → (entry : Entry) (call : ReadyCall) (finding : Finding) (outcome : Outcome) (texts : List (List ℕ)) → IsReady settings entry call
-      → IsFoundReady materials says held kept call finding → ComesOf finding outcome → (x : List ℕ) → has x (with_unasked (call_in settings entry) outcome texts) ≡ true
-      → IsKeptFailed kept x ⊎ (has x texts ≡ true)
-  unasked_one answered entry call (found.Refused refused) outcome texts ready so is x given = inr (subst (λ (o : Outcome). has x (with_unasked (call_in settings entry) o texts) ≡ true) is given)
-  unasked_one answered entry call (found.Unread bad) outcome texts ready so is x given = inr (subst (λ (o : Outcome). has x (with_unasked (call_in settings entry) o texts) ≡ true) is given)
-  unasked_one answered entry call (found.Passes pass) Valid texts ready so is x given = inr given
-  unasked_one answered entry call (found.Passes pass) (Replay winner) texts ready so is x given = inr given
-  unasked_one answered entry call (found.Passes pass) (Refused refused) texts ready so is x given = absurd is
-  unasked_one answered entry call (found.Passes pass) (Unread bad) texts ready so is x given = absurd is
-  unasked_one answered entry call (found.Passes pass) (Unasked bad) texts ready so is x given = absurd is
-  unasked_one answered entry call (found.Unasked bad) outcome texts ready so is x given =
-      failed_one answered entry call bad texts ready so.aside x (is_passport bad) refl (subst (λ (o : Outcome). has x (with_unasked (call_in settings entry) o texts) ≡ true) is given)
+  unasked_one : AreAnswered held → (entry : Entry) (call : ReadyCall) (outcome : Outcome) (texts : List (List ℕ)) → IsReady settings entry call
+      → IsAsideIn kept held call outcome → (x : List ℕ) → has x (with_unasked (call_in settings entry) outcome texts) ≡ true → IsKeptFailed kept x ⊎ (has x texts ≡ true)
+  unasked_one answered entry call Valid texts ready aside x given = inr given
+  unasked_one answered entry call (Refused refused) texts ready aside x given = inr given
+  unasked_one answered entry call (Replay winner) texts ready aside x given = inr given
+  unasked_one answered entry call (Unread bad) texts ready aside x given = inr given
+  unasked_one answered entry call (Unasked bad) texts ready aside x given = failed_one answered entry call bad texts ready aside x (is_passport bad) refl given
 
-  pub all_unasked : AreAnswered held → (entries : List Entry) (calls : List ReadyCall) (findings : List Finding) (outcomes : List Outcome) → EachPair (IsReady settings) entries calls
-      → EachPair (IsFoundReady materials says held kept) calls findings → EachComesOf findings outcomes → (x : List ℕ) → has x (unasked_texts settings entries outcomes) ≡ true → IsKeptFailed kept x
-  all_unasked answered [] [] findings outcomes ready so comes x given = absurd (false_is_not_true given)
-  all_unasked answered [] (call ∷ calls) findings outcomes ready so comes x given = absurd ready
-  all_unasked answered (entry ∷ entries) [] findings outcomes ready so comes x given = absurd ready
-  all_unasked answered (entry ∷ entries) (call ∷ calls) [] outcomes ready so comes x given = absurd so
-  all_unasked answered (entry ∷ entries) (call ∷ calls) (finding ∷ findings) [] ready so comes x given = absurd comes
-  all_unasked answered (entry ∷ entries) (call ∷ calls) (finding ∷ findings) (outcome ∷ outcomes) ready so comes x given =
-      elim (unasked_one answered entry call finding outcome (unasked_texts settings entries outcomes) ready.0 so.0 comes.0 x given) [
+  pub all_unasked : AreAnswered held → (entries : List Entry) (calls : List ReadyCall) (outcomes : List Outcome) → EachPair (IsReady settings) entries calls
+      → EachPair (IsAsideIn kept held) calls outcomes → (x : List ℕ) → has x (unasked_texts settings entries outcomes) ≡ true → IsKeptFailed kept x
+  all_unasked answered [] [] outcomes ready aside x given = absurd (false_is_not_true given)
+  all_unasked answered [] (call ∷ calls) outcomes ready aside x given = absurd ready
+  all_unasked answered (entry ∷ entries) [] outcomes ready aside x given = absurd ready
+  all_unasked answered (entry ∷ entries) (call ∷ calls) [] ready aside x given = absurd aside
+  all_unasked answered (entry ∷ entries) (call ∷ calls) (outcome ∷ outcomes) ready aside x given =
+      elim (unasked_one answered entry call outcome (unasked_texts settings entries outcomes) ready.0 aside.0 x given) [
         | inl here ↦ here
-        | inr later ↦ all_unasked answered entries calls findings outcomes ready.1 so.1 comes.1 x later
+        | inr later ↦ all_unasked answered entries calls outcomes ready.1 aside.1 x later
       ]
 
 -- ---- each text once
@@ -330,30 +319,3 @@ unasked_some settings (entry ∷ entries) (outcome ∷ outcomes) same is =
     unasked_some_one (call_in settings entry) outcome (unasked_texts settings entries outcomes) (filter is_unasked_passport outcomes)
     (first_or (is_unasked outcome) (list_any is_unasked outcomes) (1 ≤ length (unasked_texts settings entries outcomes) + length (filter is_unasked_passport outcomes))
     (unasked_some settings entries outcomes (omega arith)) is)
-
--- ---- the signature of a PASSporT
-
-passport_same : (finding : Finding) (outcome : Outcome) → ComesOf finding outcome → is_unasked_passport outcome ≡ found_unasked_passport finding
-passport_same (found.Passes pass) Valid is = refl
-passport_same (found.Passes pass) (Refused refused) is = absurd is
-passport_same (found.Passes pass) (Replay winner) is = refl
-passport_same (found.Passes pass) (Unread bad) is = absurd is
-passport_same (found.Passes pass) (Unasked bad) is = absurd is
-passport_same (found.Refused refused) outcome is = ap is_unasked_passport is
-passport_same (found.Unread bad) outcome is = ap is_unasked_passport is
-passport_same (found.Unasked bad) outcome is = ap is_unasked_passport is
-
-count_by : (b c : Bool) (x : Outcome) (y : Finding) (xs : List Outcome) (ys : List Finding) → b ≡ c → length xs ≡ length ys → length (cond b (x ∷ xs) xs) ≡ length (cond c (y ∷ ys) ys)
-count_by true true x y xs ys same lengths = omega arith
-count_by true false x y xs ys same lengths = absurd (false_is_not_true (sym same))
-count_by false true x y xs ys same lengths = absurd (false_is_not_true same)
-count_by false false x y xs ys same lengths = lengths
-
-pub passports_same : (findings : List Finding) (outcomes : List Outcome) → EachComesOf findings outcomes
-    → length (filter is_unasked_passport outcomes) ≡ length (filter found_unasked_passport findings)
-passports_same [] [] comes = refl
-passports_same [] (outcome ∷ outcomes) comes = absurd comes
-passports_same (finding ∷ findings) [] comes = absurd comes
-passports_same (finding ∷ findings) (outcome ∷ outcomes) comes =
-    count_by (is_unasked_passport outcome) (found_unasked_passport finding) outcome finding (filter is_unasked_passport outcomes) (filter found_unasked_passport findings)
-    (passport_same finding outcome comes.0) (passports_same findings outcomes comes.1)

@@ -14,8 +14,9 @@ use Rattle.verify_service.specs.Rows.{EachOwed, IsOwed}
 use Rattle.verify_service.specs.Screening.{IsReady}
 use Rattle.verify_service.specs.declared.outcome.Outcome.{Outcome}
 use Rattle.verify_service.specs.declared.screening.ReadyCall.{ReadyCall}
+use Rattle.verify_service.proofs.AsideLaws.{IsAsideIn}
 use Rattle.verify_service.proofs.JudgeLaws.{moment_in}
-use Rattle.verify_service.proofs.PairLaws.{Beside, beside, out_some}
+use Rattle.verify_service.proofs.EntryClassLaws.{Beside, beside, out_some}
 
 each_of : {A B : Type 0} → (R : A → B → Type 0) (xs : List A) (ys : List B) → length ys ≡ length xs
     → ((at : ℕ) (x : A) (y : B) → slice_get xs at ≡ Some x → slice_get ys at ≡ Some y → R x y) → EachPair R xs ys
@@ -23,6 +24,13 @@ each_of R [] [] many each = tt
 each_of R [] (y ∷ ys) many each = absurd (omega arith)
 each_of R (x ∷ xs) [] many each = absurd (omega arith)
 each_of R (x ∷ xs) (y ∷ ys) many each = (each 0 x y refl refl, each_of R xs ys (omega arith) (λ at a b one other. each (suc at) a b one other))
+
+-- each is set aside only for what is known of its chains
+pub each_aside : (on : Basis) (by : ℕ → Provided) (calls : List ReadyCall) (count : ℕ) (outs : List Outcome) → AreSaid on by count calls outs → length outs ≡ length calls
+    → EachPair (IsAsideIn on.kept on.held) calls outs
+each_aside on by calls count outs said counted =
+    each_of (IsAsideIn on.kept on.held) calls outs counted
+    (λ at call outcome stands is. subst (λ (o : Outcome). IsAsideIn on.kept on.held call o) (out_some outs at outcome is) (said at call stands).aside)
 
 module _ (on : Basis) (by : ℕ → Provided) (settings : Settings) (entries : List Entry) (calls : List ReadyCall) (count : ℕ) (outs : List Outcome) (said : AreSaid on by count calls outs)
     (counted : length outs ≡ length entries) (ready : EachPair (IsReady settings) entries calls) where

@@ -1,4 +1,3 @@
-pub mod CallSteps
 pub mod CountLaws
 pub mod FollowLaws
 pub mod JudgeLaws
@@ -8,7 +7,7 @@ pub mod ListLaws
 pub mod ReadBack
 pub mod ReadLaws
 pub mod RoundLaws
-pub mod SettleLaws
+pub mod PastLaws
 mod TextLaws
 mod NeededLaws
 mod FetchedLaws
@@ -24,12 +23,12 @@ mod StatesLaws
 mod StoringLaws
 mod ReadyLaws
 mod ReadyChainLaws
-mod FindLaws
 mod AsideLaws
-mod FindAllLaws
+mod OwnLaws
 mod TouchLaws
 mod JudgedChainLaws
-mod RoundFoundLaws
+mod RoundThereLaws
+mod RoundAsideLaws
 mod RoundHeldLaws
 mod RoundAllLaws
 mod FewLaws
@@ -45,6 +44,11 @@ mod TogetherLaws
 mod AddLaws
 mod CallRowLaws
 mod CarriedLaws
+mod EntryClassLaws
 mod PairLaws
 mod RoomLaws
 mod EachCallLaws
+mod ClassLaws
+mod SeatingLaws
+mod PreparedLaws
+mod PrepareLaws

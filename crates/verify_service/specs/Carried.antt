@@ -5,7 +5,8 @@ use Rattle.call_log.specs.Entry.{Entry}
 use Rattle.cert_store.specs.Rules.{Says}
 use Rattle.replay_desk.specs.Holder.{DeskId, Holder}
 use Rattle.replay_desk.specs.Pairs.{In}
-use Rattle.replay_desk.specs.Past.{PastView, found}
+use Rattle.replay_desk.specs.Past.{PastView}
+use Rattle.replay_law.specs.Held.{Held}
 use Rattle.replay_law.specs.Round.{Settled}
 use Rattle.replay_law.specs.Turn.{FirstWins}
 use Rattle.stir_outside.specs.Files.{Files}
@@ -42,16 +43,16 @@ pub record IsValidPair (entries : List Entry) (classes : List (Option ℕ)) (out
   pub valid : slice_get outs at ≡ Some Valid
 
 -- The pair is the class and the winner of a call that is a replay, whose ticket the past hasn't.
-pub record IsReplayPair (settings : Settings) (past : PastView) (entries : List Entry) (classes : List (Option ℕ)) (outs : List Outcome) (p : ℕ × ℕ) : Type 0 where
+pub record IsReplayPair (settings : Settings) (past : Held) (entries : List Entry) (classes : List (Option ℕ)) (outs : List Outcome) (p : ℕ × ℕ) : Type 0 where
   pub at : ℕ
   pub entry : Entry
   pub stands : slice_get entries at ≡ Some entry
   pub class : slice_get classes at ≡ Some (Some p.0)
   pub replay : slice_get outs at ≡ Some (Replay p.1)
-  pub free : found past (ticket_or_none (call_in settings entry)) ≡ None
+  pub free : past (ticket_or_none (call_in settings entry)) ≡ None
 
 -- The wins of the seat are exactly the pairs of the valid calls, and its losses those of the replays whose ticket the past hasn't.
-pub record HasPairs (settings : Settings) (past : PastView) (entries : List Entry) (classes : List (Option ℕ)) (outs : List Outcome) (seat : Holder) : Type 0 where
+pub record HasPairs (settings : Settings) (past : Held) (entries : List Entry) (classes : List (Option ℕ)) (outs : List Outcome) (seat : Holder) : Type 0 where
   pub wins : (p : ℕ × ℕ) → In p seat.wins ↔ IsValidPair entries classes outs p
   pub losses : (p : ℕ × ℕ) → In p seat.losses ↔ IsReplayPair settings past entries classes outs p
 
@@ -66,6 +67,6 @@ pub record AreRuled (on : Basis) (settings : Settings) (entries : List Entry) (s
 -- ticket one is valid and each other is a replay of it, over the past of which `next` is left; and with one worker it is the first.
 pub record Carries (settings : Settings) (entries : List Entry) (workers : ℕ) (past next : PastView) (round : CarriedView) : Type 0 where
   pub classes : AreClasses settings entries round.classes
-  pub pairs : HasPairs settings past entries round.classes round.outcomes round.seat
+  pub pairs : HasPairs settings (held past) entries round.classes round.outcomes round.seat
   pub settled : Settled (held past) (rows_of settings entries round.outcomes) (held next)
   pub first : workers ≡ 1 → FirstWins (rows_of settings entries round.outcomes)

@@ -5,7 +5,7 @@ use Rattle.replay_desk.specs.Holder.{DeskId, Holder, both_of}
 use Rattle.replay_desk.specs.Pairs.{In, whole}
 use Rattle.replay_desk.specs.Past.{PastView, found}
 use Rattle.stir_outside.specs.Count.{AtMost}
-use Rattle.verify_service.specs.Causes.{is_unasked_passport}
+use Rattle.verify_service.specs.Causes.{HasCauseIf, is_unasked_passport}
 use Rattle.verify_service.specs.Claiming.{OutcomeSays, ReplaysKept, loss_of, pair_of}
 use Rattle.verify_service.specs.Ready.{Basis, IsFresh, Provided, class_in, ticket_in}
 use Rattle.verify_service.specs.Screening.{readings_in}
@@ -113,9 +113,10 @@ own_passports count worker calls zero = 0
 own_passports count worker calls (suc n) = (if n % count == worker then passports_at (slice_get calls n) else 0) + own_passports count worker calls n
 
 -- Of the worker's calls below this index each was answered what the rules say by what its provider says. The provider was asked no more often than
--- these calls have PASSporTs that are judged. As many of them at most as it failed are set aside for a signature of their own.
+-- these calls have PASSporTs that are judged. As many of them at most as it failed are set aside for a signature of their own, and one only if it failed.
 pub record Answered (on : Basis) (by : Provided) (calls : List ReadyCall) (count worker upto : ℕ) (outs : List Outcome) : Type 0 where
   pub said : (at : ℕ) (call : ReadyCall) → slice_get calls at ≡ Some call → at < upto → at % count ≡ worker → OutcomeSays on by call (out_at outs at)
+  pub cause : (at : ℕ) → at < upto → at % count ≡ worker → HasCauseIf (is_unasked_passport (out_at outs at)) by.faults by.faults_now
   pub asks_most : by.asks_now ≤ by.asks + own_passports count worker calls upto
   pub asks_stay : by.asks ≤ by.asks_now
   pub unasked : AtMost (own_open count worker outs upto) by.faults by.faults_now

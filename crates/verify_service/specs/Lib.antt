@@ -16,6 +16,8 @@ pub mod RoundRead
 pub mod Reads
 pub mod Ready
 pub mod Claiming
+pub mod Classes
+pub mod Prepared
 pub mod Carrying
 pub mod Adding
 pub mod Carried

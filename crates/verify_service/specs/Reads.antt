@@ -46,16 +46,22 @@ certificates_in (entry ∷ entries) = length entry.1.certificates + certificates
 abbrev pub AreUsed : Files → Chains → List (List ℕ) → List (List ℕ) → Type 0
 AreUsed files held texts used = (x5u : List ℕ) → has x5u texts ≡ true → (is_some (listed files x5u) || is_some (chain_of x5u held)) ≡ true → has x5u used ≡ true
 
+-- Of the chains that were judged, a worker's provider was asked at most for the certificates of those of the worker's texts; and for each PASSporT of
+-- its calls, which name these.
+pub record HasAsked (judged : Chains) (texts named_texts : List (List ℕ)) (asks asks_now : ℕ) : Type 0 where
+  pub most : asks_now ≤ asks + (certificates_in (filter (λ entry. has entry.0 texts) judged) + length named_texts)
+
 -- The chains that a round judged, by x5u: each of a text that its calls name, that is listed and whose chain wasn't held; and each is right. As many
--- files were read at most; the provider was asked at most for their certificates and for the PASSporTs of the calls. Each of which every question
--- was answered is held from then on, unless 4,096 others were used since.
-pub record HasJudged (told : Option ShelfFiles) (materials : Materials) (says : Says) (named_texts : List (List ℕ)) (held held_now : Holding) (reads reads_now asks asks_now : ℕ) : Type 0 where
+-- files were read at most. Each of which every question was answered is held from then on, unless 4,096 others were used since. `Asked` is what is
+-- said of the workers' providers.
+pub record HasJudged (told : Option ShelfFiles) (materials : Materials) (says : Says) (named_texts : List (List ℕ)) (held held_now : Holding) (reads reads_now : ℕ)
+    (Asked : Chains → Type 0) : Type 0 where
   pub judged : Chains
   pub once : IsOnce (names judged)
   pub among : AreAmong (names judged) (round_texts materials.chains held.entries named_texts)
   pub right : (x5u : List ℕ) (one : JudgedView) → chain_of x5u judged ≡ Some one → IsRightWhere told materials says x5u (have one)
   pub read : reads_now ≤ reads + length judged
-  pub asked : asks_now ≤ asks + (certificates_in judged + length named_texts)
+  pub asked : Asked judged
   pub kept : (x5u : List ℕ) (one : JudgedView) → chain_of x5u judged ≡ Some one → is_failed one.asked ≡ false
       → (used : List (List ℕ)) → AreUsed materials.chains held.entries named_texts used → HeldUnless 4096 used x5u held_now.entries
 

@@ -14,6 +14,7 @@ use Rattle.stir_outside.specs.Files.{Files as ShelfFiles}
 use Rattle.verify_rules.specs.World.{World}
 use Rattle.verify_rules.specs.declared.settings.Settings.{Settings}
 use Rattle.verify_service.specs.Judging.{EachJudged}
+use Rattle.verify_service.specs.Needed.{named, round_texts}
 use Rattle.verify_service.specs.RightChains.{AreRightHeld}
 use Rattle.cert_store.specs.declared.world.World.{World as Materials}
 use Rattle.verify_service.specs.declared.outcome.Outcome.{Outcome}
@@ -54,6 +55,10 @@ HoldsRight told says service = AreRightHeld told (materials_of service) says ser
 abbrev pub held_texts : ServiceView → List (List ℕ)
 held_texts service = names service.held.entries
 
+-- the x5u texts of a round of these calls: those that they name, for which a file is listed and whose chain isn't held, in the order in which they first appear
+abbrev pub texts_in : ServiceView → List Entry → List (List ℕ)
+texts_in service entries = round_texts service.chains service.held.entries (named service.settings entries)
+
 -- ---- the calls of a round
 
 -- A call follows on the one before it.
@@ -72,6 +77,12 @@ pub record Follow (number moment : ℕ) (entries : List Entry) : Type 0 where
   pub some : 1 ≤ length entries
   pub few : length entries ≤ 256
   pub each : EachFollows number moment entries
+
+-- The same, whatever was handed in before.
+pub record AreOfRound (entries : List Entry) : Type 0 where
+  pub number : ℕ
+  pub moment : ℕ
+  pub follow : Follow number moment entries
 
 -- the same as tests
 abbrev pub follows_on : ℕ → ℕ → Entry → Bool

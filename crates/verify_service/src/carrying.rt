@@ -9,16 +9,20 @@ ghost use Rattle.verify_service.specs.Adding.{IsAdded};
 ghost use Rattle.verify_service.specs.Carried.{AreRuled, Carries};
 ghost use Rattle.verify_service.specs.Carrying.{AreGathered, AreSaid, HasAnswered, HasClaims, IsInTurn};
 ghost use Rattle.verify_service.specs.Judging.{EachPair};
+ghost use Rattle.verify_service.specs.Prepared.{IsNewest, basis_in, classes_of};
 ghost use Rattle.verify_service.specs.Ready.{AreAllReady, AreClassed, AreNumbered, HasRoom, HaveSeats, basis_of, provided};
 ghost use Rattle.verify_service.specs.RightChains.{FailAtQuestions};
 ghost use Rattle.verify_service.specs.Screening.{IsReady};
+ghost use Rattle.verify_service.specs.Service.{IsSameConfig};
 ghost use Rattle.verify_service.specs.declared.outcome.Outcome.{Outcome};
 
 use crate::carried::Carried;
 use crate::closing::{add_all, gather, join_all};
 use crate::outcome::Outcome;
+use crate::prepared::Prepared;
 use crate::ready::{Lent, Round};
 use crate::screening::ReadyCall;
+use crate::service::Service;
 use crate::worker::Worker;
 use crate::working::work_all;
 use cert_store::{Cache, World};
@@ -26,6 +30,75 @@ use replay_desk::{Past, Seat};
 use std::thread::Threads;
 use stir_outside::{Gate, Provider};
 use verify_rules::screened_law;
+
+impl Service {
+    /// Carries out the service's newest prepared round: each worker judges its calls, each with a seat of its own; the seats are joined to one; and the
+    /// calls that are valid are kept in the past. Worker w, counted from 0, has the calls at index w, w + W and so on, if there are W workers. There are
+    /// as many workers as the round was prepared with, and no seat was taken out of it. It takes no memory.
+    pub fn carry<R: Threads + Sync, P: Provider + Send, G: Gate + Send>(
+        &mut self,
+        rt: &R,
+        workers: &mut [Worker<P, G>],
+        prepared: Prepared,
+    ) -> Carried
+        requires some { 0 < length workers.old }
+        requires few { length workers.old ≤ 8 }
+        requires newest { IsNewest self.old prepared }
+        requires seats { length prepared.seats ≡ length workers.old }
+        requires all { HaveSeats prepared.desk prepared.seats }
+
+        // There is an outcome for each call; the classes and the desk are those of the round.
+        ensures counted { length result.outcomes ≡ length prepared.calls }
+        ensures classes { result.classes ≡ classes_of prepared.calls }
+        ensures desk { result.desk ≡ prepared.desk }
+
+        // Each outcome is what the rules say of its call, by what the provider of the call's worker says: over the chains that the round has, and over
+        // all files for which these are right. No provider was asked more often than its worker's calls have PASSporTs that are judged, and as many of
+        // these calls at most as it failed are set aside for a signature of their own.
+        ensures said { (d : _) → AreSaid (basis_in self.old prepared)
+            (λ w. provided P.Provider (slice_index_or workers.old w d).provider (slice_index_or workers.new w d).provider)
+            (length workers.old) prepared.calls result.outcomes }
+        ensures answered { (w : ℕ) (d : _) → w < length workers.old → HasAnswered (basis_in self.old prepared)
+            (provided P.Provider (slice_index_or workers.old w d).provider (slice_index_or workers.new w d).provider)
+            prepared.calls (length workers.old) w result.outcomes }
+
+        // The seat has exactly the wins of the valid calls, and the losses of the replays whose ticket the past hasn't. The valid calls are kept.
+        ensures claims { HasClaims self.old.past prepared.calls result.outcomes result.seat }
+        ensures added { IsAdded self.old.past self.new.past prepared.calls result.outcomes }
+
+        // What these are for the calls of the log: of those that pass with one ticket one is valid, and each other is a replay of it; with one worker it
+        // is the first.
+        ensures carried { (settings : Settings) (entries : List Entry) → EachPair (IsReady settings) entries prepared.calls
+            → Carries settings entries (length workers.old) self.old.past self.new.past result }
+        ensures ruled { (settings : Settings) (entries : List Entry) (d : _) → EachPair (IsReady settings) entries prepared.calls
+            → AreRuled (basis_in self.old prepared) settings entries (λ w. P.says (slice_index_or workers.old w d).provider) (length workers.old) result.outcomes }
+
+        // All else of the service stays, and so does what the providers say.
+        ensures config { IsSameConfig self.old self.new }
+        ensures same { self.new.held ≡ self.old.held }
+        ensures number { self.new.number ≡ self.old.number }
+        ensures moment { self.new.moment ≡ self.old.moment }
+        ensures workers { length workers.new ≡ length workers.old }
+        ensures provider { (w : ℕ) (d : _) → w < length workers.old
+            → ProviderStays P.Provider (slice_index_or workers.old w d).provider (slice_index_or workers.new w d).provider }
+    {
+        let Prepared {
+            round,
+            seats,
+            outcomes,
+        } = prepared;
+        carry_round(
+            rt,
+            &self.world,
+            &self.cache,
+            &mut self.past,
+            round,
+            seats,
+            outcomes,
+            workers,
+        )
+    }
+}
 
 /// Carries out a round: each worker judges its calls, each with a seat of its own; the seats are joined to one; and the calls that are valid are
 /// kept in the past. The outcomes stand in place of those that are handed in. It takes no memory.

@@ -79,6 +79,15 @@ impl Service {
     }
 }
 
+impl Service {
+    /// It may hold 4,096 chains, as a law for callers: it does nothing when it runs.
+    pub(crate) fn holds_many(&self)
+        ensures { self.now.held.capacity ≡ 4096 }
+    {
+        let _cache = &self.cache;
+    }
+}
+
 /// Whether each of these calls follows on the one before it, from this number and this moment.
 #[tactic(auto, using(crate::proofs::FollowLaws::follows_more, crate::proofs::FollowLaws::follows_not))]
 fn all_follow(number: u32, moment: u64, calls: &[Call]) -> bool
