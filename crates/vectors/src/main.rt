@@ -44,6 +44,7 @@ impl Subjects for Cases {
             "files" => commands::files(alloc, call, words),
             "rounds" => rounds::answer(rt, alloc, call, words),
             "workers" => workers::answer(rt, alloc, call, words),
+            "drill" => vector_drill::answer(alloc, call, words),
             _ => called(alloc, subject, call, words),
         }
     }
