@@ -7,7 +7,9 @@ import functools
 import os
 import pathlib
 import re
+import shutil
 import sys
+import tempfile
 
 try:
     from cryptography.exceptions import InvalidSignature, UnsupportedAlgorithm
@@ -56,8 +58,13 @@ def run(main):
     sys.exit(status)
 
 
+def tool():
+    """The name of the tool that runs."""
+    return pathlib.Path(sys.argv[0]).name
+
+
 def say(text):
-    print(f'{pathlib.Path(sys.argv[0]).name}: {text}', file=sys.stderr, flush=True)
+    print(f'{tool()}: {text}', file=sys.stderr, flush=True)
 
 
 def complain(text):
@@ -71,6 +78,26 @@ def contents(names):
         yield name, pathlib.Path(name).read_bytes()
     if not names:
         yield 'input', sys.stdin.buffer.read()
+
+
+def files(names):
+    """Each named file, or the standard input where none is named, with its name and a path by which it can be opened more than once. What
+    comes by a pipe is kept in a temporary file while it is read."""
+    for name in names:
+        if os.path.isfile(name) or not os.path.exists(name):
+            yield name, name
+        else:
+            with open(name, 'rb') as stream:
+                yield from kept(name, stream)
+    if not names:
+        yield from kept('input', sys.stdin.buffer)
+
+
+def kept(name, stream):
+    with tempfile.NamedTemporaryFile() as copy:
+        shutil.copyfileobj(stream, copy, 1 << 20)
+        copy.flush()
+        yield name, copy.name
 
 
 def lines(names):

@@ -17,6 +17,7 @@ import sys
 import tempfile
 
 import captures
+import streams
 
 HERE = pathlib.Path(__file__).resolve().parent
 TOOLS = HERE.parent.parent / 'tools'
@@ -42,7 +43,7 @@ def text(lines):
     return ''.join(f'{line}\n' for line in lines).encode()
 
 
-FILES = dict(captures.FILES) | {
+FILES = captures.FILES | streams.FILES | {
     '-': b'',
     'questions': text(GENUINE),
     'mixed': text(['; questions', FALSE[0], GENUINE[0] + '\r', '', *FALSE[1:], GENUINE[1]]),
@@ -61,6 +62,10 @@ FILES = dict(captures.FILES) | {
 }
 
 
+NEED_LIBRARY = ('stir-confirm', 'stir-signer')
+MARKS = ('-tshark', '+tshark')
+
+
 def in_folder():
     """A folder of its own with the files of a case."""
     room = tempfile.TemporaryDirectory()
@@ -72,9 +77,9 @@ def in_folder():
     return room
 
 
-def tool(words, given, folder):
+def tool(words, given, folder, environment=None):
     done = subprocess.run([sys.executable, TOOLS / words[0], *words[1:]], input=given, stdout=subprocess.PIPE, stderr=subprocess.PIPE,
-                          cwd=folder, timeout=600)
+                          cwd=folder, timeout=600, env=environment)
     return done.returncode, done.stdout, done.stderr.decode()
 
 
@@ -82,10 +87,12 @@ def case(line, program):
     given, wanted = line.split(' => ')
     words, data = given.split(' < ')
     status, output, *error = wanted.split(' ', 2)
+    words = [program if word == '$STIR' else word for word in words.split()]
+    without, words = words[0] == '-tshark', words[words[0] in MARKS:]
     with in_folder() as folder:
         room = pathlib.Path(folder)
-        got = tool([program if word == '$STIR' else word for word in words.split()], (room / data).read_bytes(), room)
-        want = int(status), (room / output).read_bytes(), f'{error[0]}\n' if error else ''
+        got = tool(words, (room / data).read_bytes(), room, os.environ | {'PATH': '/nowhere'} if without else None)
+        want = int(status), (room / output).read_bytes(), ''.join(f'{said}\n' for said in error[0].split(' // ')) if error else ''
         if '--to made' in words and status == '0':
             made = room / 'made/shuffled.der'
             got, want = (*got, made.exists() and made.read_bytes()), (*want, (room / 'shuffled.der').read_bytes())
@@ -141,8 +148,12 @@ def results(program, keys):
     has_library = importlib.util.find_spec('cryptography') is not None
     if not has_library:
         print('tools: python3-cryptography is missing, so stir-confirm and stir-signer are not tried')
+    without = () if has_library else NEED_LIBRARY
+    if not shutil.which('tshark'):
+        print('tools: tshark is missing, so what it reads is not tried')
+        without += ('+tshark',)
     for number, line in enumerate((HERE / 'cases').read_text().splitlines(), 1):
-        if line and not line.startswith(';') and (has_library or not line.startswith(('stir-confirm', 'stir-signer'))):
+        if line and not line.startswith((';', *without)):
             yield f'cases:{number}', *case(line, program)
     if has_library and shutil.which('openssl'):
         with tempfile.TemporaryDirectory() as folder:

@@ -1,0 +1,123 @@
+"""One run of calls as captures of many forms, made by the layouts of pcapng, Linux cooked captures and RFC 9293, and the one log that
+tools/stir-log must make of them all."""
+import gzip
+import random
+import struct
+
+import captures
+
+COOKED, COOKED_2 = 113, 276
+
+
+def call(number, body=b''):
+    """An INVITE with a length, as every message over TCP has one (RFC 3261, section 18.3)."""
+    message = captures.message(number, rest=body)
+    return message.replace(b'INVITE\r\n\r\n', b'INVITE\r\nContent-Length: %d\r\n\r\n' % len(body))
+
+
+RUN = [(700, call(1)), (701, call(2, b'v=0\r\n\r\nINVITE x')), (701, call(3)), (702, call(4, b'\0' * 3000)), (703, call(5))]
+LOG = captures.log(RUN)
+
+
+def tcp(content, sequence, port=5070, to=5060, flags=0x18):
+    return struct.pack('>HHIIBBHHH', port, to, sequence & 0xFFFFFFFF, 1, 0x50, flags, 65535, 0, 0) + content
+
+
+def segment(content, sequence, port=5070, flags=0x18):
+    return captures.ethernet(captures.ipv4(tcp(content, sequence, port, flags=flags), protocol=6))
+
+
+def stream(parts, port=5070, first=1000):
+    """The frames of a connection that carries these parts, each with its time."""
+    frames, at = [(parts[0][0], segment(b'', first - 1, port, flags=2))], first
+    for time, content in parts:
+        frames.append((time, segment(content, at, port)))
+        at += len(content)
+    return frames
+
+
+def cut(messages, size):
+    """The messages in parts of so many bytes."""
+    return [(time, message[at:at + size]) for time, message in messages for at in range(0, len(message), size)]
+
+
+def joined(messages):
+    """Everything in one part, at the last message's time."""
+    return [(messages[-1][0], b''.join(message for _, message in messages))]
+
+
+def everywhere():
+    """For each place in two messages a connection of its own, cut there."""
+    text, frames = call(6) + call(7, b'hello'), []
+    for place in range(1, len(text)):
+        frames += stream([(800 + place, text[:place]), (800 + place, text[place:])], 10000 + place)
+    return frames, [(800 + place, message) for place in range(1, len(text)) for message in (call(6), call(7, b'hello'))]
+
+
+def shuffled(frames):
+    """Segments in another order and some of them twice: the first two and the last, which is of a later time, stay where they are."""
+    some = frames[2:-1] + frames[4:8]
+    random.Random(1).shuffle(some)
+    return frames[:2] + some + frames[-1:]
+
+
+def cooked(packet, link):
+    """A packet as `tcpdump -i any` has it (link types LINKTYPE_LINUX_SLL and LINKTYPE_LINUX_SLL2 of the tcpdump group)."""
+    kind = 0x86DD if packet[0] >> 4 == 6 else 0x0800
+    if link == COOKED:
+        return struct.pack('>HHH8sH', 0, 1, 6, bytes(8), kind) + packet
+    return struct.pack('>HHIHBB8s', kind, 0, 1, 1, 0, 6, bytes(8)) + packet
+
+
+def block(kind, content):
+    content += bytes(-len(content) % 4)
+    return struct.pack('<II', kind, 12 + len(content)) + content + struct.pack('<I', 12 + len(content))
+
+
+def pcapng(frames, link):
+    """A capture in the next generation's form (draft-ietf-opsawg-pcapng, sections 4.1 to 4.3), in microseconds."""
+    data = block(0x0A0D0D0A, struct.pack('<IHHq', 0x1A2B3C4D, 1, 0, -1)) + block(1, struct.pack('<HHI', link, 0, 0))
+    for time, frame in frames:
+        stamp = time * 1_000_000 + 999
+        data += block(6, struct.pack('<IIIII', 0, stamp >> 32, stamp & 0xFFFFFFFF, len(frame), len(frame)) + frame)
+    return data
+
+
+def fragmented(message, number):
+    """A message over UDP in packets of Ethernet."""
+    datagram = captures.udp(message)
+    pieces = [datagram[at:at + 1480] for at in range(0, len(datagram), 1480)]
+    return [captures.ipv4(piece, number, 1480 * at, at < len(pieces) - 1) for at, piece in enumerate(pieces)]
+
+
+PACKETS = [(time, packet) for number, (time, message) in enumerate(RUN) for packet in fragmented(message, number)]
+FRAMES = [(time, captures.ethernet(packet)) for time, packet in PACKETS]
+ONE_PART = RUN[:1], [RUN[1], RUN[2]], RUN[3:4], RUN[4:]
+CUT_EVERYWHERE, EVERYWHERE = everywhere()
+NO_CALLS = [(time, captures.ethernet(captures.ipv4(captures.udp(captures.message(number, 'OPTIONS'))))) for number, time in enumerate((1, 2))]
+
+FILES = {
+    'run.log': LOG,
+    'three.log': captures.FILES['ethernet.log'] + captures.FILES['dialogs.log'] + LOG,
+    'run-udp.pcap': captures.pcap(FRAMES, captures.ETHERNET),
+    'run-any.pcap': captures.pcap([(time, cooked(packet, COOKED)) for time, packet in PACKETS], COOKED),
+    'run-any-2.pcap': captures.pcap([(time, cooked(packet, COOKED_2)) for time, packet in PACKETS], COOKED_2),
+    'run-any-2.pcapng': pcapng([(time, cooked(packet, COOKED_2)) for time, packet in PACKETS], COOKED_2),
+    'run-udp.pcapng': pcapng(FRAMES, captures.ETHERNET),
+    'run-tcp.pcap': captures.pcap(stream(RUN), captures.ETHERNET),
+    'run-tcp-cut.pcap': captures.pcap(stream(cut(RUN, 11)), captures.ETHERNET),
+    'run-tcp-joined.pcap': captures.pcap(stream([part for some in ONE_PART for part in joined(some)]), captures.ETHERNET),
+    'run-tcp-shuffled.pcapng': pcapng(stream(RUN[:3]) + shuffled(stream(cut(RUN[3:], 100), first=1000 + sum(len(it[1]) for it in RUN[:3])))[1:],
+                                      captures.ETHERNET),
+    'run-half-tcp.pcap': captures.pcap(FRAMES[:2] + stream(RUN[2:]), captures.ETHERNET),
+    'everywhere.pcap': captures.pcap(CUT_EVERYWHERE, captures.ETHERNET),
+    'everywhere.log': captures.log(EVERYWHERE),
+    'no-calls.pcap': captures.pcap(NO_CALLS, captures.ETHERNET),
+    'no-calls.pcapng': pcapng(NO_CALLS, captures.ETHERNET),
+    'no-traffic.pcapng': pcapng([(1, captures.ethernet(captures.ipv4(captures.udp(b'x', 53)[:2] + b'\0\x35' + captures.udp(b'x')[4:])))], captures.ETHERNET),
+    'not-gzip.gz': b'\x1f\x8bnothing',
+}
+FILES['run-udp.pcap.gz'] = gzip.compress(FILES['run-udp.pcap'])
+FILES['run-cut.pcap.gz'] = FILES['run-udp.pcap.gz'][:-9]
+FILES['run-udp.pcapng.gz'] = gzip.compress(FILES['run-udp.pcapng'])
+FILES['list.gz'] = gzip.compress(captures.FILES['list'])

@@ -1,0 +1,97 @@
+"""SIP messages, as far as the tools look into them (RFC 3261), and the numbers and Identity fields in them."""
+import re
+
+# The short names of header fields (RFC 3261, section 20; RFC 8224, section 4).
+SHORT = {'f': 'from', 'i': 'call-id', 't': 'to', 'v': 'via', 'y': 'identity'}
+
+END = re.compile(rb'\r?\n\r?\n')
+FOLD = re.compile(r'\r?\n[ \t]+')
+BRANCH = re.compile(r';\s*branch\s*=\s*([^;,\s]+)', re.I)
+QUOTED = re.compile(r'"(?:\\.|[^"\\])*(?:"|$)', re.S)
+INFO = re.compile(r'[;\s]info\s*=\s*<([^>]*)>', re.I)
+PPT = re.compile(r';\s*ppt\s*=\s*(?:"([^"]*)"|([^;,\s"]*))', re.I)
+
+# An x5u, as a chain map takes it (docs/FORMATS.md).
+X5U = re.compile(r'[!#-;=?-\[\]-~]+')
+
+
+def fields(message):
+    """The values of the header fields by their whole names in lower case, those of one name in their order (RFC 3261, section 7.3)."""
+    found, head = {}, END.split(message, 1)[0].decode('latin-1')
+    for line in FOLD.sub(' ', head).split('\n')[1:]:
+        name, _, value = line.partition(':')
+        name = name.strip().lower()
+        found.setdefault(SHORT.get(name, name), []).append(value.strip())
+    return found
+
+
+def first(found, name):
+    """The first value of a header field, or the empty text."""
+    return found.get(name, ('',))[0]
+
+
+def transaction(found):
+    """What a retransmission has in common with the request: branch of the topmost Via, Call-ID and CSeq; None if one is missing."""
+    branch = BRANCH.search(first(found, 'via').split(',', 1)[0])
+    parts = branch and branch[1], first(found, 'call-id'), first(found, 'cseq')
+    return parts if all(parts) else None
+
+
+def in_dialog(found):
+    """Whether To has a tag (RFC 3261, section 12.2)."""
+    value = QUOTED.sub('', first(found, 'to'))
+    return re.search(r';\s*tag\s*=', value.rpartition('>')[2], re.I) is not None
+
+
+def uri_of(value):
+    """The URI of an address (RFC 3261, section 20.10)."""
+    bare = QUOTED.sub(lambda it: ' ' * len(it[0]), value)
+    start = bare.find('<')
+    return value[start + 1:].partition('>')[0] if start >= 0 else re.split(r'[;,\s]', value, maxsplit=1)[0]
+
+
+class Numbering:
+    """How numbers without `+` are read: by the country's digits and the length of a national number."""
+
+    def __init__(self, country, national):
+        self.country, self.national = country, national
+
+    def number(self, text):
+        """The number that a text is (docs/FORMATS.md, "Number text"), or the empty text."""
+        text = re.sub(r'[-(). ]', '', text)
+        digits = text.removeprefix('+')
+        if not re.fullmatch(r'[0-9*#]{1,15}', digits):
+            return ''
+        local = digits == text and re.fullmatch(r'[0-9]+', digits) and len(digits) == self.national
+        return self.country + digits if local else digits
+
+    def of_uri(self, uri):
+        """The number of a URI, or the empty text."""
+        scheme, _, rest = uri.partition(':')
+        if scheme.lower() == 'tel':
+            return self.number(rest.partition(';')[0])
+        if scheme.lower() in ('sip', 'sips') and '@' in rest:
+            return self.number(re.split('[;:]', rest.partition('@')[0], maxsplit=1)[0])
+        return ''
+
+    def caller(self, found):
+        """The calling number: that of the first P-Asserted-Identity that gives one, or else of From."""
+        for value in found.get('p-asserted-identity', []) + [first(found, 'from')]:
+            if number := self.of_uri(uri_of(value)):
+                return number
+        return ''
+
+    def called(self, found):
+        return self.of_uri(uri_of(first(found, 'to')))
+
+
+def ppt_of(value):
+    """The ppt of an Identity field's value; the empty text where it has none."""
+    found = PPT.search(value)
+    return (found[1] or found[2] or '') if found else ''
+
+
+def x5u_of(value):
+    """The x5u of an Identity field's value, where it has one that a chain map takes; else the empty text."""
+    found = INFO.search(value)
+    return found[1] if found and X5U.fullmatch(found[1]) else ''
