@@ -151,14 +151,20 @@ def signature_by(key, digest):
     return r.to_bytes(32, 'big') + s.to_bytes(32, 'big')
 
 
-def private_key(name):
-    """The P-256 key of a PEM file (RFC 5915 or RFC 5958)."""
+def private_key(name, password=None):
+    """The P-256 key of a PEM file (RFC 5915 or RFC 5958), opened by the password where it is encrypted."""
+    data = pathlib.Path(name).read_bytes()
     try:
-        key = serialization.load_pem_private_key(pathlib.Path(name).read_bytes(), None)
+        key = serialization.load_pem_private_key(data, password if b'ENCRYPTED' in data else None)
     except TypeError:
-        raise Fault(f'{name}: the key is encrypted; openssl pkey -in {name} writes it in the clear')
+        raise Fault(f'{name}: the key is encrypted; --password-file FILE names a file with its password')
     except (ValueError, UnsupportedAlgorithm):
-        raise Fault(f'{name}: no private key in PEM')
+        raise Fault(f'{name}: no private key in PEM' + (' that this password opens' if b'ENCRYPTED' in data else ''))
     if not isinstance(key, ec.EllipticCurvePrivateKey) or not isinstance(key.curve, ec.SECP256R1):
         raise Fault(f'{name}: no key on P-256, which ES256 wants')
     return key
+
+
+def point_of(key):
+    """The uncompressed point of a public key (SEC 1, section 2.3.3)."""
+    return key.public_bytes(serialization.Encoding.X962, serialization.PublicFormat.UncompressedPoint)

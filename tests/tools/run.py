@@ -17,6 +17,7 @@ import sys
 import tempfile
 
 import captures
+import fetching
 import streams
 
 HERE = pathlib.Path(__file__).resolve().parent
@@ -58,11 +59,15 @@ FILES = captures.FILES | streams.FILES | {
     'odd-list': b'u odd.pem\n', 'odd-map': b'u odd.der\n', 'rsa-list': b'u rsa-leaf.pem\n', 'rsa-map': b'u rsa-leaf.der\n',
     'twice': b'u shuffled.pem\nu shuffled.pem\n',
     'below/map': b'; names with .. and without\nu root.der\nv below/../root.pem\n', 'stdin': b'', 'a=b': b'',
+    'message-list': b'u message.p7b\n', 'message-map': b'u message.der\n', 'carrier-list': b'u carrier.pem\n', 'carrier-map': b'u carrier.der\n',
+    'gap-list': b'u gap.pem\n', 'gap-map': b'u gap.der\n',
+    'fetched-map': b'; as it was fetched\nu carrier-chain.der\nv carrier-chain.der\nw own.pem\n',
+    'own-numbers': b'709J 12155550000 10000\n709J *67\n', 'table': b'709J 12155550000 10000\n709J *67\n42AB *\n', 'table-of-all': b'42AB *\n709J *\n',
     'cut-list': b'u chain-cut-short.pem\n', 'key-list': b'u key.pem\n',
 }
 
 
-NEED_LIBRARY = ('stir-confirm', 'stir-signer')
+NEED_LIBRARY = ('stir-confirm', 'stir-signer', 'stir-chain')
 MARKS = ('-tshark', '+tshark')
 
 
@@ -156,6 +161,7 @@ def results(program, keys):
         if line and not line.startswith((';', *without)):
             yield f'cases:{number}', *case(line, program)
     if has_library and shutil.which('openssl'):
+        yield from fetching.results(tool)
         with tempfile.TemporaryDirectory() as folder:
             for number in range(keys):
                 yield f'openssl, key {number + 1}', True, agreement(pathlib.Path(folder))
