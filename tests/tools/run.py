@@ -18,6 +18,7 @@ import tempfile
 
 import captures
 import fetching
+import refusals
 import streams
 
 HERE = pathlib.Path(__file__).resolve().parent
@@ -160,6 +161,7 @@ def results(program, keys):
     for number, line in enumerate((HERE / 'cases').read_text().splitlines(), 1):
         if line and not line.startswith((';', *without)):
             yield f'cases:{number}', *case(line, program)
+    yield from refusals.results(program)
     if has_library and shutil.which('openssl'):
         yield from fetching.results(tool)
         with tempfile.TemporaryDirectory() as folder:

@@ -1,0 +1,70 @@
+"""Whether tools/stir-words finds a reason for just those words that the program refuses, by the words of tests/vectors; and what the script
+`./stir` says of them."""
+import importlib.util
+import os
+import pathlib
+import shutil
+import subprocess
+import sys
+import tempfile
+
+TOP = pathlib.Path(__file__).resolve().parent.parent.parent
+sys.path.append(str(TOP / 'tests' / 'vectors'))
+import words  # noqa: E402
+
+# Words, and what is said of them; None where they aren't refused.
+SAID = {
+    '': 'no command: the first word is verify, explain, ask, sign, divert, show',
+    'Verify': '\'Verify\' is no command: the first word is verify, explain, ask, sign, divert, show',
+    'show x': '\'x\' is no option: an option is --NAME=VALUE, or --NAME and a value',
+    'show': None,
+    'ask --chains=c --anchors=a': '--table is missing: it is the name of a file',
+    'ask --chain=c --anchors=a --table=t': '--chain is no option of ask; --chains is one',
+    'ask --chains=c --anchors=a --table=t --answers=w': '--answers is no option of ask; it is one of verify, explain, sign, divert',
+    'ask --chains=c --chains d': '--chains stands twice',
+    'ask --chains -c --anchors=a --table=t': '--chains has no value: -c begins with -; --chains=-c hands it on',
+    'ask --chains=c --anchors=a --table=': '--table has no value: it is the name of a file',
+    'verify --chains=c --anchors=a --table=t --answers=w --window=060':
+        '--window is \'060\', and must be how many seconds a PASSporT is fresh, at most 86400',
+    'verify --chains=c --anchors=a --table=t --answers=w --country=44 --national=14':
+        '--country and --national have more than 15 digits together; --national is 10 where it isn\'t given',
+    'sign --key=k --x5u=u --iat=0 --form=base --answers=w --leaf=l': '--leaf and --table stand both or neither',
+    'sign --key=k --x5u=u --iat=0 --form=shaken --answers=w --attest=A': '--origid stands with --form shaken, and with it alone',
+    'divert --key=k --x5u=u --iat=x --earlier=1 --answers=w': '--iat is \'x\', and must be a second of Unix time, at most 253402300799',
+}
+
+
+def table():
+    """The table of words, which is loaded by its file: the names of the folders' modules clash."""
+    spec = importlib.util.spec_from_file_location('command_words', TOP / 'tools' / 'command_words.py')
+    module = importlib.util.module_from_spec(spec)
+    spec.loader.exec_module(module)
+    return module
+
+
+def started(program, room):
+    """The script in a tree of its own, with this program as the proved one."""
+    (room / 'tools').mkdir()
+    (room / 'crates/stir/out').mkdir(parents=True)
+    (room / 'crates.txt').write_text('')
+    for name in ('stir', 'tools/stir-words', 'tools/command_words.py'):
+        shutil.copy(TOP / name, room / name)
+    file = room / 'crates/stir/out/stir'
+    file.write_text(f'#!/bin/sh\nexec "{program}" "$@"\n')
+    file.chmod(0o755)
+    for name in ('crates.txt', 'crates', 'crates/stir'):
+        os.utime(room / name, (0, 0))
+    return room / 'stir'
+
+
+def results(program):
+    """Each case: its name, what is wanted, and what came."""
+    why = table().why_refused
+    wrong = [given for given, status, _ in words.program_cases() if (status == 2) != (why(given) is not None)]
+    yield 'stir-words and the words of tests/vectors', [], wrong
+    with tempfile.TemporaryDirectory() as folder:
+        script = started(program, pathlib.Path(folder))
+        for given, said in SAID.items():
+            done = subprocess.run([script, *given.split()], stdin=subprocess.DEVNULL, stdout=subprocess.PIPE, stderr=subprocess.PIPE)
+            wanted = (0, b'', b'') if said is None else (2, b'words refused\n', f'stir: {said}\n'.encode())
+            yield f'stir {given}', wanted, (done.returncode, done.stdout, done.stderr)
