@@ -19,6 +19,7 @@ import tempfile
 import captures
 import fetching
 import refusals
+import reports
 import streams
 
 HERE = pathlib.Path(__file__).resolve().parent
@@ -162,6 +163,7 @@ def results(program, keys):
         if line and not line.startswith((';', *without)):
             yield f'cases:{number}', *case(line, program)
     yield from refusals.results(program)
+    yield from reports.results(tool, HERE / 'files')
     if has_library and shutil.which('openssl'):
         yield from fetching.results(tool)
         with tempfile.TemporaryDirectory() as folder:

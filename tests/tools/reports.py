@@ -1,0 +1,154 @@
+"""tools/stir-report on a log and a report written by hand, and whether a report read back from its JSON is the report."""
+import base64
+import csv
+import io
+import json
+import pathlib
+import tempfile
+import xml.etree.ElementTree
+
+ORIGID = '123e4567-e89b-12d3-a456-426655440000'
+X5U, OTHER = 'https://cert.example.org/a.pem', 'https://cert.example.org/b.pem'
+SVG = '{http://www.w3.org/2000/svg}'
+
+
+def token(claims):
+    return '.'.join(['e30', base64.urlsafe_b64encode(json.dumps(claims).encode()).decode().rstrip('='), 'A' * 86])
+
+
+def field(claims, x5u, more):
+    return f'Identity: {token(claims)};info=<{x5u}>;alg=ES256{more}'
+
+
+def message(*lines):
+    return '\r\n'.join(['INVITE sip:+12125551213@example.net SIP/2.0', *lines, '', '']).encode()
+
+
+SHAKEN = field({'attest': 'B', 'origid': ORIGID}, X5U, ';ppt="shaken"')
+DIVERTED = field({'div': {'tn': '12125551213'}}, OTHER, ';ppt=div')
+FROM, TO = 'From: "Bond; <x>" <sip:2155551212@example.org>;tag=1', 'To: <tel:+1-212-555-1213>'
+MESSAGES = [
+    (1443208345, message(FROM, TO, 'Call-ID: one', SHAKEN)),
+    (1443208346, message('f: sip:x@example.org', 't: sip:911@example.net;user=phone', 'i: two', 'P-Asserted-Identity: <tel:+442071838750>',
+                         DIVERTED, SHAKEN.replace('Identity', 'y'))),
+    (1443211945, message(FROM, TO, 'Call-ID: =three\x1b[2J', 'Identity: ..x;info=<' + X5U + '>')),
+    (1443211946, b'OPTIONS'),
+    (1443211947, message(FROM, TO, 'Call-ID: five', 'Identity: e30.W10.x;info=<a b>;ppt=shaken')),
+    (1443211948, message(FROM, TO, 'Call-ID: six', SHAKEN)),
+]
+REPORT = '1 valid - - -\n2 refused 437 12 1.2\n3 replay 438 18 1\n4 refused 400 1 0.7\n5 refused 438 6 1.2\n6 unread - 10 1.0\n'
+
+COLUMNS = ('call moment call_id caller called attestation origid x5u signer answer response phrase rule place verstat reason').split()
+ROWS = [
+    (1, 1443208345, 'one', '12155551212', '12125551213', 'B', ORIGID, X5U, '42AB', 'valid', None, '', None, None, 'TN-Validation-Passed', ''),
+    (2, 1443208346, 'two', '442071838750', '911', 'B', ORIGID, OTHER, '', 'refused', 437, 'Unsupported Credential', 12, '1.2', 'TN-Validation-Failed',
+     'STIR;cause=437;text="Unsupported Credential"'),
+    (3, 1443211945, '=three\x1b[2J', '12155551212', '12125551213', '', '', X5U, '42AB', 'replay', 438, 'Invalid Identity Header', 18, '1',
+     'TN-Validation-Failed', 'STIR;cause=438;text="Invalid Identity Header"'),
+    (4, 1443211946, '', '', '', '', '', '', '', 'refused', 400, 'Bad Request', 1, '0.7', 'No-TN-Validation', ''),
+    (5, 1443211947, 'five', '12155551212', '12125551213', '', '', '', '', 'refused', 438, 'Invalid Identity Header', 6, '1.2', 'TN-Validation-Failed',
+     'STIR;cause=438;text="Invalid Identity Header"'),
+    (6, 1443211948, 'six', '12155551212', '12125551213', 'B', ORIGID, X5U, '42AB', 'unread', None, '', 10, '1.0', 'No-TN-Validation', ''),
+]
+TEXT = f'''1 valid - - -
+    2015-09-25 19:12:25 UTC, Call-ID one
+    12155551212 calls 12125551213, attestation B, origid {ORIGID}
+    signed by 42AB, {X5U}
+    verstat=TN-Validation-Passed
+2 refused 437 12 1.2
+    2015-09-25 19:12:26 UTC, Call-ID two
+    442071838750 calls 911, attestation B, origid {ORIGID}
+    signed by {OTHER}
+    Unsupported Credential: the certificates lead to no trust anchor
+    verstat=TN-Validation-Failed, Reason: STIR;cause=437;text="Unsupported Credential"
+3 replay 438 18 1
+    2015-09-25 20:12:25 UTC, Call-ID =three?[2J
+    12155551212 calls 12125551213
+    signed by 42AB, {X5U}
+    Invalid Identity Header: the PASSporT passed before, with call 1
+    verstat=TN-Validation-Failed, Reason: STIR;cause=438;text="Invalid Identity Header"
+4 refused 400 1 0.7
+    2015-09-25 20:12:26 UTC, Call-ID none
+    nobody calls nobody
+    no signer
+    Bad Request: the message can't be read, or is no INVITE
+    verstat=No-TN-Validation
+'''
+SUMMARY = f'''calls 6                                                             valid  refused   replay   unread
+all                                                                     1        3        1        1
+
+by rule
+  1 the message can't be read                                           0        1        0        0
+  6 the PASSporT can't be read                                          0        1        0        0
+  12 the certificates lead to no trust anchor                           0        1        0        0
+  18 the PASSporT passed before                                         0        0        1        0
+  10 the file of the certificates couldn't be read                      0        0        0        1
+
+by signer
+  42AB {X5U}                                   1        0        1        1
+  no signer                                                             0        2        0        0
+  {OTHER}                                        0        1        0        0
+
+by hour (UTC)
+  2015-09-25 19:00                                                      1        1        0        0
+  2015-09-25 20:00                                                      0        2        1        1
+'''
+
+# Reports of the same log, or of a part of it, that end otherwise.
+ENDS = ['', REPORT, REPORT + 'refused input 5\n', REPORT[:20], '1 valid - - -\nread fault input\n', 'missing ch\udce4ins.txt\n', 'words refused\n',
+        'want of memory\n', REPORT + 'past 1\nwindow 60\nend 0\n', '1 valid - - -\n; no call\n1 valid - -\n01 valid - - -\n\n', '1 refused 438 6 1.20\r\n']
+
+
+class Run:
+    def __init__(self, tool, room, files):
+        self.tool, self.room = tool, room
+        log = b''.join(b'@%d %d\n%s' % (moment, len(data), data) for moment, data in MESSAGES)
+        for name, data in {'log': log, 'report': REPORT.encode(), 'chains': f'{X5U} chain.der\n{OTHER} missing.der\n'.encode(),
+                           'chain.der': (files / 'carrier-chain.der').read_bytes()}.items():
+            (room / name).write_bytes(data)
+
+    def __call__(self, *words, given=b''):
+        return self.tool(['stir-report', *words], given, self.room)
+
+
+def forms(run):
+    """The report in each form."""
+    status, output, said = run('--chains', 'chains', '--json', 'log', 'report')
+    yield 'stir-report --json', (0, [dict(zip(COLUMNS, row)) for row in ROWS], ''), (status, [json.loads(line) for line in output.splitlines()], said)
+    status, output, said = run('--chains', 'chains', '--csv', 'log', given=REPORT.encode())
+    rows = [dict(zip(COLUMNS, ('' if it is None else str(it) for it in row))) for row in ROWS]
+    yield 'stir-report --csv', (0, rows, ''), (status, list(csv.DictReader(io.StringIO(output.decode(), newline=''))), said)
+    status, output, said = run('--chains', 'chains', 'log', 'report')
+    yield 'stir-report', (0, TEXT, ''), (status, output.decode()[:len(TEXT)], said)
+    status, output, said = run('--chains', 'chains', '--summary', '--svg', 'day.svg', 'log', 'report')
+    yield 'stir-report --summary', (0, SUMMARY, ''), (status, output.decode(), said)
+    picture = xml.etree.ElementTree.parse(run.room / 'day.svg').getroot()
+    # A piece for each count that isn't 0 in a row of the three tables, and four for the legend.
+    yield 'stir-report --svg', (f'{SVG}svg', 5 + 5 + 5 + 4), (picture.tag, len(picture.findall(f'{SVG}rect')))
+
+
+def back(run):
+    """Each report, read back from its JSON."""
+    for number, report in enumerate(ENDS):
+        wanted = report.encode(errors='surrogateescape')
+        (run.room / 'json').write_bytes(run('--json', 'log', given=wanted)[1])
+        yield f'stir-report --back {number}', (0, wanted, ''), run('--back', 'json')
+
+
+def faults(run):
+    others = {('log',): '2 valid - - -\n', ('log', 'long'): '', ('--json', 'log'): '1 valid - - -\n3 valid - - -\n'}
+    (run.room / 'long').write_text(REPORT + '7 valid - - -\n')
+    for words, given in others.items():
+        status, _, said = run(*words, given=given.encode())
+        yield f'stir-report {words}', (2, True), (status, 'the report isn\'t of this log' in said)
+    yield 'stir-report, a short one', (1, 'stir-report: the report ends with call 1, and the log has more\n'), run('log', given=b'1 valid - - -\n')[::2]
+    (run.room / 'text').write_text('1 valid - - -\n')
+    yield 'stir-report --back, no JSON', (2, b'', 'stir-report: text:1: no line of a report in JSON\n'), run('--back', 'text')
+
+
+def results(tool, files):
+    """Each case: its name, what is wanted, and what came."""
+    with tempfile.TemporaryDirectory() as folder:
+        run = Run(tool, pathlib.Path(folder), files)
+        for cases in (forms, back, faults):
+            yield from cases(run)
