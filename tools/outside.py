@@ -63,7 +63,26 @@ def tool():
     return pathlib.Path(sys.argv[0]).name
 
 
+bar_is_drawn = False
+
+
+def draw_bar(bar):
+    """Writes a bar over the one that stands on the terminal's last line."""
+    global bar_is_drawn
+    bar_is_drawn = True
+    print(f'\r{tool()}: {bar}\x1b[K', end='', file=sys.stderr, flush=True)
+
+
+def take_bar_away():
+    """Takes the bar away, so that what is said next begins its line."""
+    global bar_is_drawn
+    if bar_is_drawn:
+        print('\r\x1b[K', end='', file=sys.stderr, flush=True)
+    bar_is_drawn = False
+
+
 def say(text):
+    take_bar_away()
     print(f'{tool()}: {text}', file=sys.stderr, flush=True)
 
 

@@ -21,6 +21,7 @@ import fetching
 import refusals
 import reports
 import streams
+import terminals
 
 HERE = pathlib.Path(__file__).resolve().parent
 TOOLS = HERE.parent.parent / 'tools'
@@ -163,6 +164,7 @@ def results(program, keys):
         if line and not line.startswith((';', *without)):
             yield f'cases:{number}', *case(line, program)
     yield from refusals.results(program)
+    yield from terminals.results(TOOLS, FILES)
     yield from reports.results(tool, HERE / 'files')
     if has_library and shutil.which('openssl'):
         yield from fetching.results(tool)

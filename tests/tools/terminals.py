@@ -1,0 +1,46 @@
+"""Whether long work shows how far it is on a terminal, and nothing of that where standard error is no terminal."""
+import os
+import pty
+import re
+import select
+import subprocess
+import sys
+import tempfile
+
+# How a bar looks; and how it is taken away.
+BAR = r'\rstir-%s: \[[# ]{30}\] \d+%%\x1b\[K'
+GONE = '\r\x1b[K'
+
+
+def on_terminal(tool, given, folder):
+    """What a tool writes to a terminal that is its standard error."""
+    ours, theirs = pty.openpty()
+    running = subprocess.Popen([sys.executable, *tool], stdin=subprocess.PIPE, stdout=subprocess.DEVNULL, stderr=theirs, cwd=folder)
+    os.close(theirs)
+    running.stdin.write(given)
+    running.stdin.close()
+    said = b''
+    while select.select([ours], [], [], 60)[0]:
+        try:
+            said += os.read(ours, 65536)
+        except OSError:
+            break
+    running.wait()
+    os.close(ours)
+    return said.decode().replace('\r\n', '\n')
+
+
+def results(tools, files):
+    """Each case: its name, what is wanted, and what came. That nothing is written to a pipe is shown by the cases of `cases`."""
+    with tempfile.TemporaryDirectory() as folder:
+        for name in ('run-udp.pcap', 'run.log', 'questions'):
+            with open(os.path.join(folder, name), 'wb') as file:
+                file.write(files[name])
+        with open(os.path.join(folder, 'hosts'), 'w') as file:
+            file.write('cert.example.org\n')
+        for words, given, said in ((['stir-log', 'run-udp.pcap'], b'', 'stir-log: calls 5\n'), (['stir-log', '--x5u', 'run.log'], b'', ''),
+                                   (['stir-confirm', 'questions'], b'', ''),
+                                   (['stir-fetch', '--hosts', 'hosts'], b'u\n', 'stir-fetch: u: no https URI; there is no file of it\n')):
+            got = on_terminal([str(tools / words[0]), *words[1:]], given, folder)
+            bars = BAR % words[0].removeprefix('stir-')
+            yield f'{" ".join(words)} on a terminal', (True, said), (bool(re.match(bars, got)) and GONE in got, re.sub(bars, '', got).replace(GONE, ''))
