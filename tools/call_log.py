@@ -18,6 +18,8 @@ SECOND = 1_000_000_000
 # How long a client sends an INVITE again: 64 times T1, which is half a second (RFC 3261, sections 17.1.1.1 and 17.1.1.2).
 LONGEST_RETRY = 32 * SECOND
 
+BUFFER = 1 << 20
+
 # The bytes that stand for a request among its retransmissions.
 KEY = 16
 NO_KEY = bytes(KEY)
@@ -50,7 +52,7 @@ class Spool:
     stands inside a dialog."""
 
     def __init__(self):
-        self.file = tempfile.TemporaryFile()
+        self.file = tempfile.TemporaryFile(buffering=BUFFER)
         self.times, self.places, self.lengths, self.keys = array.array('q'), array.array('q', [0]), array.array('l'), bytearray()
         self.dialogs, self.in_order = bytearray(), True
 

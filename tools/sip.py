@@ -4,7 +4,10 @@ import re
 # The short names of header fields (RFC 3261, section 20; RFC 8224, section 4).
 SHORT = {'f': 'from', 'i': 'call-id', 't': 'to', 'v': 'via', 'y': 'identity'}
 
-END = re.compile(rb'\r?\n\r?\n')
+# These begin with one byte, for which the search is quick.
+VALUE = rb'[ \t]*:([^\n]*(?:\n[ \t][^\n]*)*)'
+EVERY = re.compile(rb'\n([^\s:]+)' + VALUE)
+OF_REQUEST = re.compile(rb'\n(?=[VvCcIiTt])(via|v|call-id|i|cseq|to|t)' + VALUE, re.I)
 FOLD = re.compile(r'\r?\n[ \t]+')
 BRANCH = re.compile(r';\s*branch\s*=\s*([^;,\s]+)', re.I)
 QUOTED = re.compile(r'"(?:\\.|[^"\\])*(?:"|$)', re.S)
@@ -15,13 +18,18 @@ PPT = re.compile(r';\s*ppt\s*=\s*(?:"([^"]*)"|([^;,\s"]*))', re.I)
 X5U = re.compile(r'[!#-;=?-\[\]-~]+')
 
 
-def fields(message):
+def end_of_head(message):
+    """Where the last line of the head ends, before an empty line."""
+    ends = [end for end in (message.find(b'\n\r\n'), message.find(b'\n\n')) if end >= 0]
+    return min(ends, default=len(message))
+
+
+def fields(message, wanted=EVERY):
     """The values of the header fields by their whole names in lower case, those of one name in their order (RFC 3261, section 7.3)."""
-    found, head = {}, END.split(message, 1)[0].decode('latin-1')
-    for line in FOLD.sub(' ', head).split('\n')[1:]:
-        name, _, value = line.partition(':')
-        name = name.strip().lower()
-        found.setdefault(SHORT.get(name, name), []).append(value.strip())
+    found = {}
+    for name, value in wanted.findall(message, 0, end_of_head(message)):
+        name, value = name.decode('latin-1').lower(), value.decode('latin-1')
+        found.setdefault(SHORT.get(name, name), []).append(FOLD.sub(' ', value).strip() if '\n' in value else value.strip())
     return found
 
 

@@ -10,7 +10,8 @@ PHRASES = {400: 'Bad Request', 403: 'Stale Date', 428: 'Use Identity Header', 43
 # What it means that a rule is broken (docs/RULES.md).
 BROKEN = {1: 'the message can\'t be read, or is no INVITE', 2: 'there is no Identity field', 3: 'an Identity field can\'t be read',
           4: 'no Identity field speaks for the caller', 5: 'it isn\'t signed by ES256', 6: 'the PASSporT can\'t be read',
-          7: 'the PASSporT is of another caller', 8: 'the PASSporTs don\'t lead to the called number', 9: 'it was signed too long before or after, or by a clock that is wrong',
+          7: 'the PASSporT is of another caller', 8: 'the PASSporTs don\'t lead to the called number',
+          9: 'it was signed too long before or after, or by a clock that is wrong',
           10: 'the certificates of this x5u aren\'t there', 11: 'a certificate is outside the profile', 12: 'the certificates lead to no trust anchor',
           13: 'a certificate is out of date', 14: 'a certificate speaks for more than its issuer', 15: 'a certificate\'s signature isn\'t good',
           16: 'the PASSporT\'s signature isn\'t good', 17: 'the certificate doesn\'t cover the number',

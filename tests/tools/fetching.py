@@ -138,7 +138,8 @@ REFUSED = {'long': 'more than 49152 bytes', 'endless': 'more than 49152 bytes', 
            'other': 'redirected to another host, 127.0.0.1:$PORT', 'plain': 'no https URI'}
 ELSEWHERE = {'http://localhost:$PORT/file.carrier': 'no https URI', 'https://localhost/x': 'the host localhost isn\'t listed',
              'https://cert.example.org/x': 'the host cert.example.org isn\'t listed', 'https://a@localhost:$PORT/x': 'the URI names a user',
-             'https://127.0.0.2:$PORT/file.carrier': 'the certificate of 127.0.0.2 isn\'t good: IP address mismatch, certificate is not valid for \'127.0.0.2\'.',
+             'https://127.0.0.2:$PORT/file.carrier':
+                 'the certificate of 127.0.0.2 isn\'t good: IP address mismatch, certificate is not valid for \'127.0.0.2\'.',
              'https://evil.example:$PORT/x': 'the host evil.example:$PORT isn\'t listed', 'https://x.invalid/x': 'the host x.invalid isn\'t found',
              'https://localhost:0x/x': 'no URI'}
 
