@@ -24,13 +24,9 @@ class Hosts:
         self.listed = {(line[1].decode().lower(), int(line[2] or 443)) for line in lines}
 
     def has(self, host, port):
-        below = [f'*.{domain}' for domain in re.findall(r'(?<=\.).+', host)[:1] for domain in self.parents(domain)]
-        return any((name, port) in self.listed for name in [host, *below])
-
-    @staticmethod
-    def parents(domain):
-        parts = domain.split('.')
-        return ['.'.join(parts[at:]) for at in range(len(parts))]
+        parts = host.split('.')
+        domains = ['*.' + '.'.join(parts[at:]) for at in range(1, len(parts))]
+        return any((name, port) in self.listed for name in [host, *domains])
 
 
 def place_of(uri, hosts):

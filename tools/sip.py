@@ -11,8 +11,8 @@ OF_REQUEST = re.compile(rb'\n(?=[VvCcIiTt])(via|v|call-id|i|cseq|to|t)' + VALUE,
 FOLD = re.compile(r'\r?\n[ \t]+')
 BRANCH = re.compile(r';\s*branch\s*=\s*([^;,\s]+)', re.I)
 QUOTED = re.compile(r'"(?:\\.|[^"\\])*(?:"|$)', re.S)
-INFO = re.compile(r'[;\s]info\s*=\s*<([^>]*)>', re.I)
-PPT = re.compile(r';\s*ppt\s*=\s*(?:"([^"]*)"|([^;,\s"]*))', re.I)
+# A parameter of an Identity field (RFC 8224, section 4): its name, and a value in quotes, in angle brackets or bare.
+PARAMETER = re.compile(r';\s*([^\s;="<>]+)(?:\s*=\s*(?:"([^"]*)"|<([^>]*)>|([^;,\s"<]*)))?')
 
 # An x5u, as a chain map takes it (docs/FORMATS.md).
 X5U = re.compile(r'[!#-;=?-\[\]-~]+')
@@ -95,11 +95,10 @@ class Numbering:
 
 def ppt_of(value):
     """The ppt of an Identity field's value; the empty text where it has none."""
-    found = PPT.search(value)
-    return (found[1] or found[2] or '') if found else ''
+    return next((quoted or bare for name, quoted, _, bare in PARAMETER.findall(value) if name.lower() == 'ppt'), '')
 
 
 def x5u_of(value):
-    """The x5u of an Identity field's value, where it has one that a chain map takes; else the empty text."""
-    found = INFO.search(value)
-    return found[1] if found and X5U.fullmatch(found[1]) else ''
+    """The x5u of an Identity field's value, which is its first parameter, where it is one that a chain map takes; else the empty text."""
+    found = PARAMETER.search(value)
+    return found[3] if found and found[1].lower() == 'info' and found[3] and X5U.fullmatch(found[3]) else ''

@@ -96,7 +96,19 @@ ONE_PART = RUN[:1], [RUN[1], RUN[2]], RUN[3:4], RUN[4:]
 CUT_EVERYWHERE, EVERYWHERE = everywhere()
 NO_CALLS = [(time, captures.ethernet(captures.ipv4(captures.udp(captures.message(number, 'OPTIONS'))))) for number, time in enumerate((1, 2))]
 
+def invite(*identities):
+    return captures.message(9).replace(b'\r\n\r\n', b'\r\n' + b'\r\n'.join(identities) + b'\r\n\r\n')
+
+
+# Identity fields with an x5u: plain, with blanks and a short name, folded, and one whose quoted parameter looks like another; and some without.
+X5US = captures.log([(1, invite(b'Identity: t;info=<https://a.example/1>;alg=ES256', b'y: t ; INFO = <https://a.example/2> ;ppt=shaken')),
+                     (2, invite(b'Identity: t;info=<https://a.example/1>', b'Identity: t\r\n ;info=\r\n\t<https://a.example/3>')),
+                     (3, captures.message(3) + b'\nIdentity: t;info=<https://a.example/body>'),
+                     (4, invite(b'Identity: t;info=<a b>', b'Identity: t;info=u', b'Identity: t;x=";info=<v>"', b'Identity: t;y=1;info=<w>', b'Identity: '))])
+
 FILES = {
+    'x5us.log': X5US, 'x5us': b'https://a.example/1\nhttps://a.example/2\nhttps://a.example/3\n', 'x5us-cut.log': X5US[:-1],
+    'x5us-no.log': b'@1 2\nab@02 3\nabc',
     'run.log': LOG,
     'three.log': captures.FILES['ethernet.log'] + captures.FILES['dialogs.log'] + LOG,
     'run-udp.pcap': captures.pcap(FRAMES, captures.ETHERNET),
@@ -120,4 +132,5 @@ FILES = {
 FILES['run-udp.pcap.gz'] = gzip.compress(FILES['run-udp.pcap'])
 FILES['run-cut.pcap.gz'] = FILES['run-udp.pcap.gz'][:-9]
 FILES['run-udp.pcapng.gz'] = gzip.compress(FILES['run-udp.pcapng'])
+FILES['x5us.log.gz'] = gzip.compress(X5US)
 FILES['list.gz'] = gzip.compress(captures.FILES['list'])
