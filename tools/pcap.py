@@ -1,5 +1,5 @@
-"""Captures in the form of classic pcap with SIP over UDP, read packet by packet: Ethernet, also with VLAN tags, and raw IP; IPv4 and
-IPv6, with fragments put together. What else a capture may be is read by tshark (shark.py)."""
+"""Captures in the form of classic pcap with SIP over UDP, read packet by packet: Ethernet, also with VLAN tags, raw IP, and what
+`tcpdump -i any` writes; IPv4 and IPv6, with fragments put together. What else a capture may be is read by tshark (shark.py)."""
 import struct
 
 import outside
@@ -12,7 +12,9 @@ NEXT_GENERATION = b'\x0a\x0d\x0d\x0a'
 # The most bytes of a packet that tcpdump writes.
 LONGEST_PACKET = 262_144
 
-ETHERNET, RAW = 1, 101
+# Link types of the tcpdump group, and where in the others than Ethernet the protocol stands, if it does, and the packet begins.
+ETHERNET, RAW, COOKED, COOKED_2 = 1, 101, 113, 276
+PLACES = {RAW: (None, 0), COOKED: (14, 16), COOKED_2: (0, 20)}
 VLANS = (b'\x81\x00', b'\x88\xa8')
 IP = (b'\x08\x00', b'\x86\xdd')
 TCP, UDP, FRAGMENT = 6, 17, 44
@@ -30,9 +32,13 @@ def header(name, file):
     return order, unit, struct.unpack(order + 'I', data[20:24])[0] & 0xFFFF
 
 
-def packets(name, file):
+def is_read(link):
+    """Whether packets of this link type are read."""
+    return link == ETHERNET or link in PLACES
+
+
+def packets(name, file, order, unit, link):
     """Each packet of a capture with its time, and its captured bytes: None if those are fewer than there were."""
-    order, unit, link = header(name, file)
     record, number = struct.Struct(order + '4I'), 0
     while entry := file.read(16):
         number += 1
@@ -41,14 +47,17 @@ def packets(name, file):
         second, fraction, kept, length = record.unpack(entry)
         if kept > LONGEST_PACKET:
             raise outside.Fault(f'{name}: packet {number} is of {kept} bytes, which no capture has')
-        packet = file.read(kept)
-        if len(packet) < kept:
+        frame = file.read(kept)
+        if len(frame) < kept:
             raise outside.Fault(f'{name}: the capture is cut short in packet {number}')
-        yield second * SECOND + fraction * unit, (packet if link == RAW else frame_content(packet)) if kept >= length else None
+        yield second * SECOND + fraction * unit, frame_content(frame, link) if kept >= length else None
 
 
-def frame_content(frame):
-    """The IP packet in an Ethernet frame, after its VLAN tags (IEEE 802.1Q); nothing where there is none."""
+def frame_content(frame, link):
+    """The IP packet in a frame, in Ethernet after its VLAN tags (IEEE 802.1Q); nothing where there is none."""
+    if link != ETHERNET:
+        kind, start = PLACES[link]
+        return frame[start:] if kind is None or frame[kind:kind + 2] in IP else b''
     at = 12
     while frame[at:at + 2] in VLANS:
         at += 4
@@ -123,10 +132,10 @@ class Reader:
         # Packets from or to SIP's port, and of these the segments of TCP with content.
         self.on_port = self.over_tcp = 0
 
-    def messages(self, name, file):
-        """The time, the source (address and port) and the bytes of what each UDP datagram of a capture carries."""
+    def messages(self, name, file, kind):
+        """The time, the source (address and port) and the bytes of what each UDP datagram of a capture carries, from after its header on."""
         fragments = Fragments()
-        for time, packet in packets(name, file):
+        for time, packet in packets(name, file, *kind):
             if packet is None:
                 self.counts['cut packets'] += 1
                 continue

@@ -1,4 +1,5 @@
 """Captures read by tshark (Debian's package tshark, 4.0 or later): every form, link type and tunnel that it knows, and SIP over TCP."""
+import contextlib
 import ipaddress
 import json
 import os
@@ -7,7 +8,7 @@ import subprocess
 import tempfile
 
 import outside
-from call_log import SECOND
+from call_log import BUFFER, SECOND
 
 INSTALL = 'apt install tshark'
 
@@ -22,18 +23,42 @@ def is_there():
     return shutil.which('tshark') is not None
 
 
-def lines(name, path, words):
-    """What tshark writes of a capture, line by line; that it fails is a fault."""
+@contextlib.contextmanager
+def running(name, path, words):
+    """What tshark writes of a capture; that it fails is a fault, where what it writes was read to its end."""
     with tempfile.TemporaryDirectory() as room, tempfile.TemporaryFile() as said:
         # No preferences of the user's.
         environment = os.environ | {'WIRESHARK_CONFIG_DIR': room, 'HOME': room, 'XDG_CONFIG_HOME': room}
         command = ['tshark', '-n', '-r', path, '-o', 'tcp.reassemble_out_of_order:TRUE', *words]
-        with subprocess.Popen(command, stdin=subprocess.DEVNULL, stdout=subprocess.PIPE, stderr=said, env=environment) as running:
-            yield from running.stdout
-        if running.returncode:
+        with subprocess.Popen(command, stdin=subprocess.DEVNULL, stdout=subprocess.PIPE, stderr=said, env=environment, bufsize=BUFFER) as child:
+            try:
+                yield child.stdout
+                is_whole = not child.stdout.read(1)
+            finally:
+                child.stdout.close()
+                child.wait()
+        if is_whole and child.returncode:
             said.seek(0)
             why = said.read().decode(errors='replace').strip().rpartition('\n')[2].removeprefix('tshark: ')
             raise outside.Fault(f'{name}: tshark reads no further: {why}')
+
+
+class NotClassic(Exception):
+    """A capture that can't be a classic one, since its packets are of several link types."""
+
+
+@contextlib.contextmanager
+def as_classic(name, path):
+    """A capture of another form as a classic one in nanoseconds, which tshark makes without a look into the packets; or NotClassic."""
+    with running(name, path, ['-F', 'nsecpcap', '-w', '-']) as stream:
+        if not stream.peek(4):
+            raise NotClassic
+        yield stream
+
+
+def lines(name, path, words):
+    with running(name, path, words) as stream:
+        yield from stream
 
 
 def last(value):

@@ -6,7 +6,7 @@ import struct
 
 import captures
 
-COOKED, COOKED_2 = 113, 276
+LOOPBACK, COOKED, COOKED_2 = 0, 113, 276
 
 
 def call(number, body=b''):
@@ -74,12 +74,15 @@ def block(kind, content):
     return struct.pack('<II', kind, 12 + len(content)) + content + struct.pack('<I', 12 + len(content))
 
 
-def pcapng(frames, link):
-    """A capture in the next generation's form (draft-ietf-opsawg-pcapng, sections 4.1 to 4.3), in microseconds."""
-    data = block(0x0A0D0D0A, struct.pack('<IHHq', 0x1A2B3C4D, 1, 0, -1)) + block(1, struct.pack('<HHI', link, 0, 0))
-    for time, frame in frames:
+def pcapng(*interfaces):
+    """A capture in the next generation's form (draft-ietf-opsawg-pcapng, sections 4.1 to 4.3), in microseconds: of each interface its frames
+    and its link type."""
+    data = block(0x0A0D0D0A, struct.pack('<IHHq', 0x1A2B3C4D, 1, 0, -1))
+    for _, link in interfaces:
+        data += block(1, struct.pack('<HHI', link, 0, 0))
+    for interface, time, frame in ((number, *it) for number, (frames, _) in enumerate(interfaces) for it in frames):
         stamp = time * 1_000_000 + 999
-        data += block(6, struct.pack('<IIIII', 0, stamp >> 32, stamp & 0xFFFFFFFF, len(frame), len(frame)) + frame)
+        data += block(6, struct.pack('<IIIII', interface, stamp >> 32, stamp & 0xFFFFFFFF, len(frame), len(frame)) + frame)
     return data
 
 
@@ -92,6 +95,10 @@ def fragmented(message, number):
 
 PACKETS = [(time, packet) for number, (time, message) in enumerate(RUN) for packet in fragmented(message, number)]
 FRAMES = [(time, captures.ethernet(packet)) for time, packet in PACKETS]
+ANY = [(time, cooked(packet, COOKED_2)) for time, packet in PACKETS]
+SHUFFLED = stream(RUN[:3]) + shuffled(stream(cut(RUN[3:], 100), first=1000 + sum(len(it[1]) for it in RUN[:3])))[1:]
+DNS = struct.pack('>HHHH', 53, 53, 9, 0) + b'x'
+NO_TRAFFIC = [(1, captures.ethernet(captures.ipv4(DNS)))]
 ONE_PART = RUN[:1], [RUN[1], RUN[2]], RUN[3:4], RUN[4:]
 CUT_EVERYWHERE, EVERYWHERE = everywhere()
 NO_CALLS = [(time, captures.ethernet(captures.ipv4(captures.udp(captures.message(number, 'OPTIONS'))))) for number, time in enumerate((1, 2))]
@@ -113,20 +120,24 @@ FILES = {
     'three.log': captures.FILES['ethernet.log'] + captures.FILES['dialogs.log'] + LOG,
     'run-udp.pcap': captures.pcap(FRAMES, captures.ETHERNET),
     'run-any.pcap': captures.pcap([(time, cooked(packet, COOKED)) for time, packet in PACKETS], COOKED),
-    'run-any-2.pcap': captures.pcap([(time, cooked(packet, COOKED_2)) for time, packet in PACKETS], COOKED_2),
-    'run-any-2.pcapng': pcapng([(time, cooked(packet, COOKED_2)) for time, packet in PACKETS], COOKED_2),
-    'run-udp.pcapng': pcapng(FRAMES, captures.ETHERNET),
+    'run-any-2.pcap': captures.pcap(ANY, COOKED_2),
+    'run-any-2.pcapng': pcapng((ANY, COOKED_2)),
+    'run-udp.pcapng': pcapng((FRAMES, captures.ETHERNET)),
     'run-tcp.pcap': captures.pcap(stream(RUN), captures.ETHERNET),
     'run-tcp-cut.pcap': captures.pcap(stream(cut(RUN, 11)), captures.ETHERNET),
     'run-tcp-joined.pcap': captures.pcap(stream([part for some in ONE_PART for part in joined(some)]), captures.ETHERNET),
-    'run-tcp-shuffled.pcapng': pcapng(stream(RUN[:3]) + shuffled(stream(cut(RUN[3:], 100), first=1000 + sum(len(it[1]) for it in RUN[:3])))[1:],
-                                      captures.ETHERNET),
+    'run-tcp-shuffled.pcapng': pcapng((SHUFFLED, captures.ETHERNET)),
+    'run-two.pcapng': pcapng((FRAMES[:3], captures.ETHERNET), (ANY[3:], COOKED_2)),
+    'run-cut.pcapng': pcapng((FRAMES, captures.ETHERNET))[:-9],
+    'run-loopback.pcap': captures.pcap([(time, struct.pack('<I', 2) + packet) for time, packet in PACKETS], LOOPBACK),
     'run-half-tcp.pcap': captures.pcap(FRAMES[:2] + stream(RUN[2:]), captures.ETHERNET),
     'everywhere.pcap': captures.pcap(CUT_EVERYWHERE, captures.ETHERNET),
     'everywhere.log': captures.log(EVERYWHERE),
     'no-calls.pcap': captures.pcap(NO_CALLS, captures.ETHERNET),
-    'no-calls.pcapng': pcapng(NO_CALLS, captures.ETHERNET),
-    'no-traffic.pcapng': pcapng([(1, captures.ethernet(captures.ipv4(captures.udp(b'x', 53)[:2] + b'\0\x35' + captures.udp(b'x')[4:])))], captures.ETHERNET),
+    'no-calls.pcapng': pcapng((NO_CALLS, captures.ETHERNET)),
+    'no-traffic.pcapng': pcapng((NO_TRAFFIC, captures.ETHERNET)),
+    'no-traffic-loopback.pcap': captures.pcap([(1, struct.pack('<I', 2) + captures.ipv4(DNS))], LOOPBACK),
+    'no-calls-loopback.pcap': captures.pcap([(1, struct.pack('<I', 2) + captures.ipv4(captures.udp(b'\0')))], LOOPBACK),
     'not-gzip.gz': b'\x1f\x8bnothing',
 }
 FILES['run-udp.pcap.gz'] = gzip.compress(FILES['run-udp.pcap'])
