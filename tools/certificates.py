@@ -1,12 +1,16 @@
-"""Files of certificates: PEM (RFC 7468), DER, and PKCS #7 in either (RFC 2315; RFC 8226 takes no stand); and what is told of chains."""
+"""Files of certificates: PEM (RFC 7468), DER, and PKCS #7 in either (RFC 2315); and what is told of chains."""
 import base64
 import binascii
 import datetime
 import pathlib
 import re
+import warnings
 
 import der
 import outside
+
+# What the library thinks of a stranger's certificate is no line of a tool.
+warnings.filterwarnings('ignore')
 
 # A chain in a chain map, and its most certificates and bytes (docs/FORMATS.md, "Chain").
 CHAIN_LINE = rb'([!#-;=?-\[\]-~]+) ([!-~]{1,255})'
@@ -100,10 +104,11 @@ def say_missing(name, chain, anchors):
 
 
 def loaded(certificate):
-    """A certificate as the library has it, or None where it reads none."""
+    """A certificate as the library has it, or None where it doesn't read its names and dates."""
     from cryptography import x509
     try:
-        return x509.load_der_x509_certificate(certificate)
+        found = x509.load_der_x509_certificate(certificate)
+        return found if found.issuer.rfc4514_string() and end_in(found) else None
     except Exception:  # the library has other errors from version to version
         return None
 
@@ -114,9 +119,22 @@ def issuer_text(certificate):
     return found.issuer.rfc4514_string() if found else 'its issuer'
 
 
+def public_point(certificate):
+    """The point of a certificate's key, or None where it is no key on P-256."""
+    try:
+        key = loaded(certificate).public_key()
+        return outside.point_of(key) if isinstance(key.curve, outside.ec.SECP256R1) else None
+    except Exception:  # no certificate, no such key, or none that the library knows
+        return None
+
+
+def end_in(found):
+    """The last moment at which a certificate of the library is valid."""
+    if hasattr(found, 'not_valid_after_utc'):
+        return found.not_valid_after_utc
+    return found.not_valid_after.replace(tzinfo=datetime.timezone.utc)
+
+
 def end_of(certificate):
     """The last second at which a certificate is valid, in Unix time."""
-    found = loaded(certificate)
-    if hasattr(found, 'not_valid_after_utc'):
-        return int(found.not_valid_after_utc.timestamp())
-    return int(found.not_valid_after.replace(tzinfo=datetime.timezone.utc).timestamp())
+    return int(end_in(loaded(certificate)).timestamp())

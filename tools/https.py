@@ -10,6 +10,9 @@ import time
 import urllib.parse
 
 MOST_REDIRECTS = 3
+
+# The addresses by which IPv4 is reached from IPv6 (RFC 6052, section 2.1).
+TRANSLATED = ipaddress.ip_network('64:ff9b::/96')
 HOST_LINE = rb'((?:\*\.)?[A-Za-z0-9.-]+|\[[0-9A-Fa-f:.]+\])(?::([1-9]\d{0,4}))?'
 
 
@@ -47,8 +50,11 @@ def place_of(uri, hosts):
 
 
 def is_public(address):
+    """Whether an address is one of the internet; of an IPv6 address that stands for one of IPv4, whether that is."""
     found = ipaddress.ip_address(address.partition('%')[0])
-    found = getattr(found, 'ipv4_mapped', None) or found
+    if found.version == 6:
+        translated = ipaddress.IPv4Address(int(found) & 0xFFFFFFFF) if found in TRANSLATED else None
+        found = found.ipv4_mapped or found.sixtofour or translated or found
     return found.is_global and not found.is_multicast
 
 

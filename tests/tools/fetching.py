@@ -2,6 +2,7 @@
 import collections
 import contextlib
 import http.server
+import importlib.util
 import json
 import pathlib
 import ssl
@@ -12,6 +13,10 @@ import time
 import issued
 
 SECONDS = 2
+
+PUBLIC = '8.8.8.8 193.0.0.1 2606:4700::1111 ::ffff:8.8.8.8 64:ff9b::808:808'
+PRIVATE = ('10.0.0.1 127.0.0.1 169.254.169.254 172.16.0.1 192.168.1.1 100.64.0.1 0.0.0.0 255.255.255.255 224.0.0.1 192.0.2.1 ::1 :: fe80::1%eth0 '
+           'fc00::1 ff02::1 2001:db8::1 ::ffff:10.0.0.1 2002:a00:1::1 64:ff9b::a00:1')
 
 
 class Handler(http.server.BaseHTTPRequestHandler):
@@ -220,8 +225,18 @@ def missing(run):
     yield 'stir-fetch names the missing issuer', (1, x5us, f'stir-fetch: {x5us[0]}: {why}'), (status, list(chain_map), said[0])
 
 
+def addresses():
+    """Which addresses are private (RFC 6890 and its registries)."""
+    spec = importlib.util.spec_from_file_location('https', pathlib.Path(__file__).resolve().parent.parent.parent / 'tools' / 'https.py')
+    https = importlib.util.module_from_spec(spec)
+    spec.loader.exec_module(https)
+    for public, some in ((True, PUBLIC), (False, PRIVATE)):
+        yield f'stir-fetch and addresses, public {public}', [], [address for address in some.split() if https.is_public(address) != public]
+
+
 def results(tool):
     """Each case: its name, what is wanted, and what came."""
+    yield from addresses()
     with tempfile.TemporaryDirectory() as folder, served(pathlib.Path(folder)) as port:
         run = Run(tool, pathlib.Path(folder), port)
         for cases in (good, bad, unsafe, again, missing):

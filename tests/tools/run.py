@@ -4,9 +4,9 @@ stir-confirm and stir-signer with openssl, where that is on the path.
 
     run.py PROGRAM [--keys COUNT]
 
-`cases` tells its lines. The files of a case are those of `files`, those that captures.py makes, and those that stand below. COUNT is the
-number of keys and messages that go through openssl, 10 where it isn't given. Where the Python package cryptography is missing, the cases
-of stir-confirm and stir-signer are left out, which a line says.
+`cases` tells its lines. The files of a case are those of `files`, those that captures.py and streams.py make, and those that stand below.
+What no line can say stands in fetching.py, refusals.py, reports.py and terminals.py. COUNT is the number of keys and messages that go
+through openssl, 10 where it isn't given. Where the Python package cryptography, openssl or tshark is missing, a line says what isn't tried.
 """
 import importlib.util
 import os
@@ -154,19 +154,23 @@ def agreement(folder):
 def results(program, keys):
     """Each case: its name, what is wanted, and what came."""
     has_library = importlib.util.find_spec('cryptography') is not None
-    if not has_library:
-        print('tools: python3-cryptography is missing, so stir-confirm and stir-signer are not tried')
+    has_openssl = shutil.which('openssl') is not None
     without = () if has_library else NEED_LIBRARY
+    for is_there, what, untried in ((has_library, 'python3-cryptography', 'stir-chain, stir-confirm, stir-fetch and stir-signer are'),
+                                    (has_openssl, 'openssl', 'stir-fetch, and what openssl signs and verifies, are'),
+                                    (shutil.which('tshark'), 'tshark', 'what it reads is')):
+        if not is_there:
+            print(f'tools: {what} is missing, so {untried} not tried')
     if not shutil.which('tshark'):
-        print('tools: tshark is missing, so what it reads is not tried')
         without += ('+tshark',)
     for number, line in enumerate((HERE / 'cases').read_text().splitlines(), 1):
         if line and not line.startswith((';', *without)):
             yield f'cases:{number}', *case(line, program)
     yield from refusals.results(program)
-    yield from terminals.results(TOOLS, FILES)
     yield from reports.results(tool, HERE / 'files')
-    if has_library and shutil.which('openssl'):
+    if has_library:
+        yield from terminals.results(TOOLS, FILES)
+    if has_library and has_openssl:
         yield from fetching.results(tool)
         with tempfile.TemporaryDirectory() as folder:
             for number in range(keys):
