@@ -52,3 +52,4 @@ mod ClassLaws
 mod SeatingLaws
 mod PreparedLaws
 mod PrepareLaws
+pub mod Shared
