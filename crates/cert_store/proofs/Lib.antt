@@ -13,5 +13,3 @@ pub mod TruthLaws
 pub mod QuestionLaws
 pub mod CacheLaws
 pub mod EntryLaws
-pub mod OnceLaws
-pub mod UsingLaws

@@ -10,4 +10,3 @@ pub mod Words
 pub mod Below
 pub mod Questions
 pub mod Holding
-pub mod Using

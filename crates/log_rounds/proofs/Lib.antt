@@ -1,7 +1,5 @@
-pub mod ServiceLaws
 pub mod RoundLaws
-pub mod FewLaws
-mod FollowLaws
+pub mod FollowLaws
 pub mod ReportLaws
 pub mod LegalLaws
 pub mod StatusLaws

@@ -1,8 +1,5 @@
-pub mod Judge
-pub mod Answers
-pub mod Verifier
+pub mod Bench
 pub mod AllValid
 pub mod Rounds
-pub mod Reads
 pub mod Judged
 pub mod Batches

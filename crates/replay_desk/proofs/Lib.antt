@@ -1,5 +1,4 @@
 mod Keeping
-mod ListLaws
 mod Words
 pub mod Shared
 pub mod Sums

@@ -1,4 +1,3 @@
-pub mod SinglyLaws
 pub mod ExplainBack
 pub mod ExplainSteps
 pub mod ExplainLaws

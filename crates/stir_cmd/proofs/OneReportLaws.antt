@@ -28,7 +28,7 @@ use Rattle.verify_rules.specs.World.{First, World}
 use Rattle.verify_rules.specs.declared.settings.Settings.{Settings}
 use Rattle.verify_service.specs.Report.{report}
 use Rattle.verify_service.specs.Judging.{call_in}
-use Rattle.stir_cmd.specs.Calls.{config_by, settings_by, world_by}
+use Rattle.stir_cmd.specs.Calls.{bench_by, settings_by, world_by}
 use Rattle.stir_cmd.specs.Headline.{AreJudged, Headline, Verified}
 use Rattle.stir_cmd.specs.OneReport.{AreOneReport, GivesOneReport, IsLogApart, IsOneReport}
 use Rattle.stir_cmd.specs.Outside.{IfTold, Outside}
@@ -90,7 +90,7 @@ one_outcomes : OneReportLawsOf → (judging : JudgingView) (files : Files) (byte
     → NotRisen before.counts.faults now.counts.faults → NotRisen other.counts.faults other_now.counts.faults → outcomes_in mine.rounds ≡ outcomes_in yours.rounds
 one_outcomes laws judging files bytes before now other other_now status other_status apart mine yours quiet quiet_other =
     let settings = settings_by judging.settings in
-    let config = config_by settings in
+    let bench = bench_by settings in
     let world = world_by mine.materials files in
     let world_other = world_by yours.materials files in
     let calls = (laws.one_log (start 0 0) bytes (calls_in mine.rounds) (calls_in yours.rounds) [] [] mine.log yours.log).0 in
@@ -100,13 +100,13 @@ one_outcomes laws judging files bytes before now other other_now status other_st
     let alike : RoundsAlike mine.rounds yours.rounds =
     rounds_alike world world_other settings same mine.rounds yours.rounds cut mine.judged.each yours.judged.each
     (none_aside settings mine.materials files before now mine.rounds mine.judged quiet) (none_aside settings yours.materials files other other_now yours.rounds yours.judged quiet_other) in
-    let apart_mine : IsApart config (calls_in mine.rounds) = apart (calls_in mine.rounds) mine.log in
-    let apart_yours : IsApart config (calls_in yours.rounds) = apart (calls_in yours.rounds) yours.log in
-    let one : OneAnswerEach config mine.rounds yours.rounds =
-    laws.one_answer (row_rounds config mine.rounds) (row_rounds config yours.rounds) (has_each config mine.rounds yours.rounds alike)
-    (has_each config yours.rounds mine.rounds (rounds_turned mine.rounds yours.rounds alike))
+    let apart_mine : IsApart bench (calls_in mine.rounds) = apart (calls_in mine.rounds) mine.log in
+    let apart_yours : IsApart bench (calls_in yours.rounds) = apart (calls_in yours.rounds) yours.log in
+    let one : OneAnswerEach bench mine.rounds yours.rounds =
+    laws.one_answer (row_rounds bench mine.rounds) (row_rounds bench yours.rounds) (has_each bench mine.rounds yours.rounds alike)
+    (has_each bench yours.rounds mine.rounds (rounds_turned mine.rounds yours.rounds alike))
     (mine.judged.legal apart_mine).once (mine.judged.first_wins apart_mine) (yours.judged.legal apart_yours).once (yours.judged.first_wins apart_yours) in
-    all_same world world_other config mine.rounds yours.rounds alike mine.judged.each yours.judged.each one
+    all_same world world_other bench mine.rounds yours.rounds alike mine.judged.each yours.judged.each one
 
 one_report : OneReportLawsOf → (judging : JudgingView) (files : Files) (bytes : List ℕ) (before now other other_now : Outside) (status other_status : ℕ)
     → IsLogApart judging bytes → Verified judging files bytes before now status → Verified judging files bytes other other_now other_status

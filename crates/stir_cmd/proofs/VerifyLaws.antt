@@ -6,9 +6,8 @@ use Rattle.call_log.specs.Log.{LogText, start}
 use Rattle.log_run.specs.Batch.{calls_in, texts_in}
 use Rattle.log_run.specs.Ending.{report_status}
 use Rattle.log_run.specs.Words.{DoneReport}
-use Rattle.log_rounds.specs.Judge.{outside_counts}
+use Rattle.log_rounds.specs.Bench.{fault_counts}
 use Rattle.log_rounds.specs.Judged as judged
-use Rattle.log_rounds.specs.Verifier.{AnswersBy}
 use Rattle.log_rounds.specs.Rounds.{Round, outcomes_in, unread_pairs}
 use Rattle.stir_files.specs.Materials.{MaterialsOf}
 use Rattle.stir_files.specs.declared.materials.Materials.{Materials}
@@ -18,7 +17,7 @@ use Rattle.stir_words.specs.Order.{JudgingView, VerifyBy}
 use Rattle.verify_rules.specs.declared.settings.Settings.{Settings}
 use Rattle.verify_service.specs.Report.{report}
 use Rattle.stir_cmd.specs.Outside.{IfTold, Outside}
-use Rattle.stir_cmd.specs.Calls.{basis_of, config_by, settings_by}
+use Rattle.stir_cmd.specs.Calls.{AnswersBy, bench_by, settings_by}
 use Rattle.stir_cmd.specs.Headline.{AreJudged, Headline, Verified}
 use Rattle.stir_cmd.specs.OverFiles.{counted}
 use Rattle.stir_cmd.specs.OverLog.{log_in}
@@ -29,14 +28,14 @@ use Rattle.stir_cmd.proofs.OverFilesLaws.{behind_files, over_keeps}
 
 -- ---- how the log's run is seen from the whole run, which read the files before it
 
-are_judged : (settings : Settings) (materials : Materials) (files : Files) (before now : Outside) (faults reads : ℕ) (rounds : List Round) → before.counts.faults ≤ faults → faults ≤ now.counts.faults
-    → judged.AreJudged (AnswersBy (basis_of settings materials) (Some files)) (config_by settings) (outside_counts faults 0 reads) (outside_counts now.counts.faults 0 now.counts.reads) rounds → AreJudged settings materials files before now rounds
-are_judged settings materials files before now faults reads rounds earlier stay j = record {
+are_judged : (settings : Settings) (materials : Materials) (files : Files) (before now : Outside) (faults : ℕ) (rounds : List Round) → before.counts.faults ≤ faults → faults ≤ now.counts.faults
+    → judged.AreJudged (AnswersBy materials settings (Some files)) (bench_by settings) (fault_counts faults 0) (fault_counts now.counts.faults 0) rounds → AreJudged settings materials files before now rounds
+are_judged settings materials files before now faults rounds earlier stay j = record {
   cut = j.cut;
   each = j.each;
   legal = j.legal;
   first_wins = j.first_wins refl;
-  unread = then_at_most (unread_pairs (config_by settings) rounds) before.counts.faults faults now.counts.faults earlier j.aside.unread;
+  unread = then_at_most (unread_pairs (bench_by settings) rounds) before.counts.faults faults now.counts.faults earlier j.aside.unread;
   quiet = λ q. j.aside.quiet_shelf (not_risen_behind before.counts.faults faults now.counts.faults earlier stay q);
   answered = j.aside.quiet_provider (record { same = refl; below_last = omega arith });
 }
@@ -51,14 +50,14 @@ told_by judging before mid now status None left materials stands earlier stay sa
 told_by judging before mid now status (Some files) None materials stands earlier stay same wrote done log = tt
 told_by judging before mid now status (Some files) (Some bytes) materials stands earlier stay same wrote done log =
     let known = done.answered.known in
-    let lines : texts_in done.batches ++ done.text ≡ report 1 (outcomes_in known.rounds) = ap (λ t. texts_in done.batches ++ t) done.closes.none ∙ append-nil (texts_in done.batches) ∙ known.lines in
+    let lines : texts_in done.batches ++ done.text ≡ report 1 (outcomes_in known.rounds) = ap (λ t. texts_in done.batches ++ t) done.closes ∙ append-nil (texts_in done.batches) ∙ known.lines in
     record {
       materials = materials;
       stands = stands;
       rounds = known.rounds;
       log = subst (λ (calls : List Entry). LogText (start 0 0) bytes calls []) known.calls log;
-      judged = are_judged (settings_by judging.settings) materials files before now mid.counts.faults mid.counts.reads known.rounds earlier stay
-          (subst (λ (x : Option Files). judged.AreJudged (AnswersBy (basis_of (settings_by judging.settings) materials) x) (config_by (settings_by judging.settings)) (outside_counts mid.counts.faults 0 mid.counts.reads) (outside_counts now.counts.faults 0 now.counts.reads) known.rounds) same known.are_judged);
+      judged = are_judged (settings_by judging.settings) materials files before now mid.counts.faults known.rounds earlier stay
+          (subst (λ (x : Option Files). judged.AreJudged (AnswersBy materials (settings_by judging.settings) x) (bench_by (settings_by judging.settings)) (fault_counts mid.counts.faults 0) (fault_counts now.counts.faults 0) known.rounds) same known.are_judged);
       reported = subst (λ (x : Option (List ℕ)). Appends x now.written (report 1 (outcomes_in known.rounds))) wrote (subst (Appends mid.written now.written) lines done.reported);
       said = done.said ∙ ap report_status known.well;
     }

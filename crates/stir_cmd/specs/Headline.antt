@@ -6,7 +6,6 @@ use Rattle.call_log.specs.Log.{LogText, start}
 use Rattle.log_run.specs.Ending.{report_status}
 use Rattle.log_rounds.specs.Rounds.{FirstWinsIn, InEach, IsApart, IsCut, Legal, Round, calls_in, outcomes_in, unread_pairs}
 use Rattle.log_rounds.specs.AllValid.{all_valid}
-use Rattle.log_rounds.specs.Answers.{Answers}
 use Rattle.stir_files.specs.Materials.{MaterialsOf}
 use Rattle.stir_files.specs.declared.materials.Materials.{Materials}
 use Rattle.stir_outside.specs.Count.{AtMost, NotRisen}
@@ -16,7 +15,7 @@ use Rattle.verify_rules.specs.declared.settings.Settings.{Settings}
 use Rattle.verify_service.specs.Causes.{NoneUnasked, NoneUnread}
 use Rattle.verify_service.specs.Report.{report}
 use Rattle.stir_cmd.specs.Outside.{IfTold, Outside}
-use Rattle.stir_cmd.specs.Calls.{config_by, settings_by, world_by}
+use Rattle.stir_cmd.specs.Calls.{Answers, bench_by, settings_by, world_by}
 
 -- Rounds of 256 calls, but the last, judged by what the files say: each call is answered by the first rule that it breaks. Where no two signing
 -- inputs of last PASSporTs have one digest, the outcomes are legal: of the calls that break no rule and have one last PASSporT exactly one is
@@ -25,9 +24,9 @@ use Rattle.stir_cmd.specs.Calls.{config_by, settings_by, world_by}
 pub record AreJudged (settings : Settings) (materials : Materials) (files : Files) (before now : Outside) (rounds : List Round) : Type 0 where
   pub cut : IsCut rounds
   pub each : InEach (Answers (world_by materials files) settings) rounds
-  pub legal : IsApart (config_by settings) (calls_in rounds) → Legal (Answers (world_by materials files) settings) (config_by settings) rounds
-  pub first_wins : IsApart (config_by settings) (calls_in rounds) → FirstWinsIn (config_by settings) rounds
-  pub unread : AtMost (unread_pairs (config_by settings) rounds) before.counts.faults now.counts.faults
+  pub legal : IsApart (bench_by settings) (calls_in rounds) → Legal (Answers (world_by materials files) settings) (bench_by settings) rounds
+  pub first_wins : IsApart (bench_by settings) (calls_in rounds) → FirstWinsIn (bench_by settings) rounds
+  pub unread : AtMost (unread_pairs (bench_by settings) rounds) before.counts.faults now.counts.faults
   pub quiet : NotRisen before.counts.faults now.counts.faults → NoneUnread (outcomes_in rounds)
   pub answered : NoneUnasked (outcomes_in rounds)
 

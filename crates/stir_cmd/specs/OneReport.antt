@@ -7,13 +7,13 @@ use Rattle.log_rounds.specs.Rounds.{IsApart}
 use Rattle.stir_outside.specs.Count.{NotRisen}
 use Rattle.stir_outside.specs.Files.{Files}
 use Rattle.stir_words.specs.Order.{JudgingView, OrderView, VerifyBy}
-use Rattle.stir_cmd.specs.Calls.{config_by, settings_by}
+use Rattle.stir_cmd.specs.Calls.{bench_by, settings_by}
 use Rattle.stir_cmd.specs.Headline.{Headline}
 use Rattle.stir_cmd.specs.Outside.{IfTold, Outside}
 
 -- no two different texts that were signed as last PASSporTs of the log's calls have one digest
 abbrev pub IsLogApart : JudgingView → List ℕ → Type 0
-IsLogApart judging bytes = (calls : List Entry) → LogText (start 0 0) bytes calls [] → IsApart (config_by (settings_by judging.settings)) calls
+IsLogApart judging bytes = (calls : List Entry) → LogText (start 0 0) bytes calls [] → IsApart (bench_by (settings_by judging.settings)) calls
 
 -- a run over these files and this log that kept the headline's promise, ended with 0 or 1, and in which no read of the shelf failed
 pub record JudgedTheSame (order : Option OrderView) (files : Files) (bytes : List ℕ) (before now : Outside) (status : ℕ) : Type 0 where

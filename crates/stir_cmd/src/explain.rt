@@ -7,7 +7,8 @@ ghost use Rattle.stir_words.specs.Seen.{asking_view, judging_view};
 use crate::settings::settings_of;
 use crate::verify::end_at;
 use cert_store::World;
-use single_calls::{Asker, Explainer, ask_log, explain_log};
+use log_singly::{Singly, answer_log};
+use single_calls::{Asker, Explainer};
 use std::alloc::Global;
 use std::thread::Threads;
 use stir_files::{Materials, read_materials, read_world};
@@ -42,8 +43,8 @@ pub(crate) fn explain<R: Threads + Sync, S: Shelf, I: Source, O: Sink>(
                 anchors,
                 table,
             };
-            let mut explainer = Explainer::new(settings_of(&judging.settings), world, &answers);
-            explain_log(rt, alloc, &mut explainer, shelf, input, sink)
+            let explainer = Explainer::new(settings_of(&judging.settings), world, &answers);
+            answer_log(rt, alloc, &mut Singly(explainer), shelf, input, sink)
         }
         Err(stop) => end_at(alloc, &stop, sink),
     }
@@ -66,8 +67,8 @@ pub(crate) fn ask<R: Threads + Sync, S: Shelf, I: Source, O: Sink>(
 {
     match read_world(alloc, shelf, asking) {
         Ok(world) => {
-            let mut asker = Asker::new(alloc, settings_of(&asking.settings), world);
-            ask_log(rt, alloc, &mut asker, shelf, input, sink)
+            let asker = Asker::new(alloc, settings_of(&asking.settings), world);
+            answer_log(rt, alloc, &mut Singly(asker), shelf, input, sink)
         }
         Err(stop) => end_at(alloc, &stop, sink),
     }

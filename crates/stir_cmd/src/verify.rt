@@ -7,8 +7,9 @@ ghost use Rattle.stir_files.specs.Stop.{stop_of};
 ghost use Rattle.stir_words.specs.Seen.{judging_view};
 ghost use Rattle.stir_outside.specs.Stays.{ShelfStays};
 
+use crate::bench::Bench;
 use crate::settings::settings_of;
-use log_rounds::{LogVerifier, judge_log};
+use log_rounds::{Rounds, judge_log};
 use std::alloc::Global;
 use std::thread::Threads;
 use stir_files::{FileError, Materials, read_materials};
@@ -76,11 +77,11 @@ fn judge_by<R: Threads + Sync, S: Shelf, I: Source, O: Sink>(
         Ok(service) => service,
         Err(_) => return end_with(sink, memory_line(), Status::Memory),
     };
-    let mut verifier = LogVerifier {
+    let mut rounds = Rounds(Bench {
         service,
         answers: &answers,
-    };
-    judge_log(rt, alloc, &mut verifier, shelf, input, sink)
+    });
+    judge_log(rt, alloc, &mut rounds, shelf, input, sink)
 }
 
 /// Writes the line that says why a named file can't be had.

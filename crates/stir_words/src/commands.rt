@@ -57,12 +57,6 @@ const WINDOW: Row = Row {
     required: false,
 };
 
-/// How many workers judge the calls.
-const WORKERS: Row = Row {
-    name: "workers",
-    required: false,
-};
-
 /// The digits of the country.
 const COUNTRY: Row = Row {
     name: "country",
@@ -129,12 +123,7 @@ const HOLDER_TABLE: Row = Row {
     required: false,
 };
 
-/// The options of `verify`.
-const VERIFYING: [Row; 8] = [
-    CHAINS, ANCHORS, TABLE, ANSWERS, WORKERS, WINDOW, COUNTRY, NATIONAL,
-];
-
-/// The options of `explain`.
+/// The options of `verify` and `explain`.
 const JUDGING: [Row; 7] = [CHAINS, ANCHORS, TABLE, ANSWERS, WINDOW, COUNTRY, NATIONAL];
 
 /// The options of `ask`.
@@ -189,8 +178,7 @@ impl Command {
         ensures { map known_of result.now ≡ options_of self }
     {
         match self {
-            Command::Verify => &VERIFYING,
-            Command::Explain => &JUDGING,
+            Command::Verify | Command::Explain => &JUDGING,
             Command::Ask => &ASKING,
             Command::Sign => &SIGNING,
             Command::Divert => &DIVERTING,

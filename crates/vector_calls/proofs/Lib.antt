@@ -1,2 +1,1 @@
 pub mod KnownLaws
-pub mod WorkerLaws

@@ -5,4 +5,3 @@ pub mod rounds;
 pub mod rules;
 pub mod signing;
 pub mod verdicts;
-pub mod workers;

@@ -1,7 +1,4 @@
 //! Rounds of calls on one worker, over files in memory: the calls of `verify_service`.
-ghost use Rattle.std.specs.Prelude.{◌≡◌, [], Some, IfOk, slice_index_or};
-ghost use Rattle.stir_outside.specs.Held.{held_says};
-ghost use Rattle.verify_service.specs.Service.{HoldsRight};
 
 use std::alloc::Global;
 use std::thread::Threads;
@@ -20,7 +17,6 @@ pub fn answer<R: Threads + Sync>(
 ) -> Result<String, Unread> {
     match call {
         "report" => report(rt, alloc, words),
-        "reads" => reads(rt, alloc, words),
         "gate" => passed(rt, alloc, words),
         _ => Err(Unread::Call),
     }
@@ -70,26 +66,6 @@ fn put_notes(answer: Answer, passed: &[(u8, u32)]) -> Answer {
 
 /// The report of a log, cut into rounds, where some calls of the provider and some reads of the shelf fail.
 fn report<R: Threads + Sync>(rt: &R, alloc: Global, words: &[&[u8]]) -> Result<String, Unread> {
-    let (report, _) = judged(rt, alloc, words)?;
-    Answer::new(alloc).text(report.as_slice()).line()
-}
-
-/// How many files were read in each round of the same.
-fn reads<R: Threads + Sync>(rt: &R, alloc: Global, words: &[&[u8]]) -> Result<String, Unread> {
-    let (_, reads) = judged(rt, alloc, words)?;
-    let mut answer = Answer::new(alloc);
-    for count in &reads {
-        answer = answer.word(*count);
-    }
-    answer.line()
-}
-
-/// The report of a log that was judged in rounds, and how many files were read in each.
-fn judged<R: Threads + Sync>(
-    rt: &R,
-    alloc: Global,
-    words: &[&[u8]],
-) -> Result<(Vec<u8>, Vec<u64>), Unread> {
     let [answers, questions, reads, rounds, log, world @ ..] = words else {
         return Err(Unread::Call);
     };
@@ -98,17 +74,15 @@ fn judged<R: Threads + Sync>(
     let reads = numbers_of(alloc, reads)?;
     let provider = answers.provider(questions.as_slice())?;
     let mut case = Case::new(alloc, world, reads, provider)?;
-    let report = case.report(rt, alloc, log, rounds)?;
-    Ok((report, case.reads))
+    case.report(rt, alloc, log, rounds)
 }
 
-/// A service with its one worker, a shelf, and how many files were read in each round.
+/// A service with its one worker, and a shelf.
 #[derive(Drop)]
 struct Case<'a> {
     service: Service,
     workers: Vec<Worker<AnswerProvider<'a>, Notes>>,
     shelf: ShelfMem,
-    reads: Vec<u64>,
 }
 
 impl<'a> Case<'a> {
@@ -118,9 +92,7 @@ impl<'a> Case<'a> {
         words: &[&[u8]],
         reads: Vec<u64>,
         provider: AnswerProvider<'a>,
-    ) -> Result<Case<'a>, Unread>
-        ensures right { IfOk result (λ case. (d : _) → HoldsRight (Some case.shelf.files) (held_says (slice_index_or case.workers.items 0 d).provider.held) case.service) }
-    {
+    ) -> Result<Case<'a>, Unread> {
         let [map, anchors, table, files @ ..] = words else {
             return Err(Unread::Call);
         };
@@ -140,7 +112,6 @@ impl<'a> Case<'a> {
             service,
             workers,
             shelf,
-            reads: Vec::new(alloc),
         })
     }
 
@@ -151,9 +122,7 @@ impl<'a> Case<'a> {
         alloc: Global,
         log: &[u8],
         rounds: &[u8],
-    ) -> Result<Vec<u8>, Unread>
-        requires right { (d : _) → HoldsRight (Some self.old.shelf.files) (held_says (slice_index_or self.old.workers.items 0 d).provider.held) self.old.service }
-    {
+    ) -> Result<String, Unread> {
         let rounds = numbers_of(alloc, rounds)?;
         let mut source = SourceMem::new(log.to_vec(alloc)?, Vec::new(alloc));
         let mut reader = LogReader::new(alloc);
@@ -163,43 +132,36 @@ impl<'a> Case<'a> {
             let outcomes = self.round(rt, alloc, calls.as_slice())?;
             put_lines(alloc, &mut report, calls.as_slice(), outcomes.as_slice())?;
         }
-        Ok(report)
+        Answer::new(alloc).text(report.as_slice()).line()
     }
 
-    /// What comes of the calls of a round. What is held of chains stays right.
+    /// What comes of the calls of a round.
     fn round<R: Threads + Sync>(
         &mut self,
         rt: &R,
         alloc: Global,
         calls: &[Call],
-    ) -> Result<Vec<Outcome>, Unread>
-        requires right { (d : _) → HoldsRight (Some self.old.shelf.files) (held_says (slice_index_or self.old.workers.items 0 d).provider.held) self.old.service }
-        ensures right { (d : _) → HoldsRight (Some self.new.shelf.files) (held_says (slice_index_or self.new.workers.items 0 d).provider.held) self.new.service }
-    {
+    ) -> Result<Vec<Outcome>, Unread> {
         let workers = self.workers.as_mut_slice();
         if workers.len() != 1 || !self.service.follows(calls) {
             return Err(Unread::Value);
         }
-        let before = self.shelf.reads();
-        let carried = self
+        let outcomes = self
             .service
             .round(rt, alloc, &mut self.shelf, workers, calls)?;
-        self.reads.push(self.shelf.reads() - before)?;
-        Ok(carried.close())
+        Ok(outcomes)
     }
 }
 
 /// A service for country 1, national numbers of ten digits and a window of 60 seconds.
-pub(crate) fn service_of(alloc: Global, world: World) -> Result<Service, Unread>
-    ensures none_held { IfOk result (λ service. service.held.entries ≡ []) }
-{
+fn service_of(alloc: Global, world: World) -> Result<Service, Unread> {
     let local = local_of(b"1", b"10")?;
     let settings = Settings { local, window: 60 };
     Ok(Service::new(alloc, settings, world)?)
 }
 
 /// The next so many calls of a log.
-pub(crate) fn calls_of(
+fn calls_of(
     alloc: Global,
     reader: &mut LogReader,
     source: &mut SourceMem,
@@ -217,7 +179,7 @@ pub(crate) fn calls_of(
 }
 
 /// Puts the lines of a round behind others.
-pub(crate) fn put_lines(
+fn put_lines(
     alloc: Global,
     report: &mut Vec<u8>,
     calls: &[Call],

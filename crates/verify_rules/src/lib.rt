@@ -12,7 +12,6 @@ mod fields;
 mod late;
 mod laws;
 mod leaf_authority;
-mod once;
 mod passports;
 mod readings;
 mod refusal;

@@ -1,0 +1,2 @@
+pub mod SinglyLaws
+pub mod SinglyWords

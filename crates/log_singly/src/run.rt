@@ -1,0 +1,39 @@
+//! A whole log answered call by call.
+ghost use Rattle.std.specs.Prelude.{[]};
+ghost use Rattle.call_log.specs.Log.{start};
+ghost use Rattle.log_run.specs.Streams.{streams_of};
+ghost use Rattle.log_run.specs.Words.{LogSays, run_state};
+ghost use Rattle.log_singly.specs.Singly.{singly_words};
+ghost use Rattle.stir_outside.specs.Stays.{ShelfStays};
+
+use crate::answerer::Answerer;
+use crate::singly::Singly;
+use call_log::{LogReader, one_log};
+use log_run::run_log;
+use std::alloc::Global;
+use std::thread::Threads;
+use stir_outside::{Shelf, Sink, Source};
+
+/// Answers the calls of a log one by one, by what has answered none before, and writes the lines of each before the next is read.
+///
+/// The status is 0 if all calls are well, else 1. If the log is outside its grammar, or a read of it fails, the whole entries before are
+/// answered, and a line says so: status 5 or 3. If a file of certificates stops the run, the lines before are written, and a line names it:
+/// status 3. If a write fails the status is 4, and what was written is a prefix of the whole. For want of memory whole lines were written,
+/// and a line says so: status 6.
+pub fn answer_log<R: Threads + Sync, A: Answerer, S: Shelf, I: Source, O: Sink>(
+    rt: &R,
+    alloc: Global,
+    answerer: &mut Singly<A>,
+    shelf: &mut S,
+    input: &mut I,
+    sink: &mut O,
+) -> u8
+    requires { A.behind answerer.old.0 (S.files shelf.old) [] }
+    ensures says { LogSays (singly_words (A.answered answerer.old.0 (S.files shelf.old)) (A.stops answerer.old.0 (S.files shelf.old)) (S.counts shelf.old).faults (S.counts shelf.new).faults)
+        (start 0 0) (run_state (I.left input.old) (streams_of I.Source O.Sink input.old sink.old)) (run_state (I.left input.new) (streams_of I.Source O.Sink input.new sink.new)) result }
+    ensures shelf { ShelfStays S.Shelf shelf.old shelf.new }
+{
+    one_log();
+    let mut reader = LogReader::new(alloc);
+    run_log(rt, alloc, answerer, &mut reader, shelf, input, sink)
+}
