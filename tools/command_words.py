@@ -21,6 +21,7 @@ FILE = Value('the name of a file', r'.+')
 # The options, one a line: what each value is.
 VALUES = {
     'chains': FILE, 'anchors': FILE, 'table': FILE, 'answers': FILE, 'leaf': FILE,
+    'workers': Value('how many workers judge the calls, 1 to 8', r'[1-8]'),
     'window': Value('how many seconds a PASSporT is fresh, at most 86400', NUMBER, 86_400),
     'country': Value('1 to 3 digits', r'[0-9]{1,3}'),
     'national': Value('how many digits a national number has, 1 to 14', r'[1-9][0-9]?', 14),
@@ -40,7 +41,7 @@ HOLDER = ('leaf', 'table', *NUMBERING)
 
 # The commands, one a line: the options that have to stand, and those that may.
 COMMANDS = {
-    'verify': ((*JUDGED, 'answers'), ('window', *NUMBERING)),
+    'verify': ((*JUDGED, 'answers'), ('workers', 'window', *NUMBERING)),
     'explain': ((*JUDGED, 'answers'), ('window', *NUMBERING)),
     'ask': (JUDGED, ('window', *NUMBERING)),
     'sign': ((*SIGNED, 'form'), ('attest', 'origid', *HOLDER)),

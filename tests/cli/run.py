@@ -28,7 +28,7 @@ one entry of a call log with that message. A line that can't be read fails the r
 
 The program runs in a folder of its own and must write nothing to standard error. Needs the standard
 library alone. The last line counts the cases. More cases stand elsewhere: the words of
-tests/vectors/words.py, and a log of 100,000 calls, which is made here.
+tests/vectors/words.py, and logs that are made here: one of 100,000 calls, and one of replays on each number of workers.
 """
 import contextlib
 import os
@@ -173,6 +173,34 @@ def long_log_case(program):
     return (1, wanted, b''), got
 
 
+def winners_told(report, tickets):
+    """A report of calls that break no rule, in which no winner is named: how often each ticket is valid, whether that is in the first round, and
+    how many calls are replays of the valid one. Which call of a ticket wins is nobody's promise with several workers."""
+    lines = [line.split() for line in report.decode().splitlines()]
+    said = [len(lines) == len(tickets) and all(words[0] == str(number) for number, words in enumerate(lines, 1))]
+    for ticket in sorted(set(tickets)):
+        own = [words for words, one in zip(lines, tickets) if one == ticket]
+        valid = [words[0] for words in own if words[1:] == ['valid', '-', '-', '-']]
+        said.append((len(valid), [int(number) <= ROUND for number in valid], sum(words[1:] == ['replay', '438', '18', *valid] for words in own)))
+    return said
+
+
+ROUND = 256
+
+
+def worker_cases(program):
+    """Calls of two tickets by turns, over three rounds, judged by each number of workers: one of each ticket is valid."""
+    file = Rows()
+    file.named('NAMED IN verify.rows')
+    tickets = [number % 2 for number in range(2 * ROUND + 10)]
+    log = file.log([piece for ticket in tickets for piece in ('@1443208345', '$OTHER_CALL' if ticket else '$CALL')])
+    half = len(tickets) // 2 - 1
+    for workers in range(1, 9):
+        words = file.line_of_words(['verify', '+FILES', f'--workers={workers}'])
+        status, report, errors = run(program, words, log, file.files)
+        yield f'{workers} workers', (1, [True, (1, [True], half), (1, [True], half)], b''), (status, winners_told(report, tickets), errors)
+
+
 def cases(program):
     for case in sorted(path for path in HERE.iterdir() if (path / 'status').exists()):
         yield case.name, *folder_case(program, case)
@@ -180,6 +208,7 @@ def cases(program):
         yield from rows(program, path)
     yield from word_cases(program)
     yield 'long log', *long_log_case(program)
+    yield from worker_cases(program)
 
 
 def main():

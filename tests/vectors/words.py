@@ -35,6 +35,7 @@ def matches(pattern):
 # Which values each option takes. A number that makes a local numbering is looked at together with the country.
 TAKES = {
     **dict.fromkeys(("chains", "anchors", "table", "answers", "leaf"), lambda value: True),
+    "workers": matches(rb"[1-8]"),
     "window": number_up_to(86400),
     "country": matches(rb"[0-9]{1,3}"),
     "national": matches(NUMBER),
@@ -54,7 +55,7 @@ SETTINGS = ("window", "country", "national")
 SIGNING = ("key", "x5u", "iat", "answers")
 HOLDER = ("leaf", "table", "country", "national")
 COMMANDS = {
-    "verify": (JUDGING, SETTINGS),
+    "verify": (JUDGING, ("workers", *SETTINGS)),
     "explain": (JUDGING, SETTINGS),
     "ask": (JUDGING[:3], SETTINGS),
     "sign": ((*SIGNING, "form"), ("attest", "origid", *HOLDER)),
@@ -119,6 +120,7 @@ def answer(words):
     judging = [*(values.get(name) for name in JUDGING), values.get("window", b"60"), *local]
     signing = [*(values.get(name) for name in ("key", "x5u", "iat")), *local, values.get("answers"), values.get("leaf", b"-"), values.get("table", b"-")]
     said = {
+        "verify": [*judging, values.get("workers", b"1")],
         "sign": [values.get("form"), values.get("attest"), values.get("origid"), *signing],
         "divert": [values.get("earlier"), *signing],
         "show": [],
@@ -133,6 +135,7 @@ OUTSIDE_URI = (b'"', b"<", b">", b"\\", b" ", b"\x7f", b"\x1f", "\u00e9".encode(
 NO_NUMBERS = (b"00", b"01", b"+1", b"-1", b"1 ", b" 1", b"1\n", b"0x1", b"1e1", b"1_0", b"1.0", b"1,0", "\u0661".encode(), "\uff11".encode(), b"x")
 GOOD = {
     **dict.fromkeys(("chains", "anchors", "table", "answers", "leaf"), FILES),
+    "workers": (b"1", b"2", b"7", b"8"),
     "window": (b"0", b"1", b"60", b"86399", b"86400"),
     "country": (b"0", b"9", b"01", b"44", b"000", b"999"),
     "national": (b"1", b"2", b"9", b"11", b"12"),
@@ -145,6 +148,7 @@ GOOD = {
     "earlier": (b"1", b"*", b"#", b"*67", b"911", 14 * b"9", 15 * b"9", b"0#12"),
 }
 BAD = {
+    "workers": (b"0", b"9", b"10", b"08", b"256", b"257", b"18446744073709551617", b"", *NO_NUMBERS),
     "window": (b"86401", b"100000", b"18446744073709551616", 40 * b"9", *NO_NUMBERS),
     "country": (b"1000", b"0001", b"+1", b"-1", b"1 ", b"4*", b"#", b"", b"x", "\u0661".encode()),
     "national": (b"0", b"15", b"16", b"255", b"256", b"266", b"9=x", b"4294967306", b"18446744073709551626", *NO_NUMBERS),
@@ -168,7 +172,7 @@ def plain(command):
 
 def whole(command):
     """Values for all options of the command."""
-    more = {"window": b"5", "country": b"44", "national": b"11", "leaf": b"l", "table": b"t", "attest": b"A", "origid": UUID}
+    more = {"workers": b"3", "window": b"5", "country": b"44", "national": b"11", "leaf": b"l", "table": b"t", "attest": b"A", "origid": UUID}
     values = plain(command) | {name: more[name] for name in COMMANDS[command][1]}
     return values | {"form": b"shaken"} if command == "sign" else values
 
@@ -341,8 +345,8 @@ def drawn(seed, count):
 
 
 SECTIONS = (
-    (commands, "`tests/vectors/words.py` prints the lines from here up to `files`. `explain` answers what `verify` does, and `ask` the same without the",
-     "answers. `sign` answers the form, with the attestation and the identifier behind `shaken`, `divert` the earlier number, and both then the name",
+    (commands, "`tests/vectors/words.py` prints the lines from here up to `files`. `verify` answers its four files, the window, the country, the",
+     "length of a national number and the workers; `explain` the same without the workers, and `ask` without the answers besides. `sign` answers the form, with the attestation and the identifier behind `shaken`, `divert` the earlier number, and both then the name",
      "of the key, the URI, the second, the country and the length of a national number, the file of the answers, and the holder's two files or `- -`.",
      "What a command is; words that are nobody's option; and each command with the options that it requires, and with all."),
     (options, "Each option of each command: absent, twice, empty; by turns without a value, with one that begins with `-`, shortened, in capitals, with",

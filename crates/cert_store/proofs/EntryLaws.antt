@@ -1,8 +1,10 @@
 -- The entries of the cache's map, as the list of chains that a contract sees: what is looked up, what goes first, what is put, and how many
 -- there are.
-use Rattle.std.proofs.Common.{◌≡◌, ℕ, zero, suc, ◌-◌, Bool, true, false, cond, List, [], ◌∷◌, length, take, is_some, Option, Some, None, refl, sym, ap, ◌∙◌, Vec}
+use Rattle.std.proofs.Common.{◌≡◌, ℕ, zero, suc, ◌-◌, Bool, true, false, cond, ◌||◌, List, [], ◌∷◌, length, take, is_some, Option, Some, None, refl, sym, ap, ◌∙◌, Vec}
 use Rattle.std.specs.Cmp.Lexicographic.{bytes_decides}
-use Rattle.std.specs.Map.{lookup, lookup_entry, remove_entry}
+use Rattle.std.specs.List.{AllByRecursion, IsDistinct}
+use Rattle.std.specs.Map.{keys_of, lookup, lookup_entry, remove_entry}
+use Rattle.std.proofs.lemmas.Map.Keys.{IsDistinct-head, IsDistinct-tail}
 use Rattle.std.specs.Option.{option_map, option_map_or}
 use Rattle.std.specs.Str.{bytes_eq}
 use Rattle.std.specs.Vec.{vec_items}
@@ -10,6 +12,7 @@ use Rattle.lru.specs.LruCache.{lru_cache, promoted, put_entries}
 use Rattle.lru.proofs.CallerLemmas.{Contains-lookup_entry}
 use Rattle.cert_store.specs.Holding.{Chains, chain_of, held_in, in_front, put_in, touched}
 use Rattle.cert_store.specs.Judged.{JudgedView}
+use Rattle.cert_store.specs.Using.{IsOnce, has, names}
 
 abbrev Entries : Type 0 → Type 0
 Entries Y = List (Vec ℕ Y × JudgedView)
@@ -84,3 +87,14 @@ put_held key j es capacity =
 pub count_held : {Y : Type 0} (es : Entries Y) → length (held_in es) ≡ length es
 count_held [] = refl
 count_held (e ∷ es) = ap suc (count_held es)
+
+-- ---- each x5u has one
+
+none_held : {Y : Type 0} (t : List ℕ) (es : Entries Y) → AllByRecursion (λ key. bytes_eq t (vec_items key) ≡ false) (keys_of es) → has t (names (held_in es)) ≡ false
+none_held t [] none = refl
+none_held t (e ∷ es) none = ap (λ b. b || has t (names (held_in es))) none.0 ∙ none_held t es none.1
+
+pub once_held : {Y : Type 0} (es : Entries Y) → IsDistinct (λ a b. bytes_eq (vec_items a) (vec_items b)) (keys_of es) → IsOnce (names (held_in es))
+once_held [] distinct = tt
+once_held (e ∷ es) distinct =
+    (none_held (vec_items e.0) es (IsDistinct-head (λ a b. bytes_eq (vec_items a) (vec_items b)) (e.0) (keys_of es) distinct), once_held es (IsDistinct-tail (λ a b. bytes_eq (vec_items a) (vec_items b)) (e.0) (keys_of es) distinct))

@@ -13,3 +13,5 @@ pub mod TruthLaws
 pub mod QuestionLaws
 pub mod CacheLaws
 pub mod EntryLaws
+pub mod OnceLaws
+pub mod UsingLaws

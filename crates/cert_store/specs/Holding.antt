@@ -45,12 +45,6 @@ others_of x5u holding = if is_some (chain_of x5u holding.entries) then remove_en
 abbrev pub put_in : List ℕ → JudgedView → Holding → Chains
 put_in x5u judged holding = (x5u, judged) ∷ others_of x5u holding
 
--- ---- where a chain is in the order
-
--- it is held among the first so many
-abbrev pub is_among : ℕ → List ℕ → Chains → Bool
-is_among n x5u entries = is_some (chain_of x5u (take n entries))
-
 -- ---- what was answered
 
 -- the provider failed at no question of a chain that is held

@@ -10,3 +10,4 @@ pub mod Words
 pub mod Below
 pub mod Questions
 pub mod Holding
+pub mod Using

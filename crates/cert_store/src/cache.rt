@@ -3,6 +3,7 @@ ghost use Rattle.std.specs.Prelude.{◌≡◌, ◌≤◌, [], false, length, is_
 ghost use Rattle.std.specs.Option.{option_copied};
 ghost use Rattle.cert_store.specs.Asking.{is_failed};
 ghost use Rattle.cert_store.specs.Holding.{AreAnswered, chain_of, put_in, touched};
+ghost use Rattle.cert_store.specs.Using.{IsOnce, names};
 
 use crate::Memory;
 use crate::judged::Judged;
@@ -74,10 +75,11 @@ impl Cache {
         }
     }
 
-    /// What holds of every cache, for callers: the provider answered every question of the chains, and there are no more of them than
-    /// there may be. It does nothing when it runs.
+    /// What holds of every cache, for callers: the provider answered every question of the chains, each x5u has one, and there are no more of
+    /// them than there may be. It does nothing when it runs.
     pub fn answered(&self)
         ensures answered { AreAnswered self.now.entries }
+        ensures once { IsOnce (names self.now.entries) }
         ensures few { length self.now.entries ≤ self.now.capacity }
     {
         let _ = self.held.len();

@@ -1,15 +1,16 @@
 //! Laws: a function here does nothing, and its clauses are the law.
-ghost use Rattle.std.specs.Prelude.{◌≡◌, ◌↔◌, ◌≢◌, ◌≤◌, ◌⊎◌, ℕ, suc, true, List, length, is_some, Option, Some, None};
+ghost use Rattle.std.specs.Prelude.{◌≡◌, ◌↔◌, ◌≢◌, ◌≤◌, ◌⊎◌, ℕ, true, List, length, is_some, Option, Some, None};
 ghost use Rattle.der_reader.specs.Elem.{AllBytes};
 ghost use Rattle.x509_profile.specs.Chain.{Chain};
 ghost use Rattle.x509_profile.specs.View.{CertView};
 ghost use Rattle.delegation.specs.Coverage.{Table};
 ghost use Rattle.cert_store.specs.Below.{Below};
 ghost use Rattle.cert_store.specs.ChainMap.{IsFileName, Row, is_file_name, row_of};
-ghost use Rattle.cert_store.specs.Holding.{Chains, Holding, chain_of, is_among, put_in, touched};
+ghost use Rattle.cert_store.specs.Holding.{Chains, Holding, chain_of, put_in, touched};
 ghost use Rattle.cert_store.specs.Judged.{HasAuthority, JudgedView, judged_of};
 ghost use Rattle.cert_store.specs.Questions.{AgreeOn, kept_question, questions_of};
 ghost use Rattle.cert_store.specs.Rules.{Says};
+ghost use Rattle.cert_store.specs.Using.{AreAmong, HeldUnless, IsHeldSince, IsOnce, has, names};
 ghost use Rattle.cert_store.specs.Words.{InWords};
 ghost use Rattle.cert_store.specs.declared.judged.Asked.TheVariants.{Failed};
 
@@ -50,24 +51,33 @@ pub fn questions_law()
     ensures none { (certificate : Option CertView) → kept_question certificate None ≡ None }
 {}
 
-/// What is held after a chain was used: the same chains, and those that were among the first so many are among the first of one more. What is held
-/// after a chain was put: that chain, and none else that wasn't held before.
+/// What is held after a chain was used: the same chains. What is held after a chain was put: that chain, and none else that wasn't held before.
 pub fn cache_law()
-    // a chain of this x5u was used
     ensures same { (x5u other : List ℕ) (entries : Chains) → chain_of other (touched x5u entries) ≡ chain_of other entries }
-    ensures touched_first { (x5u : List ℕ) (entries : Chains) (judged : JudgedView) (n : ℕ) → chain_of x5u entries ≡ Some judged
-        → is_among (suc n) x5u (touched x5u entries) ≡ true }
-    ensures touched_others { (x5u other : List ℕ) (entries : Chains) (n : ℕ) → is_among n other entries ≡ true → is_among (suc n) other (touched x5u entries) ≡ true }
-
-    // one was put
-    ensures put_first { (x5u : List ℕ) (judged : JudgedView) (holding : Holding) (n : ℕ) → is_among (suc n) x5u (put_in x5u judged holding) ≡ true }
-    ensures put_others { (x5u other : List ℕ) (judged : JudgedView) (holding : Holding) (n : ℕ) → suc n ≤ holding.capacity → is_among n other holding.entries ≡ true
-        → is_among (suc n) other (put_in x5u judged holding) ≡ true }
     ensures found { (x5u other : List ℕ) (judged found : JudgedView) (holding : Holding) → chain_of other (put_in x5u judged holding) ≡ Some found
         → ((other ≡ x5u) × (found ≡ judged)) ⊎ (chain_of other holding.entries ≡ Some found) }
+{}
 
-    // what is among the first is held
-    ensures among { (x5u : List ℕ) (entries : Chains) (n : ℕ) → is_among n x5u entries ≡ true → is_some (chain_of x5u entries) ≡ true }
+/// How long a chain is held: from its last use or its put on, until as many others were used or put as there may be chains.
+pub fn use_law()
+    ensures touched { (used : List (List ℕ)) (x5u : List ℕ) (entries : Chains) → is_some (chain_of x5u entries) ≡ true → IsHeldSince used x5u (touched x5u entries) }
+    ensures put { (used : List (List ℕ)) (x5u : List ℕ) (judged : JudgedView) (holding : Holding) → IsHeldSince used x5u (put_in x5u judged holding) }
+    ensures touched_others { (capacity : ℕ) (used : List (List ℕ)) (x5u other : List ℕ) (entries : Chains) → (is_some (chain_of x5u entries) ≡ true → has x5u used ≡ true)
+        → HeldUnless capacity used other entries → HeldUnless capacity used other (touched x5u entries) }
+    ensures put_others { (used : List (List ℕ)) (x5u other : List ℕ) (judged : JudgedView) (holding : Holding) → IsOnce (names holding.entries) → has x5u used ≡ true
+        → HeldUnless holding.capacity used other holding.entries → HeldUnless holding.capacity used other (put_in x5u judged holding) }
+
+    // More may have been used; and if no more were used than there may be chains, it is held.
+    ensures more { (capacity : ℕ) (used others : List (List ℕ)) (x5u : List ℕ) (entries : Chains) → AreAmong used others → HeldUnless capacity used x5u entries
+        → HeldUnless capacity others x5u entries }
+    ensures few { (capacity : ℕ) (used : List (List ℕ)) (x5u : List ℕ) (entries : Chains) → has x5u used ≡ true → length used ≤ capacity → HeldUnless capacity used x5u entries
+        → is_some (chain_of x5u entries) ≡ true }
+
+    // What is named is held, and no others were used since than what is named. Texts of which none is another are no more than those that they are
+    // among.
+    ensures named { (x5u : List ℕ) (entries : Chains) → has x5u (names entries) ≡ is_some (chain_of x5u entries) }
+    ensures since { (x5u : List ℕ) (entries : Chains) → is_some (chain_of x5u entries) ≡ true → IsHeldSince (names entries) x5u entries }
+    ensures no_more { (texts others : List (List ℕ)) → IsOnce texts → AreAmong texts others → length texts ≤ length others }
 {}
 
 /// The name of a file in a chain map is 1 to 255 bytes of visible ASCII (this project's own rule).

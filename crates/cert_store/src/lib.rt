@@ -20,7 +20,7 @@ mod world;
 pub use cache::Cache;
 pub use judge::judge_chain;
 pub use judged::{Asked, Judged, Question};
-pub use laws::{cache_law, file_name_law, judged_law, questions_law};
+pub use laws::{cache_law, file_name_law, judged_law, questions_law, use_law};
 pub use map::{ChainMap, MapFault};
 pub use world::World;
 /// Memory ran out.

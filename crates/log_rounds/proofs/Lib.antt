@@ -1,5 +1,8 @@
+pub mod ServiceLaws
+pub mod WorkerLaws
 pub mod RoundLaws
-pub mod FollowLaws
+pub mod FewLaws
+mod FollowLaws
 pub mod ReportLaws
 pub mod LegalLaws
 pub mod StatusLaws

@@ -3,7 +3,7 @@ use Rattle.std.proofs.Common.{◌≡◌, ◌+◌, ◌≤◌, Bool, true, false, 
 use Rattle.std.specs.List.{list_any}
 use Rattle.call_log.specs.Entry.{Entry}
 use Rattle.log_rounds.specs.AllValid.{all_valid, is_valid}
-use Rattle.log_rounds.specs.Bench.{Bench, FaultCounts}
+use Rattle.log_rounds.specs.Judge.{JudgeConfig, OutsideCounts}
 use Rattle.log_rounds.specs.Judged.{SetAside}
 use Rattle.log_rounds.specs.Rounds.{AllInOrder, InEach, Round, calls_in, outcomes_in, row_round, row_rounds, unread_pairs}
 use Rattle.stir_outside.proofs.CountLaws.{at_most_then, both_at_most, not_risen_before, not_risen_behind}
@@ -20,17 +20,17 @@ pub outcomes_both : (xs ys : List Round) → outcomes_in (xs ++ ys) ≡ outcomes
 outcomes_both [] ys = refl
 outcomes_both (x ∷ xs) ys = ap (λ t. x.outcomes ++ t) (outcomes_both xs ys) ∙ sym (append_assoc x.outcomes (outcomes_in xs) (outcomes_in ys))
 
-pub rows_both : (bench : Bench) (xs ys : List Round) → row_rounds bench (xs ++ ys) ≡ row_rounds bench xs ++ row_rounds bench ys
-rows_both bench [] ys = refl
-rows_both bench (x ∷ xs) ys = ap (λ t. row_round bench x ∷ t) (rows_both bench xs ys)
+pub rows_both : (config : JudgeConfig) (xs ys : List Round) → row_rounds config (xs ++ ys) ≡ row_rounds config xs ++ row_rounds config ys
+rows_both config [] ys = refl
+rows_both config (x ∷ xs) ys = ap (λ t. row_round config x ∷ t) (rows_both config xs ys)
 
 pub each_both : (P : Entry → Outcome → Type 0) (xs ys : List Round) → InEach P xs → InEach P ys → InEach P (xs ++ ys)
 each_both P [] ys a b = b
 each_both P (x ∷ xs) ys a b = (a.0, each_both P xs ys a.1 b)
 
-pub order_both : (bench : Bench) (xs ys : List Round) → AllInOrder bench xs → AllInOrder bench ys → AllInOrder bench (xs ++ ys)
-order_both bench [] ys a b = b
-order_both bench (x ∷ xs) ys a b = (a.0, order_both bench xs ys a.1 b)
+pub order_both : (config : JudgeConfig) (xs ys : List Round) → AllInOrder config xs → AllInOrder config ys → AllInOrder config (xs ++ ys)
+order_both config [] ys a b = b
+order_both config (x ∷ xs) ys a b = (a.0, order_both config xs ys a.1 b)
 
 -- ---- as many outcomes as calls
 
@@ -58,6 +58,8 @@ each_as P Q (r ∷ rs) f a = (point_as P Q r.calls r.outcomes f a.0, each_as P Q
 
 -- ---- valid calls
 
+-- ---- valid calls
+
 pub and_assoc : (a b c : Bool) → (a && (b && c)) ≡ ((a && b) && c)
 and_assoc true b c = refl
 and_assoc false b c = refl
@@ -82,29 +84,29 @@ unread_both xs ys a b = none_both is_unread xs ys a b
 pub unasked_both : (xs ys : List Outcome) → NoneUnasked xs → NoneUnasked ys → NoneUnasked (xs ++ ys)
 unasked_both xs ys a b = none_both is_unasked xs ys a b
 
-pub pairs_both : (bench : Bench) (xs ys : List Round) → unread_pairs bench (xs ++ ys) ≡ unread_pairs bench xs + unread_pairs bench ys
-pairs_both bench [] ys = omega arith
-pairs_both bench (x ∷ xs) ys = omega (arith, pairs_both bench xs ys)
+pub pairs_both : (config : JudgeConfig) (xs ys : List Round) → unread_pairs config (xs ++ ys) ≡ unread_pairs config xs + unread_pairs config ys
+pairs_both config [] ys = omega arith
+pairs_both config (x ∷ xs) ys = omega (arith, pairs_both config xs ys)
 
-pub aside_none : (bench : Bench) (counts : FaultCounts) → SetAside bench counts counts []
-aside_none bench counts = record {
+pub aside_none : (config : JudgeConfig) (counts : OutsideCounts) → SetAside config counts counts []
+aside_none config counts = record {
   unread = inl (omega arith);
   quiet_shelf = λ n. refl;
   quiet_provider = λ n. refl;
 }
 
-pub aside_both : (bench : Bench) (a b c : FaultCounts) (xs ys : List Round) → a.shelf ≤ b.shelf → b.shelf ≤ c.shelf → a.provider ≤ b.provider → b.provider ≤ c.provider
-    → SetAside bench a b xs → SetAside bench b c ys → SetAside bench a c (xs ++ ys)
-aside_both bench a b c xs ys s t p q f g = record {
-  unread = subst (λ n. AtMost n a.shelf c.shelf) (sym (pairs_both bench xs ys)) (both_at_most (unread_pairs bench xs) (unread_pairs bench ys) a.shelf b.shelf c.shelf f.unread g.unread);
+pub aside_both : (config : JudgeConfig) (a b c : OutsideCounts) (xs ys : List Round) → a.shelf ≤ b.shelf → b.shelf ≤ c.shelf → a.provider ≤ b.provider → b.provider ≤ c.provider
+    → SetAside config a b xs → SetAside config b c ys → SetAside config a c (xs ++ ys)
+aside_both config a b c xs ys s t p q f g = record {
+  unread = subst (λ n. AtMost n a.shelf c.shelf) (sym (pairs_both config xs ys)) (both_at_most (unread_pairs config xs) (unread_pairs config ys) a.shelf b.shelf c.shelf f.unread g.unread);
   quiet_shelf = λ n. subst NoneUnread (sym (outcomes_both xs ys)) (unread_both (outcomes_in xs) (outcomes_in ys) (f.quiet_shelf (not_risen_before a.shelf b.shelf c.shelf s t n)) (g.quiet_shelf (not_risen_behind a.shelf b.shelf c.shelf s t n)));
   quiet_provider = λ n. subst NoneUnasked (sym (outcomes_both xs ys)) (unasked_both (outcomes_in xs) (outcomes_in ys) (f.quiet_provider (not_risen_before a.provider b.provider c.provider p q n)) (g.quiet_provider (not_risen_behind a.provider b.provider c.provider p q n)));
 }
 
 -- more faults may be counted later
-pub aside_on : (bench : Bench) (a b c : FaultCounts) (rounds : List Round) → a.shelf ≤ b.shelf → b.shelf ≤ c.shelf → a.provider ≤ b.provider → b.provider ≤ c.provider → SetAside bench a b rounds → SetAside bench a c rounds
-aside_on bench a b c rounds s t p q f = record {
-  unread = at_most_then (unread_pairs bench rounds) a.shelf b.shelf c.shelf f.unread t;
+pub aside_on : (config : JudgeConfig) (a b c : OutsideCounts) (rounds : List Round) → a.shelf ≤ b.shelf → b.shelf ≤ c.shelf → a.provider ≤ b.provider → b.provider ≤ c.provider → SetAside config a b rounds → SetAside config a c rounds
+aside_on config a b c rounds s t p q f = record {
+  unread = at_most_then (unread_pairs config rounds) a.shelf b.shelf c.shelf f.unread t;
   quiet_shelf = λ n. f.quiet_shelf (not_risen_before a.shelf b.shelf c.shelf s t n);
   quiet_provider = λ n. f.quiet_provider (not_risen_before a.provider b.provider c.provider p q n);
 }

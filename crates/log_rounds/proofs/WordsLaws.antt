@@ -1,14 +1,17 @@
 -- What a run over rounds says of the batches of a log.
-use Rattle.std.proofs.Common.{◌≡◌, ◌+◌, ◌≤◌, ◌&&◌, List, [], ◌∷◌, ◌++◌, length, refl, sym, ◌∙◌, ap, subst, arith}
+use Rattle.std.proofs.Common.{◌≡◌, ℕ, ◌+◌, ◌≤◌, ◌&&◌, List, [], ◌∷◌, ◌++◌, length, Option, refl, sym, ◌∙◌, ap, subst, arith}
 use Rattle.call_log.specs.Entry.{Entry}
 use Rattle.call_log.specs.Log.{AreCalls, Passed, after, after_all}
 use Rattle.log_run.specs.Batch.{Batch, IsCut, all_well, calls_in, texts_in}
+use Rattle.cert_store.specs.Files.{Files as ChainFiles}
+use Rattle.log_rounds.proofs.FewLaws.{few_named}
 use Rattle.log_rounds.proofs.FollowLaws.{counted_on}
 use Rattle.log_rounds.proofs.ReportLaws.{report_append}
 use Rattle.log_rounds.proofs.RoundLaws.{aside_on, one_for_each, valid_both}
 use Rattle.log_rounds.specs.AllValid.{all_valid}
-use Rattle.log_rounds.specs.Bench.{Bench, Standing, faults_of}
-use Rattle.log_rounds.specs.Judged.{AreJudged, JudgedBatches, rounds_words}
+use Rattle.log_rounds.specs.Judge.{JudgeConfig, JudgeState, counts_of}
+use Rattle.log_rounds.specs.Judged.{AreJudged, ClosesRounds, JudgedBatches, StandsAtFirst}
+use Rattle.log_rounds.specs.Reads.{ReadsNamed}
 use Rattle.log_rounds.specs.Rounds.{InEach, IsCut as IsCutInRounds, Round, calls_in as calls_of, outcomes_in, row_rounds}
 use Rattle.log_run.specs.Speaks.{AreBatches, Speaks}
 use Rattle.log_run.specs.declared.stop.AnswerError.{AnswerError}
@@ -21,7 +24,10 @@ use Rattle.std.specs.declared.alloc.Global.{Global}
 use Rattle.std.specs.declared.string.String.{String}
 use Rattle.verify_service.specs.Report.{report}
 use Rattle.verify_service.specs.declared.outcome.Outcome.{Outcome}
-use Rattle.log_rounds.specs.Batches.{AreRounds, JudgedRounds, RoundsBehind, RoundsClosed, RoundsStopped, first_number}
+use Rattle.log_rounds.specs.Batches.{AreRounds, JudgedFrom, JudgedRounds, RoundsBehind, RoundsClosed, RoundsStopped, first_number, words_by}
+use Rattle.log_rounds.specs.Verifier.{AnswersBy, basis_of, config_of, state_of}
+use Rattle.log_rounds.specs.declared.verifier.LogVerifier.{LogVerifier}
+use Rattle.stir_outside.specs.Files.{Counts, Files}
 
 same_calls : (xs : List Batch) (ys : List Round) → AreRounds xs ys → calls_in xs ≡ calls_of ys
 same_calls [] [] a = refl
@@ -74,27 +80,27 @@ same_lines judged passed (x ∷ xs) (y ∷ ys) a each follow =
 -- ---- in words
 
 -- the rounds that were judged, with what was counted since
-are_judged : LegalTogether → FirstOfAll → (judged : Entry → Outcome → Type 0) (bench : Bench) (passed : Passed) (a mid b : Standing) (xs : List Batch) → a.past ≡ nothing → mid.shelf ≤ b.shelf → mid.provider ≤ b.provider
-    → AreBatches 256 passed xs → (j : JudgedRounds judged bench a mid xs) → AreJudged judged bench (faults_of a) (faults_of b) j.rounds
-are_judged legal first judged bench passed a mid b xs empty shelf provider are j =
+are_judged : LegalTogether → FirstOfAll → (judged : Entry → Outcome → Type 0) (config : JudgeConfig) (chains : ChainFiles) (passed : Passed) (a mid b : JudgeState) (xs : List Batch) → a.past ≡ nothing → mid.shelf ≤ b.shelf → mid.provider ≤ b.provider
+    → AreBatches 256 passed xs → (j : JudgedRounds judged config chains a mid xs) → AreJudged judged config (counts_of a) (counts_of b) j.rounds
+are_judged legal first judged config chains passed a mid b xs empty shelf provider are j =
     let follow = subst (AreCalls passed) (same_calls xs j.rounds j.are) are.follow in
     record {
       cut = same_cut xs j.rounds j.are are.cut;
       each = j.each;
-      legal = λ apart. legal_of legal judged bench passed a.past mid.past j.rounds empty j.settled j.each j.owed follow apart;
-      first_wins = λ one apart. first_of first judged bench j.rounds (legal_of legal judged bench passed a.past mid.past j.rounds empty j.settled j.each j.owed follow apart) (j.in_order one);
-      aside = aside_on bench (faults_of a) (faults_of mid) (faults_of b) j.rounds j.shelf_stays shelf j.provider_stays provider j.aside;
+      legal = λ apart. legal_of legal judged config passed a.past mid.past j.rounds empty j.settled j.each j.owed follow apart;
+      first_wins = λ one apart. first_of first judged config j.rounds (legal_of legal judged config passed a.past mid.past j.rounds empty j.settled j.each j.owed follow apart) (j.in_order one);
+      aside = aside_on config (counts_of a) (counts_of mid) (counts_of b) j.rounds j.shelf_stays shelf j.provider_stays provider j.aside;
     }
 
-judged_batches : LegalTogether → FirstOfAll → (judged : Entry → Outcome → Type 0) (bench : Bench) (passed : Passed) (a mid b : Standing) (xs : List Batch) → a.past ≡ nothing → mid.shelf ≤ b.shelf → mid.provider ≤ b.provider
-    → AreBatches 256 passed xs → JudgedRounds judged bench a mid xs → JudgedBatches judged bench passed (faults_of a) (faults_of b) xs
-judged_batches legal first judged bench passed a mid b xs empty shelf provider are j = record {
+judged_batches : LegalTogether → FirstOfAll → (judged : Entry → Outcome → Type 0) (config : JudgeConfig) (chains : ChainFiles) (passed : Passed) (a mid b : JudgeState) (xs : List Batch) → a.past ≡ nothing → mid.shelf ≤ b.shelf → mid.provider ≤ b.provider
+    → AreBatches 256 passed xs → JudgedRounds judged config chains a mid xs → JudgedBatches judged config passed (counts_of a) (counts_of b) xs
+judged_batches legal first judged config chains passed a mid b xs empty shelf provider are j = record {
   rounds = j.rounds;
   calls = same_calls xs j.rounds j.are;
   lines = same_lines judged passed xs j.rounds j.are j.each (subst (AreCalls passed) (same_calls xs j.rounds j.are) are.follow);
   well = same_good xs j.rounds j.are;
-  are_judged = are_judged legal first judged bench passed a mid b xs empty shelf provider are j;
-  are_settled = record { owed = j.owed; past = mid.past; settled = subst (λ (h : Held). Rounds h (row_rounds bench j.rounds) mid.past) empty j.settled; in_order = j.in_order };
+  are_judged = are_judged legal first judged config chains passed a mid b xs empty shelf provider are j;
+  are_settled = record { owed = j.owed; past = mid.past; settled = subst (λ (h : Held). Rounds h (row_rounds config j.rounds) mid.past) empty j.settled; in_order = j.in_order };
   shelf_stays = omega (arith, j.shelf_stays, shelf);
   provider_stays = omega (arith, j.provider_stays, provider);
 }
@@ -102,12 +108,28 @@ judged_batches legal first judged bench passed a mid b xs empty shelf provider a
 other_stop : {X : Type 0} (text name : String Global) → ◌≡◌ {A = AnswerError} (Unread text name) Memory → X
 other_stop text name e = absurd (cc)
 
-pub speaks : LegalTogether → FirstOfAll → (judged judged_now : Entry → Outcome → Type 0) (bench bench_now : Bench) (passed : Passed) (a b : Standing) → a.past ≡ nothing
-    → Speaks (rounds_words judged bench passed (faults_of a) (faults_of b)) passed (RoundsBehind judged judged_now bench bench_now a b) (λ batches calls stop. RoundsStopped judged bench a b batches stop) (λ batches text. RoundsClosed judged bench a b batches text)
-speaks legal first judged judged_now bench bench_now passed a b empty = record {
-  known = λ batches are k. judged_batches legal first judged bench passed a b b batches empty (omega arith) (omega arith) are k.so;
-  stopped = λ batches calls stop are h. judged_batches legal first judged bench passed a h.mid b batches empty h.shelf_stays h.provider_stays are h.so;
-  stops = λ batches calls text name h. other_stop text name h.memory;
-  closed = λ batches text are c. judged_batches legal first judged bench passed a b b batches empty (omega arith) (omega arith) are c.so;
-  closes = λ batches text c. c.none;
+closes : (judged : Entry → Outcome → Type 0) (config : JudgeConfig) (chains : ChainFiles) (a b : JudgeState) (batches : List Batch) (text : List ℕ) → a.held ≡ [] → text ≡ [] → JudgedRounds judged config chains a b batches
+    → ClosesRounds config chains (counts_of a) (counts_of b) batches text
+closes judged config chains a b batches text none no_text j = record {
+  none = no_text;
+  few_reads = λ quiet. subst (λ calls. ReadsNamed config.settings chains calls a.reads b.reads) (sym (same_calls batches j.rounds j.are))
+      (few_named config chains a b (calls_of j.rounds) none (j.few_reads quiet));
 }
+
+pub speaks : LegalTogether → FirstOfAll → (verifier now : LogVerifier) (told : Option Files) (passed : Passed) (a b : Counts) → StandsAtFirst (state_of verifier a)
+    → Speaks (words_by (basis_of verifier) told passed a b) passed (RoundsBehind verifier now a b told) (λ batches calls stop. RoundsStopped verifier a b told batches stop)
+    (λ batches text. RoundsClosed verifier now a b told batches text)
+speaks legal first verifier now told passed a b at_first =
+    let judged : Entry → Outcome → Type 0 = AnswersBy (basis_of verifier) told in
+    let config : JudgeConfig = config_of (basis_of verifier) in
+    let from : JudgeState = state_of verifier a in
+    let known : (batches : List Batch) → AreBatches 256 passed batches → JudgedFrom verifier now a b told batches → JudgedBatches judged config passed (counts_of from) (counts_of (state_of now b)) batches =
+    λ batches are j. judged_batches legal first judged config verifier.service.chains passed from (state_of now b) (state_of now b) batches at_first.past (omega arith) (omega arith) are j in
+    record {
+      known = λ batches are k. known batches are k.so;
+      stopped = λ batches calls stop are h.
+          judged_batches legal first judged config verifier.service.chains passed from (state_of h.mid h.counted) (state_of now b) batches at_first.past h.shelf_stays (omega arith) are h.so;
+      stops = λ batches calls text name h. other_stop text name h.memory;
+      closed = λ batches text are c. known batches are c.so;
+      closes = λ batches text c. closes judged config verifier.service.chains from (state_of now b) batches text at_first.held c.none c.so;
+    }

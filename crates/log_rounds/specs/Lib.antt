@@ -1,5 +1,9 @@
-pub mod Bench
+pub mod Judge
+pub mod Answers
+pub mod Verifier
+pub mod Workers
 pub mod AllValid
 pub mod Rounds
+pub mod Reads
 pub mod Judged
 pub mod Batches

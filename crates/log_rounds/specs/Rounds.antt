@@ -1,7 +1,7 @@
 -- The calls of a log, cut into rounds of 256, and what came of them.
 use Rattle.std.specs.Prelude.{◌≡◌, ℕ, ◌+◌, ◌≤◌, List, [], ◌∷◌, ◌++◌, length}
 use Rattle.call_log.specs.Entry.{Entry}
-use Rattle.log_rounds.specs.Bench.{Bench, IsIn}
+use Rattle.log_rounds.specs.Judge.{JudgeConfig, IsIn}
 use Rattle.passport_json.specs.Signing.{Ticket}
 use Rattle.replay_law.specs.Log.{RowsLegal}
 use Rattle.replay_law.specs.Round.{Round as RowRound, round_of}
@@ -38,12 +38,12 @@ IsCut (round ∷ next ∷ others) = (length round.calls ≡ most_in_round) × Is
 
 -- ---- what the replay rule sees
 
-abbrev pub row_round : Bench → Round → RowRound
-row_round bench round = round_of (rows_of bench.settings round.calls round.outcomes)
+abbrev pub row_round : JudgeConfig → Round → RowRound
+row_round config round = round_of (rows_of config.settings round.calls round.outcomes)
 
-abbrev pub row_rounds : Bench → List Round → List RowRound
-row_rounds bench [] = []
-row_rounds bench (round ∷ others) = row_round bench round ∷ row_rounds bench others
+abbrev pub row_rounds : JudgeConfig → List Round → List RowRound
+row_rounds config [] = []
+row_rounds config (round ∷ others) = row_round config round ∷ row_rounds config others
 
 -- it holds of each call and its outcome, one for each call of each round
 abbrev pub InEach : (Entry → Outcome → Type 0) → List Round → Type 0
@@ -51,30 +51,30 @@ InEach P [] = Unit {0}
 InEach P (round ∷ others) = EachPair P round.calls round.outcomes × InEach P others
 
 -- the first call of each round that passes with a ticket is the valid one of the round, if there is one
-abbrev pub AllInOrder : Bench → List Round → Type 0
-AllInOrder bench [] = Unit {0}
-AllInOrder bench (round ∷ others) = FirstWins (rows_of bench.settings round.calls round.outcomes) × AllInOrder bench others
+abbrev pub AllInOrder : JudgeConfig → List Round → Type 0
+AllInOrder config [] = Unit {0}
+AllInOrder config (round ∷ others) = FirstWins (rows_of config.settings round.calls round.outcomes) × AllInOrder config others
 
 -- ---- calls set aside
 
 -- how many pairs there are of a round and a text that names certificates of unread calls of it
-abbrev pub unread_pairs : Bench → List Round → ℕ
-unread_pairs bench [] = 0
-unread_pairs bench (round ∷ others) = length (unread_texts bench.settings round.calls round.outcomes) + unread_pairs bench others
+abbrev pub unread_pairs : JudgeConfig → List Round → ℕ
+unread_pairs config [] = 0
+unread_pairs config (round ∷ others) = length (unread_texts config.settings round.calls round.outcomes) + unread_pairs config others
 
 -- ---- legal rounds
 
 -- Each outcome may stand for its call; and of the calls that pass with one ticket, over all rounds, exactly one is valid, and each other
 -- is a replay of it.
-pub record Legal (judged : Entry → Outcome → Type 0) (bench : Bench) (rounds : List Round) : Type 0 where
+pub record Legal (judged : Entry → Outcome → Type 0) (config : JudgeConfig) (rounds : List Round) : Type 0 where
   pub each : InEach judged rounds
-  pub once : RowsLegal (row_rounds bench rounds)
+  pub once : RowsLegal (row_rounds config rounds)
 
 -- no two different texts that were signed as last PASSporTs of the calls have one digest
-abbrev pub IsApart : Bench → List Entry → Type 0
-IsApart bench calls = (call other : Entry) (input signed : List ℕ) → IsIn call calls → IsIn other calls → IsSigned (call_in bench.settings call) input
-    → IsSigned (call_in bench.settings other) signed → Ticket input ≡ Ticket signed → input ≡ signed
+abbrev pub IsApart : JudgeConfig → List Entry → Type 0
+IsApart config calls = (call other : Entry) (input signed : List ℕ) → IsIn call calls → IsIn other calls → IsSigned (call_in config.settings call) input
+    → IsSigned (call_in config.settings other) signed → Ticket input ≡ Ticket signed → input ≡ signed
 
 -- the valid call of a ticket is the first of the log that passes with it
-abbrev pub FirstWinsIn : Bench → List Round → Type 0
-FirstWinsIn bench rounds = FirstOfLogWins (row_rounds bench rounds)
+abbrev pub FirstWinsIn : JudgeConfig → List Round → Type 0
+FirstWinsIn config rounds = FirstOfLogWins (row_rounds config rounds)

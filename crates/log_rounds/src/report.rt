@@ -1,10 +1,22 @@
 //! The lines of a round.
 ghost use Rattle.std.specs.Prelude.{◌≡◌, ◌+◌, ◌&&◌, ◌<◌, ◌^◌, length, IfOk};
 ghost use Rattle.log_rounds.specs.AllValid.{all_valid, is_valid};
+ghost use Rattle.log_rounds.specs.Batches.{first_number};
 ghost use Rattle.verify_service.specs.Report.{report};
 
+use call_log::Call;
 use std::alloc::{AllocError, Global};
 use verify_service::{Outcome, report_line};
+
+/// The number of the first call, and 0 where there is none.
+pub(crate) fn first_number(calls: &[Call]) -> u32
+    ensures { result ≡ first_number calls.now }
+{
+    match calls {
+        [] => 0,
+        [first, ..] => first.number(),
+    }
+}
 
 /// The lines of calls whose numbers go on from this one. `AllocError` is the only error.
 #[tactic(auto, using(crate::proofs::ReportLaws::line_more, crate::proofs::ReportLaws::all_lines))]

@@ -11,7 +11,7 @@ use stir_outside::Shelf;
 /// A command over the calls of a log, which are handed to it in batches.
 ///
 /// `behind` says which batches may have been answered from one state on up to another, `stopped` where the run may then stop, and `closed` by what
-/// text the report may then be closed. `stands` says after which places of the log a batch may come, with these counts of the shelf.
+/// text the report may then be closed. `stands` says after which places of the log a batch may come, with these counts and files of the shelf.
 pub trait LogCommand {
     ghost use Rattle.call_log.specs.Entry.{Entry};
     ghost use Rattle.call_log.specs.Log.{Passed};
@@ -29,7 +29,7 @@ pub trait LogCommand {
 
     ghost closed: { Self → Counts → Self → Counts → Option Files → List Batch → List ℕ → Type 0 };
 
-    ghost stands: { Self → Counts → Passed → Type 0 };
+    ghost stands: { Self → Counts → Option Files → Passed → Type 0 };
 
     ghost most: { Self → ℕ };
 
@@ -49,9 +49,9 @@ pub trait LogCommand {
         requires shared { IsSync R.row }
         requires some { 0 < length calls.now }
         requires few { length calls.now ≤ most self.old }
-        requires follow { Follow (stands self.old (S.counts shelf.old)) calls.now }
+        requires follow { Follow (stands self.old (S.counts shelf.old) (S.files shelf.old)) calls.now }
         ensures adds { IfOk result (λ answer. Adds behind self.old self.new (S.counts shelf.old) (S.counts shelf.new) (S.files shelf.old) calls.now answer) }
-        ensures stands { IfOk result (λ answer. StandsOn (stands self.old (S.counts shelf.old)) (stands self.new (S.counts shelf.new)) calls.now) }
+        ensures stands { IfOk result (λ answer. StandsOn (stands self.old (S.counts shelf.old) (S.files shelf.old)) (stands self.new (S.counts shelf.new) (S.files shelf.new)) calls.now) }
         ensures stopped { IfErr result (λ stop. Stops behind stopped self.old self.new (S.counts shelf.old) (S.counts shelf.new) (S.files shelf.old) calls.now stop) }
         ensures same_most { most self.new ≡ most self.old }
         ensures shelf { ShelfStays S.Shelf shelf.old shelf.new };

@@ -31,7 +31,7 @@ pub fn run_log<R: Threads + Sync, C: LogCommand, S: Shelf, I: Source, O: Sink>(
 ) -> u8
     requires reads_on { ReadsOn reader.old }
     requires ends { EndsRight (supply_of I.Source reader.old.ended input.old) }
-    requires stands { C.stands command.old (S.counts shelf.old) reader.old.passed }
+    requires stands { C.stands command.old (S.counts shelf.old) (S.files shelf.old) reader.old.passed }
     requires first { C.behind command.old (S.counts shelf.old) command.old (S.counts shelf.old) (S.files shelf.old) [] }
     // What is known of the batches is known from the command as it stood first on.
     ensures ran { LogRan (C.most command.old) (C.behind command.old (S.counts shelf.old) command.new (S.counts shelf.new) (S.files shelf.old))

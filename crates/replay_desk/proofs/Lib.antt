@@ -1,4 +1,5 @@
 mod Keeping
+mod ListLaws
 mod Words
 pub mod Shared
 pub mod Sums

@@ -3,7 +3,7 @@
 use Rattle.std.specs.Prelude.{ℕ, nat_lt, List, Option, Some, None, if◌then◌else◌}
 use Rattle.std.specs.Map.{lookup}
 use Rattle.std.specs.Str.{bytes_eq}
-use Rattle.replay_desk.specs.declared.kept.Kept.{Kept}
+use Rattle.state_text.specs.declared.kept.Kept.{Kept}
 
 -- the tickets with their calls, in no order that a contract names, and how many can be added without memory
 pub record PastView : Type 0 where

@@ -1,8 +1,12 @@
 //! The calls that passed, by ticket.
-ghost use Rattle.std.specs.Prelude.{◌≡◌, ◌≢◌, ◌≤◌, ◌<◌, ◌+◌, ℕ, List, Some, None, OnOk, OnErr};
+ghost use Rattle.std.specs.Prelude.{◌≡◌, ◌≢◌, ◌≤◌, ◌<◌, ◌+◌, ℕ, List, Some, None, IfOk, OnOk, OnErr};
+ghost use Rattle.std.specs.List.{IsDistinct};
+ghost use Rattle.std.specs.Map.{keys_of, lookup};
+ghost use Rattle.std.specs.Str.{bytes_eq};
 ghost use Rattle.replay_desk.specs.Past.{found, unless_below};
+ghost use Rattle.state_text.specs.State.{Rises};
 
-use crate::kept::Kept;
+use state_text::Kept;
 use std::alloc::{AllocError, Global};
 use std::collections::HashMap;
 use std::marker::Model;
@@ -88,4 +92,36 @@ impl Past {
     {
         self.calls.retain(|_, kept| kept.last >= moment);
     }
+
+    /// All tickets with their calls, in rising order of tickets. The only error is want of memory.
+    pub fn list(&self, alloc: Global) -> Result<Vec<([u8; 32], Kept)>, AllocError>
+        ensures same { IfOk result (λ list. (ticket : List ℕ) → lookup (bytes_eq ticket) list.items ≡ found self.now ticket) }
+        ensures rises { IfOk result (λ list. Rises None list.items) }
+    {
+        let list = self.entries(alloc)?;
+        Ok(sorted(list))
+    }
+
+    /// All tickets with their calls, in no order.
+    fn entries(&self, alloc: Global) -> Result<Vec<([u8; 32], Kept)>, AllocError>
+        ensures same { IfOk result (λ list. list.items ≡ self.now.entries) }
+        ensures unique { IfOk result (λ list. IsDistinct bytes_eq (keys_of list.items)) }
+    {
+        let mut list = Vec::new(alloc);
+        for (ticket, kept) in self.calls.iter() {
+            list.push((*ticket, *kept))?;
+        }
+        Ok(list)
+    }
+}
+
+/// Entries of different tickets, in rising order of these.
+#[tactic(auto, using(crate::proofs::ListLaws::sorted_same, crate::proofs::ListLaws::sorted_rises))]
+fn sorted(mut list: Vec<([u8; 32], Kept)>) -> Vec<([u8; 32], Kept)>
+    requires { IsDistinct bytes_eq (keys_of list.items) }
+    ensures same { (ticket : List ℕ) → lookup (bytes_eq ticket) result.items ≡ lookup (bytes_eq ticket) list.items }
+    ensures rises { Rises None result.items }
+{
+    list.sort_unstable();
+    list
 }

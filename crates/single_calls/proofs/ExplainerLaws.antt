@@ -1,7 +1,7 @@
 -- What is explained of a call, from what is found of it.
-use Rattle.std.proofs.Common.{◌≡◌, ℕ, ◌≤◌, inl, inr, List, Option, Some, None, Result, Ok, Err, IfOk, refl, sym, ◌∙◌, ap, subst}
+use Rattle.std.proofs.Common.{◌≡◌, ℕ, ◌≤◌, inl, inr, List, [], ◌∷◌, ◌++◌, Option, Some, None, Result, Ok, Err, IfOk, refl, sym, ◌∙◌, ap, subst}
 use Rattle.call_log.specs.Entry.{Entry}
-use Rattle.log_singly.specs.Answer.{AnswerView, unread_lines}
+use Rattle.log_run.specs.Batch.{Batch, BatchAnswerView, batch_of}
 use Rattle.stir_outside.proofs.CountLaws.{at_most_of_rose, never_rose, none_at}
 use Rattle.stir_outside.specs.Count.{AtMost}
 use Rattle.stir_outside.specs.Files.{Files}
@@ -13,8 +13,11 @@ use Rattle.verify_service.specs.Chains.{world_by}
 use Rattle.verify_service.specs.Judging.{IsFound, IsFoundWhere, call_in}
 use Rattle.verify_service.specs.declared.finding.Finding.{Finding}
 use Rattle.verify_service.specs.declared.finding.Finding.TheVariants as found
-use Rattle.single_calls.specs.Explainer.{ExplainedBy, ExplainerView, IsExplained, explanation, sign_by}
+use Rattle.single_calls.specs.Answer.{AnswerView, unread_lines, written_of}
+use Rattle.single_calls.specs.Explainer.{BehindAny, ExplainedBatches, ExplainedBy, ExplainerView, IsExplained, explanation, sign_by}
+use Rattle.single_calls.specs.Singly.{OneAnswer}
 use Rattle.single_calls.proofs.ExplainLaws.{explains_broken, explains_met}
+use Rattle.single_calls.proofs.SinglyLaws.{one_more}
 
 -- what is found of a call is explained, where no question failed
 found_explained : (world : World) (settings : Settings) (entry : Entry) (finding : Finding) → HasCauseIf (found_unasked finding) 0 0 → IsFound world (call_in settings entry) finding
@@ -52,15 +55,28 @@ unread_where number faults faults_now (found.Unread bad) cause stay = at_most_of
 unread_where number faults faults_now (found.Unasked bad) cause stay = none_at faults faults_now stay
 unread_where number faults faults_now (found.Passes pass) cause stay = none_at faults faults_now stay
 
-pub unread_counted : (number faults faults_now : ℕ) (finding : Finding) (answer : AnswerView) → HasCauseIf (found_unread finding) faults faults_now → faults ≤ faults_now
-    → answer ≡ explanation number finding → AtMost (unread_lines answer) faults faults_now
-unread_counted number faults faults_now finding answer cause stay same =
-    subst (λ (a : AnswerView). AtMost (unread_lines a) faults faults_now) (sym same) (unread_where number faults faults_now finding cause stay)
+-- ---- of a call
 
--- of an answer
-pub explained_ok : {E : Type 0} → (result : Result AnswerView E) (explainer : ExplainerView) (told : Option Files) (entry : Entry) (number : ℕ) (finding : Finding) → HasCauseIf (found_unasked finding) 0 0
+-- of what was written of it
+pub one_explained : {E : Type 0} → (result : Result BatchAnswerView E) (explainer : ExplainerView) (told : Option Files) (entry : Entry) (number : ℕ) (finding : Finding) (faults faults_now : ℕ)
+    → HasCauseIf (found_unasked finding) 0 0 → HasCauseIf (found_unread finding) faults faults_now → faults ≤ faults_now
     → IsFoundWhere told explainer.materials (held_says explainer.answers) (call_in explainer.settings entry) finding → number ≡ entry.number
-    → IfOk result (λ answer. answer ≡ explanation number finding) → (before : List Entry) → IfOk result (ExplainedBy explainer told before entry)
-explained_ok (Ok answer) explainer told entry number finding cause found same is before =
-    explained_by explainer told before entry finding answer cause found (is ∙ ap (λ n. explanation n finding) same)
-explained_ok (Err fault) explainer told entry number finding cause found same is before = tt
+    → IfOk result (λ written. written ≡ written_of (explanation number finding)) → IfOk result (OneAnswer BehindAny BehindAny (ExplainedBy explainer told) faults faults_now entry)
+one_explained (Ok written) explainer told entry number finding faults faults_now unasked unread stay found same is = record {
+  answer = explanation number finding;
+  is = is;
+  may = λ before any. explained_by explainer told before entry finding (explanation number finding) unasked found (ap (λ n. explanation n finding) same);
+  adds = λ before any. tt;
+  unread = unread_where number faults faults_now finding unread stay;
+}
+one_explained (Err stop) explainer told entry number finding faults faults_now unasked unread stay found same is = tt
+
+-- ---- of the batches before
+
+pub explained_more : (first one now : ExplainerView) (told : Option Files) (a b c : ℕ) (xs : List Batch) (call : Entry) (written : BatchAnswerView) → b ≤ c → now ≡ one
+    → OneAnswer BehindAny BehindAny (ExplainedBy one told) b c call written → ExplainedBatches first one told a b xs → ExplainedBatches first now told a c (xs ++ batch_of (call ∷ []) written ∷ [])
+explained_more first one now told a b c xs call written h same o s = record {
+  so = one_more (ExplainedBy first told) (ExplainedBy one told) BehindAny BehindAny a b c xs call written h tt
+      (λ before entry answer by. subst (λ (x : ExplainerView). ExplainedBy x told before entry answer) s.same by) o s.so;
+  same = same ∙ s.same;
+}

@@ -1,3 +1,4 @@
+pub mod SinglyLaws
 pub mod ExplainBack
 pub mod ExplainSteps
 pub mod ExplainLaws

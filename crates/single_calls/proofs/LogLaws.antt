@@ -1,8 +1,8 @@
 -- What was asked for the calls of a log is what is asked for the log.
 use Rattle.std.proofs.Common.{◌≡◌, ℕ, Bool, true, false, ◌&&◌, List, [], ◌∷◌, ◌++◌, Option, Some, None, refl, sym, ◌∙◌, ap}
 use Rattle.call_log.specs.Entry.{Entry}
-use Rattle.log_singly.specs.Answer.{AnswerView, all_well, found_well, is_well, texts_of}
-use Rattle.log_singly.specs.Answering.{AreAnswered}
+use Rattle.single_calls.specs.Answer.{AnswerView, all_well, found_well, is_well, texts_of}
+use Rattle.single_calls.specs.Answering.{AreAnswered}
 use Rattle.cert_store.specs.Rules.{QuestionView}
 use Rattle.stir_outside.specs.Files.{Files}
 use Rattle.verify_service.specs.Judging.{call_in}

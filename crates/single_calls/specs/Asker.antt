@@ -2,8 +2,7 @@
 use Rattle.std.specs.Prelude.{◌≡◌, ⊤, ℕ, List, take, Option, Some, None}
 use Rattle.std.specs.List.{slice_get}
 use Rattle.call_log.specs.Entry.{Entry}
-use Rattle.log_singly.specs.Answer.{AnswerView}
-use Rattle.log_singly.specs.declared.status.CallStatus.TheVariants.{Well}
+use Rattle.log_run.specs.Batch.{Batch, calls_in}
 use Rattle.cert_store.specs.ChainMap.{listed}
 use Rattle.stir_outside.specs.Files.{Files}
 use Rattle.verify_rules.specs.Call.{Reading, in_call_order}
@@ -14,8 +13,10 @@ use Rattle.verify_service.specs.Chains.{world_by}
 use Rattle.verify_service.specs.Judging.{call_in}
 use Rattle.cert_store.specs.declared.world.World.{World as Materials}
 use Rattle.single_calls.specs.AlwaysYes.{always_yes}
+use Rattle.single_calls.specs.Answer.{AnswerView, Well}
 use Rattle.single_calls.specs.Asks.{ask_lines, calls_questions, fresh}
 use Rattle.single_calls.specs.CallQuestions.{call_questions, chains_questions}
+use Rattle.single_calls.specs.Singly.{AnsweredSingly}
 use Rattle.single_calls.specs.Written.{Holds}
 use Rattle.single_calls.specs.declared.written.Triple.{Triple}
 
@@ -45,6 +46,12 @@ AskedBy asker (Some files) before entry answer = AsksOf (asking_world asker.mate
 abbrev pub BehindAsked : AskerView → Option Files → List Entry → Type 0
 BehindAsked asker None before = ⊤
 BehindAsked asker (Some files) before = Holds asker.written (calls_questions (asking_world asker.materials files) asker.settings before)
+
+-- what was asked for these batches was written, and nothing else of what asks changed
+pub record AskedBatches (asker now : AskerView) (told : Option Files) (faults faults_now : ℕ) (batches : List Batch) : Type 0 where
+  pub so : AnsweredSingly (AskedBy asker told) faults faults_now batches
+  pub asked : BehindAsked now told (calls_in batches)
+  pub same : now ≡ record asker { written = now.written }
 
 -- ---- a stop
 

@@ -1,9 +1,7 @@
 -- What may be explained of a call, by the files that a shelf tells.
 use Rattle.std.specs.Prelude.{◌≡◌, ⊤, ◌⊎◌, ℕ, List, Option, Some, None}
 use Rattle.call_log.specs.Entry.{Entry}
-use Rattle.log_singly.specs.Answer.{AnswerView}
-use Rattle.log_singly.specs.declared.status.CallStatus.{CallStatus}
-use Rattle.log_singly.specs.declared.status.CallStatus.TheVariants.{Well, Broken, Unread}
+use Rattle.log_run.specs.Batch.{Batch}
 use Rattle.stir_outside.specs.Files.{Files}
 use Rattle.stir_outside.specs.Held.{Held, held_says}
 use Rattle.verify_rules.specs.World.{First, MayBeUnread, World}
@@ -15,7 +13,9 @@ use Rattle.verify_service.specs.Judging.{call_in}
 use Rattle.verify_service.specs.declared.finding.Finding.{Finding}
 use Rattle.verify_service.specs.declared.finding.Finding.TheVariants as found
 use Rattle.cert_store.specs.declared.world.World.{World as Materials}
+use Rattle.single_calls.specs.Answer.{AnswerView, CallStatus, Well, Broken, Unread}
 use Rattle.single_calls.specs.Explain.{Explain, explained, unread_text}
+use Rattle.single_calls.specs.Singly.{AnsweredSingly}
 
 -- by what calls are explained
 pub record ExplainerView : Type 0 where
@@ -69,9 +69,14 @@ ExplainedBy explainer (Some files) before entry answer =
     IsExplained (world_by explainer.materials files (held_says explainer.answers)) explainer.settings entry answer
 
 -- any calls may have been explained before
-abbrev pub BehindAny : ExplainerView → Option Files → List Entry → Type 0
-BehindAny explainer told before = ⊤
+abbrev pub BehindAny : List Entry → Type 0
+BehindAny before = ⊤
 
 -- no file stops the explanation of a call
 abbrev pub NeverStops : ExplainerView → Option Files → List Entry → Entry → List ℕ → List ℕ → Type 0
 NeverStops explainer told before entry text name = ⊥
+
+-- these batches were explained, and by what calls are explained is the same
+pub record ExplainedBatches (explainer now : ExplainerView) (told : Option Files) (faults faults_now : ℕ) (batches : List Batch) : Type 0 where
+  pub so : AnsweredSingly (ExplainedBy explainer told) faults faults_now batches
+  pub same : now ≡ explainer

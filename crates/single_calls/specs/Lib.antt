@@ -1,3 +1,6 @@
+pub mod Answer
+pub mod Answering
+pub mod Singly
 pub mod AlwaysYes
 pub mod Explain
 pub mod CallQuestions

@@ -1,8 +1,10 @@
 //! What asks for a call.
 ghost use Rattle.stir_outside.specs.Stays.{ShelfStays};
-ghost use Rattle.std.specs.Prelude.{◌≡◌, ◌≤◌, [], Ok, IfErr, OnOk, string_bytes};
+ghost use Rattle.std.specs.Prelude.{◌≡◌, ◌≤◌, [], Ok, IfErr, IfOk, OnOk, string_bytes};
+ghost use Rattle.single_calls.specs.Answering.{StopsBy};
 ghost use Rattle.single_calls.specs.Asker.{AskedBy, BehindAsked, StopsAsking};
 ghost use Rattle.single_calls.specs.Reading.{StopsCall, WritesCall, lines};
+ghost use Rattle.single_calls.specs.Singly.{OneAnswer};
 ghost use Rattle.single_calls.specs.Verdicts.{asks_own};
 ghost use Rattle.stir_outside.specs.Files.{CountsGoOn};
 ghost use Rattle.verify_rules.specs.Call.{Call as RuledCall};
@@ -15,10 +17,10 @@ use crate::own::add_own;
 use crate::reading::{ChainError, ask_chains};
 use crate::written::Written;
 use call_log::Call;
-use log_run::AnswerError;
-use log_singly::{Answer, Answerer, CallStatus};
-use std::alloc::Global;
+use log_run::{AnswerError, BatchAnswer, LogCommand};
+use std::alloc::{AllocError, Global};
 use std::marker::Model;
+use std::thread::Threads;
 use stir_outside::Shelf;
 use verify_rules::{ScreenFault, Screened, Settings, Verdict, finish, screen, screened_law};
 use verify_service::{CallChains, World, call_law};
@@ -61,21 +63,19 @@ impl Asker {
             written: Written::new(alloc),
         }
     }
-}
 
-impl Answerer for Asker {
-    ghost answered = { λ a. AskedBy a };
-
-    ghost behind = { λ a. BehindAsked a };
-
-    ghost stops = { λ a. StopsAsking a };
-
-    fn answer<S: Shelf>(
+    /// Asks for a call, and keeps what was asked.
+    fn ask<S: Shelf>(
         &mut self,
         alloc: Global,
         shelf: &mut S,
         call: &Call,
-    ) -> Result<Answer, AnswerError> {
+    ) -> Result<BatchAnswer, AnswerError>
+        ensures asked { IfOk result (OneAnswer (BehindAsked self.old (S.files shelf.old)) (BehindAsked self.new (S.files shelf.old)) (AskedBy self.old (S.files shelf.old)) (S.counts shelf.old).faults (S.counts shelf.new).faults call.now) }
+        ensures stopped { IfErr result (StopsBy (BehindAsked self.old (S.files shelf.old)) (StopsAsking self.old (S.files shelf.old)) call.now (S.counts shelf.old).faults (S.counts shelf.new).faults) }
+        ensures same { self.new ≡ record self.old { written = self.new.written } }
+        ensures shelf { ShelfStays S.Shelf shelf.old shelf.new }
+    {
         let mut text = String::new(alloc);
         match ask_call(
             alloc,
@@ -86,10 +86,49 @@ impl Answerer for Asker {
             &mut self.written,
             &mut text,
         ) {
-            Ok(()) => Ok(Answer::new(text, CallStatus::Well)),
+            Ok(()) => Ok(BatchAnswer::new(text.into_bytes(), true)),
             Err(ChainError::Unread { name }) => Err(AnswerError::Unread { text, name }),
             Err(ChainError::Memory) => Err(AnswerError::Memory),
         }
+    }
+}
+
+/// A batch is one call.
+impl LogCommand for Asker {
+    ghost use Rattle.std.specs.Prelude.{⊤};
+    ghost use Rattle.single_calls.specs.Asker.{AskedBatches, AskedBy, StopsAsking};
+    ghost use Rattle.single_calls.specs.Singly.{SinglyClosed, SinglyStopped};
+
+    ghost behind = { λ first before now counts files batches. AskedBatches first now files before.faults counts.faults batches };
+
+    ghost stopped = { λ first before now counts files batches calls stop. SinglyStopped (AskedBy first files) (StopsAsking first files) before.faults counts.faults batches calls stop };
+
+    ghost closed = { λ first before now counts files batches text. SinglyClosed (AskedBy first files) before.faults counts.faults batches text };
+
+    ghost stands = { λ a counts files passed. ⊤ };
+
+    ghost most = { λ a. 1 };
+
+    fn most(&self) -> u32 {
+        1
+    }
+
+    fn answer<R: Threads + Sync, S: Shelf>(
+        &mut self,
+        rt: &R,
+        alloc: Global,
+        shelf: &mut S,
+        calls: &[Call],
+    ) -> Result<BatchAnswer, AnswerError> {
+        let _ = rt;
+        match calls {
+            [call] => self.ask(alloc, shelf, call),
+            _ => unreachable!(),
+        }
+    }
+
+    fn closing(&mut self, alloc: Global) -> Result<Vec<u8>, AllocError> {
+        Ok(Vec::new(alloc))
     }
 }
 

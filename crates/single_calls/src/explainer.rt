@@ -1,17 +1,16 @@
 //! What explains a call.
 ghost use Rattle.stir_outside.specs.Stays.{ShelfStays};
-ghost use Rattle.std.specs.Prelude.{◌≡◌, ◌≤◌, List, IfOk};
-ghost use Rattle.call_log.specs.Entry.{Entry};
-ghost use Rattle.log_singly.specs.Answer.{unread_lines};
-ghost use Rattle.single_calls.specs.Explainer.{BehindAny, ExplainedBy, NeverStops, explanation, status_of};
-ghost use Rattle.stir_outside.specs.Count.{AtMost};
+ghost use Rattle.std.specs.Prelude.{◌≡◌, ◌≤◌, IfOk};
+ghost use Rattle.single_calls.specs.Answer.{found_well, written_of};
+ghost use Rattle.single_calls.specs.Explainer.{BehindAny, ExplainedBy, explanation, status_of};
+ghost use Rattle.single_calls.specs.Singly.{OneAnswer};
 
 use crate::explain::explained;
 use call_log::Call;
-use log_run::AnswerError;
-use log_singly::{Answer, Answerer, CallStatus};
+use log_run::{AnswerError, BatchAnswer, LogCommand};
 use std::alloc::{AllocError, Global};
 use std::marker::Model;
+use std::thread::Threads;
 use stir_outside::{Answers, Shelf};
 use verify_rules::Settings;
 use verify_service::{CallChains, Finding, World, judge_call};
@@ -57,9 +56,8 @@ impl<'a> Explainer<'a> {
         alloc: Global,
         shelf: &mut S,
         call: &Call,
-    ) -> Result<Answer, AllocError>
-        ensures answered { (before : List Entry) → IfOk result (ExplainedBy self.now (S.files shelf.old) before call.now) }
-        ensures unread { IfOk result (λ answer. AtMost (unread_lines answer) (S.counts shelf.old).faults (S.counts shelf.new).faults) }
+    ) -> Result<BatchAnswer, AllocError>
+        ensures explained { IfOk result (OneAnswer BehindAny BehindAny (ExplainedBy self.now (S.files shelf.old)) (S.counts shelf.old).faults (S.counts shelf.new).faults call.now) }
         ensures shelf { ShelfStays S.Shelf shelf.old shelf.new }
     {
         let mut chains = CallChains::new(alloc);
@@ -77,42 +75,64 @@ impl<'a> Explainer<'a> {
     }
 }
 
-/// The explanation of the call of this number, by what is found of it.
-fn explanation(alloc: Global, number: u32, finding: &Finding) -> Result<Answer, AllocError>
-    ensures { IfOk result (λ answer. answer ≡ explanation number finding.now) }
+/// The explanation of the call of this number, by what is found of it. `AllocError` is the only error.
+fn explanation(alloc: Global, number: u32, finding: &Finding) -> Result<BatchAnswer, AllocError>
+    ensures { IfOk result (λ written. written ≡ written_of (explanation number finding.now)) }
 {
     let text = explained(alloc, number, finding)?;
-    Ok(Answer::new(text, status_of(finding)))
+    Ok(BatchAnswer::new(text.into_bytes(), is_well(finding)))
 }
 
-/// What is found of a call comes to.
-fn status_of(finding: &Finding) -> CallStatus
-    ensures { result ≡ status_of finding.now }
+/// Nothing is wrong with a call of which this is found.
+fn is_well(finding: &Finding) -> bool
+    ensures { result ≡ found_well (status_of finding.now) }
 {
     match finding {
-        Finding::Refused(_) => CallStatus::Broken,
-        Finding::Unread(_) => CallStatus::Unread,
-        Finding::Unasked(_) => CallStatus::Broken,
-        Finding::Passes(_) => CallStatus::Well,
+        Finding::Refused(_) => false,
+        Finding::Unread(_) => false,
+        Finding::Unasked(_) => false,
+        Finding::Passes(_) => true,
     }
 }
 
-impl<'a> Answerer for Explainer<'a> {
-    ghost answered = { λ e. ExplainedBy e };
+/// A batch is one call.
+impl<'a> LogCommand for Explainer<'a> {
+    ghost use Rattle.std.specs.Prelude.{⊤};
+    ghost use Rattle.single_calls.specs.Explainer.{ExplainedBatches, ExplainedBy, NeverStops};
+    ghost use Rattle.single_calls.specs.Singly.{SinglyClosed, SinglyStopped};
 
-    ghost behind = { λ e. BehindAny e };
+    ghost behind = { λ first before now counts files batches. ExplainedBatches first now files before.faults counts.faults batches };
 
-    ghost stops = { λ e. NeverStops e };
+    ghost stopped = { λ first before now counts files batches calls stop. SinglyStopped (ExplainedBy first files) (NeverStops first files) before.faults counts.faults batches calls stop };
 
-    fn answer<S: Shelf>(
+    ghost closed = { λ first before now counts files batches text. SinglyClosed (ExplainedBy first files) before.faults counts.faults batches text };
+
+    ghost stands = { λ e counts files passed. ⊤ };
+
+    ghost most = { λ e. 1 };
+
+    fn most(&self) -> u32 {
+        1
+    }
+
+    fn answer<R: Threads + Sync, S: Shelf>(
         &mut self,
+        rt: &R,
         alloc: Global,
         shelf: &mut S,
-        call: &Call,
-    ) -> Result<Answer, AnswerError> {
-        match self.explain(alloc, shelf, call) {
-            Ok(answer) => Ok(answer),
-            Err(_) => Err(AnswerError::Memory),
+        calls: &[Call],
+    ) -> Result<BatchAnswer, AnswerError> {
+        let _ = rt;
+        match calls {
+            [call] => match self.explain(alloc, shelf, call) {
+                Ok(answer) => Ok(answer),
+                Err(_) => Err(AnswerError::Memory),
+            },
+            _ => unreachable!(),
         }
+    }
+
+    fn closing(&mut self, alloc: Global) -> Result<Vec<u8>, AllocError> {
+        Ok(Vec::new(alloc))
     }
 }

@@ -2,8 +2,8 @@
 ghost use Rattle.std.specs.Fmt.{decimal};
 ghost use Rattle.std.specs.Prelude.{◌≡◌, ◌↔◌, ◌<◌, ◌∷◌, ◌++◌, codes, ℕ, List, [], Option, Some, None, true};
 ghost use Rattle.call_log.specs.Entry.{Entry};
-ghost use Rattle.log_singly.specs.Answer.{AnswerView, all_well, texts_of};
-ghost use Rattle.log_singly.specs.Answering.{AreAnswered};
+ghost use Rattle.single_calls.specs.Answer.{AnswerView, all_well, texts_of};
+ghost use Rattle.single_calls.specs.Answering.{AreAnswered};
 ghost use Rattle.cert_store.specs.Questions.{AgreeOn};
 ghost use Rattle.cert_store.specs.Rules.{QuestionView, Says};
 ghost use Rattle.single_calls.specs.Agreement.{JudgedAlike};

@@ -6,7 +6,7 @@ use Rattle.std.proofs.lemmas.Bool.{or_parts}
 use Rattle.std.proofs.lemmas.List.{append-nil, length-append}
 use Rattle.std.proofs.lemmas.Option.{none-some, same_Some}
 use Rattle.call_log.specs.Entry.{Entry}
-use Rattle.log_rounds.specs.Bench.{Bench}
+use Rattle.log_rounds.specs.Judge.{JudgeConfig}
 use Rattle.log_rounds.specs.Rounds.{InEach, IsCut, Round, calls_in, outcomes_in, row_rounds}
 use Rattle.replay_law.specs.Law.{HasEach, IsSameCall}
 use Rattle.replay_law.specs.Log.{StandsIn}
@@ -18,7 +18,7 @@ use Rattle.verify_service.specs.Judging.{EachPair, call_in}
 use Rattle.verify_service.specs.Rows.{answer_of, passes, row_of, rows_of}
 use Rattle.verify_service.specs.declared.outcome.Outcome.{Outcome}
 use Rattle.verify_service.specs.declared.outcome.Outcome.TheVariants.{Valid, Refused, Replay, Unread, Unasked}
-use Rattle.stir_cmd.specs.Calls.{Answers}
+use Rattle.log_rounds.specs.Answers.{Answers}
 
 -- ---- the cut
 
@@ -226,27 +226,27 @@ rounds_alike world other settings same (round ∷ rounds) (next ∷ others) (her
     )
 
 -- the same calls stand in both
-pub has_each : (bench : Bench) (rounds others : List Round) → RoundsAlike rounds others → HasEach (row_rounds bench rounds) (row_rounds bench others)
-has_each bench [] [] alike round place row stands = absurd (none-some row stands)
-has_each bench [] (next ∷ others) alike round place row stands = absurd alike
-has_each bench (here ∷ rounds) [] alike round place row stands = absurd alike
-has_each bench (here ∷ rounds) (next ∷ others) (calls, alike, more) zero place row stands =
-    let (other, there, same) = rows_alike bench.settings here.calls here.outcomes next.outcomes alike place row stands in
-    (other, subst (λ calls. Stands (rows_of bench.settings calls next.outcomes) place other) calls there, same)
-has_each bench (here ∷ rounds) (next ∷ others) (calls, alike, more) (suc round) place row stands = has_each bench rounds others more round place row stands
+pub has_each : (config : JudgeConfig) (rounds others : List Round) → RoundsAlike rounds others → HasEach (row_rounds config rounds) (row_rounds config others)
+has_each config [] [] alike round place row stands = absurd (none-some row stands)
+has_each config [] (next ∷ others) alike round place row stands = absurd alike
+has_each config (here ∷ rounds) [] alike round place row stands = absurd alike
+has_each config (here ∷ rounds) (next ∷ others) (calls, alike, more) zero place row stands =
+    let (other, there, same) = rows_alike config.settings here.calls here.outcomes next.outcomes alike place row stands in
+    (other, subst (λ calls. Stands (rows_of config.settings calls next.outcomes) place other) calls there, same)
+has_each config (here ∷ rounds) (next ∷ others) (calls, alike, more) (suc round) place row stands = has_each config rounds others more round place row stands
 
-abbrev pub OneAnswerEach : Bench → List Round → List Round → Type 0
-OneAnswerEach bench rounds others = (round place : ℕ) (row other : Row) → StandsIn (row_rounds bench rounds) round place row
-    → StandsIn (row_rounds bench others) round place other → row.answer ≡ other.answer
+abbrev pub OneAnswerEach : JudgeConfig → List Round → List Round → Type 0
+OneAnswerEach config rounds others = (round place : ℕ) (row other : Row) → StandsIn (row_rounds config rounds) round place row
+    → StandsIn (row_rounds config others) round place other → row.answer ≡ other.answer
 
-pub all_same : (world other : World) (bench : Bench) (rounds others : List Round) → RoundsAlike rounds others → InEach (Answers world bench.settings) rounds
-    → InEach (Answers other bench.settings) others → OneAnswerEach bench rounds others → outcomes_in rounds ≡ outcomes_in others
-all_same world other bench [] [] alike a b one = refl
-all_same world other bench [] (next ∷ others) alike a b one = absurd alike
-all_same world other bench (here ∷ rounds) [] alike a b one = absurd alike
-all_same world other bench (here ∷ rounds) (next ∷ others) (calls, alike, more) a b one =
+pub all_same : (world other : World) (config : JudgeConfig) (rounds others : List Round) → RoundsAlike rounds others → InEach (Answers world config.settings) rounds
+    → InEach (Answers other config.settings) others → OneAnswerEach config rounds others → outcomes_in rounds ≡ outcomes_in others
+all_same world other config [] [] alike a b one = refl
+all_same world other config [] (next ∷ others) alike a b one = absurd alike
+all_same world other config (here ∷ rounds) [] alike a b one = absurd alike
+all_same world other config (here ∷ rounds) (next ∷ others) (calls, alike, more) a b one =
     let first : here.outcomes ≡ next.outcomes =
-    same_outcomes world other bench.settings here.calls here.outcomes next.outcomes a.0 (subst (λ c. EachPair (Answers other bench.settings) c next.outcomes) (sym calls) b.0) alike
-    (λ place row row_other stands there. one 0 place row row_other stands (subst (λ c. Stands (rows_of bench.settings c next.outcomes) place row_other) calls there)) in
-    let rest = all_same world other bench rounds others more a.1 b.1 (λ round. one (suc round)) in
+    same_outcomes world other config.settings here.calls here.outcomes next.outcomes a.0 (subst (λ c. EachPair (Answers other config.settings) c next.outcomes) (sym calls) b.0) alike
+    (λ place row row_other stands there. one 0 place row row_other stands (subst (λ c. Stands (rows_of config.settings c next.outcomes) place row_other) calls there)) in
+    let rest = all_same world other config rounds others more a.1 b.1 (λ round. one (suc round)) in
     ap (λ outcomes. outcomes ++ outcomes_in rounds) first ∙ ap (λ outcomes. next.outcomes ++ outcomes) rest

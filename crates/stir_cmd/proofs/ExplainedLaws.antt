@@ -4,8 +4,8 @@ use Rattle.std.specs.Io.KnownBytes.{Appends}
 use Rattle.call_log.specs.Entry.{Entry}
 use Rattle.call_log.specs.Log.{LogText, start}
 use Rattle.log_run.specs.Batch.{Batch, calls_in, texts_in}
-use Rattle.log_singly.specs.Answer.{AnswerView, all_well, found_unread, texts_of, unread_in}
-use Rattle.log_singly.specs.Answering.{AreAnswered}
+use Rattle.single_calls.specs.Answer.{AnswerView, all_well, found_unread, texts_of, unread_in}
+use Rattle.single_calls.specs.Answering.{AreAnswered}
 use Rattle.log_run.specs.Ending.{report_status}
 use Rattle.log_run.specs.Words.{DoneReport, Words}
 use Rattle.single_calls.specs.Asker.{AskedBy, AskerView, StopsAsking, asking_world}

@@ -1,4 +1,4 @@
--- Two runs of `verify` over the same files and the same log give one report.
+-- Two runs of `verify` on one worker over the same files and the same log give one report.
 use Rattle.std.proofs.Common.{◌≡◌, ◌↔◌, ℕ, List, [], Option, Some, None, Result, Ok, refl, sym, ◌∙◌, ap, subst}
 use Rattle.std.specs.Io.KnownBytes.{Appends}
 use Rattle.std.proofs.lemmas.Option.{same_Some}
@@ -19,7 +19,7 @@ use Rattle.stir_outside.specs.Count.{NotRisen}
 use Rattle.stir_outside.specs.Files.{Files}
 use Rattle.stir_outside.specs.AnswersText.{says as says_in}
 use Rattle.stir_outside.specs.Held.{AnswersOf, Held, held_says}
-use Rattle.stir_words.specs.Order.{JudgingView, OrderView, VerifyBy}
+use Rattle.stir_words.specs.Order.{JudgingView, OrderView, VerifyBy, VerifyingView}
 use Rattle.tn_auth_list.specs.CodeTable.{Grants}
 use Rattle.tn_auth_list.specs.Grant.{GrantHolds, TableOf, grant_in}
 use Rattle.tn_auth_list.specs.declared.table_groups.Held.{Held as Granted}
@@ -28,7 +28,7 @@ use Rattle.verify_rules.specs.World.{First, World}
 use Rattle.verify_rules.specs.declared.settings.Settings.{Settings}
 use Rattle.verify_service.specs.Report.{report}
 use Rattle.verify_service.specs.Judging.{call_in}
-use Rattle.stir_cmd.specs.Calls.{bench_by, settings_by, world_by}
+use Rattle.stir_cmd.specs.Calls.{config_by, settings_by, world_by}
 use Rattle.stir_cmd.specs.Headline.{AreJudged, Headline, Verified}
 use Rattle.stir_cmd.specs.OneReport.{AreOneReport, GivesOneReport, IsLogApart, IsOneReport}
 use Rattle.stir_cmd.specs.Outside.{IfTold, Outside}
@@ -81,38 +81,38 @@ pub record OneReportLawsOf : Type 0 where
   pub one_answer : OneAnswer
   pub same_world : SameWorldLaw
 
-none_aside : (settings : Settings) (materials : Materials) (files : Files) (before now : Outside) (rounds : List Round)
-    → AreJudged settings materials files before now rounds → NotRisen before.counts.faults now.counts.faults → NoneAside (outcomes_in rounds)
-none_aside settings materials files before now rounds judged quiet = record { read = judged.quiet quiet; asked = judged.answered }
+none_aside : (settings : Settings) (workers : ℕ) (materials : Materials) (files : Files) (before now : Outside) (rounds : List Round)
+    → AreJudged settings workers materials files before now rounds → NotRisen before.counts.faults now.counts.faults → NoneAside (outcomes_in rounds)
+none_aside settings workers materials files before now rounds judged quiet = record { read = judged.quiet quiet; asked = judged.answered }
 
-one_outcomes : OneReportLawsOf → (judging : JudgingView) (files : Files) (bytes : List ℕ) (before now other other_now : Outside) (status other_status : ℕ)
-    → IsLogApart judging bytes → (mine : Verified judging files bytes before now status) (yours : Verified judging files bytes other other_now other_status)
+one_outcomes : OneReportLawsOf → (verifying : VerifyingView) → verifying.workers ≡ 1 → (files : Files) (bytes : List ℕ) (before now other other_now : Outside) (status other_status : ℕ)
+    → IsLogApart verifying bytes → (mine : Verified verifying files bytes before now status) (yours : Verified verifying files bytes other other_now other_status)
     → NotRisen before.counts.faults now.counts.faults → NotRisen other.counts.faults other_now.counts.faults → outcomes_in mine.rounds ≡ outcomes_in yours.rounds
-one_outcomes laws judging files bytes before now other other_now status other_status apart mine yours quiet quiet_other =
-    let settings = settings_by judging.settings in
-    let bench = bench_by settings in
+one_outcomes laws verifying single files bytes before now other other_now status other_status apart mine yours quiet quiet_other =
+    let settings = settings_by verifying.judging.settings in
+    let config = config_by settings verifying.workers in
     let world = world_by mine.materials files in
     let world_other = world_by yours.materials files in
     let calls = (laws.one_log (start 0 0) bytes (calls_in mine.rounds) (calls_in yours.rounds) [] [] mine.log yours.log).0 in
     let same : (entry : Entry) → First world (call_in settings entry) ≡ First world_other (call_in settings entry) =
-    λ entry. laws.same_world world world_other (same_says files judging mine.materials yours.materials mine.stands yours.stands) (call_in settings entry) in
+    λ entry. laws.same_world world world_other (same_says files verifying.judging mine.materials yours.materials mine.stands yours.stands) (call_in settings entry) in
     let cut = same_cut mine.rounds yours.rounds mine.judged.cut yours.judged.cut calls in
     let alike : RoundsAlike mine.rounds yours.rounds =
     rounds_alike world world_other settings same mine.rounds yours.rounds cut mine.judged.each yours.judged.each
-    (none_aside settings mine.materials files before now mine.rounds mine.judged quiet) (none_aside settings yours.materials files other other_now yours.rounds yours.judged quiet_other) in
-    let apart_mine : IsApart bench (calls_in mine.rounds) = apart (calls_in mine.rounds) mine.log in
-    let apart_yours : IsApart bench (calls_in yours.rounds) = apart (calls_in yours.rounds) yours.log in
-    let one : OneAnswerEach bench mine.rounds yours.rounds =
-    laws.one_answer (row_rounds bench mine.rounds) (row_rounds bench yours.rounds) (has_each bench mine.rounds yours.rounds alike)
-    (has_each bench yours.rounds mine.rounds (rounds_turned mine.rounds yours.rounds alike))
-    (mine.judged.legal apart_mine).once (mine.judged.first_wins apart_mine) (yours.judged.legal apart_yours).once (yours.judged.first_wins apart_yours) in
-    all_same world world_other bench mine.rounds yours.rounds alike mine.judged.each yours.judged.each one
+    (none_aside settings verifying.workers mine.materials files before now mine.rounds mine.judged quiet) (none_aside settings verifying.workers yours.materials files other other_now yours.rounds yours.judged quiet_other) in
+    let apart_mine : IsApart config (calls_in mine.rounds) = apart (calls_in mine.rounds) mine.log in
+    let apart_yours : IsApart config (calls_in yours.rounds) = apart (calls_in yours.rounds) yours.log in
+    let one : OneAnswerEach config mine.rounds yours.rounds =
+    laws.one_answer (row_rounds config mine.rounds) (row_rounds config yours.rounds) (has_each config mine.rounds yours.rounds alike)
+    (has_each config yours.rounds mine.rounds (rounds_turned mine.rounds yours.rounds alike))
+    (mine.judged.legal apart_mine).once (mine.judged.first_wins single apart_mine) (yours.judged.legal apart_yours).once (yours.judged.first_wins single apart_yours) in
+    all_same world world_other config mine.rounds yours.rounds alike mine.judged.each yours.judged.each one
 
-one_report : OneReportLawsOf → (judging : JudgingView) (files : Files) (bytes : List ℕ) (before now other other_now : Outside) (status other_status : ℕ)
-    → IsLogApart judging bytes → Verified judging files bytes before now status → Verified judging files bytes other other_now other_status
+one_report : OneReportLawsOf → (verifying : VerifyingView) → verifying.workers ≡ 1 → (files : Files) (bytes : List ℕ) (before now other other_now : Outside) (status other_status : ℕ)
+    → IsLogApart verifying bytes → Verified verifying files bytes before now status → Verified verifying files bytes other other_now other_status
     → NotRisen before.counts.faults now.counts.faults → NotRisen other.counts.faults other_now.counts.faults → AreOneReport before now status other other_now other_status
-one_report laws judging files bytes before now other other_now status other_status apart mine yours quiet quiet_other =
-    let same = one_outcomes laws judging files bytes before now other other_now status other_status apart mine yours quiet quiet_other in
+one_report laws verifying single files bytes before now other other_now status other_status apart mine yours quiet quiet_other =
+    let same = one_outcomes laws verifying single files bytes before now other other_now status other_status apart mine yours quiet quiet_other in
     record {
       text = report 1 (outcomes_in mine.rounds);
       written = mine.reported;
@@ -121,23 +121,23 @@ one_report laws judging files bytes before now other other_now status other_stat
     }
 
 -- what the headline says of a run whose files and log these are
-said_of : (judging : JudgingView) (files : Files) (bytes : List ℕ) (told : Option Files) (left : Option (List ℕ)) (other other_now : Outside) (status : ℕ)
-    → told ≡ Some files → left ≡ Some bytes → IfTold told left (λ f b. Verified judging f b other other_now status) → Verified judging files bytes other other_now status
-said_of judging files bytes told left other other_now status same_files same_log said =
-    subst (λ f. IfTold (Some files) f (λ f b. Verified judging f b other other_now status)) same_log
-    (subst (λ f. IfTold f left (λ f b. Verified judging f b other other_now status)) same_files said)
+said_of : (verifying : VerifyingView) (files : Files) (bytes : List ℕ) (told : Option Files) (left : Option (List ℕ)) (other other_now : Outside) (status : ℕ)
+    → told ≡ Some files → left ≡ Some bytes → IfTold told left (λ f b. Verified verifying f b other other_now status) → Verified verifying files bytes other other_now status
+said_of verifying files bytes told left other other_now status same_files same_log said =
+    subst (λ f. IfTold (Some files) f (λ f b. Verified verifying f b other other_now status)) same_log
+    (subst (λ f. IfTold f left (λ f b. Verified verifying f b other other_now status)) same_files said)
 
-gives_by : OneReportLawsOf → (judging : JudgingView) (before now : Outside) (status : ℕ) (told : Option Files) (left : Option (List ℕ))
-    → NotRisen before.counts.faults now.counts.faults → IfTold told left (λ files bytes. Verified judging files bytes before now status)
-    → IfTold told left (λ files bytes. IsOneReport judging files bytes before now status)
-gives_by laws judging before now status None left quiet said = tt
-gives_by laws judging before now status (Some files) None quiet said = tt
-gives_by laws judging before now status (Some files) (Some bytes) quiet said = record {
+gives_by : OneReportLawsOf → (verifying : VerifyingView) → verifying.workers ≡ 1 → (before now : Outside) (status : ℕ) (told : Option Files) (left : Option (List ℕ))
+    → NotRisen before.counts.faults now.counts.faults → IfTold told left (λ files bytes. Verified verifying files bytes before now status)
+    → IfTold told left (λ files bytes. IsOneReport verifying files bytes before now status)
+gives_by laws verifying single before now status None left quiet said = tt
+gives_by laws verifying single before now status (Some files) None quiet said = tt
+gives_by laws verifying single before now status (Some files) (Some bytes) quiet said = record {
   same = λ apart other other_now other_status ran.
-      one_report laws judging files bytes before now other other_now status other_status apart said
-      (said_of judging files bytes other.files other.left other other_now other_status ran.same_files ran.same_log (ran.headline ran.done)) quiet ran.quiet;
+      one_report laws verifying single files bytes before now other other_now status other_status apart said
+      (said_of verifying files bytes other.files other.left other other_now other_status ran.same_files ran.same_log (ran.headline ran.done)) quiet ran.quiet;
 }
 
 pub gives_one_report : OneReportLawsOf → (order : Option OrderView) (before now : Outside) (status : ℕ) → Headline order before now status → GivesOneReport order before now status
-gives_one_report laws (Some (VerifyBy judging)) before now status said = λ done quiet. gives_by laws judging before now status before.files before.left quiet (said done)
+gives_one_report laws (Some (VerifyBy verifying)) before now status said = λ single done quiet. gives_by laws verifying single before now status before.files before.left quiet (said done)
 gives_one_report laws other before now status said = _

@@ -16,6 +16,7 @@ saying over before now P Q b says = record {
   no_fault = b.no_fault;
   counts = b.counts;
   go_on = b.go_on;
+  reads = b.reads;
   stay = b.stay;
   says = says;
 }

@@ -1,5 +1,5 @@
 -- The named files were read, and the run goes on behind them.
-use Rattle.std.proofs.Common.{◌≡◌, ℕ, ◌≤◌, inl, inr, List, Option, Ok, subst}
+use Rattle.std.proofs.Common.{◌≡◌, ℕ, ◌+◌, ◌≤◌, length, inl, inr, List, Option, Ok, subst}
 use Rattle.stir_files.specs.Stop.{Truly}
 use Rattle.stir_outside.specs.Files.{Counts, CountsGoOn, Files}
 use Rattle.stir_cmd.specs.Outside.{Outside, outside}
@@ -8,14 +8,16 @@ use Rattle.stir_cmd.specs.Stopping.{NoMemory}
 use Rattle.stir_cmd.proofs.StopSteps.{no_fault}
 
 pub goes_on : (over : OverFiles) (read : over.Read) (files files_now : Option Files) (counts counts_now : Counts) (left : Option (List ℕ)) (reads : ℕ) (written : Option (List ℕ)) (writes : ℕ) (now : Outside) (status : ℕ)
-    → over.Stands files read → Truly files over.named (Ok read) → files_now ≡ files → CountsGoOn counts counts_now → counts_now.faults ≤ now.counts.faults
+    → over.Stands files read → Truly files over.named (Ok read) → files_now ≡ files → CountsGoOn counts counts_now → counts_now.reads ≤ counts.reads + length over.named
+    → counts_now.faults ≤ now.counts.faults
     → (over.course read).Came (outside files_now counts_now left reads written writes) now status → (over_files over).Came (outside files counts left reads written writes) now status
-goes_on over read files files_now counts counts_now left reads written writes now status stands truly same goes stay came = inl (record {
+goes_on over read files files_now counts counts_now left reads written writes now status stands truly same goes few stay came = inl (record {
   read = read;
   stands = stands;
   no_fault = no_fault files over.named read truly;
   counts = counts_now;
   go_on = goes;
+  reads = few;
   stay = stay;
   says = subst (λ (x : Option Files). (over.course read).Came (outside x counts_now left reads written writes) now status) same came;
 })

@@ -29,7 +29,7 @@ laws texts well = record { texts = texts; well = well }
 
 keeps_all : Laws → (order : OrderView) → KeepsAll (course_of order)
 keeps_all laws ShowCertificates = showing.keeps_all
-keeps_all laws (VerifyBy judging) = verifying.keeps_all judging
+keeps_all laws (VerifyBy order) = verifying.keeps_all order
 keeps_all laws (ExplainBy judging) = explaining.explain_keeps judging
 keeps_all laws (AskBy words) = explaining.ask_keeps laws.texts laws.well words
 keeps_all laws (SignBy words) = signing.keeps_all (signing_command words)
@@ -72,7 +72,7 @@ none_causes before now status (inr short) = of_line before now status 6 _ (inr r
 -- ---- the promises
 
 pub headline : (order : Option OrderView) (before now : Outside) (status : ℕ) → Ran order before now status → Headline order before now status
-headline (Some (VerifyBy judging)) before now status came = verifying.headline judging before now status came
+headline (Some (VerifyBy order)) before now status came = verifying.headline order before now status came
 headline other before now status came = tt
 
 pub causes : Laws → (order : Option OrderView) (before now : Outside) (status : ℕ) → Ran order before now status → HasCauses order before now status

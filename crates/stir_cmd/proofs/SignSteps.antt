@@ -1,5 +1,5 @@
 -- The steps of `sign` and `divert`: what the call gives of bytes is what is answered to them.
-use Rattle.std.proofs.Common.{◌≡◌, ℕ, ◌≤◌, inl, inr, nat_le, true, List, Option, Some, None, Result, Ok, Err, IfErr, IfOk, IsTrue, refl, ◌∙◌, ap, subst, arith}
+use Rattle.std.proofs.Common.{◌≡◌, ℕ, ◌+◌, ◌≤◌, inl, inr, nat_le, true, List, length, Option, Some, None, Result, Ok, Err, IfErr, IfOk, IsTrue, refl, ◌∙◌, ap, subst, arith}
 use Rattle.std.proofs.lemmas.Bool.Decides.{nat_tests}
 use Rattle.lists.specs.Given.{Gives}
 use Rattle.text_grammar.specs.Moment.{last_second}
@@ -111,13 +111,14 @@ same_stands command files answers names materials same_answers same_holder stand
 -- the files were read
 pub from_files : (command : SignCommand) (answers : List ℕ) (names : Option HolderNames) (materials : SigningMaterials) (files files_now : Option Files) (counts counts_now : Counts)
     (left left_now : Option (List ℕ)) (reads reads_now : ℕ) (written written_now : Option (List ℕ)) (writes writes_now status : ℕ) → answers ≡ command.answers → names ≡ command.holder
-    → files_now ≡ files → CountsGoOn counts counts_now → SigningOf files answers names materials → Truly files (signing_files answers names) (Ok materials)
+    → files_now ≡ files → CountsGoOn counts counts_now → counts_now.reads ≤ counts.reads + length (signing_files answers names) → SigningOf files answers names materials → Truly files (signing_files answers names) (Ok materials)
     → RanInput (sign_answering command.order materials) (io left reads written writes) (io left_now reads_now written_now writes_now) status
     → (sign_course command).Came (outside files counts left reads written writes) (outside files_now counts_now left_now reads_now written_now writes_now) status
-from_files command answers names materials files files_now counts counts_now left left_now reads reads_now written written_now writes writes_now status same_answers same_holder same goes stands truly ran =
+from_files command answers names materials files files_now counts counts_now left left_now reads reads_now written written_now writes writes_now status same_answers same_holder same goes few stands truly ran =
     goes_on (sign_over command) materials files files_now counts counts_now left reads written writes (outside files_now counts_now left_now reads_now written_now writes_now) status
     (same_stands command files answers names materials same_answers same_holder stands)
-    (subst (λ (x : List NamedFile). Truly files x (Ok materials)) (same_named command answers names same_answers same_holder) truly) same goes (omega arith) (record { counts = refl; ran = ran })
+    (subst (λ (x : List NamedFile). Truly files x (Ok materials)) (same_named command answers names same_answers same_holder) truly) same goes
+    (subst (λ (x : List NamedFile). counts_now.reads ≤ counts.reads + length x) (same_named command answers names same_answers same_holder) few) (omega arith) (record { counts = refl; ran = ran })
 
 -- one of them stopped it
 pub from_stop : (command : SignCommand) (answers : List ℕ) (names : Option HolderNames) (before now : Outside) (status : ℕ) → answers ≡ command.answers → names ≡ command.holder

@@ -3,7 +3,7 @@ use Rattle.std.proofs.Common.{ℕ, ◌≤◌, List, Option}
 use Rattle.call_log.specs.Entry.{Entry}
 use Rattle.call_log.specs.Log.{start}
 use Rattle.log_run.specs.Words.{LogSays}
-use Rattle.log_singly.specs.Answer.{AnswerView}
+use Rattle.single_calls.specs.Answer.{AnswerView}
 use Rattle.stir_outside.proofs.CountLaws.{not_rose}
 use Rattle.stir_outside.specs.Files.{Files}
 use Rattle.stir_cmd.specs.Outside.{Outside}

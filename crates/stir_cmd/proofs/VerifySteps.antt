@@ -1,34 +1,43 @@
 -- What `verify` came to, from what its steps came to.
-use Rattle.std.proofs.Common.{◌≡◌, ℕ, ◌≤◌, inl, inr, List, Option, None, Ok, refl, subst}
+use Rattle.std.proofs.Common.{◌≡◌, ℕ, ◌+◌, ◌≤◌, inl, inr, List, [], length, Option, None, Ok, refl, sym, ap, subst}
+use Rattle.std.proofs.lemmas.Option.{none-some}
+use Rattle.cert_store.specs.Holding.{Chains}
+use Rattle.cert_store.specs.Rules.{Says}
+use Rattle.cert_store.specs.Using.{names}
+use Rattle.call_log.specs.Log.{start}
+use Rattle.log_run.specs.Words.{LogSays}
 use Rattle.replay_law.specs.Held.{nothing}
+use Rattle.log_rounds.specs.Batches.{words_by}
 use Rattle.log_rounds.specs.Judged.{StandsAtFirst}
+use Rattle.log_rounds.specs.Verifier.{JudgeBasis, basis_by, state_by}
 use Rattle.replay_desk.specs.Past.{found}
 use Rattle.stir_files.specs.Materials.{MaterialsOf, files_of}
 use Rattle.stir_files.specs.Stop.{Truly}
 use Rattle.stir_files.specs.declared.materials.Materials.{Materials}
 use Rattle.stir_outside.specs.Files.{Counts, CountsGoOn, Files}
-use Rattle.stir_words.specs.Order.{JudgingView}
+use Rattle.stir_words.specs.Order.{VerifyingView}
 use Rattle.verify_rules.specs.declared.settings.Settings.{Settings}
 use Rattle.verify_service.specs.Rows.{held}
-use Rattle.verify_service.specs.Service.{IsNew, ServiceView}
+use Rattle.verify_service.specs.RightChains.{AreRightHeld}
+use Rattle.verify_service.specs.Service.{HoldsRight, IsNew, ServiceView, materials_of}
 use Rattle.cert_store.specs.declared.world.World.{World as Told}
 use Rattle.stir_cmd.specs.Outside.{Outside, outside}
-use Rattle.stir_cmd.specs.Calls.{settings_by}
-use Rattle.stir_cmd.specs.Standing.{materials_by, standing_by}
+use Rattle.stir_cmd.specs.Calls.{basis_of, settings_by}
+use Rattle.stir_cmd.specs.OverLog.{log_in}
 use Rattle.stir_cmd.specs.Verifying.{RanBy, judging_course, verify_course, verify_over}
 use Rattle.stir_cmd.proofs.OverFilesSteps.{goes_on, short_behind}
 
 -- ---- the files were read
 
-pub from_files : (judging : JudgingView) (materials : Materials) (settings : Settings) (files files_now : Option Files) (counts counts_now : Counts) (left : Option (List ℕ)) (reads : ℕ) (written : Option (List ℕ)) (writes : ℕ)
-    (now : Outside) (status : ℕ) → MaterialsOf files judging materials → Truly files (files_of judging) (Ok materials) → files_now ≡ files → CountsGoOn counts counts_now
-    → settings ≡ settings_by judging.settings → counts_now.faults ≤ now.counts.faults → RanBy settings materials (outside files_now counts_now left reads written writes) now status
-    → (verify_course judging).Came (outside files counts left reads written writes) now status
-from_files judging materials settings files files_now counts counts_now left reads written writes now status stands truly same goes given stay (inl by) =
-    goes_on (verify_over judging) materials files files_now counts counts_now left reads written writes now status stands truly same goes stay
-    (subst (λ (x : Settings). (judging_course x materials).Came (outside files_now counts_now left reads written writes) now status) given by)
-from_files judging materials settings files files_now counts counts_now left reads written writes now status stands truly same goes given stay (inr none) =
-    short_behind (verify_over judging) files files_now counts counts_now left reads written writes now status none
+pub from_files : (verifying : VerifyingView) (materials : Materials) (settings : Settings) (files files_now : Option Files) (counts counts_now : Counts) (left : Option (List ℕ)) (reads : ℕ) (written : Option (List ℕ)) (writes : ℕ)
+    (now : Outside) (status : ℕ) → MaterialsOf files verifying.judging materials → Truly files (files_of verifying.judging) (Ok materials) → files_now ≡ files → CountsGoOn counts counts_now → counts_now.reads ≤ counts.reads + length (files_of verifying.judging)
+    → settings ≡ settings_by verifying.judging.settings → counts_now.faults ≤ now.counts.faults → RanBy settings verifying.workers materials (outside files_now counts_now left reads written writes) now status
+    → (verify_course verifying).Came (outside files counts left reads written writes) now status
+from_files verifying materials settings files files_now counts counts_now left reads written writes now status stands truly same goes few given stay (inl by) =
+    goes_on (verify_over verifying) materials files files_now counts counts_now left reads written writes now status stands truly same goes few stay
+    (subst (λ (x : Settings). (judging_course x verifying.workers materials).Came (outside files_now counts_now left reads written writes) now status) given by)
+from_files verifying materials settings files files_now counts counts_now left reads written writes now status stands truly same goes few given stay (inr none) =
+    short_behind (verify_over verifying) files files_now counts counts_now left reads written writes now status none
 
 -- ---- a new service stands at first
 
@@ -38,17 +47,28 @@ same_past service none = λ i ticket. by_ticket ticket i
     by_ticket : (ticket : List ℕ) → held service.past ticket ≡ None
     by_ticket ticket = rw (none ticket) refl
 
-pub stands_at_first : (settings : Settings) (told : Told) (service : ServiceView) (faults : ℕ) → IsNew settings told service → StandsAtFirst (standing_by service faults)
-stands_at_first settings told service faults new = record { past = same_past service new.past; number = new.number; moment = new.moment }
+pub stands_at_first : (settings : Settings) (told : Told) (service : ServiceView) (counts : Counts) → IsNew settings told service → StandsAtFirst (state_by service counts)
+stands_at_first settings told service counts new = record { past = same_past service new.past; held = ap names new.held; number = new.number; moment = new.moment }
+
+-- what it holds of chains, which is nothing, is right
+none_right : (told : Option Files) (says : Says) (materials : Told) → AreRightHeld told materials says [] []
+none_right told says materials = record { cached = λ x5u judged e. absurd (none-some judged e); others = λ x5u state e. absurd (none-some state e) }
+
+pub trusts_at_first : (settings : Settings) (told : Told) (service : ServiceView) (files : Option Files) (says : Says) → IsNew settings told service → HoldsRight files says service
+trusts_at_first settings told service files says new = subst (λ (x : Chains). AreRightHeld files (materials_of service) says x []) (sym new.held) (none_right files says (materials_of service))
 
 -- ---- the log was judged by a new service
 
-same_materials : (settings : Settings) (materials : Materials) (service : ServiceView) → IsNew settings (record { chains = materials.chains; anchors = materials.anchors; table = materials.table }) service
-    → materials_by service materials.answers ≡ materials
-same_materials settings materials service new = λ i. record { chains = new.chains i; anchors = new.anchors i; table = new.table i; answers = materials.answers }
+same_basis : (settings : Settings) (workers : ℕ) (materials : Materials) (service : ServiceView) → IsNew settings (record { chains = materials.chains; anchors = materials.anchors; table = materials.table }) service
+    → basis_by service materials.answers workers ≡ basis_of settings workers materials
+same_basis settings workers materials service new = λ i. record {
+  settings = new.settings_are i;
+  materials = record { chains = new.chains i; anchors = new.anchors i; table = new.table i };
+  answers = materials.answers;
+  workers = workers;
+}
 
-pub log_by : (settings : Settings) (materials : Materials) (service : ServiceView) (before now : Outside) (status : ℕ) → IsNew settings (record { chains = materials.chains; anchors = materials.anchors; table = materials.table }) service
-    → (judging_course service.settings (materials_by service materials.answers)).Came before now status → RanBy settings materials before now status
-log_by settings materials service before now status new says = inl (
-    subst (λ (x : Settings). (judging_course x materials).Came before now status) new.settings_are
-    (subst (λ (x : Materials). (judging_course service.settings x).Came before now status) (same_materials settings materials service new) says))
+pub log_by : (settings : Settings) (workers : ℕ) (materials : Materials) (service : ServiceView) (before now : Outside) (status : ℕ) → IsNew settings (record { chains = materials.chains; anchors = materials.anchors; table = materials.table }) service
+    → LogSays (words_by (basis_by service materials.answers workers) before.files (start 0 0) before.counts now.counts) (start 0 0) (log_in before) (log_in now) status → RanBy settings workers materials before now status
+log_by settings workers materials service before now status new says =
+    inl (subst (λ (x : JudgeBasis). LogSays (words_by x before.files (start 0 0) before.counts now.counts) (start 0 0) (log_in before) (log_in now) status) (same_basis settings workers materials service new) says)

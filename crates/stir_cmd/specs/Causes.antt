@@ -44,7 +44,7 @@ no_course = record {
 
 abbrev pub course_of : OrderView → Course
 course_of ShowCertificates = show_course
-course_of (VerifyBy judging) = verify_course judging
+course_of (VerifyBy verifying) = verify_course verifying
 course_of (ExplainBy judging) = explain_course judging
 course_of (AskBy words) = ask_course words
 course_of (SignBy words) = sign_course (signing_command words)

@@ -4,7 +4,7 @@ use Rattle.std.specs.Prelude.{◌≡◌, ℕ, ◌<◌, List, [], ◌∷◌}
 use Rattle.std.specs.Io.KnownBytes.{Appends}
 use Rattle.call_log.specs.Entry.{Entry}
 use Rattle.call_log.specs.Log.{LogText, start}
-use Rattle.log_singly.specs.Answer.{AnswerView, all_well, texts_of, unread_in}
+use Rattle.single_calls.specs.Answer.{AnswerView, all_well, texts_of, unread_in}
 use Rattle.log_run.specs.Ending.{report_status}
 use Rattle.single_calls.specs.Asker.{AskedBy, AskerView, StopsAsking, asking_world}
 use Rattle.single_calls.specs.Asks.{Asks}

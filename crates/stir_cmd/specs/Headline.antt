@@ -6,41 +6,42 @@ use Rattle.call_log.specs.Log.{LogText, start}
 use Rattle.log_run.specs.Ending.{report_status}
 use Rattle.log_rounds.specs.Rounds.{FirstWinsIn, InEach, IsApart, IsCut, Legal, Round, calls_in, outcomes_in, unread_pairs}
 use Rattle.log_rounds.specs.AllValid.{all_valid}
+use Rattle.log_rounds.specs.Answers.{Answers}
 use Rattle.stir_files.specs.Materials.{MaterialsOf}
 use Rattle.stir_files.specs.declared.materials.Materials.{Materials}
 use Rattle.stir_outside.specs.Count.{AtMost, NotRisen}
 use Rattle.stir_outside.specs.Files.{Files}
-use Rattle.stir_words.specs.Order.{JudgingView, OrderView, VerifyBy}
+use Rattle.stir_words.specs.Order.{OrderView, VerifyBy, VerifyingView}
 use Rattle.verify_rules.specs.declared.settings.Settings.{Settings}
 use Rattle.verify_service.specs.Causes.{NoneUnasked, NoneUnread}
 use Rattle.verify_service.specs.Report.{report}
 use Rattle.stir_cmd.specs.Outside.{IfTold, Outside}
-use Rattle.stir_cmd.specs.Calls.{Answers, bench_by, settings_by, world_by}
+use Rattle.stir_cmd.specs.Calls.{config_by, settings_by, world_by}
 
 -- Rounds of 256 calls, but the last, judged by what the files say: each call is answered by the first rule that it breaks. Where no two signing
 -- inputs of last PASSporTs have one digest, the outcomes are legal: of the calls that break no rule and have one last PASSporT exactly one is
--- valid, which is the first, and each other is a replay of it. Calls are set aside for certificates alone: at most as often, counting pairs of
+-- valid, which with one worker is the first, and each other is a replay of it. Calls are set aside for certificates alone: at most as often, counting pairs of
 -- a round and an x5u text, as the shelf's failed reads rose, and not at all where they didn't.
-pub record AreJudged (settings : Settings) (materials : Materials) (files : Files) (before now : Outside) (rounds : List Round) : Type 0 where
+pub record AreJudged (settings : Settings) (workers : ℕ) (materials : Materials) (files : Files) (before now : Outside) (rounds : List Round) : Type 0 where
   pub cut : IsCut rounds
   pub each : InEach (Answers (world_by materials files) settings) rounds
-  pub legal : IsApart (bench_by settings) (calls_in rounds) → Legal (Answers (world_by materials files) settings) (bench_by settings) rounds
-  pub first_wins : IsApart (bench_by settings) (calls_in rounds) → FirstWinsIn (bench_by settings) rounds
-  pub unread : AtMost (unread_pairs (bench_by settings) rounds) before.counts.faults now.counts.faults
+  pub legal : IsApart (config_by settings workers) (calls_in rounds) → Legal (Answers (world_by materials files) settings) (config_by settings workers) rounds
+  pub first_wins : workers ≡ 1 → IsApart (config_by settings workers) (calls_in rounds) → FirstWinsIn (config_by settings workers) rounds
+  pub unread : AtMost (unread_pairs (config_by settings workers) rounds) before.counts.faults now.counts.faults
   pub quiet : NotRisen before.counts.faults now.counts.faults → NoneUnread (outcomes_in rounds)
   pub answered : NoneUnasked (outcomes_in rounds)
 
 -- The named files are in their grammars; the bytes are a whole log; its calls were judged by what the files say; their report was written, and
 -- nothing else; and the status says whether all are valid.
-pub record Verified (judging : JudgingView) (files : Files) (bytes : List ℕ) (before now : Outside) (status : ℕ) : Type 0 where
+pub record Verified (verifying : VerifyingView) (files : Files) (bytes : List ℕ) (before now : Outside) (status : ℕ) : Type 0 where
   pub materials : Materials
-  pub stands : MaterialsOf (Some files) judging materials
+  pub stands : MaterialsOf (Some files) verifying.judging materials
   pub rounds : List Round
   pub log : LogText (start 0 0) bytes (calls_in rounds) []
-  pub judged : AreJudged (settings_by judging.settings) materials files before now rounds
+  pub judged : AreJudged (settings_by verifying.judging.settings) verifying.workers materials files before now rounds
   pub reported : Appends before.written now.written (report 1 (outcomes_in rounds))
   pub said : status ≡ report_status (all_valid (outcomes_in rounds))
 
 abbrev pub Headline : Option OrderView → Outside → Outside → ℕ → Type 0
-Headline (Some (VerifyBy judging)) before now status = status ≤ 1 → IfTold before.files before.left (λ files bytes. Verified judging files bytes before now status)
+Headline (Some (VerifyBy verifying)) before now status = status ≤ 1 → IfTold before.files before.left (λ files bytes. Verified verifying files bytes before now status)
 Headline other before now status = Unit {0}

@@ -6,7 +6,6 @@ pub mod OverLog
 pub mod Input
 pub mod InputCode
 pub mod Calls
-pub mod Standing
 pub mod Verifying
 pub mod Singly
 pub mod Explained
@@ -16,5 +15,6 @@ pub mod Show
 pub mod Answer
 pub mod Showing
 pub mod Headline
+pub mod FewReads
 pub mod Causes
 pub mod OneReport

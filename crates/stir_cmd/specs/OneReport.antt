@@ -1,4 +1,4 @@
--- What any two runs of `verify` have in common that judge one log by the same files: the report is one function of both.
+-- What any two runs of `verify` on one worker have in common that judge one log by the same files: the report is one function of both.
 use Rattle.std.specs.Prelude.{◌≡◌, ℕ, ◌≤◌, List, [], Option, Some}
 use Rattle.std.specs.Io.KnownBytes.{Appends}
 use Rattle.call_log.specs.Entry.{Entry}
@@ -6,14 +6,14 @@ use Rattle.call_log.specs.Log.{LogText, start}
 use Rattle.log_rounds.specs.Rounds.{IsApart}
 use Rattle.stir_outside.specs.Count.{NotRisen}
 use Rattle.stir_outside.specs.Files.{Files}
-use Rattle.stir_words.specs.Order.{JudgingView, OrderView, VerifyBy}
-use Rattle.stir_cmd.specs.Calls.{bench_by, settings_by}
+use Rattle.stir_words.specs.Order.{OrderView, VerifyBy, VerifyingView}
+use Rattle.stir_cmd.specs.Calls.{config_by, settings_by}
 use Rattle.stir_cmd.specs.Headline.{Headline}
 use Rattle.stir_cmd.specs.Outside.{IfTold, Outside}
 
 -- no two different texts that were signed as last PASSporTs of the log's calls have one digest
-abbrev pub IsLogApart : JudgingView → List ℕ → Type 0
-IsLogApart judging bytes = (calls : List Entry) → LogText (start 0 0) bytes calls [] → IsApart (bench_by (settings_by judging.settings)) calls
+abbrev pub IsLogApart : VerifyingView → List ℕ → Type 0
+IsLogApart verifying bytes = (calls : List Entry) → LogText (start 0 0) bytes calls [] → IsApart (config_by (settings_by verifying.judging.settings) verifying.workers) calls
 
 -- a run over these files and this log that kept the headline's promise, ended with 0 or 1, and in which no read of the shelf failed
 pub record JudgedTheSame (order : Option OrderView) (files : Files) (bytes : List ℕ) (before now : Outside) (status : ℕ) : Type 0 where
@@ -31,11 +31,11 @@ pub record AreOneReport (before now : Outside) (status : ℕ) (other other_now :
   pub same_status : status ≡ other_status
 
 -- each other run over the same files and log gave the same report
-pub record IsOneReport (judging : JudgingView) (files : Files) (bytes : List ℕ) (before now : Outside) (status : ℕ) : Type 0 where
-  pub same : IsLogApart judging bytes → (other other_now : Outside) (other_status : ℕ)
-      → JudgedTheSame (Some (VerifyBy judging)) files bytes other other_now other_status → AreOneReport before now status other other_now other_status
+pub record IsOneReport (verifying : VerifyingView) (files : Files) (bytes : List ℕ) (before now : Outside) (status : ℕ) : Type 0 where
+  pub same : IsLogApart verifying bytes → (other other_now : Outside) (other_status : ℕ)
+      → JudgedTheSame (Some (VerifyBy verifying)) files bytes other other_now other_status → AreOneReport before now status other other_now other_status
 
 abbrev pub GivesOneReport : Option OrderView → Outside → Outside → ℕ → Type 0
-GivesOneReport (Some (VerifyBy judging)) before now status = status ≤ 1 → NotRisen before.counts.faults now.counts.faults
-    → IfTold before.files before.left (λ files bytes. IsOneReport judging files bytes before now status)
+GivesOneReport (Some (VerifyBy verifying)) before now status = verifying.workers ≡ 1 → status ≤ 1 → NotRisen before.counts.faults now.counts.faults
+    → IfTold before.files before.left (λ files bytes. IsOneReport verifying files bytes before now status)
 GivesOneReport other before now status = Unit {0}

@@ -1,5 +1,5 @@
 -- A command over named files: they are read first, and what it promises behind them is a course of its own, by what they say.
-use Rattle.std.specs.Prelude.{◌≡◌, ◌⊎◌, ℕ, ◌≤◌, List, Option, Some, None}
+use Rattle.std.specs.Prelude.{◌≡◌, ◌⊎◌, ℕ, ◌+◌, ◌≤◌, List, length, Option, Some, None}
 use Rattle.stir_files.specs.Named.{NamedFile, first_fault}
 use Rattle.stir_outside.specs.Files.{Counts, CountsGoOn, Files}
 use Rattle.stir_cmd.specs.Outside.{Outside, outside}
@@ -17,13 +17,14 @@ pub record OverFiles : Type 1 where
 abbrev pub counted : Outside → Counts → Outside
 counted before counts = outside before.files counts before.left before.read_faults before.written before.write_faults
 
--- The files were read and have no fault, and this is said of the run from behind them on.
+-- The files were read, each once at most, and have no fault, and this is said of the run from behind them on.
 pub record Behind (over : OverFiles) (before now : Outside) (Says : over.Read → Outside → Type 0) : Type 0 where
   pub read : over.Read
   pub stands : over.Stands before.files read
   pub no_fault : HaveNoFault before.files over.named
   pub counts : Counts
   pub go_on : CountsGoOn before.counts counts
+  pub reads : counts.reads ≤ before.counts.reads + length over.named
   pub stay : counts.faults ≤ now.counts.faults
   pub says : Says read (counted before counts)
 

@@ -2,8 +2,8 @@
 use Rattle.std.specs.Prelude.{ℕ, List, Option}
 use Rattle.call_log.specs.Entry.{Entry}
 use Rattle.log_run.specs.Words.{Words}
-use Rattle.log_singly.specs.Answer.{AnswerView}
-use Rattle.log_singly.specs.Singly.{singly_words}
+use Rattle.single_calls.specs.Answer.{AnswerView}
+use Rattle.single_calls.specs.Singly.{singly_words}
 use Rattle.stir_outside.specs.Files.{Files}
 use Rattle.stir_cmd.specs.Course.{Course}
 use Rattle.stir_cmd.specs.Outside.{Outside}

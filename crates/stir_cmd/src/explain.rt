@@ -7,8 +7,7 @@ ghost use Rattle.stir_words.specs.Seen.{asking_view, judging_view};
 use crate::settings::settings_of;
 use crate::verify::end_at;
 use cert_store::World;
-use log_singly::{Singly, answer_log};
-use single_calls::{Asker, Explainer};
+use single_calls::{Asker, Explainer, ask_log, explain_log};
 use std::alloc::Global;
 use std::thread::Threads;
 use stir_files::{Materials, read_materials, read_world};
@@ -43,8 +42,8 @@ pub(crate) fn explain<R: Threads + Sync, S: Shelf, I: Source, O: Sink>(
                 anchors,
                 table,
             };
-            let explainer = Explainer::new(settings_of(&judging.settings), world, &answers);
-            answer_log(rt, alloc, &mut Singly(explainer), shelf, input, sink)
+            let mut explainer = Explainer::new(settings_of(&judging.settings), world, &answers);
+            explain_log(rt, alloc, &mut explainer, shelf, input, sink)
         }
         Err(stop) => end_at(alloc, &stop, sink),
     }
@@ -67,8 +66,8 @@ pub(crate) fn ask<R: Threads + Sync, S: Shelf, I: Source, O: Sink>(
 {
     match read_world(alloc, shelf, asking) {
         Ok(world) => {
-            let asker = Asker::new(alloc, settings_of(&asking.settings), world);
-            answer_log(rt, alloc, &mut Singly(asker), shelf, input, sink)
+            let mut asker = Asker::new(alloc, settings_of(&asking.settings), world);
+            ask_log(rt, alloc, &mut asker, shelf, input, sink)
         }
         Err(stop) => end_at(alloc, &stop, sink),
     }

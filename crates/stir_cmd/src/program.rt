@@ -2,6 +2,7 @@
 ghost use Rattle.std.specs.Prelude.{◌≡◌, ◌≤◌, List};
 ghost use Rattle.stir_cmd.specs.Outside.{outside_of};
 ghost use Rattle.stir_cmd.specs.Causes.{HasCauses, IsComplete, IsSaid, IsThrough, Ran, RanOrShort};
+ghost use Rattle.stir_cmd.specs.FewReads.{FewReads};
 ghost use Rattle.stir_cmd.specs.Headline.{Headline};
 ghost use Rattle.stir_cmd.specs.OneReport.{GivesOneReport};
 ghost use Rattle.call_log.specs.Entry.{Entry};
@@ -58,9 +59,15 @@ pub fn run<R: Threads + Sync, S: Shelf, I: Source, O: Sink>(
     ensures headline { Headline (order_of (texts words.now))
         (outside_of S.Shelf I.Source O.Sink shelf.old input.old sink.old)
         (outside_of S.Shelf I.Source O.Sink shelf.new input.new sink.new) result }
-    // The report is one function of the files and the log: where no read of a file fails, each other run of the same words over the same files
+    // With one worker the report is one function of the files and the log: where no read of a file fails, each other run of the same words over the same files
     // and the same log in which none fails either writes the same bytes and ends with the same status, unless memory is wanting.
     ensures one_report { GivesOneReport (order_of (texts words.now))
+        (outside_of S.Shelf I.Source O.Sink shelf.old input.old sink.old)
+        (outside_of S.Shelf I.Source O.Sink shelf.new input.new sink.new) result }
+
+    // Of `verify`: files are read no more often than if each named file, and the file of each x5u that the calls of the log name and the chain map
+    // lists, were read once, if these x5u texts are at most 4,096.
+    ensures few_reads { FewReads (order_of (texts words.now))
         (outside_of S.Shelf I.Source O.Sink shelf.old input.old sink.old)
         (outside_of S.Shelf I.Source O.Sink shelf.new input.new sink.new) result }
 
@@ -111,7 +118,7 @@ fn carry_out<R: Threads + Sync, S: Shelf, I: Source, O: Sink>(
     ensures same_files { S.files shelf.new ≡ S.files shelf.old }
 {
     match Order::of(alloc, words) {
-        Ok(Order::Verify(judging)) => verify(rt, alloc, &judging, shelf, input, sink),
+        Ok(Order::Verify(verifying)) => verify(rt, alloc, &verifying, shelf, input, sink),
         Ok(Order::Explain(judging)) => explain(rt, alloc, &judging, shelf, input, sink),
         Ok(Order::Ask(asking)) => ask(rt, alloc, &asking, shelf, input, sink),
         Ok(Order::Sign(signing)) => sign_message(

@@ -4,17 +4,16 @@ ghost use Rattle.stir_cmd.specs.Outside.{outside_of};
 ghost use Rattle.stir_cmd.specs.Stopping.{EndsAtStop};
 ghost use Rattle.stir_cmd.specs.Verifying.{RanBy, verify_course};
 ghost use Rattle.stir_files.specs.Stop.{stop_of};
-ghost use Rattle.stir_words.specs.Seen.{judging_view};
+ghost use Rattle.stir_words.specs.Seen.{verifying_view};
 ghost use Rattle.stir_outside.specs.Stays.{ShelfStays};
 
-use crate::bench::Bench;
 use crate::settings::settings_of;
-use log_rounds::{Rounds, judge_log};
+use log_rounds::{LogVerifier, judge_log};
 use std::alloc::Global;
 use std::thread::Threads;
 use stir_files::{FileError, Materials, read_materials};
 use stir_outside::{Shelf, Sink, Source, Status, end_with, memory_line};
-use stir_words::Judging;
+use stir_words::Verifying;
 use verify_rules::Settings;
 use verify_service::{Service, World};
 
@@ -22,22 +21,23 @@ use verify_service::{Service, World};
 pub(crate) fn verify<R: Threads + Sync, S: Shelf, I: Source, O: Sink>(
     rt: &R,
     alloc: Global,
-    judging: &Judging<'_>,
+    verifying: &Verifying<'_>,
     shelf: &mut S,
     input: &mut I,
     sink: &mut O,
 ) -> u8
-    ensures ran { (verify_course (judging_view judging.now)).Came
+    ensures ran { (verify_course (verifying_view verifying.now)).Came
         (outside_of S.Shelf I.Source O.Sink shelf.old input.old sink.old)
         (outside_of S.Shelf I.Source O.Sink shelf.new input.new sink.new) result }
     ensures same_files { S.files shelf.new ≡ S.files shelf.old }
 {
-    match read_materials(alloc, shelf, judging) {
+    match read_materials(alloc, shelf, &verifying.judging) {
         Ok(materials) => judge_by(
             rt,
             alloc,
             materials,
-            settings_of(&judging.settings),
+            settings_of(&verifying.judging.settings),
+            verifying.workers,
             shelf,
             input,
             sink,
@@ -46,18 +46,21 @@ pub(crate) fn verify<R: Threads + Sync, S: Shelf, I: Source, O: Sink>(
     }
 }
 
-/// Judges the calls of the log by what the files say.
+/// Judges the calls of the log by what the files say, on so many workers.
 fn judge_by<R: Threads + Sync, S: Shelf, I: Source, O: Sink>(
     rt: &R,
     alloc: Global,
     materials: Materials,
     settings: Settings,
+    workers: u64,
     shelf: &mut S,
     input: &mut I,
     sink: &mut O,
 ) -> u8
     requires window { settings.window ≤ 86400 }
-    ensures ran { RanBy settings materials
+    requires some { 1 ≤ workers }
+    requires few { workers ≤ 8 }
+    ensures ran { RanBy settings workers materials
         (outside_of S.Shelf I.Source O.Sink shelf.old input.old sink.old)
         (outside_of S.Shelf I.Source O.Sink shelf.new input.new sink.new) result }
     ensures shelf { ShelfStays S.Shelf shelf.old shelf.new }
@@ -77,11 +80,12 @@ fn judge_by<R: Threads + Sync, S: Shelf, I: Source, O: Sink>(
         Ok(service) => service,
         Err(_) => return end_with(sink, memory_line(), Status::Memory),
     };
-    let mut rounds = Rounds(Bench {
+    let mut verifier = LogVerifier {
         service,
         answers: &answers,
-    });
-    judge_log(rt, alloc, &mut rounds, shelf, input, sink)
+        workers,
+    };
+    judge_log(rt, alloc, &mut verifier, shelf, input, sink)
 }
 
 /// Writes the line that says why a named file can't be had.

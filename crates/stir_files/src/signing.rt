@@ -1,5 +1,5 @@
 //! The files of `sign` and `divert`.
-ghost use Rattle.std.specs.Prelude.{◌≡◌, ◌+◌, ◌≤◌, IfOk, IfErr};
+ghost use Rattle.std.specs.Prelude.{◌≡◌, ◌+◌, ◌≤◌, length, IfOk, IfErr};
 ghost use Rattle.std.specs.Option.{option_map};
 ghost use Rattle.stir_outside.specs.Files.{CountsGoOn};
 ghost use Rattle.stir_files.specs.Named.{CausedBy, StopsAt};
@@ -55,7 +55,7 @@ pub fn read_signing<'a, S: Shelf>(
     // Where the shelf tells its files, the answer is their first fault, or none; a read that fails and want of memory are the outside's.
     ensures truly { Truly (S.files shelf.old) (signing_files answers.entry.now (option_map holder_view holder.entry)) result }
     // Each file is read once at most.
-    ensures reads { (S.counts shelf.new).reads ≤ (S.counts shelf.old).reads + 3 }
+    ensures reads { (S.counts shelf.new).reads ≤ (S.counts shelf.old).reads + length (signing_files answers.entry.now (option_map holder_view holder.entry)) }
 {
     let Some(names) = holder else {
         let Inputs { answers, .. } = read_files(alloc, shelf, &[InputFile::Answers(answers)])?;

@@ -1,12 +1,12 @@
 -- The answers file (this project's own rule): signatures that were confirmed and made beforehand. A line is
 -- `confirm KEY DIGEST SIGNATURE` or `sign NAME DIGEST SIGNATURE`. KEY, DIGEST and SIGNATURE are 65, 32 and 64 bytes in hex
 -- digits of either case; KEY is an uncompressed point, so its first byte is 04 (SEC 1, section 2.3.3).
-use Rattle.std.specs.Prelude.{◌≡◌, ℕ, Bool, false, ◌&&◌, ◌==◌, List, [], ◌∷◌, slice_index, is_some, codes, map, Option, Some, None, option_and_then, Result, if◌then◌else◌}
+use Rattle.std.specs.Prelude.{◌≡◌, ◌+◌, ◌*◌, ℕ, Bool, false, ◌&&◌, ◌==◌, List, [], ◌∷◌, slice_index, is_some, codes, map, Option, Some, None, option_and_then, Result, if◌then◌else◌}
 use Rattle.std.specs.List.{list_any}
 use Rattle.std.specs.Option.{option_map, option_or}
 use Rattle.std.specs.Result.{result_ok}
 use Rattle.std.specs.Str.{bytes_eq}
-use Rattle.hex.specs.Hex.{decode_sized}
+use Rattle.hex.specs.Hex.{decode_sized, hex_digit_value}
 use Rattle.text_file.specs.FileLines.{text_lines}
 use Rattle.text_file.specs.LineWords.{line_words}
 use Rattle.text_file.specs.Reading.{read_lines, Refuses}
@@ -16,6 +16,10 @@ use Rattle.stir_outside.specs.declared.answers.rows.Row.TheVariants.{Confirm, Si
 use Rattle.text_file.specs.Rows.{one_row, EachFits}
 
 -- ---- a line
+
+-- the byte that two hex digits write
+abbrev pub byte_of : ℕ → ℕ → Option ℕ
+byte_of high low = option_and_then (λ h. option_map (λ l. h * 16 + l) (hex_digit_value low)) (hex_digit_value high)
 
 -- the bytes that a word of so many pairs of hex digits writes
 abbrev pub bytes_of : ℕ → List ℕ → Option (List ℕ)

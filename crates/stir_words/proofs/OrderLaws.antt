@@ -49,5 +49,8 @@ refused command words words_fault.Memory h wanted = tt
 pub is_small : (text : List ℕ) (n : ℕ) → Some n ≡ number_up_to 14 text → n < 2 ^ 8
 is_small text n h = let small : n ≤ 14 = number_within 14 text n (sym h) in omega arith
 
+pub within_eight : (text : List ℕ) (n : ℕ) → number_up_to 8 text ≡ Some n → n ≤ 8
+within_eight text n h = number_within 8 text n h
+
 pub within_a_day : (text : List ℕ) (window : ℕ) → number_up_to 86400 text ≡ Some window → window ≤ 86400
 within_a_day text window h = number_within 86400 text window h

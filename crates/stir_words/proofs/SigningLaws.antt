@@ -17,7 +17,7 @@ use Rattle.passport_claims.specs.declared.form.Form.{Form}
 use Rattle.passport_claims.specs.declared.form.Form.TheVariants as forms
 use Rattle.passport_claims.specs.declared.kind.Attest.{Attest}
 use Rattle.stir_words.specs.Options.{pairs_of}
-use Rattle.stir_words.specs.Order.{AskBy, CanBeSigned, DivertBy, DivertingView, ExplainBy, HolderNames, IsDiverting, IsSigner, IsSigning, OrderView, ShowCertificates, SignBy, SignerView, SigningView, VerifyBy, asking_of, diverting_by, diverting_from, diverting_of, judging_of, order_by, order_of, order_with, signer_from, signer_of, signing_by, signing_from, signing_of}
+use Rattle.stir_words.specs.Order.{AskBy, CanBeSigned, DivertBy, DivertingView, ExplainBy, HolderNames, IsDiverting, IsSigner, IsSigning, OrderView, ShowCertificates, SignBy, SignerView, SigningView, VerifyBy, asking_of, diverting_by, diverting_from, diverting_of, judging_of, order_by, order_of, order_with, signer_from, signer_of, signing_by, signing_from, signing_of, verifying_of}
 use Rattle.stir_words.specs.Seen.{Orders, order_view}
 use Rattle.stir_words.specs.Table.{Given, accepts, command_named, given_by, options_of}
 use Rattle.stir_words.specs.Values.{earlier_of, form_by, form_of, iat_of, is_key, key_of, shaken_by, text_if, x5u_of}
@@ -118,7 +118,7 @@ ordered_by made None order h can = absurd cc
 ordered_by made (Some x) order h can = let e : made x ≡ order = cc in subst CanBeSigned e (can x refl)
 
 ordered_with : (command : Command) (given : Given) (order : OrderView) → order_with command given ≡ Some order → CanBeSigned order
-ordered_with commands.Verify given order h = ordered_by VerifyBy (judging_of given) order h (λ judging e. tt)
+ordered_with commands.Verify given order h = ordered_by VerifyBy (verifying_of given) order h (λ verifying e. tt)
 ordered_with commands.Explain given order h = ordered_by ExplainBy (judging_of given) order h (λ judging e. tt)
 ordered_with commands.Ask given order h = ordered_by AskBy (asking_of given) order h (λ asking e. tt)
 ordered_with commands.Sign given order h =

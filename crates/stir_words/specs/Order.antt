@@ -10,7 +10,7 @@ use Rattle.passport_claims.specs.Made.{has_origid}
 use Rattle.passport_claims.specs.declared.form.Form.{Form}
 use Rattle.stir_words.specs.Options.{pairs_of}
 use Rattle.stir_words.specs.Table.{Given, accepts, command_named, given_by, options_of}
-use Rattle.stir_words.specs.Values.{earlier_of, form_of, iat_of, is_key, key_of, local_in, window_of, x5u_of}
+use Rattle.stir_words.specs.Values.{earlier_of, form_of, iat_of, is_key, key_of, local_in, window_of, workers_of, x5u_of}
 use Rattle.stir_words.specs.declared.commands.Command.{Command}
 use Rattle.stir_words.specs.declared.commands.Command.TheVariants as commands
 
@@ -26,6 +26,11 @@ pub record JudgingView : Type 0 where
   pub table : List ℕ
   pub answers : List ℕ
   pub settings : SettingsView
+
+-- the same, and how many workers there are
+pub record VerifyingView : Type 0 where
+  pub judging : JudgingView
+  pub workers : ℕ
 
 -- the files that say what is asked of the provider of signatures, and the settings
 pub record AskingView : Type 0 where
@@ -70,7 +75,7 @@ pub record DivertingView : Type 0 where
 
 -- a command with the values of its options
 pub data OrderView : Type 0 where
-  VerifyBy : JudgingView → OrderView
+  VerifyBy : VerifyingView → OrderView
   ExplainBy : JudgingView → OrderView
   AskBy : AskingView → OrderView
   SignBy : SigningView → OrderView
@@ -87,6 +92,9 @@ judging_of given =
     option_and_then (λ chains. option_and_then (λ anchors. option_and_then (λ table. option_and_then (λ answers.
     option_map (λ settings. record { chains = chains; anchors = anchors; table = table; answers = answers; settings = settings }) (settings_of given))
     (given (codes "answers"))) (given (codes "table"))) (given (codes "anchors"))) (given (codes "chains"))
+
+abbrev pub verifying_of : Given → Option VerifyingView
+verifying_of given = option_and_then (λ judging. option_map (λ workers. record { judging = judging; workers = workers }) (workers_of given)) (judging_of given)
 
 abbrev pub asking_of : Given → Option AskingView
 asking_of given =
@@ -136,7 +144,7 @@ diverting_of given = diverting_from (earlier_of given) (signer_of given)
 
 -- what a command orders with these options
 abbrev pub order_with : Command → Given → Option OrderView
-order_with commands.Verify given = option_map VerifyBy (judging_of given)
+order_with commands.Verify given = option_map VerifyBy (verifying_of given)
 order_with commands.Explain given = option_map ExplainBy (judging_of given)
 order_with commands.Ask given = option_map AskBy (asking_of given)
 order_with commands.Sign given = option_map SignBy (signing_of given)
@@ -175,7 +183,7 @@ pub record IsDiverting (order : DivertingView) : Type 0 where
 abbrev pub CanBeSigned : OrderView → Type 0
 CanBeSigned (SignBy order) = IsSigning order
 CanBeSigned (DivertBy order) = IsDiverting order
-CanBeSigned (VerifyBy judging) = Unit {0}
+CanBeSigned (VerifyBy verifying) = Unit {0}
 CanBeSigned (ExplainBy judging) = Unit {0}
 CanBeSigned (AskBy asking) = Unit {0}
 CanBeSigned ShowCertificates = Unit {0}

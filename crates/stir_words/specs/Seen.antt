@@ -4,7 +4,7 @@ use Rattle.std.specs.Borrow.{Bor}
 use Rattle.std.specs.Option.{option_copied, option_map}
 use Rattle.stir_words.specs.Options.{Named}
 use Rattle.stir_words.specs.Table.{Known}
-use Rattle.stir_words.specs.Order.{AskingView, DivertingView, HolderNames, JudgingView, OrderView, SettingsView, SignerView, SigningView, VerifyBy, ExplainBy, AskBy, SignBy, DivertBy, ShowCertificates}
+use Rattle.stir_words.specs.Order.{AskingView, DivertingView, HolderNames, JudgingView, OrderView, SettingsView, SignerView, SigningView, VerifyingView, VerifyBy, ExplainBy, AskBy, SignBy, DivertBy, ShowCertificates}
 use Rattle.stir_words.specs.declared.commands.Row.{Row}
 use Rattle.stir_words.specs.declared.options.Long.{Long}
 use Rattle.stir_words.specs.declared.fault.WordsFault.{WordsFault}
@@ -12,6 +12,7 @@ use Rattle.stir_words.specs.declared.fault.WordsFault.TheVariants.{Refused, Memo
 use Rattle.stir_words.specs.declared.settings.Settings.{Settings}
 use Rattle.stir_words.specs.declared.order.Asking.{Asking}
 use Rattle.stir_words.specs.declared.order.Judging.{Judging}
+use Rattle.stir_words.specs.declared.verifying.Verifying.{Verifying}
 use Rattle.stir_words.specs.declared.order.Order.{Order}
 use Rattle.stir_words.specs.declared.order.Order.TheVariants.{Verify, Explain, Ask, Sign, Divert, Show}
 use Rattle.stir_words.specs.declared.signing.Diverting.{Diverting}
@@ -40,6 +41,9 @@ judging_view judging = record {
   answers = judging.answers.now;
   settings = settings_view judging.settings;
 }
+
+abbrev pub verifying_view : Verifying → VerifyingView
+verifying_view verifying = record { judging = judging_view verifying.judging; workers = verifying.workers }
 
 abbrev pub asking_view : Asking → AskingView
 asking_view asking = record {
@@ -85,7 +89,7 @@ diverting_view diverting = record {
 }
 
 abbrev pub order_view : Order → OrderView
-order_view (Verify judging) = VerifyBy (judging_view judging)
+order_view (Verify verifying) = VerifyBy (verifying_view verifying)
 order_view (Explain judging) = ExplainBy (judging_view judging)
 order_view (Ask asking) = AskBy (asking_view asking)
 order_view (Sign signing) = SignBy (signing_view signing)

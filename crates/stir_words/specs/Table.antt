@@ -62,6 +62,11 @@ of_settings = optional (codes "window") ∷ optional (codes "country") ∷ optio
 abbrev pub of_judging : List Known
 of_judging = needed (codes "chains") ∷ needed (codes "anchors") ∷ needed (codes "table") ∷ needed (codes "answers") ∷ of_settings
 
+-- the same, and on how many workers
+abbrev pub of_verifying : List Known
+of_verifying =
+    needed (codes "chains") ∷ needed (codes "anchors") ∷ needed (codes "table") ∷ needed (codes "answers") ∷ optional (codes "workers") ∷ of_settings
+
 -- the options that `sign` and `divert` have in common
 abbrev pub of_signer : List Known
 of_signer =
@@ -70,7 +75,7 @@ of_signer =
 
 -- the options of a command
 abbrev pub options_of : Command → List Known
-options_of Verify = of_judging
+options_of Verify = of_verifying
 options_of Explain = of_judging
 options_of Ask = needed (codes "chains") ∷ needed (codes "anchors") ∷ needed (codes "table") ∷ of_settings
 options_of Sign = needed (codes "form") ∷ optional (codes "attest") ∷ optional (codes "origid") ∷ of_signer

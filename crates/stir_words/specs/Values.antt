@@ -30,6 +30,15 @@ number_or other most (Some text) = number_up_to most text
 abbrev pub window_of : Given → Option ℕ
 window_of given = number_or 60 86400 (given (codes "window"))
 
+-- a number that isn't 0
+abbrev pub unless_none : Option ℕ → Option ℕ
+unless_none None = None
+unless_none (Some n) = if n == 0 then None else Some n
+
+-- `--workers`: 1 to 8, and 1 where the option doesn't stand
+abbrev pub workers_of : Given → Option ℕ
+workers_of given = unless_none (number_or 1 8 (given (codes "workers")))
+
 -- `--national`: a national number has at most 14 digits
 abbrev pub national_of : Given → Option ℕ
 national_of given = number_or 10 14 (given (codes "national"))

@@ -57,6 +57,12 @@ const WINDOW: Row = Row {
     required: false,
 };
 
+/// How many workers judge the calls.
+const WORKERS: Row = Row {
+    name: "workers",
+    required: false,
+};
+
 /// The digits of the country.
 const COUNTRY: Row = Row {
     name: "country",
@@ -123,7 +129,12 @@ const HOLDER_TABLE: Row = Row {
     required: false,
 };
 
-/// The options of `verify` and `explain`.
+/// The options of `verify`.
+const VERIFYING: [Row; 8] = [
+    CHAINS, ANCHORS, TABLE, ANSWERS, WORKERS, WINDOW, COUNTRY, NATIONAL,
+];
+
+/// The options of `explain`.
 const JUDGING: [Row; 7] = [CHAINS, ANCHORS, TABLE, ANSWERS, WINDOW, COUNTRY, NATIONAL];
 
 /// The options of `ask`.
@@ -178,7 +189,8 @@ impl Command {
         ensures { map known_of result.now ≡ options_of self }
     {
         match self {
-            Command::Verify | Command::Explain => &JUDGING,
+            Command::Verify => &VERIFYING,
+            Command::Explain => &JUDGING,
             Command::Ask => &ASKING,
             Command::Sign => &SIGNING,
             Command::Divert => &DIVERTING,

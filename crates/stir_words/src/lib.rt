@@ -12,8 +12,10 @@ mod order;
 mod settings;
 mod signing;
 mod values;
+mod verifying;
 
 pub use fault::WordsFault;
 pub use order::{Asking, Judging, Order};
 pub use settings::Settings;
 pub use signing::{Diverting, HolderFiles, Signing};
+pub use verifying::Verifying;

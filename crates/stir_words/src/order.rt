@@ -2,8 +2,8 @@
 ghost use Rattle.std.specs.Prelude.{◌≡◌, ◌↔◌, ℕ, List, true, Some, IfOk};
 ghost use Rattle.std.specs.Option.{option_map};
 ghost use Rattle.stir_words.specs.Options.{pairs_of, Options, Pair};
-ghost use Rattle.stir_words.specs.Order.{asking_of, judging_of, order_by, order_of, order_with, settings_of, CanBeSigned};
-ghost use Rattle.stir_words.specs.Seen.{asking_view, judging_view, order_view, settings_view, texts, Orders};
+ghost use Rattle.stir_words.specs.Order.{asking_of, judging_of, order_by, order_of, order_with, settings_of, verifying_of, CanBeSigned};
+ghost use Rattle.stir_words.specs.Seen.{asking_view, judging_view, order_view, settings_view, texts, verifying_view, Orders};
 ghost use Rattle.stir_words.specs.Table.{Accepted, Known, accepts};
 ghost use Rattle.stir_words.specs.ClapRules.{values_in};
 
@@ -13,7 +13,8 @@ use crate::fault::WordsFault;
 use crate::options::are_options;
 use crate::settings::Settings;
 use crate::signing::{Diverting, Signing, diverting_of, signing_of};
-use crate::values::{local_of, window_of};
+use crate::values::{local_of, window_of, workers_of};
+use crate::verifying::Verifying;
 use clap::ArgMatches;
 use std::alloc::Global;
 
@@ -49,7 +50,7 @@ pub struct Asking<'a> {
 #[derive(Clone, Copy, Debug)]
 pub enum Order<'a> {
     /// To judge the calls of a log.
-    Verify(Judging<'a>),
+    Verify(Verifying<'a>),
     /// To say of each call of a log which rules hold.
     Explain(Judging<'a>),
     /// To say what the provider of signatures is asked.
@@ -71,7 +72,8 @@ impl<'a> Order<'a> {
     ///
     /// `verify` and `explain` require `--chains`, `--anchors`, `--table` and `--answers`, each the name of a file, and `ask` the first three;
     /// all take `--window`, a number of at most 86,400 (60), `--country`, 1 to 3 digits (1), and `--national`, a number (10), the last two of
-    /// which have to make a [`Local`](tn_values::Local). Numbers are decimal digits without a leading zero. `show` takes none.
+    /// which have to make a [`Local`](tn_values::Local). `verify` takes `--workers` as well, a number from 1 to 8 (1). Numbers are decimal digits
+    /// without a leading zero. `show` takes none.
     ///
     /// `sign` and `divert` require `--key`, the name of a key, `--x5u`, the URI of its certificates, `--iat`, a number of at most
     /// 253,402,300,799, and `--answers`, the name of a file; they take `--leaf` and `--table`, the names of two files that stand together,
@@ -136,8 +138,8 @@ impl<'a> Order<'a> {
         ensures { option_map order_view result ≡ order_with command (values_in given.now) }
     {
         match command {
-            Command::Verify => match judging_of(given) {
-                Some(judging) => Some(Order::Verify(judging)),
+            Command::Verify => match verifying_of(given) {
+                Some(verifying) => Some(Order::Verify(verifying)),
                 None => None,
             },
             Command::Explain => match judging_of(given) {
@@ -172,6 +174,19 @@ fn judging_of<'a>(given: &ArgMatches<'a>) -> Option<Judging<'a>>
         answers: given.get_str("answers")?,
         settings: settings_of(given)?,
     })
+}
+
+/// How the calls of a log are judged: by what, and the workers.
+fn verifying_of<'a>(given: &ArgMatches<'a>) -> Option<Verifying<'a>>
+    ensures { option_map verifying_view result ≡ verifying_of (values_in given.now) }
+{
+    let Some(judging) = judging_of(given) else {
+        return None;
+    };
+    let Some(workers) = workers_of(given) else {
+        return None;
+    };
+    Some(Verifying { judging, workers })
 }
 
 /// By what the questions are found: the files, and the settings.

@@ -6,7 +6,7 @@ ghost use Rattle.text_grammar.specs.Decimal.{number_up_to};
 ghost use Rattle.text_grammar.specs.Uri.{is_uri};
 ghost use Rattle.passport_claims.specs.Origid.{is_origid};
 ghost use Rattle.stir_words.specs.ClapRules.{values_in};
-ghost use Rattle.stir_words.specs.Values.{country_of, earlier_of, form_by, form_of, iat_of, is_key, is_key_byte, key_of, local_in, national_of, plain_by, shaken_by, text_if, window_of, x5u_of};
+ghost use Rattle.stir_words.specs.Values.{country_of, earlier_of, form_by, form_of, iat_of, is_key, is_key_byte, key_of, local_in, national_of, plain_by, shaken_by, text_if, window_of, workers_of, x5u_of};
 
 use clap::ArgMatches;
 use passport_claims::{Attest, Form, is_origid};
@@ -18,6 +18,12 @@ const MOST_WINDOW: u64 = 86_400;
 
 /// The window where none is given, in seconds.
 const WINDOW: u64 = 60;
+
+/// The most workers.
+const MOST_WORKERS: u64 = 8;
+
+/// The workers where their number isn't given.
+const WORKERS: u64 = 1;
 
 /// The most digits of a national number.
 const MOST_NATIONAL: u64 = 14;
@@ -37,6 +43,22 @@ pub(crate) fn window_of(given: &ArgMatches<'_>) -> Option<u64>
     match given.get_str("window") {
         Some(text) => read_number(text.as_bytes(), MOST_WINDOW),
         None => Some(WINDOW),
+    }
+}
+
+/// How many workers there are: 1 to 8.
+#[tactic(auto, using(crate::proofs::OrderLaws::within_eight))]
+pub(crate) fn workers_of(given: &ArgMatches<'_>) -> Option<u64>
+    ensures exact { result ≡ workers_of (values_in given.now) }
+    ensures some { IfSome result (λ workers. 1 ≤ workers) }
+    ensures few { IfSome result (λ workers. workers ≤ 8) }
+{
+    let Some(text) = given.get_str("workers") else {
+        return Some(WORKERS);
+    };
+    match read_number(text.as_bytes(), MOST_WORKERS) {
+        Some(0) => None,
+        number => number,
     }
 }
 

@@ -2,6 +2,8 @@ ghost use Rattle.std.specs.Prelude.{◌≡◌, ◌<◌, ◌==◌, ◌++◌, ◌�
 ghost use Rattle.std.specs.Option.{option_copied, option_map};
 ghost use Rattle.text_grammar.specs.Cut.{behind, cut, lacks};
 
+use memchr::memchr;
+
 /// What stands before the first such byte of the text, and what stands behind it; `None` where the
 /// text has no such byte.
 #[tactic(auto, using(crate::proofs::CutLaws::cut_within, crate::proofs::CutLaws::cut_split, crate::proofs::CutLaws::cut_first, crate::proofs::CutLaws::cut_none))]
@@ -33,8 +35,9 @@ pub fn behind<'a>(text: &'a [u8], front: &[u8]) -> Option<&'a [u8]>
 }
 
 /// Where the first such byte stands.
+#[tactic(auto, using(crate::proofs::PlaceLaws::first_is))]
 fn first_place(text: &[u8], byte: u8) -> Option<usize>
     ensures { result ≡ position (λ b. b == byte) text.now }
 {
-    text.iter().position(|b| *b == byte)
+    memchr(byte, text)
 }

@@ -5,3 +5,4 @@ pub mod rounds;
 pub mod rules;
 pub mod signing;
 pub mod verdicts;
+pub mod workers;

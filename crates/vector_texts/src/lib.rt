@@ -1,4 +1,4 @@
-//! Calls of a table on texts and bytes: lines and words, telephone numbers, DER, answers files, logs, and the reads and writes of these.
+//! Calls of a table on texts and bytes: lines and words, telephone numbers, DER, answers files, logs, states, and the reads and writes of these.
 #![tactic(auto)]
 
 pub mod answers;
@@ -6,4 +6,5 @@ pub mod der;
 pub mod log;
 pub mod numbers;
 pub mod outside;
+pub mod state;
 pub mod text;

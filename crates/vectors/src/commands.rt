@@ -28,7 +28,9 @@ fn order(alloc: Global, words: &[&[u8]]) -> Result<String, Unread> {
 /// Puts the name of a command and the values of its options behind other words.
 fn put_order(answer: Answer, order: &Order<'_>) -> Answer {
     match order {
-        Order::Verify(judging) => put_judging(answer.word("verify"), judging),
+        Order::Verify(verifying) => {
+            put_judging(answer.word("verify"), &verifying.judging).word(verifying.workers)
+        }
         Order::Explain(judging) => put_judging(answer.word("explain"), judging),
         Order::Ask(asking) => put_asking(answer.word("ask"), asking),
         Order::Sign(signing) => put_signing(answer.word("sign"), signing),
@@ -136,8 +138,8 @@ fn read(alloc: Global, words: &[&[u8]]) -> Result<String, Unread> {
     let failing = numbers_of(alloc, failing)?;
     let mut shelf = ShelfMem::new(files_of(alloc, files)?, failing);
     match Order::of(alloc, &NAMES) {
-        Ok(Order::Verify(judging)) => {
-            let answer = put_read(alloc, &mut shelf, &judging)?;
+        Ok(Order::Verify(verifying)) => {
+            let answer = put_read(alloc, &mut shelf, &verifying.judging)?;
             answer.word(shelf.reads()).line()
         }
         _ => Err(Unread::Call),

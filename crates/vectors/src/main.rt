@@ -7,11 +7,11 @@ mod commands;
 use std::alloc::Global;
 use std::process::ExitCode;
 use std::thread::Threads;
-use vector_calls::{rounds, rules, verdicts};
+use vector_calls::{rounds, rules, verdicts, workers};
 use vector_chains::{authority, cache, certificates, chains, paths};
-use vector_messages::{claims, identity, messages, order, tokens};
+use vector_messages::{claims, constraints, identity, messages, order, tokens};
 use vector_table::{Subjects, Unread, answer_table};
-use vector_texts::{answers, der, log, numbers, outside, text};
+use vector_texts::{answers, der, log, numbers, outside, state, text};
 
 /// Answers a table.
 fn main(rt: HostRuntime) -> ExitCode {
@@ -39,9 +39,12 @@ impl Subjects for Cases {
             "answers" => answers::answer(alloc, call, words),
             "log" => log::answer(alloc, call, words),
             "outside" => outside::answer(alloc, call, words),
+            "state" => state::answer(alloc, call, words),
             "words" => commands::words(alloc, call, words),
             "files" => commands::files(alloc, call, words),
             "rounds" => rounds::answer(rt, alloc, call, words),
+            "workers" => workers::answer(rt, alloc, call, words),
+            "drill" => vector_drill::answer(alloc, call, words),
             _ => called(alloc, subject, call, words),
         }
     }
@@ -73,6 +76,7 @@ fn called_of_messages(
         "identity" => identity::answer(alloc, call, words),
         "tokens" => tokens::answer(alloc, call, words),
         "claims" => claims::answer(alloc, call, words),
+        "constraints" => constraints::answer(alloc, call, words),
         "order" => order::answer(alloc, call, words),
         "signing" => signing(alloc, call, words),
         _ => Err(Unread::Call),

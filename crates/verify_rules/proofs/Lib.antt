@@ -39,5 +39,6 @@ pub mod WorldAside
 pub mod WorldEvents
 pub mod WorldLaws
 pub mod WorldVerdict
+pub mod OnceLaws
 pub mod OneField
 pub mod SameWorldLaws

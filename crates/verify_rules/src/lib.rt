@@ -12,6 +12,7 @@ mod fields;
 mod late;
 mod laws;
 mod leaf_authority;
+mod once;
 mod passports;
 mod readings;
 mod refusal;

@@ -13,6 +13,7 @@ use crate::chains::Chains;
 use crate::events::first_rule;
 use crate::late::{Event, LateRule};
 use crate::laws::{late_places_law, late_words_law};
+use crate::once::Once;
 use crate::refusal::{Place, Refusal};
 use crate::screened::Screened;
 use cert_store::judged_law;
@@ -97,9 +98,28 @@ pub fn finish<C: Chains, P: Provider>(
     finish_exactly(screened, chains, moment, table, provider)
 }
 
+/// The same, over what is known of the chains, asked for once.
+fn finish_exactly<C: Chains, P: Provider>(
+    screened: &Screened,
+    chains: &C,
+    moment: u64,
+    table: &CodeTable,
+    provider: &mut P,
+) -> Verdict
+    requires one_each { length (C.states chains.now) ≡ length screened.now.readings }
+    ensures verdict { IsVerdict (P.says provider.old) table.now moment screened.now.readings (C.states chains.now) (P.faults provider.old) (P.faults provider.new) result }
+    ensures asks { P.asks provider.new ≤ P.asks provider.old + length screened.now.readings }
+    ensures asks_stay { P.asks provider.old ≤ P.asks provider.new }
+    ensures provider { ProviderStays P.Provider provider.old provider.new }
+{
+    let _few = screened.count();
+    let once = Once::of(chains);
+    by_rules(screened, &once, moment, table, provider)
+}
+
 /// The same, by the rules in their order.
 #[tactic(auto, using(crate::proofs::VerdictLaws::by_before, crate::proofs::VerdictLaws::by_asking, crate::proofs::VerdictLaws::left_open, crate::proofs::VerdictLaws::by_after, crate::proofs::VerdictLaws::by_none))]
-fn finish_exactly<C: Chains, P: Provider>(
+fn by_rules<C: Chains, P: Provider>(
     screened: &Screened,
     chains: &C,
     moment: u64,

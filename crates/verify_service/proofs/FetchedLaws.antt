@@ -10,7 +10,7 @@ use Rattle.verify_service.specs.declared.fetching.Fetched.{Fetched}
 use Rattle.verify_service.proofs.ListLaws.{each_more}
 
 -- the elements up to an index, and the one there
-take_stands : {X : Type 0} (xs : List X) (i : ℕ) (x : X) → slice_get xs i ≡ Some x → take (i + 1) xs ≡ take i xs ++ x ∷ []
+pub take_stands : {X : Type 0} (xs : List X) (i : ℕ) (x : X) → slice_get xs i ≡ Some x → take (i + 1) xs ≡ take i xs ++ x ∷ []
 take_stands [] i x is = absurd cc
 take_stands (y ∷ ys) zero x is = ap (λ z. z ∷ []) (same_Some y x is)
 take_stands (y ∷ ys) (suc i) x is =

@@ -1,4 +1,3 @@
-pub mod CallSteps
 pub mod CountLaws
 pub mod FollowLaws
 pub mod JudgeLaws
@@ -8,13 +7,49 @@ pub mod ListLaws
 pub mod ReadBack
 pub mod ReadLaws
 pub mod RoundLaws
-pub mod SettleLaws
+pub mod PastLaws
 mod TextLaws
 mod NeededLaws
 mod FetchedLaws
 mod WorkerChainLaws
 mod KeptLaws
 mod RightLaws
-mod NearLaws
+mod ThereLaws
+mod StoreAllLaws
+mod UnheldLaws
+mod KnownLaws
+mod ItemLaws
+mod StatesLaws
+mod StoringLaws
+mod ReadyLaws
+mod ReadyChainLaws
+mod AsideLaws
+mod OwnLaws
+mod TouchLaws
+mod JudgedChainLaws
+mod RoundThereLaws
+mod RoundAsideLaws
+mod RoundHeldLaws
+mod RoundAllLaws
 mod FewLaws
 mod RoundTextLaws
+mod ClaimLaws
+mod OutLaws
+mod GainLaws
+mod ClaimedLaws
+mod AnsweredLaws
+mod JoinLaws
+mod SeatLaws
+mod TogetherLaws
+mod AddLaws
+mod CallRowLaws
+mod CarriedLaws
+mod EntryClassLaws
+mod PairLaws
+mod RoomLaws
+mod EachCallLaws
+mod ClassLaws
+mod SeatingLaws
+mod PreparedLaws
+mod PrepareLaws
+pub mod Shared

@@ -1,6 +1,7 @@
 -- Laws of lists: one element more, and what holds of two lists pair by pair.
 use Rattle.std.proofs.Common.{◌≡◌, ℕ, zero, suc, ◌+◌, ◌<◌, Some, List, [], ◌∷◌, ◌++◌, length, map, take, get_or, ap, sym, ◌∙◌, refl, arith}
 use Rattle.std.specs.List.{slice_get}
+use Rattle.std.proofs.lemmas.Option.{same_Some}
 use Rattle.std.proofs.lemmas.List.{take_more, length-map, map_push}
 use Rattle.verify_service.specs.Judging.{EachPair}
 
@@ -20,6 +21,11 @@ pub mapped_at : {X Y : Type 0} → (f : X → Y) (xs : List X) (i : ℕ) (x : X)
 mapped_at f [] i x within is = absurd (omega arith)
 mapped_at f (y ∷ ys) zero x within is = ap (λ v. Some (f v)) (sym is)
 mapped_at f (y ∷ ys) (suc i) x within is = mapped_at f ys i x (omega arith) is
+
+pub map_at : {X Y : Type 0} → (f : X → Y) (xs : List X) (i : ℕ) (x : X) (y : Y) → slice_get xs i ≡ Some x → slice_get (map f xs) i ≡ Some y → y ≡ f x
+map_at f [] i x y is at = absurd cc
+map_at f (z ∷ zs) zero x y is at = same_Some y (f x) (sym at ∙ ap (λ o. Some (f o)) (same_Some z x is))
+map_at f (z ∷ zs) (suc i) x y is at = map_at f zs i x y is at
 
 -- ---- pair by pair
 

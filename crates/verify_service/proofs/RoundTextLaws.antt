@@ -4,7 +4,8 @@ use Rattle.std.proofs.Math.Bool.{or-false}
 use Rattle.std.specs.Str.{bytes_eq}
 use Rattle.cert_store.specs.Files.{Files}
 use Rattle.cert_store.specs.Holding.{Chains}
-use Rattle.verify_service.specs.Needed.{BeginsWith, has, is_needed, needed, once, round_texts}
+use Rattle.cert_store.specs.Using.{has}
+use Rattle.verify_service.specs.Needed.{BeginsWith, is_needed, needed, once, round_texts}
 use Rattle.verify_service.proofs.FewLaws.{has_more, same_text}
 use Rattle.verify_service.proofs.NeededLaws.{filter_more, once_more}
 

@@ -6,7 +6,7 @@ use Rattle.cert_store.specs.declared.world.World.{World as Materials}
 use Rattle.verify_service.specs.Causes.{HasCauseIf}
 use Rattle.verify_service.specs.WorkerChains.{ChainsCounted, EachOwn, IsOwn, certificates, certificates_in, has_failed}
 use Rattle.verify_service.specs.declared.fetching.Fetched.{Fetched}
-use Rattle.verify_service.proofs.CountLaws.{most_next}
+use Rattle.verify_service.proofs.CountLaws.{counted_more}
 use Rattle.verify_service.proofs.ListLaws.{take_item}
 
 -- ---- judged
@@ -43,6 +43,6 @@ pub counted_next : (asks asks_mid asks_now faults faults_mid faults_now : ℕ) (
 counted_next asks asks_mid asks_now faults faults_mid faults_now chains chain so_far most stay further cause = record {
   asks_most = (let a = so_far.asks_most in let more = certificates_more chains chain in omega arith);
   asks_stay = (let a = so_far.asks_stay in omega arith);
-  failed = most_next has_failed chains chain faults faults_mid faults_now so_far.failed further cause;
+  failed = counted_more has_failed chains chain faults faults_mid faults_now so_far.faults_stay further so_far.failed cause;
   faults_stay = (let f = so_far.faults_stay in omega arith);
 }

@@ -1,6 +1,7 @@
 -- Why calls are set aside: at which files and which questions, counted once each.
 use Rattle.std.specs.Prelude.{◌≡◌, ℕ, ◌+◌, ◌==◌, Bool, true, false, List, [], ◌∷◌, length, filter, if◌then◌else◌}
 use Rattle.std.specs.List.{list_any}
+use Rattle.cert_store.specs.Using.{has}
 use Rattle.std.specs.Str.{bytes_eq}
 use Rattle.call_log.specs.Entry.{Entry}
 use Rattle.stir_outside.specs.Count.{AtMost, Rose}
@@ -71,11 +72,11 @@ is_unasked_passport (Unasked bad) = is_passport bad
 abbrev pub UnreadIsCounted : Settings → List Entry → ℕ → ℕ → List Outcome → Type 0
 UnreadIsCounted settings entries faults faults_now outcomes = AtMost (length (unread_texts settings entries outcomes)) faults faults_now
 
--- as many x5u texts as the signature of a certificate is left open at, and calls as one of a PASSporT is left open in, at most, as faults of
--- the provider were counted
-abbrev pub UnaskedIsCounted : Settings → List Entry → ℕ → ℕ → List Outcome → Type 0
-UnaskedIsCounted settings entries faults faults_now outcomes =
-    AtMost (length (unasked_texts settings entries outcomes) + length (filter is_unasked_passport outcomes)) faults faults_now
+-- As many of a worker's x5u texts as the signature of a certificate is left open at, and of its calls as one of a PASSporT is left open in, at most, as
+-- faults of its provider were counted. `own` is what came of its calls.
+abbrev pub UnaskedIsCounted : Settings → List Entry → List (List ℕ) → List Outcome → ℕ → ℕ → List Outcome → Type 0
+UnaskedIsCounted settings entries texts own faults faults_now outcomes =
+    AtMost (length (filter (λ x5u. has x5u texts) (unasked_texts settings entries outcomes)) + length (filter is_unasked_passport own)) faults faults_now
 
 -- ---- none
 
@@ -118,6 +119,6 @@ abbrev pub HasCauseIf : Bool → ℕ → ℕ → Type 0
 HasCauseIf set_aside faults faults_now = set_aside ≡ true → Rose faults faults_now
 
 -- Of these as many at most are set aside as faults were counted, and one only where the count rose.
-pub record AreCounted (set_aside : Finding → Bool) (findings : List Finding) (faults faults_now : ℕ) : Type 0 where
-  pub most : AtMost (length (filter set_aside findings)) faults faults_now
-  pub cause : HasCauseIf (list_any set_aside findings) faults faults_now
+pub record AreCounted {X : Type 0} (set_aside : X → Bool) (xs : List X) (faults faults_now : ℕ) : Type 0 where
+  pub most : AtMost (length (filter set_aside xs)) faults faults_now
+  pub cause : HasCauseIf (list_any set_aside xs) faults faults_now

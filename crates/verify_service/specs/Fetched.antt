@@ -1,5 +1,5 @@
 -- What a shelf gave for the chain of an x5u, before it is judged.
-use Rattle.std.specs.Prelude.{ℕ, List, Bool, true, false, Option}
+use Rattle.std.specs.Prelude.{ℕ, List, Bool, true, false, Option, if◌then◌else◌}
 use Rattle.cert_store.specs.Judged.{JudgedAs, JudgedView, judged_of}
 use Rattle.cert_store.specs.Rules.{Says}
 use Rattle.cert_store.specs.declared.world.World.{World as Materials}
@@ -22,3 +22,13 @@ is_unread_file (fetched.Bytes bytes) = false
 is_unread_file fetched.NoChain = false
 is_unread_file fetched.Long = false
 is_unread_file fetched.Unread = true
+
+abbrev pub is_read_file : Fetched → Bool
+is_read_file (fetched.Bytes bytes) = true
+is_read_file fetched.NoChain = false
+is_read_file fetched.Long = false
+is_read_file fetched.Unread = false
+
+-- how many files this is that were read
+abbrev pub read_count : Fetched → ℕ
+read_count file = if is_read_file file then 1 else 0

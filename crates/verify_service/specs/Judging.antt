@@ -41,6 +41,11 @@ IsJudged world call (Replay winner) = First world call ≡ None
 IsJudged world call (Unread bad) = MayBeUnread world call bad
 IsJudged world call (Unasked bad) = MayBeUnasked world call bad
 
+-- the same over the files that a shelf tells
+abbrev pub IsJudgedWhere : Option Files → Materials → Says → Call → Outcome → Type 0
+IsJudgedWhere None materials says call outcome = ⊤
+IsJudgedWhere (Some files) materials says call outcome = IsJudged (world_by materials files says) call outcome
+
 -- the same of a call by itself
 abbrev pub IsFound : World → Call → Finding → Type 0
 IsFound world call (found.Refused refused) = First world call ≡ Some refused

@@ -11,3 +11,13 @@ pub mod Fetched
 pub mod WorkerChains
 pub mod Kept
 pub mod RightChains
+pub mod Aside
+pub mod RoundRead
+pub mod Reads
+pub mod Ready
+pub mod Claiming
+pub mod Classes
+pub mod Prepared
+pub mod Carrying
+pub mod Adding
+pub mod Carried

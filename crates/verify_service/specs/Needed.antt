@@ -1,5 +1,5 @@
 -- Which chains the calls of a round need and aren't held: each once, in the order in which their x5u first appears (this project's own rule).
-use Rattle.std.specs.Prelude.{◌≡◌, ⊤, ℕ, Bool, false, not, ◌&&◌, List, [], ◌∷◌, ◌++◌, map, filter, is_some, Option, Some, None, if◌then◌else◌}
+use Rattle.std.specs.Prelude.{◌≡◌, ℕ, Bool, not, ◌&&◌, List, [], ◌∷◌, ◌++◌, map, filter, is_some, Option, Some, None, if◌then◌else◌}
 use Rattle.std.specs.List.{list_any}
 use Rattle.std.specs.Str.{bytes_eq}
 use Rattle.call_log.specs.Entry.{Entry}
@@ -60,15 +60,6 @@ needed files held texts = filter (is_needed files held) texts
 abbrev pub once : List (List ℕ) → List (List ℕ) → List (List ℕ)
 once found [] = found
 once found (x ∷ xs) = if list_any (bytes_eq x) found then once found xs else once (found ++ x ∷ []) xs
-
--- it is one of them
-abbrev pub has : List ℕ → List (List ℕ) → Bool
-has x xs = list_any (bytes_eq x) xs
-
--- none of them is another
-abbrev pub IsOnce : List (List ℕ) → Type 0
-IsOnce [] = ⊤
-IsOnce (x ∷ xs) = (has x xs ≡ false) × IsOnce xs
 
 -- the texts of a round whose calls name these
 abbrev pub round_texts : Files → Chains → List (List ℕ) → List (List ℕ)

@@ -3,7 +3,7 @@ use Rattle.std.specs.Prelude.{◌≡◌, Bool, true, false, List, [], ◌∷◌,
 use Rattle.std.specs.Option.{option_map}
 use Rattle.call_log.specs.Entry.{Entry}
 use Rattle.replay_desk.specs.Past.{PastView, found}
-use Rattle.replay_desk.specs.declared.kept.Kept.{Kept as Passed}
+use Rattle.state_text.specs.declared.kept.Kept.{Kept as Passed}
 use Rattle.replay_law.specs.Held.{Held, Kept}
 use Rattle.replay_law.specs.Round.{RoundSettled, round_of}
 use Rattle.replay_law.specs.Row.{Answer, valid, replay, neither, Row}

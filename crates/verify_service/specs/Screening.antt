@@ -1,7 +1,7 @@
 -- What rules 1 to 9 say of a call, as a round keeps it.
-use Rattle.std.specs.Prelude.{◌≡◌, ◌<◌, ⊤, ℕ, Bool, true, false, List, length, slice_index_or, Ok, Err}
+use Rattle.std.specs.Prelude.{◌≡◌, ◌<◌, ◌≤◌, ⊤, ℕ, Bool, true, false, List, [], length, slice_index_or, Ok, Err}
 use Rattle.call_log.specs.Entry.{Entry}
-use Rattle.verify_rules.specs.Call.{Call}
+use Rattle.verify_rules.specs.Call.{Call, Reading}
 use Rattle.verify_rules.specs.Rules.{early_rules}
 use Rattle.verify_rules.specs.Screened.{IsScreenedBy}
 use Rattle.verify_rules.specs.declared.refusal.ScreenFault.TheVariants as faults
@@ -17,12 +17,25 @@ IsScreening call Open = ⊤
 IsScreening call (Refused refused) = IsScreenedBy early_rules call (Err (faults.Refused refused))
 IsScreening call (Passed screened) = IsScreenedBy early_rules call (Ok screened)
 
+-- its PASSporTs, in the order in which it went, if rules 1 to 9 don't refuse it
+abbrev pub readings_in : Screening → List Reading
+readings_in Open = []
+readings_in (Refused refused) = []
+readings_in (Passed screened) = screened.readings
+
+-- the place of this call of the log
+pub record IsPlaceOf (entry : Entry) (place : ReadyCall) : Type 0 where
+  pub number : place.number ≡ entry.number
+  pub moment : place.moment ≡ entry.moment
+
 -- the call is screened into its place, and all else of the place stays
 pub record Screens (call : Call) (old new : ReadyCall) : Type 0 where
   pub screening : IsScreening call new.screening
   pub number : new.number ≡ old.number
   pub moment : new.moment ≡ old.moment
   pub class : new.class ≡ old.class
+  -- a call has at most nine PASSporTs
+  pub few : length (readings_in new.screening) ≤ 9
 
 -- the same of the call at this index
 pub record ScreensAt (settings : Settings) (entries : List Entry) (at : ℕ) (old new : ReadyCall) : Type 0 where
@@ -41,3 +54,4 @@ pub record IsReady (settings : Settings) (entry : Entry) (call : ReadyCall) : Ty
   pub moment : call.moment ≡ entry.moment
   pub screening : IsScreening (call_in settings entry) call.screening
   pub known : is_open call.screening ≡ false
+  pub few : length (readings_in call.screening) ≤ 9

@@ -4,7 +4,9 @@ use Rattle.std.specs.List.{slice_get}
 use Rattle.call_log.specs.Entry.{Entry}
 use Rattle.text_grammar.specs.Moment.{last_second}
 use Rattle.cert_store.specs.Files.{Files}
+use Rattle.cert_store.specs.Holding.{Holding}
 use Rattle.cert_store.specs.Rules.{Says}
+use Rattle.cert_store.specs.Using.{names}
 use Rattle.delegation.specs.Coverage.{Table}
 use Rattle.replay_desk.specs.Past.{PastView, found}
 use Rattle.replay_law.specs.Held.{Held, Same, purged}
@@ -12,6 +14,8 @@ use Rattle.stir_outside.specs.Files.{Files as ShelfFiles}
 use Rattle.verify_rules.specs.World.{World}
 use Rattle.verify_rules.specs.declared.settings.Settings.{Settings}
 use Rattle.verify_service.specs.Judging.{EachJudged}
+use Rattle.verify_service.specs.Needed.{named, round_texts}
+use Rattle.verify_service.specs.RightChains.{AreRightHeld}
 use Rattle.cert_store.specs.declared.world.World.{World as Materials}
 use Rattle.verify_service.specs.declared.outcome.Outcome.{Outcome}
 use Rattle.x509_profile.specs.View.{CertView}
@@ -24,13 +28,36 @@ pub record ServiceView : Type 0 where
   pub table : Table
   -- the calls that passed, by ticket
   pub past : PastView
+  -- the judged chains that are held, by x5u
+  pub held : Holding
   -- of the last call that was handed in; 0 before the first
   pub number : ℕ
   pub moment : ℕ
 
+-- what holds of every service: its window is at most a day, and it may hold 4,096 chains
+pub record IsSound (window capacity : ℕ) : Type 0 where
+  pub window_most : window ≤ 86400
+  pub capacity_is : capacity ≡ 4096
+
 -- the world of a service with the files of a shelf and what a provider says
 abbrev pub world_of : ServiceView → ShelfFiles → Says → World
 world_of service files says = record { chains = service.chains; files = files; anchors = service.anchors; table = service.table; says = says }
+
+-- what a service judges by, but for the provider
+abbrev pub materials_of : ServiceView → Materials
+materials_of service = record { chains = service.chains; anchors = service.anchors; table = service.table }
+
+-- Each chain that is held is what the rules say of it, over the files that a shelf tells, as far as its questions were answered.
+abbrev pub HoldsRight : Option ShelfFiles → Says → ServiceView → Type 0
+HoldsRight told says service = AreRightHeld told (materials_of service) says service.held.entries []
+
+-- the x5u texts of the chains that are held, the most recently used first
+abbrev pub held_texts : ServiceView → List (List ℕ)
+held_texts service = names service.held.entries
+
+-- the x5u texts of a round of these calls: those that they name, for which a file is listed and whose chain isn't held, in the order in which they first appear
+abbrev pub texts_in : ServiceView → List Entry → List (List ℕ)
+texts_in service entries = round_texts service.chains service.held.entries (named service.settings entries)
 
 -- ---- the calls of a round
 
@@ -50,6 +77,12 @@ pub record Follow (number moment : ℕ) (entries : List Entry) : Type 0 where
   pub some : 1 ≤ length entries
   pub few : length entries ≤ 256
   pub each : EachFollows number moment entries
+
+-- The same, whatever was handed in before.
+pub record AreOfRound (entries : List Entry) : Type 0 where
+  pub number : ℕ
+  pub moment : ℕ
+  pub follow : Follow number moment entries
 
 -- the same as tests
 abbrev pub follows_on : ℕ → ℕ → Entry → Bool
@@ -107,5 +140,7 @@ pub record IsNew (settings : Settings) (materials : Materials) (service : Servic
   pub anchors : service.anchors ≡ materials.anchors
   pub table : service.table ≡ materials.table
   pub past : (ticket : List ℕ) → found service.past ticket ≡ None
+  pub held : service.held.entries ≡ []
+  pub capacity : service.held.capacity ≡ 4096
   pub number : service.number ≡ 0
   pub moment : service.moment ≡ 0

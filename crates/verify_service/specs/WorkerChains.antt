@@ -1,10 +1,10 @@
 -- The chains that a worker judged of a round's texts, place by place.
-use Rattle.std.specs.Prelude.{◌≡◌, ℕ, suc, ◌%◌, ◌==◌, ◌+◌, ◌≤◌, ⊤, List, [], ◌∷◌, Bool, true, false, Option, Some, None, length, filter}
+use Rattle.std.specs.Prelude.{◌≡◌, ℕ, suc, ◌%◌, ◌==◌, ◌+◌, ◌≤◌, ⊤, List, [], ◌∷◌, Bool, true, false, Option, Some, None, length}
 use Rattle.cert_store.specs.Asking.{is_failed}
 use Rattle.cert_store.specs.Judged.{JudgedAs, JudgedView, judged_of}
 use Rattle.cert_store.specs.Rules.{Says}
 use Rattle.cert_store.specs.declared.world.World.{World as Materials}
-use Rattle.stir_outside.specs.Count.{AtMost}
+use Rattle.verify_service.specs.Causes.{AreCounted}
 use Rattle.verify_service.specs.declared.fetching.Fetched.{Fetched}
 use Rattle.verify_service.specs.declared.fetching.Fetched.TheVariants as fetched
 
@@ -54,11 +54,11 @@ has_failed None = false
 has_failed (Some judged) = is_failed judged.asked
 
 -- A worker asked its provider no more questions than there are certificates in the chains that it judged. As many of these at most have a
--- question that failed as faults of its provider were counted.
+-- question that failed as faults of its provider were counted, and one only where the count rose.
 pub record ChainsCounted (asks asks_now faults faults_now : ℕ) (chains : List (Option JudgedView)) : Type 0 where
   pub asks_most : asks_now ≤ asks + certificates chains
   pub asks_stay : asks ≤ asks_now
-  pub failed : AtMost (length (filter has_failed chains)) faults faults_now
+  pub failed : AreCounted has_failed chains faults faults_now
   pub faults_stay : faults ≤ faults_now
 
 -- if memory ran out, the counts didn't fall

@@ -1,10 +1,9 @@
 //! Reading the chain files of a round's texts from the shelf, each once.
 ghost use Rattle.std.specs.Prelude.{◌≡◌, ◌≤◌, ◌+◌, ℕ, List, length, vec_len, filter, Some, IfOk};
 ghost use Rattle.cert_store.specs.ChainMap.{listed};
-ghost use Rattle.stir_outside.specs.Count.{AtMost};
 ghost use Rattle.stir_outside.specs.Stays.{ShelfStays};
-ghost use Rattle.verify_service.specs.Causes.{HasCauseIf};
-ghost use Rattle.verify_service.specs.Fetched.{IsFetched, is_unread_file};
+ghost use Rattle.verify_service.specs.Causes.{AreCounted, HasCauseIf};
+ghost use Rattle.verify_service.specs.Fetched.{IsFetched, is_read_file, is_unread_file, read_count};
 ghost use Rattle.verify_service.specs.Judging.{EachPair};
 
 use crate::texts::Texts;
@@ -37,8 +36,10 @@ pub(crate) fn fetch_all<S: Shelf>(
     ensures counted { IfOk result (λ files. vec_len files ≡ length texts.now) }
     ensures fetched { IfOk result (λ files. EachPair (IsFetched (S.files shelf.old) world.now) texts.now files.items) }
 
-    // As many files at most couldn't be read as faults were counted, and no more were read than there are texts, also if memory ran out.
-    ensures unread { IfOk result (λ files. AtMost (length (filter is_unread_file files.items)) (S.counts shelf.old).faults (S.counts shelf.new).faults) }
+    // As many files at most couldn't be read as faults were counted. No more were read than there are bytes of, nor, also if memory ran out, than
+    // there are texts.
+    ensures unread { IfOk result (λ files. AreCounted is_unread_file files.items (S.counts shelf.old).faults (S.counts shelf.new).faults) }
+    ensures read { IfOk result (λ files. (S.counts shelf.new).reads ≤ (S.counts shelf.old).reads + length (filter is_read_file files.items)) }
     ensures reads { (S.counts shelf.new).reads ≤ (S.counts shelf.old).reads + length texts.now }
 
     ensures shelf { ShelfStays S.Shelf shelf.old shelf.new }
@@ -60,6 +61,7 @@ fn fetch<S: Shelf>(
 ) -> Result<Fetched, AllocError>
     ensures fetched { IfOk result (IsFetched (S.files shelf.old) world.now x5u.now) }
     ensures unread { IfOk result (λ file. HasCauseIf (is_unread_file file) (S.counts shelf.old).faults (S.counts shelf.new).faults) }
+    ensures read { IfOk result (λ file. (S.counts shelf.new).reads ≤ (S.counts shelf.old).reads + read_count file) }
     ensures reads { (S.counts shelf.new).reads ≤ (S.counts shelf.old).reads + 1 }
     ensures shelf { ShelfStays S.Shelf shelf.old shelf.new }
 {
@@ -79,6 +81,7 @@ fn fetch_file<S: Shelf>(
 ) -> Result<Fetched, AllocError>
     ensures fetched { (x5u : List ℕ) → listed world.now.chains x5u ≡ Some name.now → IfOk result (IsFetched (S.files shelf.old) world.now x5u) }
     ensures unread { IfOk result (λ file. HasCauseIf (is_unread_file file) (S.counts shelf.old).faults (S.counts shelf.new).faults) }
+    ensures read { IfOk result (λ file. (S.counts shelf.new).reads ≤ (S.counts shelf.old).reads + read_count file) }
     ensures reads { (S.counts shelf.new).reads ≤ (S.counts shelf.old).reads + 1 }
     ensures shelf { ShelfStays S.Shelf shelf.old shelf.new }
 {

@@ -1,63 +1,22 @@
-//! Judging calls, each by itself.
+//! Judging a call by itself.
 ghost use Rattle.stir_outside.specs.Stays.{ProviderStays, ShelfStays};
-ghost use Rattle.std.specs.Prelude.{◌≡◌, ◌≤◌, Ok, length, IfOk, vec_len};
-ghost use Rattle.stir_outside.specs.Files.{CountsGoOn};
+ghost use Rattle.std.specs.Prelude.{◌≡◌, ◌≤◌, Ok, IfOk};
 ghost use Rattle.verify_rules.specs.Call.{Call as RuledCall};
 ghost use Rattle.verify_rules.specs.Rules.{early_rules};
 ghost use Rattle.verify_rules.specs.Screened.{IsScreenedBy};
-ghost use Rattle.verify_service.specs.Causes.{AreCounted, HasCauseIf, found_unasked, found_unread};
-ghost use Rattle.verify_service.specs.Judging.{EachFoundWhere, EachHasSigned, EachHasTicket, HasSigned, HasTicket, IsFoundWhere, IsOfVerdict, call_in};
+ghost use Rattle.verify_service.specs.Causes.{HasCauseIf, found_unasked, found_unread};
+ghost use Rattle.verify_service.specs.Judging.{HasSigned, HasTicket, IsFoundWhere, IsOfVerdict, call_in};
 
 use crate::chains::CallChains;
 use crate::finding::{Finding, Pass};
 use crate::reading::read_chains;
-use crate::worker::Worker;
 use call_log::Call;
 use cert_store::World;
 use std::alloc::{AllocError, Global};
-use stir_outside::{Gate, Provider, Shelf};
+use stir_outside::{Provider, Shelf};
 use verify_rules::{
     ScreenFault, Screened, Settings, Verdict, finish, screen, screened_law, signed_law,
 };
-
-/// Judges the calls in their order. The gate is passed once a call, before anything is done for it.
-pub(crate) fn judge_all<S: Shelf, P: Provider, G: Gate>(
-    alloc: Global,
-    settings: &Settings,
-    world: &World,
-    shelf: &mut S,
-    worker: &mut Worker<P, G>,
-    calls: &[Call],
-) -> Result<Vec<Finding>, AllocError>
-    requires window { settings.now.window ≤ 86400 }
-    ensures counted { IfOk result (λ findings. vec_len findings ≡ length calls.now) }
-    ensures tickets { IfOk result (λ findings. EachHasTicket settings.now calls.now findings.items) }
-    ensures signed { IfOk result (λ findings. EachHasSigned settings.now calls.now findings.items) }
-    ensures found { IfOk result (λ findings. EachFoundWhere (S.files shelf.old) world.now (P.says worker.old.provider) settings.now calls.now findings.items) }
-
-    // As many are set aside at most as faults were counted.
-    ensures unread { IfOk result (λ findings. AreCounted found_unread findings.items (S.counts shelf.old).faults (S.counts shelf.new).faults) }
-    ensures unasked { IfOk result (λ findings. AreCounted found_unasked findings.items (P.faults worker.old.provider) (P.faults worker.new.provider)) }
-
-    ensures shelf { ShelfStays S.Shelf shelf.old shelf.new }
-    ensures provider { ProviderStays P.Provider worker.old.provider worker.new.provider }
-{
-    let mut findings = Vec::new(alloc);
-    'calls: for call in calls {
-        worker.gate.at(0, call.number());
-        let finding = judge_call(
-            alloc,
-            settings,
-            world,
-            shelf,
-            &mut worker.provider,
-            &mut worker.chains,
-            call,
-        )?;
-        findings.push(finding)?;
-    }
-    Ok(findings)
-}
 
 /// Judges a call by itself, by all rules but the one on replay: its chains are read from the shelf and judged for it, in place of those that
 /// are handed in. The window of the settings is at most 86,400 seconds. `AllocError` is the only error.
@@ -123,7 +82,7 @@ fn judge_screened<S: Shelf, P: Provider>(
 }
 
 /// What comes of a call by this verdict.
-fn finding_of(verdict: Verdict, screened: &Screened) -> Finding
+pub(crate) fn finding_of(verdict: Verdict, screened: &Screened) -> Finding
     ensures same { IsOfVerdict verdict result }
     ensures ticket { (call : RuledCall) → IsScreenedBy early_rules call (Ok screened.now) → HasTicket call result }
     ensures signed { (call : RuledCall) → IsScreenedBy early_rules call (Ok screened.now) → HasSigned call result }

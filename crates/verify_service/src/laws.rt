@@ -23,12 +23,13 @@ ghost use Rattle.cert_store.specs.Holding.{Chains, Holding};
 ghost use Rattle.cert_store.specs.declared.world.World.{World as Materials};
 ghost use Rattle.verify_service.specs.Causes.{joined};
 ghost use Rattle.verify_service.specs.Kept.{Kept, StoresChain};
-ghost use Rattle.verify_service.specs.Needed.{BeginsWith, IsOnce, all_named, has, named, needed, once, round_texts};
-ghost use Rattle.verify_service.specs.RightChains.{AreRightHeld, IsNear, IsThere, held_count};
+ghost use Rattle.cert_store.specs.Using.{IsOnce, has, names};
+ghost use Rattle.verify_service.specs.Needed.{BeginsWith, all_named, named, needed, once, round_texts};
+ghost use Rattle.verify_service.specs.RightChains.{AreRightHeld, IsThere, IsThereUnless, held_count};
 ghost use Rattle.verify_service.specs.Screening.{IsReady};
 ghost use Rattle.verify_service.specs.declared.screening.ReadyCall.{ReadyCall};
 
-use cert_store::cache_law;
+use cert_store::{cache_law, use_law};
 use verify_rules::{code_law, last_second_law, right_law};
 
 /// A call of a log is judged as what its message and its moment are.
@@ -79,24 +80,25 @@ pub(crate) fn texts_law()
 
     ensures joined { (text : List ℕ) (texts : List (List ℕ)) → IsOnce texts → IsOnce (joined text texts) }
 
-    // Texts of which none is another are no more than those that they are among. Those that are read are no more than those that are needed; and
-    // those that are held and those that are needed are no more than all.
-    ensures no_more { (texts others : List (List ℕ)) → IsOnce texts → ((x5u : List ℕ) → has x5u texts ≡ true → has x5u others ≡ true) → length texts ≤ length others }
+    // Those that are read are no more than those that are needed; and those that are held and those that are needed are no more than all.
     ensures most { (found texts : List (List ℕ)) → length (once found texts) ≤ length found + length texts }
     ensures apart { (files : ChainFiles) (held : Chains) (texts : List (List ℕ)) → held_count held texts + length (needed files held texts) ≤ length texts }
 {}
 
-/// One chain more is held or kept: if it is right, all stay right. A chain that is kept, or held among the n most recently used, is from then on
-/// kept or among the n + 1 most recently used, and so is the new one; none of these has left.
+/// One chain more is held or kept: if it is right, all stay right. It is there from then on, and so are those that were, unless as many others
+/// were used as the cache may hold chains; and of those that are named and no more than that, all are.
 pub(crate) fn stored_law()
     ensures right { (told : Option Files) (materials : Materials) (says : Says) (x5u : List ℕ) (state : State) (held held_now : Holding) (kept kept_now : Kept)
         → StoresChain x5u state held held_now kept kept_now → IsRightWhere told materials says x5u state
         → AreRightHeld told materials says held.entries kept → AreRightHeld told materials says held_now.entries kept_now }
-    ensures near { (n : ℕ) (x5u other : List ℕ) (state : State) (held held_now : Holding) (kept kept_now : Kept) → suc n ≤ held.capacity
-        → StoresChain x5u state held held_now kept kept_now → IsNear n held.entries kept other → IsNear (suc n) held_now.entries kept_now other }
-    ensures here { (n : ℕ) (x5u : List ℕ) (state : State) (held held_now : Holding) (kept kept_now : Kept)
-        → StoresChain x5u state held held_now kept kept_now → IsNear (suc n) held_now.entries kept_now x5u }
-    ensures there { (n : ℕ) (x5u : List ℕ) (held : Chains) (kept : Kept) → IsNear n held kept x5u → IsThere held kept x5u }
+    ensures here { (used : List (List ℕ)) (x5u : List ℕ) (state : State) (held held_now : Holding) (kept kept_now : Kept)
+        → StoresChain x5u state held held_now kept kept_now → IsThereUnless held.capacity used held_now.entries kept_now x5u }
+    ensures others { (used : List (List ℕ)) (x5u other : List ℕ) (state : State) (held held_now : Holding) (kept kept_now : Kept) → IsOnce (names held.entries)
+        → has x5u used ≡ true → StoresChain x5u state held held_now kept kept_now → IsThereUnless held.capacity used held.entries kept other
+        → IsThereUnless held.capacity used held_now.entries kept_now other }
+    ensures there { (files : ChainFiles) (capacity : ℕ) (used : List (List ℕ)) (x5u : List ℕ) (held : Chains) (kept : Kept) → has x5u used ≡ true → length used ≤ capacity
+        → IsThereUnless capacity used held kept x5u → IsThere files held kept x5u }
 {
     cache_law();
+    use_law();
 }

@@ -1,31 +1,39 @@
-//! A round on one worker.
+//! A round: prepared, and then carried out.
 ghost use Rattle.stir_outside.specs.Stays.{ProviderStays, ShelfStays};
-ghost use Rattle.std.specs.Prelude.{◌≡◌, ◌≤◌, length, IfErr, IfOk, Some, vec_len, slice_index_or};
+ghost use Rattle.std.specs.Prelude.{◌≡◌, ◌<◌, ◌≤◌, ◌+◌, ℕ, length, IfErr, IfOk, Some, slice_index_or};
+ghost use Rattle.cert_store.specs.Using.{AreAmong};
+ghost use Rattle.replay_law.specs.Held.{purged};
 ghost use Rattle.replay_law.specs.Round.{RoundSettled, round_of};
 ghost use Rattle.replay_law.specs.Turn.{FirstWins};
 ghost use Rattle.stir_outside.specs.Count.{NotRisen};
-ghost use Rattle.stir_outside.specs.Files.{CountsGoOn, Files};
-ghost use Rattle.verify_service.specs.Causes.{NoneUnasked, NoneUnread, UnaskedIsCounted, UnreadIsCounted};
+ghost use Rattle.stir_outside.specs.Files.{Files};
+ghost use Rattle.verify_service.specs.Carried.{AreClasses, HasPairs};
+ghost use Rattle.verify_service.specs.Causes.{NoneUnasked, NoneUnread, UnaskedIsCounted, UnreadIsCounted, unasked_texts};
+ghost use Rattle.verify_service.specs.Needed.{named};
+ghost use Rattle.verify_service.specs.Reads.{HasAsked, HasJudged, ReadsFew, StaysHeld};
+ghost use Rattle.verify_service.specs.RoundRead.{own_of};
 ghost use Rattle.verify_service.specs.Rows.{EachOwed, RoundLegal, held, rows_of};
-ghost use Rattle.verify_service.specs.Service.{AreJudged, Follow, IsPurged, IsSameConfig, last_moment_of, last_number, world_of};
+ghost use Rattle.verify_service.specs.Service.{AreJudged, Follow, HoldsRight, IsPurged, IsSameConfig, first_moment_of, held_texts, last_moment_of, last_number, materials_of, texts_in, world_of};
 
-use crate::judge::judge_all;
-use crate::outcome::Outcome;
+use crate::carried::Carried;
+use crate::laws::{call_law, stored_law, texts_law};
 use crate::service::Service;
-use crate::settle::settle_all;
 use crate::worker::Worker;
 use call_log::Call;
-use replay_law::{one_by_one, same_is_one};
+use cert_store::{cache_law, use_law};
+use replay_law::same_is_one;
 use std::alloc::{AllocError, Global};
 use std::thread::Threads;
 use stir_outside::{Gate, Provider, Shelf};
+use verify_rules::one_field_law;
 
 impl Service {
-    /// Judges the calls of a round, in their order, and says what comes of each.
+    /// Judges the calls of a round on 1 to 8 workers, and says what comes of each.
     ///
-    /// There is exactly one worker, and there are 1 to 256 calls. Their numbers rise, from above that of the last call that was handed in, and
-    /// are below 4,294,967,295; their moments never fall. The chain of each PASSporT is read from the shelf and judged for its call. `Memory`
-    /// is the only error; the past is purged then, and nothing is added to it.
+    /// The providers of the workers say the same. There are 1 to 256 calls. Their numbers rise, from above that of the last call that was handed in, and
+    /// are below 4,294,967,295; their moments never fall. What is held of chains is right for the shelf and the providers. The chains that the calls
+    /// need and that aren't held are read from the shelf, each once, and judged; those of which each question was answered are held from then on.
+    /// `Memory` is the only error; the past is purged then, nothing is added to it, and what is held of chains is right.
     pub fn round<R: Threads + Sync, S: Shelf, P: Provider + Send, G: Gate + Send>(
         &mut self,
         rt: &R,
@@ -33,97 +41,81 @@ impl Service {
         shelf: &mut S,
         workers: &mut [Worker<P, G>],
         calls: &[Call],
-    ) -> Result<Vec<Outcome>, AllocError>
-        requires one { length workers.old ≡ 1 }
+    ) -> Result<Carried, AllocError>
+        requires some { 0 < length workers.old }
+        requires most { length workers.old ≤ 8 }
+        requires agree { (w : ℕ) (d : _) → w < length workers.old → P.says (slice_index_or workers.old w d).provider ≡ P.says (slice_index_or workers.old 0 d).provider }
         requires follow { Follow self.old.number self.old.moment calls.now }
+        requires right { (d : _) → HoldsRight (S.files shelf.old) (P.says (slice_index_or workers.old 0 d).provider) self.old }
 
-        // There is an outcome for each call, and it is what the rules say of the call, over the files that the shelf tells and what the provider
-        // says.
-        ensures counted { IfOk result (λ outcomes. vec_len outcomes ≡ length calls.now) }
-        ensures judged { (d : _) → IfOk result (λ outcomes. AreJudged (S.files shelf.old) self.old (P.says (slice_index_or workers.old 0 d).provider) calls.now outcomes.items) }
+        // There is an outcome for each call, and it is what the rules say of the call, over the files that the shelf tells and what the providers
+        // say.
+        ensures counted { IfOk result (λ carried. length carried.outcomes ≡ length calls.now) }
+        ensures judged { (d : _) → IfOk result (λ carried. AreJudged (S.files shelf.old) self.old (P.says (slice_index_or workers.old 0 d).provider) calls.now carried.outcomes) }
 
         // Over files that are told, the outcomes are legal from the past that was held to the one that is left.
-        ensures legal { (d : _) (files : Files) → S.files shelf.old ≡ Some files → IfOk result (λ outcomes. RoundLegal self.old.settings
-            (world_of self.old files (P.says (slice_index_or workers.old 0 d).provider)) (held self.old.past) calls.now outcomes.items (held self.new.past)) }
+        ensures legal { (d : _) (files : Files) → S.files shelf.old ≡ Some files → IfOk result (λ carried. RoundLegal self.old.settings
+            (world_of self.old files (P.says (slice_index_or workers.old 0 d).provider)) (held self.old.past) calls.now carried.outcomes (held self.new.past)) }
 
-        // Of the calls that pass with one ticket one is valid, and each other is a replay of it; and it is the first.
-        ensures settled { IfOk result (λ outcomes. RoundSettled (held self.old.past) (round_of (rows_of self.old.settings calls.now outcomes.items)) (held self.new.past)) }
-        ensures first { IfOk result (λ outcomes. FirstWins (rows_of self.old.settings calls.now outcomes.items)) }
+        // Of the calls that pass with one ticket one is valid, and each other is a replay of it; with one worker it is the first.
+        ensures settled { IfOk result (λ carried. RoundSettled (held self.old.past) (round_of (rows_of self.old.settings calls.now carried.outcomes)) (held self.new.past)) }
+        ensures first { length workers.old ≡ 1 → IfOk result (λ carried. FirstWins (rows_of self.old.settings calls.now carried.outcomes)) }
+
+        // A call has no class exactly where rules 1 to 9 refuse it, and two others have one class exactly where they have one ticket. The seat has exactly
+        // the wins of the valid calls, and the losses of the replays whose ticket the purged past hasn't.
+        ensures classes { IfOk result (λ carried. AreClasses self.old.settings calls.now carried.classes) }
+        ensures pairs { IfOk result (λ carried. HasPairs self.old.settings (purged (first_moment_of calls.now) (held self.old.past)) calls.now carried.classes
+            carried.outcomes carried.seat) }
 
         // A call that passes is known again by what was signed as its last PASSporT, whether the shelf tells its files or not.
-        ensures owed { IfOk result (λ outcomes. EachOwed self.old.settings calls.now outcomes.items) }
+        ensures owed { IfOk result (λ carried. EachOwed self.old.settings calls.now carried.outcomes) }
 
-        // A call is set aside only for a fault outside that was counted.
-        ensures unread { IfOk result (λ outcomes. UnreadIsCounted self.old.settings calls.now (S.counts shelf.old).faults (S.counts shelf.new).faults outcomes.items) }
-        ensures unasked { (d : _) → IfOk result (λ outcomes. UnaskedIsCounted self.old.settings calls.now (P.faults (slice_index_or workers.old 0 d).provider)
-            (P.faults (slice_index_or workers.new 0 d).provider) outcomes.items) }
-        ensures quiet_shelf { NotRisen (S.counts shelf.old).faults (S.counts shelf.new).faults → IfOk result (λ outcomes. NoneUnread outcomes.items) }
-        ensures quiet { (d : _) → NotRisen (P.faults (slice_index_or workers.old 0 d).provider) (P.faults (slice_index_or workers.new 0 d).provider)
-            → IfOk result (λ outcomes. NoneUnasked outcomes.items) }
+        // A call is set aside only for a fault outside that was counted: of the shelf, or of the provider of the worker whose text or call it is.
+        ensures unread { IfOk result (λ carried. UnreadIsCounted self.old.settings calls.now (S.counts shelf.old).faults (S.counts shelf.new).faults carried.outcomes) }
+        ensures unasked { (w : ℕ) (d : _) → w < length workers.old → IfOk result (λ carried. UnaskedIsCounted self.old.settings calls.now
+            (own_of w (length workers.old) 0 (texts_in self.old calls.now)) (own_of w (length workers.old) 0 carried.outcomes)
+            (P.faults (slice_index_or workers.old w d).provider) (P.faults (slice_index_or workers.new w d).provider) carried.outcomes) }
+        ensures unasked_among { IfOk result (λ carried. AreAmong (unasked_texts self.old.settings calls.now carried.outcomes) (texts_in self.old calls.now)) }
+        ensures quiet_shelf { NotRisen (S.counts shelf.old).faults (S.counts shelf.new).faults → IfOk result (λ carried. NoneUnread carried.outcomes) }
+        ensures quiet { (d : _) → ((w : ℕ) → w < length workers.old → NotRisen (P.faults (slice_index_or workers.old w d).provider) (P.faults (slice_index_or workers.new w d).provider))
+            → IfOk result (λ carried. NoneUnasked carried.outcomes) }
 
-        // What the service was told stays, and where memory was wanting its past is only purged.
+        // What is held of chains stays right, also if memory ran out. Each listed x5u text that a call of the round names is read once at most, and not
+        // if its chain is held; and its chain, once it was judged, is held until 4,096 others were used, unless a question of it failed. A worker's
+        // provider is asked no more than for the chains of the worker's texts and the PASSporTs of its calls.
+        ensures right { (d : _) → HoldsRight (S.files shelf.new) (P.says (slice_index_or workers.new 0 d).provider) self.new }
+        ensures most { (S.counts shelf.new).reads ≤ (S.counts shelf.old).reads + length (texts_in self.old calls.now) }
+        ensures judges { (d : _) → IfOk result (λ carried. HasJudged (S.files shelf.old) (materials_of self.old) (P.says (slice_index_or workers.old 0 d).provider)
+            (named self.old.settings calls.now) self.old.held self.new.held (S.counts shelf.old).reads (S.counts shelf.new).reads
+            (λ judged. (w : ℕ) → w < length workers.old → HasAsked judged (own_of w (length workers.old) 0 (texts_in self.old calls.now))
+            (named self.old.settings (own_of w (length workers.old) 0 calls.now))
+            (P.asks (slice_index_or workers.old w d).provider) (P.asks (slice_index_or workers.new w d).provider))) }
+        ensures stays { IfOk result (λ carried. StaysHeld self.old.chains (named self.old.settings calls.now) self.old.held self.new.held) }
+        ensures few { (d : _) → ((w : ℕ) → w < length workers.old → NotRisen (P.faults (slice_index_or workers.old w d).provider) (P.faults (slice_index_or workers.new w d).provider))
+            → IfOk result (λ carried. ReadsFew self.old.settings self.old.chains calls.now (held_texts self.old) (held_texts self.new)
+            (S.counts shelf.old).reads (S.counts shelf.new).reads) }
+
+        // What the service was told stays, and if memory ran out its past is only purged.
         ensures config { IsSameConfig self.old self.new }
         ensures number { self.new.number ≡ last_number self.old.number calls.now }
         ensures moment { self.new.moment ≡ last_moment_of self.old.moment calls.now }
         ensures wanting { IfErr result (λ _. IsPurged calls.now (held self.old.past) (held self.new.past)) }
 
-        // What the shelf and the provider tell stays, and their counts never fall.
+        // What the shelf and the providers tell stays, and their counts never fall.
         ensures workers { length workers.new ≡ length workers.old }
         ensures shelf { ShelfStays S.Shelf shelf.old shelf.new }
-        ensures provider { (d : _) → ProviderStays P.Provider (slice_index_or workers.old 0 d).provider (slice_index_or workers.new 0 d).provider }
+        ensures provider { (w : ℕ) (d : _) → w < length workers.old
+            → ProviderStays P.Provider (slice_index_or workers.old w d).provider (slice_index_or workers.new w d).provider }
     {
-        let worker = &mut workers[0];
-        self.judge_round(alloc, shelf, worker, calls)
-    }
-
-    /// The same with the one worker.
-    fn judge_round<S: Shelf, P: Provider, G: Gate>(
-        &mut self,
-        alloc: Global,
-        shelf: &mut S,
-        worker: &mut Worker<P, G>,
-        calls: &[Call],
-    ) -> Result<Vec<Outcome>, AllocError>
-        requires follow { Follow self.old.number self.old.moment calls.now }
-        ensures counted { IfOk result (λ outcomes. vec_len outcomes ≡ length calls.now) }
-        ensures judged { IfOk result (λ outcomes. AreJudged (S.files shelf.old) self.old (P.says worker.old.provider) calls.now outcomes.items) }
-        ensures settled { IfOk result (λ outcomes. RoundSettled (held self.old.past) (round_of (rows_of self.old.settings calls.now outcomes.items)) (held self.new.past)) }
-        ensures first { IfOk result (λ outcomes. FirstWins (rows_of self.old.settings calls.now outcomes.items)) }
-        ensures owed { IfOk result (λ outcomes. EachOwed self.old.settings calls.now outcomes.items) }
-        ensures unread { IfOk result (λ outcomes. UnreadIsCounted self.old.settings calls.now (S.counts shelf.old).faults (S.counts shelf.new).faults outcomes.items) }
-        ensures unasked { IfOk result (λ outcomes. UnaskedIsCounted self.old.settings calls.now (P.faults worker.old.provider) (P.faults worker.new.provider) outcomes.items) }
-        ensures quiet_shelf { NotRisen (S.counts shelf.old).faults (S.counts shelf.new).faults → IfOk result (λ outcomes. NoneUnread outcomes.items) }
-        ensures quiet { NotRisen (P.faults worker.old.provider) (P.faults worker.new.provider) → IfOk result (λ outcomes. NoneUnasked outcomes.items) }
-        ensures config { IsSameConfig self.old self.new }
-        ensures number { self.new.number ≡ last_number self.old.number calls.now }
-        ensures moment { self.new.moment ≡ last_moment_of self.old.moment calls.now }
-        ensures wanting { IfErr result (λ _. IsPurged calls.now (held self.old.past) (held self.new.past)) }
-        ensures shelf { ShelfStays S.Shelf shelf.old shelf.new }
-        ensures provider { ProviderStays P.Provider worker.old.provider worker.new.provider }
-    {
-        one_by_one();
         same_is_one();
-        self.begin(calls);
-        self.past.reserve(calls.len())?;
-        let outcomes = vec![in alloc; Outcome::Valid; calls.len()]?;
-        let findings = judge_all(alloc, &self.settings, &self.world, shelf, worker, calls)?;
-        Ok(settle_all(&mut self.past, calls, findings.as_slice(), outcomes))
-    }
-
-    /// Purges the past by the first call, and takes over number and moment of the last.
-    fn begin(&mut self, calls: &[Call])
-        requires follow { Follow self.old.number self.old.moment calls.now }
-        ensures config { IsSameConfig self.old self.new }
-        ensures number { self.new.number ≡ last_number self.old.number calls.now }
-        ensures moment { self.new.moment ≡ last_moment_of self.old.moment calls.now }
-        ensures purged { IsPurged calls.now (held self.old.past) (held self.new.past) }
-    {
-        if let Some(first) = calls.first() {
-            self.past.purge(first.moment());
-        }
-        if let Some(last) = calls.last() {
-            self.number = last.number();
-            self.moment = last.moment();
-        }
+        one_field_law();
+        call_law();
+        texts_law();
+        stored_law();
+        cache_law();
+        use_law();
+        self.holds_many();
+        let prepared = self.prepare(rt, alloc, shelf, workers, calls)?;
+        Ok(self.carry(rt, workers, prepared))
     }
 }

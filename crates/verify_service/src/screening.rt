@@ -1,7 +1,7 @@
 //! Screening the calls of a round: what rules 1 to 9 say of each, tried in several threads.
 ghost use Rattle.std.specs.Prelude.{◌≡◌, ◌<◌, ◌≤◌, ℕ, length, slice_index_or};
 ghost use Rattle.verify_service.specs.Judging.{call_in};
-ghost use Rattle.verify_service.specs.Screening.{IsScreening, ScreensAt};
+ghost use Rattle.verify_service.specs.Screening.{IsScreening, ScreensAt, readings_in};
 ghost use Rattle.verify_service.specs.declared.screening.ReadyCall.{ReadyCall};
 
 use crate::laws::call_law;
@@ -70,11 +70,15 @@ fn screen_at(alloc: Global, settings: &Settings, calls: &[Call], at: usize, plac
 /// Screens a call.
 fn screen_call(alloc: Global, settings: &Settings, call: &Call) -> Screening
     requires window { settings.now.window ≤ 86400 }
-    ensures { IsScreening (call_in settings.now call.now) result }
+    ensures screening { IsScreening (call_in settings.now call.now) result }
+    ensures few { length (readings_in result) ≤ 9 }
 {
     call_law();
     match screen(alloc, call.message(), call.moment(), settings) {
-        Ok(screened) => Screening::Passed(screened),
+        Ok(screened) => {
+            let _ = screened.count();
+            Screening::Passed(screened)
+        }
         Err(fault) => match fault {
             ScreenFault::Refused(refusal) => Screening::Refused(refusal),
             ScreenFault::Memory => Screening::Open,

@@ -3,7 +3,7 @@ ghost use Rattle.std.specs.Prelude.{◌≡◌, ◌≤◌, ◌↔◌, IfOk, IsTru
 ghost use Rattle.verify_service.specs.Service.{Follow, IsNew, all_follow, follows_on};
 
 use call_log::Call;
-use cert_store::World;
+use cert_store::{Cache, World};
 use replay_desk::Past;
 use std::alloc::{AllocError, Global};
 use std::marker::Model;
@@ -13,22 +13,25 @@ use verify_rules::Settings;
 /// The most calls of a round.
 const MOST_CALLS: usize = 256;
 
-/// Judges calls round by round: what it judges them by, and which calls passed before.
+/// The most chains that are held.
+const MOST_CHAINS: usize = 4096;
+
+/// Judges calls round by round: what it judges them by, which calls passed before, and the chains that it judged and holds.
 ///
-/// A contract sees the settings, the chain map, the anchors, the code table, the past, and the number and moment of the last call that was
-/// handed in.
+/// A contract sees the settings, the chain map, the anchors, the code table, the past, the chains that are held, and the number and moment of the
+/// last call that was handed in.
 #[derive(Drop)]
 pub struct Service {
     pub(crate) settings: Settings,
     pub(crate) world: World,
     pub(crate) past: Past,
+    pub(crate) cache: Cache,
     pub(crate) number: u32,
     pub(crate) moment: u64,
 }
 
 impl Model for Service {
-    ghost use Rattle.std.specs.Prelude.{◌≤◌};
-    ghost use Rattle.verify_service.specs.Service.{ServiceView};
+    ghost use Rattle.verify_service.specs.Service.{IsSound, ServiceView};
 
     ghost Value = { ServiceView };
 
@@ -38,11 +41,12 @@ impl Model for Service {
       anchors = s.world.anchors;
       table = s.world.table;
       past = s.past;
+      held = s.cache;
       number = s.number;
       moment = s.moment;
     } };
 
-    ghost invariant = { λ s. s.settings.window ≤ 86400 };
+    ghost invariant = { λ s. IsSound s.settings.window s.cache.capacity };
 }
 
 impl Service {
@@ -51,10 +55,12 @@ impl Service {
         requires window { settings.window ≤ 86400 }
         ensures { IfOk result (IsNew settings world) }
     {
+        let cache = Cache::new(alloc, MOST_CHAINS)?;
         Ok(Service {
             settings,
             world,
             past: Past::new(alloc),
+            cache,
             number: 0,
             moment: 0,
         })
@@ -70,6 +76,15 @@ impl Service {
             return false;
         }
         all_follow(self.number, self.moment, calls)
+    }
+}
+
+impl Service {
+    /// It may hold 4,096 chains, as a law for callers: it does nothing when it runs.
+    pub(crate) fn holds_many(&self)
+        ensures { self.now.held.capacity ≡ 4096 }
+    {
+        let _cache = &self.cache;
     }
 }
 

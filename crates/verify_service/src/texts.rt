@@ -86,6 +86,7 @@ pub(crate) fn gather_calls(
     ensures texts { OnOk result (texts.new ≡ once texts.old (needed chains.now cache.old.entries (all_named calls.now))) }
     ensures held { OnOk result (cache.new ≡ record cache.old { entries = touch_all (all_named calls.now) cache.old.entries }) }
     ensures same { (x5u : List ℕ) → chain_of x5u cache.new.entries ≡ chain_of x5u cache.old.entries }
+    ensures capacity { cache.new.capacity ≡ cache.old.capacity }
 {
     cache_law();
     'calls: for call in calls {
@@ -105,6 +106,7 @@ fn gather_call(
     ensures texts { OnOk result (texts.new ≡ once texts.old (needed chains.now cache.old.entries (named_by screening.now))) }
     ensures held { OnOk result (cache.new ≡ record cache.old { entries = touch_all (named_by screening.now) cache.old.entries }) }
     ensures same { (x5u : List ℕ) → chain_of x5u cache.new.entries ≡ chain_of x5u cache.old.entries }
+    ensures capacity { cache.new.capacity ≡ cache.old.capacity }
 {
     match screening {
         Screening::Passed(screened) => gather_passports(alloc, chains, screened, cache, texts),
@@ -124,6 +126,7 @@ fn gather_passports(
     ensures texts { OnOk result (texts.new ≡ once texts.old (needed chains.now cache.old.entries (x5us screened.now.readings))) }
     ensures held { OnOk result (cache.new ≡ record cache.old { entries = touch_all (x5us screened.now.readings) cache.old.entries }) }
     ensures same { (x5u : List ℕ) → chain_of x5u cache.new.entries ≡ chain_of x5u cache.old.entries }
+    ensures capacity { cache.new.capacity ≡ cache.old.capacity }
 {
     cache_law();
     'passports: for i in 0..screened.count() {
@@ -144,6 +147,7 @@ fn gather_text(
     ensures texts { OnOk result (texts.new ≡ once texts.old (needed chains.now cache.old.entries (x5u.now ∷ []))) }
     ensures held { cache.new ≡ record cache.old { entries = touched x5u.now cache.old.entries } }
     ensures same { (x : List ℕ) → chain_of x cache.new.entries ≡ chain_of x cache.old.entries }
+    ensures capacity { cache.new.capacity ≡ cache.old.capacity }
 {
     cache_law();
     if cache.touch(x5u) {

@@ -1,8 +1,9 @@
 //! Who judges calls.
 ghost use Rattle.std.specs.Prelude.{◌≡◌};
 
-use crate::chains::CallChains;
+use crate::outcome::Outcome;
 use cert_store::Judged;
+use replay_desk::Seat;
 use std::alloc::Global;
 
 /// Judges calls: with a provider of signatures, and a gate that it passes before each call.
@@ -12,12 +13,14 @@ use std::alloc::Global;
 pub struct Worker<P, G> {
     pub provider: P,
     pub gate: G,
-    /// The chains of the call that is judged.
-    pub(crate) chains: CallChains,
     /// The chains that it judged of the texts of a round: at the place of each of its own that was read.
     pub(crate) judged: Vec<Option<Judged>>,
     /// Memory ran out when it judged them.
     pub(crate) out_of_memory: bool,
+    /// Its seat while it judges the calls of a round.
+    pub(crate) seat: Option<Seat>,
+    /// What it answered to its calls of a round, each at the index of its call.
+    pub(crate) outcomes: [Outcome; 256],
 }
 
 impl<P, G> Worker<P, G> {
@@ -29,9 +32,10 @@ impl<P, G> Worker<P, G> {
         Worker {
             provider,
             gate,
-            chains: CallChains::new(alloc),
             judged: Vec::new(alloc),
             out_of_memory: false,
+            seat: None,
+            outcomes: [Outcome::Valid; 256],
         }
     }
 }

@@ -13,6 +13,9 @@ use std::collections::{HashMap, HashSet};
 use std::marker::Model;
 use text_file::{Lines, words_law};
 
+/// How many bytes a `confirm` line has without its end: its four words, three of them in hex digits, with a space between each two.
+const CONFIRM_LINE: usize = 332;
+
 /// Why a text is no answers file.
 #[derive(Clone, Copy, Debug, PartialEq, Eq)]
 pub enum AnswerFault {
@@ -81,7 +84,7 @@ impl Answers {
         ensures answers { IfOk result (AnswersOf text.now) }
         ensures fault { IfErr result (FaultOf text.now) }
     {
-        let mut answers = Answers::none(alloc);
+        let mut answers = Answers::none(alloc, text)?;
         let mut lines = Lines::new(text);
         while let Some(line) = lines.next() {
             if !answers.add_line(line.text)? {
@@ -91,15 +94,15 @@ impl Answers {
         Ok(answers)
     }
 
-    /// Answers that say nothing.
-    fn none(alloc: Global) -> Answers
-        ensures { HoldsRows [] result }
+    /// Answers that say nothing, with room for the triples of a text, so that it is taken once.
+    fn none(alloc: Global, text: &[u8]) -> Result<Answers, AllocError>
+        ensures { IfOk result (HoldsRows []) }
     {
-        Answers {
+        Ok(Answers {
             alloc,
-            triples: HashSet::new(alloc),
+            triples: HashSet::with_capacity(alloc, text.len() / CONFIRM_LINE)?,
             signatures: HashMap::new(alloc),
-        }
+        })
     }
 
     /// Adds what a line says; false where the line is bad.

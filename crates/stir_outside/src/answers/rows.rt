@@ -1,16 +1,35 @@
 //! The lines of an answers file.
 ghost use Rattle.std.specs.Prelude.{◌≡◌};
-ghost use Rattle.stir_outside.specs.AnswersText.{bytes_of, confirm_of, key_of, of_kind, row_of, sign_of};
+ghost use Rattle.stir_outside.specs.AnswersText.{confirm_of, key_of, of_kind, row_of, sign_of};
 
+use crate::answers::hex_word::bytes_of;
 use crate::answers::key_name::KeyName;
+use std::hash::{Hash, Hasher};
 use text_file::{Words, words_of};
 
 /// A signature over a digest, good under a key.
-#[derive(Clone, Copy, PartialEq, Eq, Hash)]
+#[derive(Clone, Copy, PartialEq, Eq)]
 pub(crate) struct Triple {
     pub(crate) key: [u8; 65],
     pub(crate) digest: [u8; 32],
     pub(crate) signature: [u8; 64],
+}
+
+/// Each array goes to the hasher as a whole: the derived form gives it byte by byte.
+impl Hash for Triple {
+    ghost use Rattle.std.specs.Prelude.{[], ◌∷◌};
+    ghost use Rattle.std.specs.Cmp.Rules.{hashing};
+    ghost use Rattle.std.proofs.Common.{rules};
+
+    ghost hash_input = { λ t. t.key ∷ t.digest ∷ t.signature ∷ [] };
+
+    ghost respects_eq = { Prim.search (hashing, rules) };
+
+    fn hash<H: Hasher>(&self, state: &mut H) {
+        state.write(&self.key);
+        state.write(&self.digest);
+        state.write(&self.signature);
+    }
 }
 
 /// What is to be signed: a digest, by the key of this name.
@@ -105,16 +124,5 @@ fn key_of(word: &[u8]) -> Option<[u8; 65]>
         Some(key)
     } else {
         None
-    }
-}
-
-/// The bytes that a word of 2 N hex digits writes.
-fn bytes_of<const N: usize>(word: &[u8]) -> Option<[u8; N]>
-    ensures { result ≡ bytes_of N word.now }
-{
-    let mut bytes = [0; N];
-    match hex::decode_to_slice(word, &mut bytes) {
-        Ok(()) => Some(bytes),
-        Err(_) => None,
     }
 }

@@ -28,7 +28,7 @@ answer_batch-requires-clause-few g c κs within =
 pub answer_batch-requires-clause-follow : goal.answer_batch-requires-clause-follow
 answer_batch-requires-clause-follow g c κs within =
     let same : c.deref.result.now ≡ c.read_batch.new.calls.items = search rules in
-    rw same (read_follow _ (g.C.LogCommand.stands c.args.command.now (g.S.Shelf.counts c.args.shelf.now)) _ _ _ _ _ _ c.requires.stands c.requires.reads_on.room c.in-Ok.ensures.read)
+    rw same (read_follow _ (g.C.LogCommand.stands c.args.command.now (g.S.Shelf.counts c.args.shelf.now) (g.S.Shelf.files c.args.shelf.now)) _ _ _ _ _ _ c.requires.stands c.requires.reads_on.room c.in-Ok.ensures.read)
 
 pub returns-in-Ok-answer_batch-clause-ran : goal.returns-in-Ok-answer_batch-clause-ran
 returns-in-Ok-answer_batch-clause-ran g c =
@@ -44,7 +44,7 @@ pub returns-in-Ok-answer_batch-clause-stands : goal.returns-in-Ok-answer_batch-c
 returns-in-Ok-answer_batch-clause-stands g c =
     let same : c.deref.result.now ≡ c.read_batch.new.calls.items = search rules in
     let stands = rw same at c.in-Ok-answer_batch.ensures.stands in
-    λ more. stands_read _ (g.C.LogCommand.stands c.args.command.now (g.S.Shelf.counts c.args.shelf.now)) (g.C.LogCommand.stands c.answer_batch.new.command (g.S.Shelf.counts c.answer_batch.new.shelf)) _ _ _ _ _ c.requires.stands stands (is_more _ _ _ _ _ _ _ c.in-Ok.ensures.read more)
+    λ more. stands_read _ (g.C.LogCommand.stands c.args.command.now (g.S.Shelf.counts c.args.shelf.now) (g.S.Shelf.files c.args.shelf.now)) (g.C.LogCommand.stands c.answer_batch.new.command (g.S.Shelf.counts c.answer_batch.new.shelf) (g.S.Shelf.files c.answer_batch.new.shelf)) _ _ _ _ _ c.requires.stands stands (is_more _ _ _ _ _ _ _ c.in-Ok.ensures.read more)
 
 pub returns-in-Ok-answer_batch-clause-more : goal.returns-in-Ok-answer_batch-clause-more
 returns-in-Ok-answer_batch-clause-more g c =

@@ -18,7 +18,7 @@ invariant-batches g l = record {
       (streams (g.I.Source.faults l.fn.input) (g.O.Sink.written l.fn.sink) (g.O.Sink.faults l.fn.sink))
       (streams (g.I.Source.faults l.input) (g.O.Sink.written l.sink) (g.O.Sink.faults l.sink));
   reads_on : ReadsOn l.reader;
-  stands : g.C.LogCommand.stands l.command (g.S.Shelf.counts l.shelf) l.reader.passed;
+  stands : g.C.LogCommand.stands l.command (g.S.Shelf.counts l.shelf) (g.S.Shelf.files l.shelf) l.reader.passed;
   most : g.C.LogCommand.most l.command ≡ g.C.LogCommand.most l.fn.command;
   ends : EndsRight (supply_of g.I.Source l.fn.reader.ended l.fn.input) → EndsRight (supply_of g.I.Source l.reader.ended l.input);
   shelf : ShelfStays g.S.Shelf l.fn.shelf l.shelf;

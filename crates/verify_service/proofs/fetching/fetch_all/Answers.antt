@@ -1,11 +1,11 @@
 -- One file more was read.
-use Rattle.std.proofs.Common.{◌≡◌, ◌+◌, [], ◌∷◌, ◌++◌, List, length, filter, take, sym, ◌∙◌, subst, arith}
-use Rattle.stir_outside.specs.Count.{AtMost}
+use Rattle.std.proofs.Common.{◌≡◌, ◌+◌, [], ◌∷◌, ◌++◌, List, length, filter, take, ap, sym, ◌∙◌, subst, arith}
 use Rattle.stir_outside.proofs.CountLaws.{go_on}
-use Rattle.verify_service.specs.Fetched.{IsFetched, is_unread_file}
+use Rattle.verify_service.specs.Causes.{AreCounted}
+use Rattle.verify_service.specs.Fetched.{IsFetched, is_read_file, is_unread_file}
 use Rattle.verify_service.specs.Judging.{EachPair}
 use Rattle.verify_service.specs.declared.fetching.Fetched.{Fetched}
-use Rattle.verify_service.proofs.CountLaws.{most_next}
+use Rattle.verify_service.proofs.CountLaws.{counted_more, filter_more}
 use Rattle.verify_service.proofs.FetchedLaws.{fetched_next}
 use Rattle.verify_service.proofs.fetching.fetch_all.Goals as goal
 
@@ -21,9 +21,11 @@ texts-preserved g c =
       fetched = subst (λ (fs : List Fetched). EachPair (IsFetched (g.S.Shelf.files c.args.shelf.now) c.args.world.now) (take (c.texts.index + 1) c.args.texts.now) fs) (sym pushed)
           (fetched_next (g.S.Shelf.files c.args.shelf.now) (g.S.Shelf.files c.texts.shelf) c.args.world.now c.args.texts.now c.texts.files.items c.texts.index c.text.result.now c.in_ok-file.file
           c.texts.invariant.same_files c.text.ensures c.texts.invariant.fetched c.in_ok-file.ensures.fetched);
-      unread = subst (λ (fs : List Fetched). AtMost (length (filter is_unread_file fs)) before.faults now.faults) (sym pushed)
-          (most_next is_unread_file c.texts.files.items c.in_ok-file.file before.faults mid.faults now.faults c.texts.invariant.unread c.in_ok-file.ensures.shelf.counts.faults.never_falls
-          c.in_ok-file.ensures.unread);
+      unread = subst (λ (fs : List Fetched). AreCounted is_unread_file fs before.faults now.faults) (sym pushed)
+          (counted_more is_unread_file c.texts.files.items c.in_ok-file.file before.faults mid.faults now.faults c.texts.invariant.counts.faults.never_falls
+          c.in_ok-file.ensures.shelf.counts.faults.never_falls c.texts.invariant.unread c.in_ok-file.ensures.unread);
+      read = (let grown = ap (λ (fs : List Fetched). length (filter is_read_file fs)) pushed ∙ filter_more is_read_file c.texts.files.items c.in_ok-file.file in
+          let so_far = c.texts.invariant.read in let one = c.in_ok-file.ensures.read in omega arith);
       reads = (let one = c.texts.invariant.reads in let other = c.in_ok-file.ensures.reads in omega arith);
       same_files = c.in_ok-file.ensures.shelf.files ∙ c.texts.invariant.same_files;
       counts = go_on before mid now c.texts.invariant.counts c.in_ok-file.ensures.shelf.counts;

@@ -1,5 +1,5 @@
 -- The texts of a round.
-use Rattle.verify_service.proofs.FewLaws.{counts_apart, no_more, once_each, once_joined, once_most}
+use Rattle.verify_service.proofs.FewLaws.{counts_apart, once_each, once_joined, once_most}
 use Rattle.verify_service.proofs.NeededLaws.{all_named_are}
 use Rattle.verify_service.proofs.RoundTextLaws.{round_first, round_has}
 use Rattle.verify_service.proofs.laws.texts_law.Goals as goal
@@ -18,9 +18,6 @@ returns-clause-first c = round_first
 
 pub returns-clause-joined : goal.returns-clause-joined
 returns-clause-joined c = once_joined
-
-pub returns-clause-no_more : goal.returns-clause-no_more
-returns-clause-no_more c = no_more
 
 pub returns-clause-most : goal.returns-clause-most
 returns-clause-most c = once_most

@@ -4,7 +4,7 @@ use Rattle.std.proofs.lemmas.Map.Made.{filter_same_pairs}
 use Rattle.std.proofs.lemmas.Map.Entries.{lookup-filter-values, option_filter}
 use Rattle.std.proofs.lemmas.Bool.Decides.{nat_tests}
 use Rattle.replay_desk.specs.Past.{PastView, found, unless_below}
-use Rattle.replay_desk.specs.declared.kept.Kept.{Kept}
+use Rattle.state_text.specs.declared.kept.Kept.{Kept}
 use Rattle.replay_desk.proofs.past.Past.purge.Goals as goal
 
 -- a call stays exactly where the moment isn't after its last second

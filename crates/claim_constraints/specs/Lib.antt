@@ -1,0 +1,10 @@
+pub mod Constraints
+pub mod ConstraintsText
+pub mod Elements
+pub mod Fault
+pub mod Form
+pub mod Meets
+pub mod Pieces
+pub mod Read
+pub mod Refused
+pub mod Size

@@ -1,0 +1,14 @@
+pub mod Rule
+pub mod Ticket
+pub mod Lists
+pub mod Views
+pub mod Known
+pub mod Steps
+pub mod Holder
+pub mod Trail
+pub mod Claimed
+pub mod Held
+pub mod ClaimSteps
+pub mod HeldSteps
+pub mod Laws
+pub mod Closing

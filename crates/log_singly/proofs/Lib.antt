@@ -1,2 +1,0 @@
-pub mod SinglyLaws
-pub mod SinglyWords

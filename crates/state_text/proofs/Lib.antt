@@ -1,0 +1,12 @@
+mod LineLaws
+mod RowLaws
+mod EntryLaws
+mod EndedLaws
+mod AgainLaws
+mod FoundLaws
+mod StopLaws
+mod PassLaws
+mod BadLaws
+mod RuleLaws
+mod WriteLaws
+mod AnswerLaws

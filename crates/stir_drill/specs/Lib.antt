@@ -1,0 +1,11 @@
+pub mod Draw
+pub mod Change
+pub mod Certificates
+pub mod Made
+pub mod Message
+pub mod Spelled
+pub mod Pieces
+pub mod Calls
+pub mod World
+pub mod Holds
+pub mod Sentences

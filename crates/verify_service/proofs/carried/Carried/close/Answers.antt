@@ -1,0 +1,8 @@
+-- The desk says so of the seat, and the seat is the one that contracts see.
+use Rattle.std.proofs.Common.{ℕ, subst}
+use Rattle.replay_desk.specs.Pairs.{In}
+use Rattle.verify_service.specs.Carried.{CarriedView}
+use Rattle.verify_service.proofs.carried.Carried.close.Goals as goal
+
+pub returns-clause-named : goal.returns-clause-named
+returns-clause-named c = subst (λ (v : CarriedView). (p : ℕ × ℕ) → In p v.seat.losses → In p v.seat.wins) c.self.view_is c.close.ensures

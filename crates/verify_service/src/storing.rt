@@ -1,0 +1,69 @@
+//! Storing the chains of a round's texts: in the cache, or for the round alone.
+ghost use Rattle.std.specs.Prelude.{◌≡◌, ◌≢◌, ◌<◌, ◌%◌, ℕ, None, length, get_or, slice_index_or, OnOk};
+ghost use Rattle.verify_service.specs.Chains.{state_of};
+ghost use Rattle.verify_service.specs.RoundRead.{StoresAll, StoresSome, file_state, states_from};
+
+use crate::chains::CallChain;
+use crate::fetching::Fetched;
+use crate::kept::{KeptChains, store_chain};
+use crate::texts::Texts;
+use crate::worker::Worker;
+use cert_store::{Cache, Judged};
+use std::alloc::{AllocError, Global};
+
+/// Stores what is known of the chain of each text, in their order, by its file and what the worker judged whose place it is. `AllocError` is the
+/// only error; the first of them are stored then.
+pub(crate) fn store_all<P, G>(
+    alloc: Global,
+    texts: &Texts,
+    files: &[Fetched],
+    workers: &mut [Worker<P, G>],
+    cache: &mut Cache,
+    kept: &mut KeptChains,
+) -> Result<(), AllocError>
+    requires some { 0 < length workers.old }
+    requires files { length files.now ≡ length texts.now }
+    ensures stored { (d : _) → OnOk result (StoresAll texts.now
+        (states_from 0 (λ place. get_or (slice_index_or workers.old (place % length workers.old) d).judged.items place None) files.now) cache.old cache.new kept.old kept.new) }
+    ensures first { (d : _) → StoresSome texts.now
+        (states_from 0 (λ place. get_or (slice_index_or workers.old (place % length workers.old) d).judged.items place None) files.now) cache.old cache.new kept.old }
+    ensures capacity { cache.new.capacity ≡ cache.old.capacity }
+    ensures counted { length workers.new ≡ length workers.old }
+    ensures same { (w : ℕ) (d : _) → w < length workers.old → (slice_index_or workers.new w d).provider ≡ (slice_index_or workers.old w d).provider }
+{
+    let count = workers.len();
+    'files: for (place, file) in files.iter().enumerate() {
+        cache.answered();
+        let judged = take_judged(&mut workers[place % count], place);
+        let chain = chain_by(file, judged);
+        store_chain(alloc, texts.text(place), chain, cache, kept)?;
+    }
+    Ok(())
+}
+
+/// Takes what a worker judged at this place.
+fn take_judged<P, G>(worker: &mut Worker<P, G>, place: usize) -> Option<Judged>
+    ensures judged { result ≡ get_or worker.old.judged.items place None }
+    ensures others { (other : ℕ) → other ≢ place → get_or worker.new.judged.items other None ≡ get_or worker.old.judged.items other None }
+    ensures same { worker.new.provider ≡ worker.old.provider }
+{
+    match worker.judged.get_mut(place) {
+        Some(judged) => judged.take(),
+        None => None,
+    }
+}
+
+/// What is known of a chain by its file, and what was judged of the bytes.
+fn chain_by(file: &Fetched, judged: Option<Judged>) -> CallChain
+    ensures { state_of result ≡ file_state file.now judged }
+{
+    match file {
+        Fetched::Bytes(_) => match judged {
+            Some(judged) => CallChain::Have(judged),
+            None => CallChain::NoChain,
+        },
+        Fetched::NoChain => CallChain::NoChain,
+        Fetched::Long => CallChain::Long,
+        Fetched::Unread => CallChain::Unread,
+    }
+}
