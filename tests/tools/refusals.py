@@ -1,5 +1,5 @@
 """Whether tools/stir-words finds a reason for just those words that the program refuses, by the words of tests/vectors; and what the script
-`./stir` says of them."""
+`./stir` says of them, from the folder of the tree and from another."""
 import importlib.util
 import os
 import pathlib
@@ -34,6 +34,10 @@ SAID = {
 }
 
 
+# What is said after that, from the folder of the tree.
+PAGES = 'stir: man -l man/stir.1 shows the commands, and README.md what they are for\n'
+
+
 def table():
     """The table of words, which is loaded by its file: the names of the folders' modules clash."""
     spec = importlib.util.spec_from_file_location('command_words', TOP / 'tools' / 'command_words.py')
@@ -57,6 +61,12 @@ def started(program, room):
     return room / 'stir'
 
 
+def answer(script, given, folder):
+    """Status, standard output and standard error of the script with these words, started in this folder."""
+    done = subprocess.run([script, *given], stdin=subprocess.DEVNULL, stdout=subprocess.PIPE, stderr=subprocess.PIPE, cwd=folder, text=True)
+    return done.returncode, done.stdout, done.stderr
+
+
 def results(program):
     """Each case: its name, what is wanted, and what came."""
     why = table().why_refused
@@ -65,6 +75,8 @@ def results(program):
     with tempfile.TemporaryDirectory() as folder:
         script = started(program, pathlib.Path(folder))
         for given, said in SAID.items():
-            done = subprocess.run([script, *given.split()], stdin=subprocess.DEVNULL, stdout=subprocess.PIPE, stderr=subprocess.PIPE)
-            wanted = (0, b'', b'') if said is None else (2, b'words refused\n', f'stir: {said}\n'.encode())
-            yield f'stir {given}', wanted, (done.returncode, done.stdout, done.stderr)
+            wanted = (0, '', '') if said is None else (2, 'words refused\n', f'stir: {said}\n{PAGES}')
+            yield f'stir {given}', wanted, answer(script, given.split(), folder)
+        inner = os.path.join(folder, 'crates')
+        elsewhere = PAGES.replace('man/', '../man/').replace('README', '../README')
+        yield 'stir, from another folder', (2, 'words refused\n', f'stir: {SAID[""]}\n{elsewhere}'), answer(script, [], inner)
