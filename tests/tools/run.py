@@ -5,7 +5,7 @@ stir-confirm and stir-signer with openssl, where that is on the path.
     run.py PROGRAM [--keys COUNT]
 
 `cases` tells its lines. The files of a case are those of `files`, those that captures.py and streams.py make, and those that stand below.
-What no line can say stands in fetching.py, refusals.py, reports.py and terminals.py. COUNT is the number of keys and messages that go
+What no line can say stands in fetching.py, pages.py, refusals.py, reports.py and terminals.py. COUNT is the number of keys and messages that go
 through openssl, 10 where it isn't given. Where the Python package cryptography, openssl or tshark is missing, a line says what isn't tried.
 """
 import importlib.util
@@ -18,6 +18,7 @@ import tempfile
 
 import captures
 import fetching
+import pages
 import refusals
 import reports
 import streams
@@ -167,6 +168,7 @@ def results(program, keys):
         if line and not line.startswith((';', *without)):
             yield f'cases:{number}', *case(line, program)
     yield from refusals.results(program)
+    yield from pages.results(program, has_library)
     yield from reports.results(tool, HERE / 'files')
     if has_library:
         yield from terminals.results(TOOLS, FILES)

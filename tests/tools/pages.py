@@ -1,0 +1,125 @@
+"""The pages that people read: each command that they show is run, in a copy of the tree in which the program stands as the proved one, and what it
+writes is compared; no sentence is too long; and man/stir.1 is what tools/man makes.
+
+    pages.py    counts the long sentences of these pages, and names them
+
+A command stands in a block that begins with ```sh, after `$ `, with what it writes below it on the standard output and standard error. A line that ends
+with a backslash goes on in the next. The commands of a block run in one shell, and the blocks of a page in one folder.
+"""
+import pathlib
+import re
+import shutil
+import subprocess
+import sys
+import tempfile
+
+import refusals
+
+TOP = pathlib.Path(__file__).resolve().parent.parent.parent
+
+# The pages whose commands are run, and whether these need the Python package cryptography.
+SHOWN = {'README.md': False, 'docs/COMMANDS.md': False, 'docs/OPERATING.md': True}
+
+# Commands that aren't run here: the gate itself, and the proofs that it makes.
+NOT_RUN = ('rt ci', './stir --prove')
+
+# The pages whose sentences are counted, and how many words a sentence has at most.
+READ = ('README.md', 'docs/OPERATING.md', 'docs/COMMANDS.md')
+MOST_WORDS = 40
+
+
+def blocks(text):
+    """The blocks of commands in a page: the number of the first line, and the lines."""
+    block = None
+    for number, line in enumerate(text.splitlines(), 1):
+        if block is None and line.startswith('```'):
+            block, kind, first = [], line[3:], number + 1
+        elif block is not None and line.startswith('```'):
+            if kind == 'sh':
+                yield first, block
+            block = None
+        elif block is not None:
+            block.append(line)
+
+
+def commands(lines):
+    """The commands of a block, each with what it writes; an error if something stands before the first."""
+    found, goes_on = [], False
+    for line in lines:
+        if goes_on:
+            found[-1][0] += f'\n{line}'
+        elif line.startswith('$ '):
+            found.append([line[2:], ''])
+        elif found:
+            found[-1][1] += f'{line}\n'
+        else:
+            raise ValueError(f'no command: {line}')
+        goes_on = found[-1][1] == '' and found[-1][0].endswith('\\') and (goes_on or line.startswith('$ '))
+    return found
+
+
+def written(given, folder):
+    """What each of these commands writes, run in one shell. A zero byte stands after each, and the status stays for the next."""
+    script = ''.join(f"{command}\nstatus=$?; printf '\\0'; (exit $status)\n" for command in given)
+    done = subprocess.run(['sh'], input=script.encode(), stdout=subprocess.PIPE, stderr=subprocess.STDOUT, cwd=folder, timeout=600)
+    return [part.decode(errors='replace') for part in done.stdout.split(b'\0')[:-1]]
+
+
+def tree(program, room):
+    """A tree with the script, this program as the proved one, the tools and the examples."""
+    refusals.started(program, room)
+    for name in ('tools', 'examples'):
+        shutil.copytree(TOP / name, room / name, dirs_exist_ok=True)
+
+
+def shown(program, has_library):
+    """Each block of commands: its name, what is wanted, and what came."""
+    for page, needs_library in SHOWN.items():
+        if needs_library and not has_library:
+            print(f'tools: the commands of {page} are not tried')
+            continue
+        with tempfile.TemporaryDirectory() as folder:
+            tree(program, pathlib.Path(folder))
+            for first, lines in blocks((TOP / page).read_text()):
+                given = [(command, output) for command, output in commands(lines) if command not in NOT_RUN]
+                yield f'{page}:{first}', [output for _, output in given], written([command for command, _ in given], folder)
+
+
+def texts(page):
+    """The paragraphs, headings, entries of lists and cells of tables of a page, each in one line, without its blocks."""
+    page = re.sub(r'^```.*?^```$', '\n', page, flags=re.M | re.S)
+    page = re.sub(r'!?\[([^\]]*)\]\([^)]*\)', r'\1', page)
+    page = re.sub(r'^ *(?:[-*]|\d+\.) |^#+ ', '\n', page, flags=re.M)
+    for part in re.split(r'\n{2,}', page):
+        lines = part.strip().splitlines()
+        if lines and lines[0].startswith('|'):
+            yield from (cell.strip() for line in lines for cell in re.split(r'(?<!\\)\|', line)[1:-1])
+        else:
+            yield ' '.join(line.strip() for line in lines)
+
+
+def long_sentences(page):
+    """The sentences of a page that have too many words."""
+    sentences = (it for text in texts(page) for it in re.split(r'(?<=[.?!])[)*"`]*\s+(?=[A-Z`*\[("0-9])', text))
+    return [sentence for sentence in sentences if len(sentence.split()) > MOST_WORDS]
+
+
+def results(program, has_library):
+    """Each case: its name, what is wanted, and what came."""
+    yield from shown(program, has_library)
+    for page in READ:
+        yield f'{page}, sentences of more than {MOST_WORDS} words', [], long_sentences((TOP / page).read_text())
+    done = subprocess.run([sys.executable, TOP / 'tools' / 'man', '--check'], stderr=subprocess.PIPE, text=True)
+    yield 'tools/man --check', (0, ''), (done.returncode, done.stderr)
+
+
+def main():
+    found = [(page, sentence) for page in READ for sentence in long_sentences((TOP / page).read_text())]
+    for page, sentence in found:
+        print(f'{page}: {len(sentence.split())} words: {sentence}')
+    print(f'pages: {len(found)} sentences of more than {MOST_WORDS} words')
+    return 1 if found else 0
+
+
+if __name__ == '__main__':
+    sys.exit(main())
