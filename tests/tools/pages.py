@@ -1,5 +1,5 @@
 """The pages that people read: each command that they show is run, in a copy of the tree in which the program stands as the proved one, and what it
-writes is compared; no sentence is too long; and man/stir.1 is what tools/man makes.
+writes is compared; no sentence is too long; man/stir.1 is what tools/man makes; and what docs/PROVED.md names is there.
 
     pages.py    counts the long sentences of these pages, and names them
 
@@ -16,6 +16,7 @@ import tempfile
 import refusals
 
 TOP = pathlib.Path(__file__).resolve().parent.parent.parent
+CRATES = TOP / 'crates'
 
 # The pages whose commands are run, and whether these need the Python package cryptography.
 SHOWN = {'README.md': False, 'docs/COMMANDS.md': False, 'docs/OPERATING.md': True}
@@ -104,11 +105,37 @@ def long_sentences(page):
     return [sentence for sentence in sentences if len(sentence.split()) > MOST_WORDS]
 
 
+NAMED = re.compile(r'\b(?:fn|ensures|ghost|struct|enum|trait|record|abbrev pub) (\w+)|^ *pub (\w+) :', re.M)
+
+
+def named_in(crate):
+    """The functions, clauses, types and fields of records that a crate names."""
+    files = [*(CRATES / crate / 'src').rglob('*.rt'), *(CRATES / crate / 'specs').rglob('*.antt')]
+    return {name for file in files for pair in NAMED.findall(file.read_text()) for name in pair if name}
+
+
+def unknown(page):
+    """What the tables of docs/PROVED.md name and isn't there: a clause of the crates of its heading, or a file of `specs/`."""
+    crates, known = [], set()
+    for line in page.splitlines():
+        if line.startswith('#'):
+            crates = re.findall(r'`(\w+)`', line.split(':')[0]) or crates
+            known = set().union(*map(named_in, crates))
+        cells = [cell.strip() for cell in line.split('|')[1:-1]]
+        if len(cells) == 3 and not set(cells[0]) <= {'-'}:
+            yield from (f'{crates}: {name}' for words in re.findall(r'`([^`]*)`', cells[1]) for name in words.split('::') if name not in known)
+            for file in re.findall(r'`([^`]*)`', cells[2]):
+                folders = [file.rpartition('/')[0]] if '/' in file else crates
+                if not any((CRATES / folder / 'specs' / f'{file.rpartition("/")[2]}.antt').exists() for folder in folders):
+                    yield f'{crates}: {file}'
+
+
 def results(program, has_library):
     """Each case: its name, what is wanted, and what came."""
     yield from shown(program, has_library)
     for page in READ:
         yield f'{page}, sentences of more than {MOST_WORDS} words', [], long_sentences((TOP / page).read_text())
+    yield 'docs/PROVED.md, names that aren\'t there', [], list(unknown((TOP / 'docs/PROVED.md').read_text()))
     done = subprocess.run([sys.executable, TOP / 'tools' / 'man', '--check'], stderr=subprocess.PIPE, text=True)
     yield 'tools/man --check', (0, ''), (done.returncode, done.stderr)
 
