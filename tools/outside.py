@@ -36,6 +36,9 @@ class Words(argparse.ArgumentParser):
     """The words of a tool, described by its own text; bad ones are a fault of one line."""
 
     def __init__(self, text):
+        if not (TOP / 'crates.txt').exists():
+            # Where the tools are installed they and the program are called by their names.
+            text = text.replace('tools/stir-', 'stir-').replace('./stir ', 'stir ')
         super().__init__(description=text, formatter_class=argparse.RawDescriptionHelpFormatter, allow_abbrev=False)
 
     def error(self, message):
