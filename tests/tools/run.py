@@ -17,6 +17,7 @@ import sys
 import tempfile
 
 import captures
+import debian
 import fetching
 import pages
 import refusals
@@ -159,7 +160,9 @@ def results(program, keys):
     without = () if has_library else NEED_LIBRARY
     for is_there, what, untried in ((has_library, 'python3-cryptography', 'stir-chain, stir-confirm, stir-fetch and stir-signer are'),
                                     (has_openssl, 'openssl', 'stir-fetch, and what openssl signs and verifies, are'),
-                                    (shutil.which('tshark'), 'tshark', 'what it reads is')):
+                                    (shutil.which('tshark'), 'tshark', 'what it reads is'),
+                                    (shutil.which('git'), 'git', 'gate and package are'),
+                                    (shutil.which('dpkg-deb'), 'dpkg-deb', 'gate and package are')):
         if not is_there:
             print(f'tools: {what} is missing, so {untried} not tried')
     if not shutil.which('tshark'):
@@ -170,6 +173,8 @@ def results(program, keys):
     yield from refusals.results(program)
     yield from pages.results(program, has_library)
     yield from reports.results(tool, HERE / 'files')
+    if shutil.which('git') and shutil.which('dpkg-deb'):
+        yield from debian.results()
     if has_library:
         yield from terminals.results(TOOLS, FILES)
     if has_library and has_openssl:
