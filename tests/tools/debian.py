@@ -211,8 +211,9 @@ def content(tree, release):
         yield f'package: page of {tool}', (True, False), (f'.SH SYNOPSIS\n.B {tool}\n' in said and '.SH OPTIONS\n' in said, 'tools/stir-' in said)
     status, output, error = installed(root, 'stir-log', '--help')
     yield 'package: stir-log --help', (0, True, ''), (status, '    stir-log day.pcap > day.log\n' in output, error)
+    said = 'stir: man stir shows the commands, and /usr/share/doc/stir/README.md what they are for'
     status, output, error = installed(root, 'stir-words', 'shows')
-    yield 'package: stir-words', (0, '', True), (status, output, error.startswith("stir: 'shows' is no command: "))
+    yield 'package: stir-words', (0, '', True, said), (status, output, error.startswith("stir: 'shows' is no command: "), error.split('\n')[1])
     yield from told(tree, root, release)
 
 
