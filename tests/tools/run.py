@@ -5,8 +5,9 @@ stir-confirm and stir-signer with openssl, where that is on the path.
     run.py PROGRAM [--keys COUNT]
 
 `cases` tells its lines. The files of a case are those of `files`, those that captures.py and streams.py make, and those that stand below.
-What no line can say stands in fetching.py, pages.py, refusals.py, reports.py and terminals.py. COUNT is the number of keys and messages that go
-through openssl, 10 where it isn't given. Where the Python package cryptography, openssl or tshark is missing, a line says what isn't tried.
+What no line can say stands in debian.py, fetching.py, pages.py, refusals.py, reports.py and terminals.py. COUNT is the number of keys and
+messages that go through openssl, 10 where it isn't given. Where the Python package cryptography, openssl, tshark, git or dpkg-deb is missing, a
+line says what isn't tried.
 """
 import importlib.util
 import os
