@@ -25,7 +25,7 @@ use Rattle.verify_service.specs.Service.{Follow, last_moment_of, last_number}
 use Rattle.verify_service.specs.declared.outcome.Outcome.{Outcome}
 use Rattle.log_rounds.specs.Batches.{AreRounds, JudgedRounds, OneRound, RoundsBehind, RoundsStand, RoundsStopped}
 
-are_more : (xs : List Batch) (ys : List Round) (batch : Batch) (round : Round) → AreRounds xs ys → AreRounds (batch ∷ []) (round ∷ []) → AreRounds (xs ++ batch ∷ []) (ys ++ round ∷ [])
+pub are_more : (xs : List Batch) (ys : List Round) (batch : Batch) (round : Round) → AreRounds xs ys → AreRounds (batch ∷ []) (round ∷ []) → AreRounds (xs ++ batch ∷ []) (ys ++ round ∷ [])
 are_more [] [] batch round a b = b
 are_more [] (y ∷ ys) batch round a b = absurd a
 are_more (x ∷ xs) [] batch round a b = absurd a
@@ -34,7 +34,7 @@ are_more (x ∷ xs) (y ∷ ys) batch round a b = (a.0, a.1, a.2, are_more xs ys 
 one_total : (n : ℕ) → n ≡ n + 0
 one_total n = omega arith
 
-one_aside : (judged : Entry → Outcome → Type 0) (config : JudgeConfig) (chains : ChainFiles) (before now : JudgeState) (calls : List Entry) (outcomes : List Outcome) → RoundJudged judged config chains before now calls outcomes
+pub one_aside : (judged : Entry → Outcome → Type 0) (config : JudgeConfig) (chains : ChainFiles) (before now : JudgeState) (calls : List Entry) (outcomes : List Outcome) → RoundJudged judged config chains before now calls outcomes
     → SetAside config (counts_of before) (counts_of now) (record { calls = calls; outcomes = outcomes } ∷ [])
 one_aside judged config chains before now calls outcomes round = record {
   unread = subst (λ n. AtMost n before.shelf now.shelf) (one_total (length (unread_texts config.settings calls outcomes))) round.unread;
@@ -43,7 +43,7 @@ one_aside judged config chains before now calls outcomes round = record {
 }
 
 -- behind rounds by the same config
-judged_more : MoreRounds → (judged : Entry → Outcome → Type 0) (config : JudgeConfig) (chains : ChainFiles) (a b c : JudgeState) (xs : List Batch) (calls : List Entry) (answer : BatchAnswerView)
+abbrev pub judged_more : MoreRounds → (judged : Entry → Outcome → Type 0) (config : JudgeConfig) (chains : ChainFiles) (a b c : JudgeState) (xs : List Batch) (calls : List Entry) (answer : BatchAnswerView)
     → OneRound judged config chains b c calls answer → JudgedRounds judged config chains a b xs → JudgedRounds judged config chains a c (xs ++ batch_of calls answer ∷ [])
 judged_more more judged config chains a b c xs calls answer o s =
     let one : List Round = record { calls = calls; outcomes = o.outcomes } ∷ [] in
@@ -74,7 +74,7 @@ pub stopped : (verifier one now : LogVerifier) (a b c : Counts) (told : Option F
 stopped verifier one now a b c told xs calls stop memory stays s = record { memory = memory; mid = one; counted = b; so = s.so; shelf_stays = stays }
 
 -- no round yet
-pub behind_none : (verifier : LogVerifier) (a : Counts) (told : Option Files) → RoundsBehind verifier verifier a a told []
+abbrev pub behind_none : (verifier : LogVerifier) (a : Counts) (told : Option Files) → RoundsBehind verifier verifier a a told []
 behind_none verifier a told = record {
   so = record {
     rounds = [];

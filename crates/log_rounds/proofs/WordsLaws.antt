@@ -29,7 +29,7 @@ use Rattle.log_rounds.specs.Verifier.{AnswersBy, basis_of, config_of, state_of}
 use Rattle.log_rounds.specs.declared.verifier.LogVerifier.{LogVerifier}
 use Rattle.stir_outside.specs.Files.{Counts, Files}
 
-same_calls : (xs : List Batch) (ys : List Round) → AreRounds xs ys → calls_in xs ≡ calls_of ys
+pub same_calls : (xs : List Batch) (ys : List Round) → AreRounds xs ys → calls_in xs ≡ calls_of ys
 same_calls [] [] a = refl
 same_calls [] (y ∷ ys) a = absurd a
 same_calls (x ∷ xs) [] a = absurd a
@@ -80,7 +80,7 @@ same_lines judged passed (x ∷ xs) (y ∷ ys) a each follow =
 -- ---- in words
 
 -- the rounds that were judged, with what was counted since
-are_judged : LegalTogether → FirstOfAll → (judged : Entry → Outcome → Type 0) (config : JudgeConfig) (chains : ChainFiles) (passed : Passed) (a mid b : JudgeState) (xs : List Batch) → a.past ≡ nothing → mid.shelf ≤ b.shelf → mid.provider ≤ b.provider
+pub are_judged : LegalTogether → FirstOfAll → (judged : Entry → Outcome → Type 0) (config : JudgeConfig) (chains : ChainFiles) (passed : Passed) (a mid b : JudgeState) (xs : List Batch) → a.past ≡ nothing → mid.shelf ≤ b.shelf → mid.provider ≤ b.provider
     → AreBatches 256 passed xs → (j : JudgedRounds judged config chains a mid xs) → AreJudged judged config (counts_of a) (counts_of b) j.rounds
 are_judged legal first judged config chains passed a mid b xs empty shelf provider are j =
     let follow = subst (AreCalls passed) (same_calls xs j.rounds j.are) are.follow in

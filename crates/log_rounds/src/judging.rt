@@ -21,7 +21,7 @@ use verify_service::Carried;
 impl<'a> LogVerifier<'a> {
     /// Judges the calls of a round, of which there are 1 to 256. Their numbers rise and their moments don't fall, from those of the last
     /// call before them on. `AllocError` is the only error.
-    fn judge<R: Threads + Sync, S: Shelf>(
+    pub fn judge<R: Threads + Sync, S: Shelf>(
         &mut self,
         rt: &R,
         alloc: Global,

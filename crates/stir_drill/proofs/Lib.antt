@@ -5,3 +5,5 @@ pub mod MessageLaws
 pub mod CallLaws
 pub mod CertificateLaws
 pub mod SentenceLaws
+pub mod AnswerLaws
+pub mod LogLaws

@@ -32,7 +32,7 @@ ends : (fields : List Field) → flat_map field_line (fields ++ last_field ∷ [
 ends fields = ap (λ x. x ++ crlf) (flat_map-append field_line fields (last_field ∷ []))
     ∙ append_assoc (flat_map field_line fields) (field_line last_field ++ []) crlf
 
-message_spelled : (calling : List ℕ) (fields : List Field)
+pub message_spelled : (calling : List ℕ) (fields : List Field)
     → head_text (codes "INVITE sip:+12125551213@example.net SIP/2.0") (fields_with calling fields)
     ≡ before_number ++ (calling ++ (between ++ (flat_map field_line fields ++ at_end)))
 message_spelled calling fields = message_shape before_number calling (codes "@example.org>;tag=1") crlf (behind_from fields)

@@ -143,11 +143,16 @@ total a d b o m t z = omega (
   length-append a d,
 )
 
-payload_short : (call : Drawn) → call.number ≤ 100000 → call.line < 10000 → length (payload_text call) ≤ 200
-payload_short call n h =
+pub calling_most : (call : Drawn) → call.line < 10000 → length (calling_text call) ≤ 11
+calling_most call h =
+    let small = calling_small call.change call.line h in
+    length-decimal-le 11 (calling_in call.change call.line) (omega arith) small (omega (arith, small))
+
+pub payload_most : (call : Drawn) → call.number ≤ 100000 → call.line < 10000 → length (payload_text call) ≤ 137
+payload_most call n h =
     let small = calling_small call.change call.line h in
     let soon = issued_small call.change (moment_of call.number) (omega (arith, n)) in
-    let orig : length (calling_text call) ≤ 11 = length-decimal-le 11 (calling_in call.change call.line) (omega arith) small (omega (arith, small)) in
+    let orig = calling_most call h in
     let iat : length (decimal (issued_in call.change (moment_of call.number))) ≤ 10
     = length-decimal-le 10 (issued_in call.change (moment_of call.number)) (omega arith) soon (omega (arith, soon)) in
     let tail : length (encode_lower (bytes_high_first 6 call.number)) ≡ 12 = length-encode_with lower_digits (bytes_high_first 6 call.number) in
@@ -167,7 +172,7 @@ signing_short call n h =
       of_header,
       header,
       encoded_length (payload_text call),
-      payload_short call n h,
+      payload_most call n h,
       length-append (encode_of url_safe_no_pad header_text) (46 ∷ encode_of url_safe_no_pad (payload_text call)),
     )
 

@@ -9,3 +9,4 @@ pub mod Calls
 pub mod World
 pub mod Holds
 pub mod Sentences
+pub mod Readable

@@ -15,7 +15,7 @@ mod messages;
 mod passports;
 mod world;
 
-pub use laws::call_law;
+pub use laws::{answers_law, call_law, log_law};
 pub use maker::Drill;
 /// Memory ran out.
 pub use std::alloc::AllocError as Memory;

@@ -1,0 +1,4 @@
+pub mod WinnerLaws
+pub mod SummaryLaws
+pub mod LineLaws
+pub mod CountLaws
