@@ -1,0 +1,19 @@
+-- Rounds of the same calls, judged twice (this project's own rule).
+use Rattle.std.specs.Prelude.{◌≡◌, List}
+use Rattle.drill_counts.specs.Summary.{summary}
+use Rattle.log_rounds.specs.Answers.{Answers}
+use Rattle.log_rounds.specs.Judge.{JudgeConfig}
+use Rattle.log_rounds.specs.Rounds.{Legal, Round, calls_in, outcomes_in}
+use Rattle.verify_rules.specs.World.{World}
+use Rattle.verify_service.specs.Causes.{NoneUnasked, NoneUnread}
+
+-- the rounds are legal in this world, and none of their calls is set aside
+pub record LegalWhole (world : World) (config : JudgeConfig) (rounds : List Round) : Type 0 where
+  pub legal : Legal (Answers world config.settings) config rounds
+  pub read : NoneUnread (outcomes_in rounds)
+  pub asked : NoneUnasked (outcomes_in rounds)
+
+-- by the same settings, on however many workers
+abbrev pub OneSummary : Type 0
+OneSummary = (world : World) (config other : JudgeConfig) (rounds others : List Round) → config.settings ≡ other.settings → calls_in rounds ≡ calls_in others → LegalWhole world config rounds
+    → LegalWhole world other others → summary (outcomes_in rounds) ≡ summary (outcomes_in others)

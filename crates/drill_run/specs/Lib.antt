@@ -1,0 +1,4 @@
+pub mod Alike
+pub mod Command
+pub mod Drilled
+pub mod Speaking

@@ -1,0 +1,12 @@
+//! Laws. A function here does nothing: its clause is the law.
+ghost use Rattle.drill_run.specs.Alike.{OneSummary};
+
+use drill_counts::summary_law;
+
+/// Rounds of the same calls that are legal in one world, with no call set aside, have one summary, on however many workers they were judged: which of
+/// the calls with one ticket is the valid one doesn't change a count.
+pub fn rounds_law()
+    ensures { OneSummary }
+{
+    summary_law();
+}
