@@ -345,9 +345,10 @@ def drawn(seed, count):
 
 
 SECTIONS = (
-    (commands, "`tests/vectors/words.py` prints the lines from here up to `files`. `verify` answers its four files, the window, the country, the",
-     "length of a national number and the workers; `explain` the same without the workers, and `ask` without the answers besides. `sign` answers the form, with the attestation and the identifier behind `shaken`, `divert` the earlier number, and both then the name",
-     "of the key, the URI, the second, the country and the length of a national number, the file of the answers, and the holder's two files or `- -`.",
+    (commands, "`tests/vectors/words.py` prints the lines from here up to `files`. `verify` answers its four files, the window, the country, the length",
+     "of a national number and the workers; `explain` the same without the workers, and `ask` without the answers besides. `sign` answers the form,",
+     "with the attestation and the identifier after `shaken`, `divert` the earlier number, and both then the name of the key, the URI, the second,",
+     "the country and the length of a national number, the file of the answers, and the holder's two files or `- -`.",
      "What a command is; words that are nobody's option; and each command with the options that it requires, and with all."),
     (options, "Each option of each command: absent, twice, empty; by turns without a value, with one that begins with `-`, shortened, in capitals, with",
      "other dashes, with a letter more; and options of other commands."),
