@@ -19,13 +19,13 @@ TOP = pathlib.Path(__file__).resolve().parent.parent.parent
 CRATES = TOP / 'crates'
 
 # The pages whose commands are run, and whether these need the Python package cryptography.
-SHOWN = {'README.md': False, 'docs/COMMANDS.md': False, 'docs/OPERATING.md': True}
+SHOWN = {'README.md': False, 'docs/COMMANDS.md': False, 'docs/DAY.md': True}
 
 # Commands that aren't run here: the gate itself, and the proofs that it makes.
 NOT_RUN = ('rt ci', './stir --prove')
 
 # The pages whose sentences are counted, and how many words a sentence has at most.
-READ = ('README.md', 'docs/OPERATING.md', 'docs/COMMANDS.md')
+READ = ('README.md', 'docs/OPERATING.md', 'docs/DAY.md', 'docs/COMMANDS.md')
 MOST_WORDS = 40
 
 
