@@ -12,6 +12,7 @@ import random
 import re
 
 import columns
+import drills
 from signing import escaped
 
 NUMBER = rb"0|[1-9][0-9]*"
@@ -20,6 +21,8 @@ BARE_BYTES = rb'[!#-+\--:=?-\[\]-~]'
 HEX = rb"[0-9A-Fa-f]"
 
 LAST_SECOND = 253402300799
+LAST_SEED = 2**64 - 1
+MOST_CALLS = 100000
 
 
 def number_up_to(most):
@@ -36,6 +39,8 @@ def matches(pattern):
 TAKES = {
     **dict.fromkeys(("chains", "anchors", "table", "answers", "leaf"), lambda value: True),
     "workers": matches(rb"[1-8]"),
+    "seed": number_up_to(LAST_SEED),
+    "count": number_up_to(MOST_CALLS),
     "window": number_up_to(86400),
     "country": matches(rb"[0-9]{1,3}"),
     "national": matches(NUMBER),
@@ -61,6 +66,7 @@ COMMANDS = {
     "sign": ((*SIGNING, "form"), ("attest", "origid", *HOLDER)),
     "divert": ((*SIGNING, "earlier"), HOLDER),
     "show": ((), ()),
+    "drill": (("seed", "count"), ("workers",)),
 }
 
 
@@ -124,6 +130,7 @@ def answer(words):
         "sign": [values.get("form"), values.get("attest"), values.get("origid"), *signing],
         "divert": [values.get("earlier"), *signing],
         "show": [],
+        "drill": [values.get("seed"), values.get("count"), values.get("workers", b"1")],
     }.get(command, judging)
     return " ".join([command, *(escaped(value) for value in said if value is not None)])
 
@@ -136,6 +143,8 @@ NO_NUMBERS = (b"00", b"01", b"+1", b"-1", b"1 ", b" 1", b"1\n", b"0x1", b"1e1", 
 GOOD = {
     **dict.fromkeys(("chains", "anchors", "table", "answers", "leaf"), FILES),
     "workers": (b"1", b"2", b"7", b"8"),
+    "seed": (b"0", b"7", b"9223372036854775808", b"18446744073709551614", b"18446744073709551615"),
+    "count": (b"0", b"1", b"16", b"255", b"256", b"257"),
     "window": (b"0", b"1", b"60", b"86399", b"86400"),
     "country": (b"0", b"9", b"01", b"44", b"000", b"999"),
     "national": (b"1", b"2", b"9", b"11", b"12"),
@@ -148,6 +157,8 @@ GOOD = {
     "earlier": (b"1", b"*", b"#", b"*67", b"911", 14 * b"9", 15 * b"9", b"0#12"),
 }
 BAD = {
+    "seed": (b"18446744073709551616", b"18446744073709551617", b"36893488147419103232", 40 * b"9", b"", *NO_NUMBERS),
+    "count": (b"100001", b"1000000", b"4294967296", b"4294967297", b"18446744073709551616", b"", *NO_NUMBERS),
     "workers": (b"0", b"9", b"10", b"08", b"256", b"257", b"18446744073709551617", b"", *NO_NUMBERS),
     "window": (b"86401", b"100000", b"18446744073709551616", 40 * b"9", *NO_NUMBERS),
     "country": (b"1000", b"0001", b"+1", b"-1", b"1 ", b"4*", b"#", b"", b"x", "\u0661".encode()),
@@ -166,7 +177,7 @@ BAD = {
 def plain(command):
     """Values for the options that the command requires."""
     first = {"chains": b"c", "anchors": b"a", "table": b"t", "answers": b"w", "key": b"k1", "x5u": b"u", "iat": b"1443208345", "form": b"base",
-             "earlier": b"911"}
+             "earlier": b"911", "seed": b"5", "count": b"3"}
     return {name: first[name] for name in COMMANDS[command][0]}
 
 
@@ -210,10 +221,9 @@ def holders(name):
 def commands():
     """What a command is, and what isn't one; and words that are nobody's option."""
     yield []
-    for first in ("", "Verify", "VERIFY", "verif", "verify ", "verify=", "drill", "sign,divert", "help", "--help", "--version", "-h", "-", "--",
+    for first in ("", "Verify", "VERIFY", "verif", "verify ", "verify=", "drills", "sign,divert", "help", "--help", "--version", "-h", "-", "--",
                   "--verify"):
         yield [first.encode(), *command_line("verify", plain("verify"))[1:]]
-    yield [b"drill", b"--seed=0", b"--count=1"]
     strays = ("--ch\u00e4ins=c", "--", "--help", "--version", "-h", "-V", "-", "c", "", "--=c", "--help=1", "---", "--workers=1")
     for command in COMMANDS:
         words = command_line(command, plain(command))
@@ -283,6 +293,7 @@ def pairings():
             yield command_line(command, plain(command) | {"country": country, "national": b"%d" % (most - place)}, two)
     yield command_line("ask", plain("ask") | {"country": b"999"})
     yield command_line("explain", plain("explain") | {"national": b"14"})
+    yield command_line("drill", plain("drill") | {"count": b"%d" % MOST_CALLS})
 
 
 class Drawn:
@@ -348,7 +359,8 @@ SECTIONS = (
     (commands, "`tests/vectors/words.py` prints the lines from here up to `files`. `verify` answers its four files, the window, the country, the length",
      "of a national number and the workers; `explain` the same without the workers, and `ask` without the answers besides. `sign` answers the form,",
      "with the attestation and the identifier after `shaken`, `divert` the earlier number, and both then the name of the key, the URI, the second,",
-     "the country and the length of a national number, the file of the answers, and the holder's two files or `- -`.",
+     "the country and the length of a national number, the file of the answers, and the holder's two files or `- -`. `drill` answers the seed,",
+     "the count and the workers.",
      "What a command is; words that are nobody's option; and each command with the options that it requires, and with all."),
     (options, "Each option of each command: absent, twice, empty; by turns without a value, with one that begins with `-`, shortened, in capitals, with",
      "other dashes, with a letter more; and options of other commands."),
@@ -377,13 +389,15 @@ def no_texts():
 
 
 def program_cases():
-    """Words, and the program's status and output where no file is: the first file that it reads is missing, and `show` reads an empty input."""
+    """Words, and the program's status and output where no file is: the first file that it reads is missing, `show` reads an empty input, and `drill` reads nothing."""
     for words in (*(row for row in lists() if not isinstance(row, str)), *no_texts()):
         found = order(words)
         if found is None:
             yield words, 2, b"words refused\n"
         elif found[0] == "show":
             yield words, 0, b""
+        elif found[0] == "drill":
+            yield words, 0, drills.summary(int(found[1]["seed"]), int(found[1]["count"]))
         else:
             yield words, 5, b"missing %s\n" % found[1]["answers" if found[0] in ("sign", "divert") else "chains"]
 

@@ -1,5 +1,7 @@
 -- Rounds of the same calls have one summary.
-use Rattle.std.proofs.Common.{◌≡◌, List, [], ◌∷◌, ◌++◌, refl, sym, ap, subst, ◌∙◌}
+use Rattle.std.proofs.Common.{◌≡◌, false, List, [], ◌∷◌, ◌++◌, refl, sym, ap, subst, ◌∙◌}
+use Rattle.std.specs.List.{list_any}
+use Rattle.std.proofs.lemmas.Bool.{or_parts}
 use Rattle.call_log.specs.Entry.{Entry}
 use Rattle.drill_counts.specs.Summary.{JudgedWhole, summary}
 use Rattle.drill_counts.specs.Winners.{all_rows}
@@ -7,11 +9,15 @@ use Rattle.drill_run.specs.Alike.{LegalWhole, OneSummary}
 use Rattle.log_rounds.specs.Answers.{Answers}
 use Rattle.log_rounds.specs.Judge.{JudgeConfig}
 use Rattle.log_rounds.specs.Rounds.{InEach, Round, calls_in, outcomes_in, row_rounds}
-use Rattle.verify_rules.specs.World.{World}
+use Rattle.verify_rules.specs.Call.{Call}
+use Rattle.verify_rules.specs.SameWorld.{SayTheSame}
+use Rattle.verify_rules.specs.World.{First, World}
 use Rattle.verify_rules.specs.declared.settings.Settings.{Settings}
-use Rattle.verify_service.specs.Judging.{EachJudged, EachPair}
+use Rattle.verify_service.specs.Causes.{is_unasked, is_unread}
+use Rattle.verify_service.specs.Judging.{EachJudged, EachPair, IsJudged, call_in}
 use Rattle.verify_service.specs.Rows.{row_of, rows_of}
 use Rattle.verify_service.specs.declared.outcome.Outcome.{Outcome}
+use Rattle.verify_service.specs.declared.outcome.Outcome.TheVariants.{Valid, Refused, Replay, Unread, Unasked}
 
 abbrev SummaryLaw : Type 0
 SummaryLaw = (world : World) (settings : Settings) (calls : List Entry) (outcomes others : List Outcome) → JudgedWhole world settings calls outcomes → JudgedWhole world settings calls others
@@ -51,9 +57,46 @@ judged_whole world config rounds whole = record {
   legal = whole.legal.once;
 }
 
-pub one_summary : SummaryLaw → OneSummary
-one_summary law world config other rounds others same calls whole whole_other =
+-- ---- in another world in which the same is said
+
+abbrev pub SameWorldLaw : Type 0
+SameWorldLaw = (world other : World) → SayTheSame world other → (call : Call) → First world call ≡ First other call
+
+-- what was answered to a call that isn't set aside stands there too
+carried : (world other : World) (call : Call) (outcome : Outcome) → First world call ≡ First other call → is_unread outcome ≡ false → is_unasked outcome ≡ false → IsJudged other call outcome
+    → IsJudged world call outcome
+carried world other call Valid same read asked judged = same ∙ judged
+carried world other call (Refused refused) same read asked judged = same ∙ judged
+carried world other call (Replay winner) same read asked judged = same ∙ judged
+carried world other call (Unread bad) same read asked judged = absurd cc
+carried world other call (Unasked bad) same read asked judged = absurd cc
+
+all_carried : (world other : World) (settings : Settings) (calls : List Entry) (outcomes : List Outcome) → ((call : Call) → First world call ≡ First other call)
+    → list_any is_unread outcomes ≡ false → list_any is_unasked outcomes ≡ false → EachJudged settings other calls outcomes → EachJudged settings world calls outcomes
+all_carried world other settings [] [] same read asked judged = tt
+all_carried world other settings [] (o ∷ os) same read asked judged = absurd judged
+all_carried world other settings (x ∷ xs) [] same read asked judged = absurd judged
+all_carried world other settings (x ∷ xs) (o ∷ os) same read asked judged =
+    let reads = or_parts (is_unread o) (list_any is_unread os) read in
+    let asks = or_parts (is_unasked o) (list_any is_unasked os) asked in
+    (carried world other (call_in settings x) o (same (call_in settings x)) reads.0 asks.0 judged.0, all_carried world other settings xs os same reads.1 asks.1 judged.1)
+
+whole_carried : (world other : World) (settings : Settings) (calls : List Entry) (outcomes : List Outcome) → ((call : Call) → First world call ≡ First other call)
+    → JudgedWhole other settings calls outcomes → JudgedWhole world settings calls outcomes
+whole_carried world other settings calls outcomes same whole = record {
+  each = all_carried world other settings calls outcomes same whole.read whole.asked whole.each;
+  read = whole.read;
+  asked = whole.asked;
+  rounds = whole.rounds;
+  cut = whole.cut;
+  legal = whole.legal;
+}
+
+pub one_summary : SummaryLaw → SameWorldLaw → OneSummary
+one_summary law worlds world twin config other rounds others says same calls whole whole_other =
+    let carried : JudgedWhole world other.settings (calls_in others) (outcomes_in others) =
+    whole_carried world twin other.settings (calls_in others) (outcomes_in others) (worlds world twin says) (judged_whole twin other others whole_other) in
     let there : JudgedWhole world other.settings (calls_in rounds) (outcomes_in others) =
-    subst (λ (cs : List Entry). JudgedWhole world other.settings cs (outcomes_in others)) (sym calls) (judged_whole world other others whole_other) in
+    subst (λ (cs : List Entry). JudgedWhole world other.settings cs (outcomes_in others)) (sym calls) carried in
     law world config.settings (calls_in rounds) (outcomes_in rounds) (outcomes_in others) (judged_whole world config rounds whole)
     (subst (λ (s : Settings). JudgedWhole world s (calls_in rounds) (outcomes_in others)) (sym same) there)

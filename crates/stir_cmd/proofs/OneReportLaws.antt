@@ -1,12 +1,11 @@
 -- Two runs of `verify` on one worker over the same files and the same log give one report.
-use Rattle.std.proofs.Common.{◌≡◌, ◌↔◌, ℕ, List, [], Option, Some, None, Result, Ok, refl, sym, ◌∙◌, ap, subst}
+use Rattle.std.proofs.Common.{◌≡◌, ◌↔◌, ℕ, List, [], Option, Some, None, refl, sym, ◌∙◌, ap, subst}
 use Rattle.std.specs.Io.KnownBytes.{Appends}
 use Rattle.std.proofs.lemmas.Option.{same_Some}
 use Rattle.call_log.specs.Entry.{Entry}
 use Rattle.call_log.specs.HandsOut.{OneLog}
 use Rattle.call_log.specs.Log.{start}
-use Rattle.cert_store.specs.ChainMap.{MapOf, file_in, listed}
-use Rattle.cert_store.specs.Files.{Files as ChainFiles}
+use Rattle.cert_store.specs.ChainMap.{MapOf}
 use Rattle.log_rounds.specs.AllValid.{all_valid}
 use Rattle.log_run.specs.Ending.{report_status}
 use Rattle.log_rounds.specs.Rounds.{IsApart, Round, calls_in, outcomes_in, row_rounds}
@@ -17,12 +16,9 @@ use Rattle.stir_files.specs.Named.{AnchorsOf, NamedFile, ReadOf, anchor_file, an
 use Rattle.stir_files.specs.declared.materials.Materials.{Materials}
 use Rattle.stir_outside.specs.Count.{NotRisen}
 use Rattle.stir_outside.specs.Files.{Files}
-use Rattle.stir_outside.specs.AnswersText.{says as says_in}
-use Rattle.stir_outside.specs.Held.{AnswersOf, Held, held_says}
+use Rattle.stir_outside.specs.Held.{AnswersOf}
 use Rattle.stir_words.specs.Order.{JudgingView, OrderView, VerifyBy, VerifyingView}
-use Rattle.tn_auth_list.specs.CodeTable.{Grants}
-use Rattle.tn_auth_list.specs.Grant.{GrantHolds, TableOf, grant_in}
-use Rattle.tn_auth_list.specs.declared.table_groups.Held.{Held as Granted}
+use Rattle.tn_auth_list.specs.Grant.{TableOf}
 use Rattle.verify_rules.specs.Call.{Call}
 use Rattle.verify_rules.specs.World.{First, World}
 use Rattle.verify_rules.specs.declared.settings.Settings.{Settings}
@@ -32,6 +28,7 @@ use Rattle.stir_cmd.specs.Calls.{config_by, settings_by, world_by}
 use Rattle.stir_cmd.specs.Headline.{AreJudged, Headline, Verified}
 use Rattle.stir_cmd.specs.OneReport.{AreOneReport, GivesOneReport, IsLogApart, IsOneReport}
 use Rattle.stir_cmd.specs.Outside.{IfTold, Outside}
+use Rattle.stir_cmd.proofs.SameReadings.{one_answers, one_map, one_ok, one_table}
 use Rattle.stir_cmd.proofs.AnswersAlike.{NoneAside, OneAnswerEach, RoundsAlike, all_same, has_each, rounds_alike, rounds_turned, same_cut}
 
 -- ---- what was read of the same files
@@ -39,23 +36,6 @@ use Rattle.stir_cmd.proofs.AnswersAlike.{NoneAside, OneAnswerEach, RoundsAlike, 
 -- one file was read twice
 one_content : (files : Files) (named : NamedFile) (P Q : List ℕ → Type 0) (mine : ReadOf (Some files) named P) (yours : ReadOf (Some files) named Q) → mine.content ≡ yours.content
 one_content files named P Q mine yours = let first = mine.told in let second = yours.told in same_Some mine.content yours.content (sym first ∙ second)
-
-one_ok : {X : Type 0} (a b : X) (r : Result X ℕ) → r ≡ Ok a → r ≡ Ok b → a ≡ b
-one_ok a b r is there = let both : Ok a ≡ Ok b = sym is ∙ there in cc
-
-one_map : (content : List ℕ) (mine yours : ChainFiles) → MapOf content mine → MapOf content yours → (x5u : List ℕ) → listed mine x5u ≡ listed yours x5u
-one_map content mine yours a b x5u = a.files x5u ∙ ap (λ rows. file_in rows x5u) (one_ok a.rows b.rows _ a.read b.read) ∙ sym (b.files x5u)
-
-one_table : (content : List ℕ) (mine yours : List (List ℕ × Granted)) → TableOf content mine → TableOf content yours → (code number : List ℕ)
-    → GrantHolds (grant_in mine code) number ↔ GrantHolds (grant_in yours code) number
-one_table content mine yours a b code number =
-    let rows = one_ok a.rows b.rows _ a.read b.read in (
-      (λ h. ((b.grants code).holds number).1 (subst (λ r. Grants r code number) rows (((a.grants code).holds number).0 h))),
-      (λ h. ((a.grants code).holds number).1 (subst (λ r. Grants r code number) (sym rows) (((b.grants code).holds number).0 h))),
-    )
-
-one_answers : (content : List ℕ) (mine yours : Held) → AnswersOf content mine → AnswersOf content yours → held_says mine ≡ held_says yours
-one_answers content mine yours a b = a.says ∙ ap says_in (one_ok a.rows b.rows _ a.read b.read) ∙ sym b.says
 
 same_says : (files : Files) (judging : JudgingView) (mine yours : Materials) → MaterialsOf (Some files) judging mine → MaterialsOf (Some files) judging yours
     → SayTheSame (world_by mine files) (world_by yours files)

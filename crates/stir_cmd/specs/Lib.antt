@@ -16,5 +16,7 @@ pub mod Answer
 pub mod Showing
 pub mod Headline
 pub mod FewReads
+pub mod Drilling
 pub mod Causes
 pub mod OneReport
+pub mod OneSummary

@@ -5,6 +5,7 @@ ghost use Rattle.stir_cmd.specs.Causes.{HasCauses, IsComplete, IsSaid, IsThrough
 ghost use Rattle.stir_cmd.specs.FewReads.{FewReads};
 ghost use Rattle.stir_cmd.specs.Headline.{Headline};
 ghost use Rattle.stir_cmd.specs.OneReport.{GivesOneReport};
+ghost use Rattle.stir_cmd.specs.OneSummary.{GivesOneSummary};
 ghost use Rattle.call_log.specs.Entry.{Entry};
 ghost use Rattle.cert_store.specs.Questions.{AgreeOn};
 ghost use Rattle.cert_store.specs.Rules.{Says};
@@ -20,6 +21,7 @@ use crate::show::show;
 use crate::sign::{SignerCommand, sign_message};
 use crate::verify::verify;
 use call_log::one_log;
+use drill_run::{rounds_law, run_drill};
 use replay_law::one_answer;
 use single_calls::{agreement_law, asks_law};
 use std::alloc::Global;
@@ -34,9 +36,10 @@ use verify_rules::same_world_law;
 /// `verify` judges the calls of the log that the input is, and writes a line for each; `explain` writes for each call by itself which rules it
 /// meets, up to the first that it breaks; `ask` writes what a provider of signatures is asked for the calls, each question once. `sign` and
 /// `divert` write the message that the input is with a signed Identity header field. `show` writes what the certificates that the input is say,
-/// which are at most six and at most 49,152 bytes.
+/// which are at most six and at most 49,152 bytes. `drill` makes a log from a seed, judges it by the files that are made with it, and writes how many
+/// calls came to what; it reads no file and nothing of the input.
 ///
-/// The status is 0 where all calls are valid or break no rule, what is asked is written, the message is signed, or the certificates are shown;
+/// The status is 0 where all calls are valid or break no rule, what is asked is written, the message is signed, the certificates are shown, or the drill is summed up;
 /// 1 where some call isn't valid or breaks a rule, or the message can't be signed; 2 where the words are refused; 3 where a named file, a file
 /// of certificates that `ask` needs or the input couldn't be read; 4 where the output couldn't be written; 5 where a named file is missing or
 /// too long, a file or the input is outside its grammar, or the certificate of a holder has no list; and 6 for want of memory. The first of
@@ -65,6 +68,11 @@ pub fn run<R: Threads + Sync, S: Shelf, I: Source, O: Sink>(
         (outside_of S.Shelf I.Source O.Sink shelf.old input.old sink.old)
         (outside_of S.Shelf I.Source O.Sink shelf.new input.new sink.new) result }
 
+    // Any two runs of `drill` with one seed and one count write one summary, on however many workers.
+    ensures one_summary { GivesOneSummary (order_of (texts words.now))
+        (outside_of S.Shelf I.Source O.Sink shelf.old input.old sink.old)
+        (outside_of S.Shelf I.Source O.Sink shelf.new input.new sink.new) result }
+
     // Of `verify`: files are read no more often than if each named file, and the file of each x5u that the calls of the log name and the chain map
     // lists, were read once, if these x5u texts are at most 4,096.
     ensures few_reads { FewReads (order_of (texts words.now))
@@ -74,7 +82,7 @@ pub fn run<R: Threads + Sync, S: Shelf, I: Source, O: Sink>(
     // Where the status is 0 or 1, the input was read to its end, or is a message that is too long; and what was written is what the command says
     // in the words of its subject: of `explain` the rules that each call of the log meets, up to the first that it breaks; of `ask` what is asked
     // for its calls; of `sign` and `divert` the message with a new Identity field, which is read as the PASSporT that the words ask for and the
-    // key's signature; of `show` the lines of the certificates.
+    // key's signature; of `show` the lines of the certificates; of `drill`, whose input stays as it was, the summary of a legal judgement of its log.
     ensures ended { result ≤ 1 → IsThrough (order_of (texts words.now))
         (outside_of S.Shelf I.Source O.Sink shelf.old input.old sink.old)
         (outside_of S.Shelf I.Source O.Sink shelf.new input.new sink.new) result }
@@ -100,6 +108,7 @@ pub fn run<R: Threads + Sync, S: Shelf, I: Source, O: Sink>(
     one_log();
     one_answer();
     same_world_law();
+    rounds_law();
     carry_out(rt, alloc, words, shelf, input, sink)
 }
 
@@ -136,6 +145,14 @@ fn carry_out<R: Threads + Sync, S: Shelf, I: Source, O: Sink>(
             sink,
         ),
         Ok(Order::Show) => show(alloc, input, sink),
+        Ok(Order::Drill(drilling)) => run_drill(
+            rt,
+            alloc,
+            drilling.seed,
+            drilling.count,
+            drilling.workers,
+            sink,
+        ),
         Err(WordsFault::Refused) => end_with(sink, "words refused\n", Status::Words),
         Err(WordsFault::Memory) => end_with(sink, memory_line(), Status::Memory),
     }

@@ -49,6 +49,13 @@ refused command words words_fault.Memory h wanted = tt
 pub is_small : (text : List ℕ) (n : ℕ) → Some n ≡ number_up_to 14 text → n < 2 ^ 8
 is_small text n h = let small : n ≤ 14 = number_within 14 text n (sym h) in omega arith
 
+-- a number of at most 100,000 is one of 32 bits
+pub is_count : (text : List ℕ) (n : ℕ) → Some n ≡ number_up_to 100000 text → n < 2 ^ 32
+is_count text n h = let few : n ≤ 100000 = number_within 100000 text n (sym h) in omega arith
+
+pub within_memory : (text : List ℕ) (count : ℕ) → Some count ≡ number_up_to 100000 text → count ≤ 100000
+within_memory text count h = number_within 100000 text count (sym h)
+
 pub within_eight : (text : List ℕ) (n : ℕ) → number_up_to 8 text ≡ Some n → n ≤ 8
 within_eight text n h = number_within 8 text n h
 

@@ -10,7 +10,7 @@ use Rattle.passport_claims.specs.Made.{has_origid}
 use Rattle.passport_claims.specs.declared.form.Form.{Form}
 use Rattle.stir_words.specs.Options.{pairs_of}
 use Rattle.stir_words.specs.Table.{Given, accepts, command_named, given_by, options_of}
-use Rattle.stir_words.specs.Values.{earlier_of, form_of, iat_of, is_key, key_of, local_in, window_of, workers_of, x5u_of}
+use Rattle.stir_words.specs.Values.{count_of, earlier_of, form_of, iat_of, is_key, key_of, local_in, seed_of, window_of, workers_of, x5u_of}
 use Rattle.stir_words.specs.declared.commands.Command.{Command}
 use Rattle.stir_words.specs.declared.commands.Command.TheVariants as commands
 
@@ -73,6 +73,12 @@ pub record DivertingView : Type 0 where
   pub answers : List ℕ
   pub holder : Option HolderNames
 
+-- the seed of a log that is made, how many calls it has, and how many workers judge it
+pub record DrillingView : Type 0 where
+  pub seed : ℕ
+  pub count : ℕ
+  pub workers : ℕ
+
 -- a command with the values of its options
 pub data OrderView : Type 0 where
   VerifyBy : VerifyingView → OrderView
@@ -81,6 +87,7 @@ pub data OrderView : Type 0 where
   SignBy : SigningView → OrderView
   DivertBy : DivertingView → OrderView
   ShowCertificates : OrderView
+  DrillBy : DrillingView → OrderView
 
 -- ---- the values
 
@@ -140,6 +147,10 @@ diverting_from earlier by = option_and_then (λ e. option_map (diverting_by e) b
 abbrev pub diverting_of : Given → Option DivertingView
 diverting_of given = diverting_from (earlier_of given) (signer_of given)
 
+abbrev pub drilling_of : Given → Option DrillingView
+drilling_of given = option_and_then (λ seed. option_and_then (λ count. option_map (λ workers. record { seed = seed; count = count; workers = workers })
+    (workers_of given)) (count_of given)) (seed_of given)
+
 -- ---- the whole
 
 -- what a command orders with these options
@@ -150,6 +161,7 @@ order_with commands.Ask given = option_map AskBy (asking_of given)
 order_with commands.Sign given = option_map SignBy (signing_of given)
 order_with commands.Divert given = option_map DivertBy (diverting_of given)
 order_with commands.Show given = Some ShowCertificates
+order_with commands.Drill given = option_map DrillBy (drilling_of given)
 
 -- what a command orders with words that fall into options of its table
 abbrev pub order_by : Command → List (List ℕ) → Option OrderView
@@ -187,3 +199,4 @@ CanBeSigned (VerifyBy verifying) = Unit {0}
 CanBeSigned (ExplainBy judging) = Unit {0}
 CanBeSigned (AskBy asking) = Unit {0}
 CanBeSigned ShowCertificates = Unit {0}
+CanBeSigned (DrillBy drilling) = Unit {0}

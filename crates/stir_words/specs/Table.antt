@@ -4,7 +4,7 @@ use Rattle.std.specs.List.{list_any, list_all}
 use Rattle.std.specs.Str.{bytes_eq}
 use Rattle.stir_words.specs.Options.{Pair}
 use Rattle.stir_words.specs.declared.commands.Command.{Command}
-use Rattle.stir_words.specs.declared.commands.Command.TheVariants.{Verify, Explain, Ask, Sign, Divert, Show}
+use Rattle.stir_words.specs.declared.commands.Command.TheVariants.{Verify, Explain, Ask, Sign, Divert, Show, Drill}
 
 -- an option that a command takes
 pub record Known : Type 0 where
@@ -81,6 +81,7 @@ options_of Ask = needed (codes "chains") ∷ needed (codes "anchors") ∷ needed
 options_of Sign = needed (codes "form") ∷ optional (codes "attest") ∷ optional (codes "origid") ∷ of_signer
 options_of Divert = needed (codes "earlier") ∷ of_signer
 options_of Show = []
+options_of Drill = needed (codes "seed") ∷ needed (codes "count") ∷ optional (codes "workers") ∷ []
 
 -- the command of that name
 abbrev pub command_named : List ℕ → Option Command
@@ -91,6 +92,7 @@ command_named name =
     else if bytes_eq name (codes "sign") then Some Sign
     else if bytes_eq name (codes "divert") then Some Divert
     else if bytes_eq name (codes "show") then Some Show
+    else if bytes_eq name (codes "drill") then Some Drill
     else None
 
 -- ---- the same, said of the options

@@ -39,6 +39,14 @@ unless_none (Some n) = if n == 0 then None else Some n
 abbrev pub workers_of : Given → Option ℕ
 workers_of given = unless_none (number_or 1 8 (given (codes "workers")))
 
+-- `--seed`: a number below 2^64
+abbrev pub seed_of : Given → Option ℕ
+seed_of given = option_and_then (number_up_to 18446744073709551615) (given (codes "seed"))
+
+-- `--count`: at most 100,000 calls
+abbrev pub count_of : Given → Option ℕ
+count_of given = option_and_then (number_up_to 100000) (given (codes "count"))
+
 -- `--national`: a national number has at most 14 digits
 abbrev pub national_of : Given → Option ℕ
 national_of given = number_or 10 14 (given (codes "national"))

@@ -18,6 +18,8 @@ pub(crate) enum Command {
     Divert,
     /// Shows the certificates of a chain.
     Show,
+    /// Makes a log, judges it and sums it up.
+    Drill,
 }
 
 /// An option that a command takes: its name, without dashes, and whether it has to stand.
@@ -129,6 +131,18 @@ const HOLDER_TABLE: Row = Row {
     required: false,
 };
 
+/// The seed of a drill's log.
+const SEED: Row = Row {
+    name: "seed",
+    required: true,
+};
+
+/// How many calls a drill's log has.
+const COUNT: Row = Row {
+    name: "count",
+    required: true,
+};
+
 /// The options of `verify`.
 const VERIFYING: [Row; 8] = [
     CHAINS, ANCHORS, TABLE, ANSWERS, WORKERS, WINDOW, COUNTRY, NATIONAL,
@@ -168,6 +182,9 @@ const DIVERTING: [Row; 9] = [
     NATIONAL,
 ];
 
+/// The options of `drill`.
+const DRILLING: [Row; 3] = [SEED, COUNT, WORKERS];
+
 impl Command {
     /// The command of that name.
     pub(crate) fn named(name: &str) -> Option<Command>
@@ -180,6 +197,7 @@ impl Command {
             "sign" => Some(Command::Sign),
             "divert" => Some(Command::Divert),
             "show" => Some(Command::Show),
+            "drill" => Some(Command::Drill),
             _ => None,
         }
     }
@@ -195,6 +213,7 @@ impl Command {
             Command::Sign => &SIGNING,
             Command::Divert => &DIVERTING,
             Command::Show => &[],
+            Command::Drill => &DRILLING,
         }
     }
 }

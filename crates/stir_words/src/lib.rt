@@ -6,6 +6,7 @@
 
 mod clap_options;
 mod commands;
+mod drilling;
 mod fault;
 mod options;
 mod order;
@@ -14,6 +15,7 @@ mod signing;
 mod values;
 mod verifying;
 
+pub use drilling::Drilling;
 pub use fault::WordsFault;
 pub use order::{Asking, Judging, Order};
 pub use settings::Settings;

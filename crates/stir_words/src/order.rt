@@ -2,18 +2,19 @@
 ghost use Rattle.std.specs.Prelude.{◌≡◌, ◌↔◌, ℕ, List, true, Some, IfOk};
 ghost use Rattle.std.specs.Option.{option_map};
 ghost use Rattle.stir_words.specs.Options.{pairs_of, Options, Pair};
-ghost use Rattle.stir_words.specs.Order.{asking_of, judging_of, order_by, order_of, order_with, settings_of, verifying_of, CanBeSigned};
-ghost use Rattle.stir_words.specs.Seen.{asking_view, judging_view, order_view, settings_view, texts, verifying_view, Orders};
+ghost use Rattle.stir_words.specs.Order.{asking_of, drilling_of, judging_of, order_by, order_of, order_with, settings_of, verifying_of, CanBeSigned};
+ghost use Rattle.stir_words.specs.Seen.{asking_view, drilling_view, judging_view, order_view, settings_view, texts, verifying_view, Orders};
 ghost use Rattle.stir_words.specs.Table.{Accepted, Known, accepts};
 ghost use Rattle.stir_words.specs.ClapRules.{values_in};
 
 use crate::clap_options::parsed;
 use crate::commands::Command;
+use crate::drilling::Drilling;
 use crate::fault::WordsFault;
 use crate::options::are_options;
 use crate::settings::Settings;
 use crate::signing::{Diverting, Signing, diverting_of, signing_of};
-use crate::values::{local_of, window_of, workers_of};
+use crate::values::{count_of, local_of, seed_of, window_of, workers_of};
 use crate::verifying::Verifying;
 use clap::ArgMatches;
 use std::alloc::Global;
@@ -61,6 +62,8 @@ pub enum Order<'a> {
     Divert(Diverting<'a>),
     /// To show the certificates of a chain.
     Show,
+    /// To make a log, to judge it and to sum it up.
+    Drill(Drilling),
 }
 
 impl<'a> Order<'a> {
@@ -73,7 +76,8 @@ impl<'a> Order<'a> {
     /// `verify` and `explain` require `--chains`, `--anchors`, `--table` and `--answers`, each the name of a file, and `ask` the first three;
     /// all take `--window`, a number of at most 86,400 (60), `--country`, 1 to 3 digits (1), and `--national`, a number (10), the last two of
     /// which have to make a [`Local`](tn_values::Local). `verify` takes `--workers` as well, a number from 1 to 8 (1). Numbers are decimal digits
-    /// without a leading zero. `show` takes none.
+    /// without a leading zero. `show` takes none. `drill` requires `--seed`, a number below 2^64, and `--count`, a number of at most 100,000, and
+    /// takes `--workers`.
     ///
     /// `sign` and `divert` require `--key`, the name of a key, `--x5u`, the URI of its certificates, `--iat`, a number of at most
     /// 253,402,300,799, and `--answers`, the name of a file; they take `--leaf` and `--table`, the names of two files that stand together,
@@ -159,6 +163,10 @@ impl<'a> Order<'a> {
                 None => None,
             },
             Command::Show => Some(Order::Show),
+            Command::Drill => match drilling_of(given) {
+                Some(drilling) => Some(Order::Drill(drilling)),
+                None => None,
+            },
         }
     }
 }
@@ -198,6 +206,26 @@ fn asking_of<'a>(given: &ArgMatches<'a>) -> Option<Asking<'a>>
         anchors: given.get_str("anchors")?,
         table: given.get_str("table")?,
         settings: settings_of(given)?,
+    })
+}
+
+/// What is made and judged in a drill.
+fn drilling_of(given: &ArgMatches<'_>) -> Option<Drilling>
+    ensures { option_map drilling_view result ≡ drilling_of (values_in given.now) }
+{
+    let Some(seed) = seed_of(given) else {
+        return None;
+    };
+    let Some(count) = count_of(given) else {
+        return None;
+    };
+    let Some(workers) = workers_of(given) else {
+        return None;
+    };
+    Some(Drilling {
+        seed,
+        count,
+        workers,
     })
 }
 

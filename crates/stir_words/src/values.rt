@@ -6,7 +6,7 @@ ghost use Rattle.text_grammar.specs.Decimal.{number_up_to};
 ghost use Rattle.text_grammar.specs.Uri.{is_uri};
 ghost use Rattle.passport_claims.specs.Origid.{is_origid};
 ghost use Rattle.stir_words.specs.ClapRules.{values_in};
-ghost use Rattle.stir_words.specs.Values.{country_of, earlier_of, form_by, form_of, iat_of, is_key, is_key_byte, key_of, local_in, national_of, plain_by, shaken_by, text_if, window_of, workers_of, x5u_of};
+ghost use Rattle.stir_words.specs.Values.{count_of, country_of, earlier_of, form_by, form_of, iat_of, is_key, is_key_byte, key_of, local_in, national_of, plain_by, seed_of, shaken_by, text_if, window_of, workers_of, x5u_of};
 
 use clap::ArgMatches;
 use passport_claims::{Attest, Form, is_origid};
@@ -24,6 +24,12 @@ const MOST_WORKERS: u64 = 8;
 
 /// The workers where their number isn't given.
 const WORKERS: u64 = 1;
+
+/// The greatest seed of a drill.
+const LAST_SEED: u64 = 18_446_744_073_709_551_615;
+
+/// The most calls of a drill.
+const MOST_CALLS: u64 = 100_000;
 
 /// The most digits of a national number.
 const MOST_NATIONAL: u64 = 14;
@@ -59,6 +65,39 @@ pub(crate) fn workers_of(given: &ArgMatches<'_>) -> Option<u64>
     match read_number(text.as_bytes(), MOST_WORKERS) {
         Some(0) => None,
         number => number,
+    }
+}
+
+/// The seed of a drill.
+pub(crate) fn seed_of(given: &ArgMatches<'_>) -> Option<u64>
+    ensures { result ≡ seed_of (values_in given.now) }
+{
+    match given.get_str("seed") {
+        Some(text) => read_number(text.as_bytes(), LAST_SEED),
+        None => None,
+    }
+}
+
+/// How many calls a drill has: at most 100,000.
+#[tactic(auto, using(crate::proofs::OrderLaws::within_memory))]
+pub(crate) fn count_of(given: &ArgMatches<'_>) -> Option<u32>
+    ensures exact { result ≡ count_of (values_in given.now) }
+    ensures within { IfSome result (λ count. count ≤ 100000) }
+{
+    match given.get_str("count") {
+        Some(text) => call_count(text),
+        None => None,
+    }
+}
+
+/// The number of at most 100,000 that a text writes.
+#[tactic(auto, using(crate::proofs::OrderLaws::is_count))]
+fn call_count(text: &str) -> Option<u32>
+    ensures { result ≡ number_up_to 100000 text.now }
+{
+    match read_number(text.as_bytes(), MOST_CALLS) {
+        Some(number) => Some(number as u32),
+        None => None,
     }
 }
 

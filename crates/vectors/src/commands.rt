@@ -4,7 +4,7 @@ use passport_claims::Form;
 use std::alloc::Global;
 use stir_files::read_materials;
 use stir_outside::ShelfMem;
-use stir_words::{Asking, Diverting, HolderFiles, Judging, Order, Settings, Signing, WordsFault};
+use stir_words::{Asking, Diverting, Drilling, HolderFiles, Judging, Order, Settings, Signing, WordsFault};
 use vector_table::{Answer, Unread, files_of, numbers_of, put_local, text, word};
 
 /// What a call on words answers.
@@ -36,6 +36,7 @@ fn put_order(answer: Answer, order: &Order<'_>) -> Answer {
         Order::Sign(signing) => put_signing(answer.word("sign"), signing),
         Order::Divert(diverting) => put_diverting(answer.word("divert"), diverting),
         Order::Show => answer.word("show"),
+        Order::Drill(drilling) => put_drilling(answer.word("drill"), drilling),
     }
 }
 
@@ -92,6 +93,14 @@ fn put_diverting(answer: Answer, diverting: &Diverting<'_>) -> Answer {
         .word(diverting.iat);
     let answer = put_local(answer, &diverting.local).text(diverting.answers.as_bytes());
     put_holder(answer, &diverting.holder)
+}
+
+/// Puts the seed, the count and the number of workers after other words.
+fn put_drilling(answer: Answer, drilling: &Drilling) -> Answer {
+    answer
+        .word(drilling.seed)
+        .word(drilling.count)
+        .word(drilling.workers)
 }
 
 /// Puts a form behind other words.
