@@ -1,7 +1,27 @@
-//! The words of a command line: a command, and options with values of their types.
+//! The words of a command line: a command, and options with values of their types (this project's own rule).
 //!
-//! [`Order::of`] reads them as this project's own rule says: which options a command takes stands in one table, each option is a word
-//! `--name=value` or a word `--name` and a next word that is the value, and no other list of words is accepted. The options are read by clap.
+//! - [`Order::of`] takes the words after the program's name. An [`Order`] has a variant for each command, with the values that it takes:
+//!   [`Verifying`], [`Judging`], [`Asking`], [`Signing`], [`Diverting`] and their kin.
+//! - Which options a command takes is in one table. Each option is a word `--name=value`, or a word `--name` and a next word that is the value. No
+//!   other list of words is accepted: a [`WordsFault`] says so, and nothing more.
+//! - [`Settings`] and [`HolderFiles`] are parts that several commands share.
+//!
+//! ```rust
+//! match Order::of(alloc, words) {
+//!     Ok(Order::Verify(verifying)) => ..,
+//!     Ok(order) => ..,
+//!     Err(WordsFault::Refused) => ..,                       // the program ends with status 2
+//!     Err(WordsFault::Memory) => ..,
+//! }
+//! ```
+//!
+//! The options are read by `clap`. There is no `--help`: the script `stir` at the repository's root says why words are refused, and
+//! `docs/COMMANDS.md` and `man/stir.1` have the commands. The named files are read by `stir_files`.
+//!
+//! Proved: exactly the lists of words are accepted that the definition accepts, with exactly its values (`specs/Order`, `specs/Values`,
+//! `specs/Options`, `specs/Table`). `docs/PROVED.md`, "The program", has the clauses.
+//!
+//! Cases: section `words` of `crates/vectors/stdin`, which `tests/vectors/words.py` prints; `tests/cli/words.rows`.
 #![tactic(auto)]
 
 mod clap_options;
