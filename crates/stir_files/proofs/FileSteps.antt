@@ -49,7 +49,7 @@ refused_caused before now refusal (Refused place) rose h = rose
 refused_caused before now refusal NoList rose h = rose
 refused_caused before now refusal Memory rose h = tt
 
--- ---- behind others
+-- ---- after others
 
 pub caused_later : (before mid now : Counts) (fault : FileFault) → CountsGoOn before mid → CausedBy mid now fault → CausedBy before now fault
 caused_later before mid now Missing goes cause = then_rose before.misses mid.misses now.misses goes.misses.never_falls cause

@@ -68,7 +68,7 @@ refused_at files all index d before name fault within reads same says =
 
 -- ---- all were read
 
--- what was read of a file stays where one of another kind is read
+-- what was read from a file stays if one of another kind is read
 keeps : (files : Option Files) (file other : InputFile) (before now : Inputs) → same_kind file other ≡ false → KeepsOthers other before now
     → HoldsFile files before file → HoldsFile files now file
 keeps files (Chains a) (Chains b) before now differ kept h = absurd (false≢true (sym differ))
@@ -99,7 +99,7 @@ all_held files (file ∷ others) before now differ adds =
     let apart = both (list_any (same_kind file) others) (all_differ others) differ in
     (keeps_all files file others adds.0 now apart.0 adds.2 adds.1.holds, all_held files others adds.0 now apart.1 adds.2)
 
--- behind the last file
+-- after the last file
 pub all_read : (files : Option Files) (all : List InputFile) (index : ℕ) (inputs : Inputs) → length all ≤ index → ReadsOn files (drop index all) all inputs
     → AddsAll files all no_inputs inputs
 all_read files all index inputs beyond reads =
@@ -109,7 +109,7 @@ all_read files all index inputs beyond reads =
 
 -- ---- nothing else was read
 
--- what was read of a file that is named is there
+-- what was read from a file that is named is there
 pub is_there : {X : Type 0} (part : Option X) (P : X → Type 0) → IsSomeAnd part P → is_some part ≡ true
 is_there None P h = absurd h
 is_there (Some x) P h = refl

@@ -1,4 +1,4 @@
--- What the program says and ends with where a named file can't be had (this project's own rule).
+-- What the program says and ends with if a named file can't be had (this project's own rule).
 use Rattle.std.specs.Prelude.{ℕ, List, ◌++◌, codes}
 use Rattle.std.specs.Fmt.{decimal}
 use Rattle.stir_files.specs.declared.fault.FileFault.{FileFault}

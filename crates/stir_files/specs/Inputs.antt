@@ -1,4 +1,4 @@
--- Files that a command names, in the order of reading, and what is read of them (this project's own rule).
+-- Files that a command names, in the order of reading, and what is read from them (this project's own rule).
 use Rattle.std.specs.Prelude.{◌≡◌, ℕ, Bool, true, false, not, ◌&&◌, List, [], ◌∷◌, is_some, map, Option, None}
 use Rattle.std.specs.List.{list_any}
 use Rattle.std.specs.Option.{IsSomeAnd}
@@ -39,7 +39,7 @@ all_differ (file ∷ others) = not (list_any (same_kind file) others) && all_dif
 
 -- ---- what was read
 
--- what was read of a file is what this content says
+-- what was read from a file is what this content says
 abbrev pub HoldsContent : Inputs → InputFile → List ℕ → Type 0
 HoldsContent inputs (Chains name) content = IsSomeAnd inputs.chains (MapOf content)
 HoldsContent inputs (Anchors name) content = IsSomeAnd inputs.anchors (AnchorsOf content)
@@ -47,7 +47,7 @@ HoldsContent inputs (Table name) content = IsSomeAnd inputs.table (TableOf conte
 HoldsContent inputs (Answers name) content = IsSomeAnd inputs.answers (AnswersOf content)
 HoldsContent inputs (Leaf name) content = IsSomeAnd inputs.leaf (LeafOf content)
 
--- what was read of a file is what it says
+-- what was read from a file is what it says
 abbrev pub HoldsFile : Option Files → Inputs → InputFile → Type 0
 HoldsFile files inputs file = ReadOf files (file_of file) (HoldsContent inputs file)
 
@@ -56,7 +56,7 @@ abbrev pub Holds : Option Files → List InputFile → Inputs → Type 0
 Holds files [] inputs = Unit {0}
 Holds files (file ∷ others) inputs = HoldsFile files inputs file × Holds files others inputs
 
--- something was read of a file of this kind
+-- something was read from a file of this kind
 abbrev pub has_part : Inputs → InputFile → Bool
 has_part inputs (Chains name) = is_some inputs.chains
 has_part inputs (Anchors name) = is_some inputs.anchors
@@ -64,7 +64,7 @@ has_part inputs (Table name) = is_some inputs.table
 has_part inputs (Answers name) = is_some inputs.answers
 has_part inputs (Leaf name) = is_some inputs.leaf
 
--- something was read of a kind exactly if a file of it is named
+-- something was read from a kind exactly if a file of it is named
 abbrev pub IsOfThese : List InputFile → Inputs → Type 0
 IsOfThese named inputs = (file : InputFile) → has_part inputs file ≡ list_any (same_kind file) named
 
@@ -73,7 +73,7 @@ IsOfThese named inputs = (file : InputFile) → has_part inputs file ≡ list_an
 abbrev pub no_inputs : Inputs
 no_inputs = record { chains = None; anchors = None; table = None; answers = None; leaf = None }
 
--- what was read of other files is as it was
+-- what was read from other files is as it was
 abbrev pub KeepsOthers : InputFile → Inputs → Inputs → Type 0
 KeepsOthers (Chains name) before now = now ≡ record before { chains = now.chains }
 KeepsOthers (Anchors name) before now = now ≡ record before { anchors = now.anchors }

@@ -12,7 +12,7 @@ abbrev pub unless_listed : Bool → Option FileFault
 unless_listed true = None
 unless_listed false = Some NoList
 
--- what was read is no certificate, and its first broken part stands at a place; or it is one without an authority list
+-- what was read is no certificate, and its first broken part is at a place; or it is one without an authority list
 abbrev pub leaf_refusal : {E : Type 0} → Result CertView E → (E → ℕ) → Option FileFault
 leaf_refusal (Ok certificate) place = unless_listed (is_some certificate.list)
 leaf_refusal (Err fault) place = Some (Refused (place fault))

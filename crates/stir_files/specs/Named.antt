@@ -11,7 +11,7 @@ use Rattle.cert_store.specs.ChainMap.{map_rows}
 use Rattle.stir_files.specs.declared.fault.FileFault.{FileFault}
 use Rattle.stir_files.specs.declared.fault.FileFault.TheVariants.{Missing, Long, Failed, Refused, NoList, Memory}
 
--- a named file: its name, the most bytes that it may have, and why a content of no more is refused, where it is
+-- a named file: its name, the most bytes that it may have, and why a content of no more is refused, if it is
 pub record NamedFile : Type 0 where
   pub name : List ℕ
   pub limit : ℕ
@@ -58,9 +58,9 @@ abbrev pub first_fault : Files → List NamedFile → Option Stop
 first_fault files [] = None
 first_fault files (named ∷ others) = option_or (stop_in files named) (first_fault files others)
 
--- ---- what was read, also where the shelf doesn't tell its files
+-- ---- what was read, also if the shelf doesn't tell its files
 
--- a content within the limit, of which this holds; where the shelf tells its files, it is that of the file
+-- a content within the limit, of which this holds; if the shelf tells its files, it is that of the file
 pub record ReadOf (files : Option Files) (named : NamedFile) (P : List ℕ → Type 0) : Type 0 where
   pub content : List ℕ
   pub short : length content ≤ named.limit
@@ -85,7 +85,7 @@ FaultSays files named (Refused place) = ReadOf files named (λ content. named.re
 FaultSays files named NoList = ReadOf files named (λ content. named.refused content ≡ Some NoList)
 FaultSays files named Memory = Unit {0}
 
--- a content is refused so, or memory was wanting
+-- a content is refused so, or memory ran out
 abbrev pub IsRefusal : Option FileFault → FileFault → Type 0
 IsRefusal refusal Missing = ⊥
 IsRefusal refusal Long = ⊥
@@ -103,7 +103,7 @@ ShelfSays files name limit (Refused place) = ⊥
 ShelfSays files name limit NoList = ⊥
 ShelfSays files name limit Memory = Unit {0}
 
--- each fault comes only where the shelf's own count of it rose; a file that is refused was read
+-- each fault comes only if the shelf's own count of it rose; a file that is refused was read
 abbrev pub CausedBy : Counts → Counts → FileFault → Type 0
 CausedBy before now Missing = Rose before.misses now.misses
 CausedBy before now Long = Rose before.longs now.longs
@@ -117,7 +117,7 @@ abbrev pub StopsAt : Option Files → List NamedFile → Stop → Type 0
 StopsAt files [] stop = ⊥
 StopsAt files (named ∷ others) stop = ((stop.name ≡ named.name) × FaultSays files named stop.fault) ⊎ (Passes files named × StopsAt files others stop)
 
--- a read that failed and want of memory are told by no file
+-- a read that failed and running out of memory are told by no file
 abbrev pub IsOutside : FileFault → Type 0
 IsOutside Missing = ⊥
 IsOutside Long = ⊥

@@ -9,12 +9,12 @@ use Rattle.stir_files.specs.Named.{NamedFile, ReadOf, answers_file, code_table}
 use Rattle.stir_files.specs.declared.signing.HolderMaterials.{HolderMaterials}
 use Rattle.stir_files.specs.declared.signing.SigningMaterials.{SigningMaterials}
 
--- the certificate of the holder of the key and the code table, where they are named
+-- the certificate of the holder of the key and the code table, if they are named
 abbrev pub holder_files : Option HolderNames → List NamedFile
 holder_files None = []
 holder_files (Some names) = leaf_file names.leaf ∷ code_table names.table ∷ []
 
--- the answers, and behind them the files of the holder
+-- the answers, and after them the files of the holder
 abbrev pub signing_files : List ℕ → Option HolderNames → List NamedFile
 signing_files answers holder = answers_file answers ∷ holder_files holder
 
@@ -23,7 +23,7 @@ pub record HolderOf (files : Option Files) (names : HolderNames) (holder : Holde
   pub leaf : ReadOf files (leaf_file names.leaf) (λ content. LeafOf content holder.leaf)
   pub table : ReadOf files (code_table names.table) (λ content. TableOf content holder.table)
 
--- a holder was read exactly where one is named
+-- a holder was read exactly if one is named
 abbrev pub IsHolderOf : Option Files → Option HolderNames → Option HolderMaterials → Type 0
 IsHolderOf files None None = Unit {0}
 IsHolderOf files None (Some holder) = ⊥

@@ -7,7 +7,7 @@ use Rattle.stir_files.specs.declared.stop.FileError.{FileError}
 abbrev pub stop_of : FileError → Stop
 stop_of stop = record { name = stop.name.now; fault = stop.fault }
 
--- where the files are told, the answer is their first fault or none, but for what the outside does
+-- if the files are told, the answer is their first fault or none, except for what the outside does
 abbrev pub TrulyOf : {X : Type 0} → Files → List NamedFile → Result X FileError → Type 0
 TrulyOf files named (Ok read) = first_fault files named ≡ None
 TrulyOf files named (Err stop) = (first_fault files named ≡ Some (stop_of stop)) ⊎ IsOutside stop.fault

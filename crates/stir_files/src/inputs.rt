@@ -1,4 +1,4 @@
-//! What is read of the files that a command names.
+//! What is read from the files that a command names.
 ghost use Rattle.std.specs.Prelude.{◌≡◌, ◌+◌, ◌≤◌, IfOk, IfErr, IsTrue, length};
 ghost use Rattle.stir_outside.specs.Files.{CountsGoOn};
 ghost use Rattle.stir_files.specs.Inputs.{Adds, Holds, IsOfThese, TakesIn, all_differ, file_of, files_named, no_inputs};
@@ -21,7 +21,7 @@ use stir_outside::{Answers, Shelf};
 use tn_auth_list::CodeTable;
 use x509_profile::Certificate;
 
-/// What was read of named files, each where one of its kind was named.
+/// What was read from named files, each if one of its kind was named.
 #[derive(Drop)]
 pub struct Inputs {
     /// Which file has the chain of which x5u.
@@ -68,7 +68,7 @@ pub fn read_files<'a, S: Shelf>(
     ensures only { IfOk result (IsOfThese named.now) }
     ensures stopped { IfErr result (λ stop. StopsAt (S.files shelf.old) (files_named named.now) (stop_of stop)) }
     ensures cause { IfErr result (λ stop. CausedBy (S.counts shelf.old) (S.counts shelf.new) stop.fault) }
-    // Where the shelf tells its files, the answer is their first fault, or none; a read that fails and want of memory are the outside's.
+    // If the shelf tells its files, the answer is their first fault, or none; a read that fails and running out of memory are the outside's.
     ensures truly { Truly (S.files shelf.old) (files_named named.now) result }
     // Each file is read once at most.
     ensures reads { (S.counts shelf.new).reads ≤ (S.counts shelf.old).reads + length named.now }

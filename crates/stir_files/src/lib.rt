@@ -1,11 +1,26 @@
-//! The named files that the program reads before its input: each from the shelf, within its limit, and tried by its grammar before the
-//! next is read.
+//! The named files that the program reads before its input: each from the shelf, within its limit, and tried by its grammar before the next is read.
 //!
-//! [`read_files`] reads a list of [`InputFile`]s in its order. [`read_materials`] reads the four files of `verify` so: the chain map, the trust
-//! anchors, the code table and the answers; [`read_world`] reads the first three, for `ask`; [`read_signing`] those of `sign` and `divert`: the
-//! answers, and the certificate of a holder and the code table, if these are named.
+//! - [`read_files`] reads a list of [`InputFile`]s in its order, and gives [`Inputs`].
+//! - [`read_materials`] reads the four files of `verify` so: the chain map, the trust anchors, the code table and the answers.
+//! - [`read_world`] reads the first three, for `ask`.
+//! - [`read_signing`] reads those of `sign` and `divert`: the answers, and the certificate of a holder and the code table, if these are named.
+//! - If one can't be had they answer a [`FileError`], which has the name, the [`FileFault`], and the line and the status with which the program
+//!   ends.
 //!
-//! If one can't be had they answer a [`FileError`], which has the line and the status that the program ends with.
+//! ```rust
+//! match read_materials(alloc, &mut shelf, &judging) {
+//!     Ok(materials) => ..,
+//!     Err(error) => end_with(&mut sink, &error.line(alloc)?, error.status()),
+//! }
+//! ```
+//!
+//! The formats aren't read here: they are those of `cert_store`, `delegation`, `tn_auth_list`, `x509_profile` and `stir_outside`. The files of
+//! chains are read later, as calls name them (`verify_service`).
+//!
+//! Proved: the files are given as their readers say, or the fault is that of the first file that has one, with its cause in the shelf's own counts;
+//! nothing else was read. `docs/PROVED.md`, "The program", has the clauses, and `docs/FORMATS.md` the lines.
+//!
+//! Cases: section `files` of `crates/vectors/stdin`, `tests/cli/files.rows`, and files of the longest in `crates/stir_tests`.
 #![tactic(auto)]
 
 mod anchors;

@@ -8,7 +8,7 @@ use crate::fault::FileFault;
 use std::alloc::Global;
 use stir_outside::{Shelf, ShelfFault};
 
-/// The content of the file of that name, where it has at most `limit` bytes.
+/// The content of the file of that name, if it has at most `limit` bytes.
 pub(crate) fn read_file<S: Shelf>(
     alloc: Global,
     shelf: &mut S,

@@ -16,7 +16,7 @@ use stir_words::HolderFiles;
 use tn_auth_list::CodeTable;
 use x509_profile::Certificate;
 
-/// For whom is signed: the certificate of the holder of the key, and what the codes of its list stand for.
+/// For whom the service signs: the certificate of the holder of the key, and what the codes of its list stand for.
 #[derive(Drop)]
 pub struct HolderMaterials {
     /// The certificate, which has an authority list.
@@ -25,16 +25,16 @@ pub struct HolderMaterials {
     pub table: CodeTable,
 }
 
-/// By what is signed: what the files say.
+/// What a signature takes besides the key: what the files say.
 #[derive(Drop)]
 pub struct SigningMaterials {
     /// The signatures that were made.
     pub answers: Answers,
-    /// The holder of the key, where one is named.
+    /// The holder of the key, if one is named.
     pub holder: Option<HolderMaterials>,
 }
 
-/// Reads the answers, and then, where a holder is named, its certificate and the code table; each is tried by its grammar, the certificate's
+/// Reads the answers, and then, if a holder is named, its certificate and the code table; each is tried by its grammar, the certificate's
 /// list too, before the next is read.
 ///
 /// The answers have at most 67,108,864 bytes, the certificate 8,192 and the table 16,777,216. The first event in this order decides: a file is
@@ -52,7 +52,7 @@ pub fn read_signing<'a, S: Shelf>(
     ensures read { IfOk result (SigningOf (S.files shelf.old) answers.entry.now (option_map holder_view holder.entry)) }
     ensures stopped { IfErr result (λ stop. StopsAt (S.files shelf.old) (signing_files answers.entry.now (option_map holder_view holder.entry)) (stop_of stop)) }
     ensures cause { IfErr result (λ stop. CausedBy (S.counts shelf.old) (S.counts shelf.new) stop.fault) }
-    // Where the shelf tells its files, the answer is their first fault, or none; a read that fails and want of memory are the outside's.
+    // If the shelf tells its files, the answer is their first fault, or none; a read that fails and running out of memory are the outside's.
     ensures truly { Truly (S.files shelf.old) (signing_files answers.entry.now (option_map holder_view holder.entry)) result }
     // Each file is read once at most.
     ensures reads { (S.counts shelf.new).reads ≤ (S.counts shelf.old).reads + length (signing_files answers.entry.now (option_map holder_view holder.entry)) }

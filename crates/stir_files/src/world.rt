@@ -30,7 +30,7 @@ pub fn read_world<'a, S: Shelf>(
     ensures read { IfOk result (WorldOf (S.files shelf.old) (asking_view asking.now)) }
     ensures stopped { IfErr result (λ stop. StopsAt (S.files shelf.old) (world_files (asking_view asking.now)) (stop_of stop)) }
     ensures cause { IfErr result (λ stop. CausedBy (S.counts shelf.old) (S.counts shelf.new) stop.fault) }
-    // Where the shelf tells its files, the answer is their first fault, or none; a read that fails and want of memory are the outside's.
+    // If the shelf tells its files, the answer is their first fault, or none; a read that fails and running out of memory are the outside's.
     ensures truly { Truly (S.files shelf.old) (world_files (asking_view asking.now)) result }
     // Each file is read once at most.
     ensures reads { (S.counts shelf.new).reads ≤ (S.counts shelf.old).reads + 3 }
