@@ -1,5 +1,16 @@
-//! Reads a table of cases from its standard input, makes the call that each line names, and writes one line with what
-//! the call answers. The head of `stdin` says how a line is written. The calls are those of all crates but `stir_cmd`.
+//! The table of cases of all crates but `stir_cmd`: a call a line in its standard input, and its answer a line in the standard output.
+//!
+//! ```text
+//! numbers.read 1 10 (215)\s555-1212       in stdin
+//! 12155551212                             in stdout
+//! ```
+//!
+//! `stdin` and `stdout` beside `src/` are the table and its answers; the gate runs the program and compares. The head of `stdin` says how a line is
+//! written, and CONTRIBUTING.md how a case is added. Expected values come from outside the program: worked by hand from a standard, or printed by a
+//! script of `tests/vectors`.
+//!
+//! The subjects are in `vector_texts`, `vector_chains`, `vector_messages`, `vector_calls` and `vector_drill`; those of words and named files are in
+//! `commands` here. Whole runs with reads and writes that fail are `vectors_runs`.
 #![tactic(auto)]
 
 mod commands;
