@@ -1,5 +1,10 @@
-//! Reads a table of cases from its standard input, makes the call that each line names, and writes one line with what
-//! the call answers. The head of `stdin` says how a line is written. The calls are whole runs of `stir_cmd`.
+//! The table of whole runs of `stir_cmd`: a run a line in its standard input, and what came of it a line in the standard output.
+//!
+//! Files, log and output are memory forms, whose reads and writes fail at the calls that a line lists. `runs.each_read`, `runs.each_write` and
+//! `runs.each_file` let the first call of that kind fail, the second, and so on, and answer how many runs came to the same end.
+//!
+//! `stdin` and `stdout` beside `src/` are the table and its answers, and `tests/vectors/runs.py` prints the lines. Calls that aren't whole runs are
+//! `vectors`; the built program over real files and streams is `tests/cli`.
 #![tactic(auto)]
 
 mod runs;
