@@ -15,6 +15,8 @@
 //!
 //! Proved: at status 0 the summary is that of outcomes which the rules give for the calls of the seed, in which no call is set aside; and it is one
 //! text for one seed, on however many workers ([`rounds_law`]). `docs/PROVED.md` has the clauses.
+//!
+//! Cases: `tests/cli/drill.rows`, since the command `drill` is this call. The counts in them are those of `tests/vectors/drills.py`.
 #![tactic(auto)]
 
 mod command;
