@@ -1,0 +1,3 @@
+pub mod TicketText
+pub mod Reading
+pub mod Seen
