@@ -1,0 +1,5 @@
+mod Gathered
+mod LineLaws
+mod RoomLaws
+mod Seats
+mod Turns

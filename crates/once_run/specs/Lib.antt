@@ -1,0 +1,4 @@
+pub mod Claims
+pub mod Lines
+pub mod Ran
+pub mod Work
