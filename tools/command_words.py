@@ -21,9 +21,10 @@ FILE = Value('the name of a file', r'.+')
 # The options, one a line: what each value is.
 VALUES = {
     'chains': FILE, 'anchors': FILE, 'table': FILE, 'answers': FILE, 'leaf': FILE,
-    'workers': Value('how many workers judge the calls, 1 to 8', r'[1-8]'),
+    'workers': Value('how many workers there are, 1 to 8', r'[1-8]'),
     'seed': Value('a number below 2^64', r'0|[1-9][0-9]{0,19}', 2**64 - 1),
     'count': Value('how many calls are made, at most 100000', NUMBER, 100_000),
+    'size': Value('how many slots a level has, 1 to 1048576', r'[1-9][0-9]{0,6}', 1_048_576),
     'window': Value('how many seconds a PASSporT is fresh, at most 86400', NUMBER, 86_400),
     'country': Value('1 to 3 digits', r'[0-9]{1,3}'),
     'national': Value('how many digits a national number has, 1 to 14', r'[1-9][0-9]?', 14),
@@ -50,6 +51,7 @@ COMMANDS = {
     'divert': ((*SIGNED, 'earlier'), HOLDER),
     'show': ((), ()),
     'drill': (('seed', 'count'), ('workers',)),
+    'once': (('size',), ('workers',)),
 }
 
 # The most digits of a country and a national number together.

@@ -19,7 +19,7 @@ Each file NAME.rows has a case a line, beside empty lines and comments, which be
     +NAME = PIECE ..                      lets +NAME stand for these words of a command line, one a piece
     FILE NAME = PIECE ..                  a file that lies where the program runs, in each case of the file of rows
     NAMED IN NAME                         takes what the file of rows of this name has named, without its cases
-    PIECE .. < INPUT .. => STATUS PIECE ..  the program's words, its input, its status and its output
+    PIECE .. < INPUT .. => STATUS PIECE ..  the program's words, its input, its status and its output; behind ` | ` stands another output that will do
     (STREAM ..) PIECE .. < ..             the same with such streams
 
 A piece is `[COUNT*]TEXT`, and a text is `$NAME`, `x:HEX`, or plain text in which `\\xHH`, `\\s` (a space), `\\n`, `\\r`,
@@ -28,7 +28,8 @@ one entry of a call log with that message. A line that can't be read fails the r
 
 The program runs in a folder of its own and must write nothing to standard error. Needs the standard
 library alone. The last line counts the cases. More cases stand elsewhere: the words of
-tests/vectors/words.py, and logs that are made here: one of 100,000 calls, and one of replays on each number of workers.
+tests/vectors/words.py, logs that are made here, one of 100,000 calls, and one of replays on each number of workers, and lists of tickets
+that tests/vectors/tickets.py draws, on each number of workers.
 """
 import contextlib
 import os
@@ -40,6 +41,7 @@ import tempfile
 
 HERE = pathlib.Path(__file__).resolve().parent
 sys.path.insert(0, str(HERE.parent / 'vectors'))
+import tickets  # noqa: E402
 from words import program_cases  # noqa: E402
 
 
@@ -145,7 +147,8 @@ class Rows:
         words, data = f' {given} '.split(' < ')
         status, *said = wanted.split(' ')
         got = run(program, self.line_of_words(words.split()), self.log(data.split()), self.files, streams.split())
-        return (int(status), self.text(said), b''), got
+        outputs = [self.text(pieces.split()) for pieces in ' '.join(said).split(' | ')]
+        return (int(status), got[1] if got[1] in outputs else outputs[0], b''), got
 
 
 def rows(program, path):
@@ -201,6 +204,23 @@ def worker_cases(program):
         yield f'{workers} workers', (1, [True, (1, [True], half), (1, [True], half)], b''), (status, winners_told(report, tickets), errors)
 
 
+TICKET_LISTS = 60
+
+
+def ticket_cases(program):
+    """Lists of tickets: with one worker exactly what the model says, and with several whatever a rule allows."""
+    for number in range(TICKET_LISTS):
+        size, drawn = tickets.drawn(number)
+        workers = 1 + number % 8
+        words = [b'once', b'--size=%d' % size, b'--workers=%d' % workers]
+        status, report, errors = run(program, words, ''.join(f'{ticket}\n' for ticket in drawn).encode(), {})
+        wanted = tickets.claims(size, drawn)
+        said = [line.partition(' ')[2] for line in report.decode().splitlines()]
+        if workers > 1 and report == tickets.report(said) and tickets.may_say(size, drawn, said):
+            wanted = said
+        yield f'tickets {number}', (int(any(text != 'won' for text in wanted)), tickets.report(wanted), b''), (status, report, errors)
+
+
 def cases(program):
     for case in sorted(path for path in HERE.iterdir() if (path / 'status').exists()):
         yield case.name, *folder_case(program, case)
@@ -209,6 +229,7 @@ def cases(program):
     yield from word_cases(program)
     yield 'long log', *long_log_case(program)
     yield from worker_cases(program)
+    yield from ticket_cases(program)
 
 
 def main():

@@ -110,6 +110,13 @@ def rows():
     yield comment("Of a chain file that is too long one byte more is taken than it may have.")
     yield run("x: x: x:", "show", "49152*x:00", one(5, "refused input 0\n", 0))
     yield run("x: x: x:", "show", "49154*x:00", one(5, "long input\n", 1))
+    yield comment("Tickets are claimed once the input was read to its end: a read that fails leaves none of their lines, and a write a prefix of them.")
+    yield "TICKETS = 64*0 \\n 64*f \\n", "TICKETS ="
+    yield case("each_read", "once --size=1", "$TICKETS", runs([(3, READ_FAULT)] * 131, (1, "1 won\n2 full 1\n")))
+    yield case("each_write", "once --size=1", "$TICKETS", each_write("1 won\n2 full 1\n", 1))
+    yield case("each_write", "once --size=2", "$TICKETS", each_write("1 won\n2 won\n", 0))
+    yield run("1 131 x:", "once --size=1", "$TICKETS", one(3, READ_FAULT, 0, 0, 1, 0))
+    yield run("x: x: x:", "once --size=2", "63*0", one(5, "refused input 1\n", 0))
     yield comment("A valid call, and one that was diverted once: each read of the log, each write, and each read of a file. The chain of each PASSporT is read.")
     for log, length, passports in ENTRIES:
         yield case("each_read", VERIFY, f"{log} {WORLD}", each_read([(length, VALID)], 0))

@@ -23,6 +23,7 @@ HEX = rb"[0-9A-Fa-f]"
 LAST_SECOND = 253402300799
 LAST_SEED = 2**64 - 1
 MOST_CALLS = 100000
+MOST_SLOTS = 1048576
 
 
 def number_up_to(most):
@@ -41,6 +42,7 @@ TAKES = {
     "workers": matches(rb"[1-8]"),
     "seed": number_up_to(LAST_SEED),
     "count": number_up_to(MOST_CALLS),
+    "size": lambda value: re.fullmatch(NUMBER, value) and 1 <= int(value) <= MOST_SLOTS,
     "window": number_up_to(86400),
     "country": matches(rb"[0-9]{1,3}"),
     "national": matches(NUMBER),
@@ -67,6 +69,7 @@ COMMANDS = {
     "divert": ((*SIGNING, "earlier"), HOLDER),
     "show": ((), ()),
     "drill": (("seed", "count"), ("workers",)),
+    "once": (("size",), ("workers",)),
 }
 
 
@@ -131,6 +134,7 @@ def answer(words):
         "divert": [values.get("earlier"), *signing],
         "show": [],
         "drill": [values.get("seed"), values.get("count"), values.get("workers", b"1")],
+        "once": [values.get("size"), values.get("workers", b"1")],
     }.get(command, judging)
     return " ".join([command, *(escaped(value) for value in said if value is not None)])
 
@@ -145,6 +149,7 @@ GOOD = {
     "workers": (b"1", b"2", b"7", b"8"),
     "seed": (b"0", b"7", b"9223372036854775808", b"18446744073709551614", b"18446744073709551615"),
     "count": (b"0", b"1", b"16", b"255", b"256", b"257"),
+    "size": (b"1", b"2", b"4", b"1048575", b"1048576"),
     "window": (b"0", b"1", b"60", b"86399", b"86400"),
     "country": (b"0", b"9", b"01", b"44", b"000", b"999"),
     "national": (b"1", b"2", b"9", b"11", b"12"),
@@ -159,6 +164,7 @@ GOOD = {
 BAD = {
     "seed": (b"18446744073709551616", b"18446744073709551617", b"36893488147419103232", 40 * b"9", b"", *NO_NUMBERS),
     "count": (b"100001", b"1000000", b"4294967296", b"4294967297", b"18446744073709551616", b"", *NO_NUMBERS),
+    "size": (b"0", b"1048577", b"10485760", b"4294967297", b"18446744073709551617", b"", *NO_NUMBERS),
     "workers": (b"0", b"9", b"10", b"08", b"256", b"257", b"18446744073709551617", b"", *NO_NUMBERS),
     "window": (b"86401", b"100000", b"18446744073709551616", 40 * b"9", *NO_NUMBERS),
     "country": (b"1000", b"0001", b"+1", b"-1", b"1 ", b"4*", b"#", b"", b"x", "\u0661".encode()),
@@ -177,7 +183,7 @@ BAD = {
 def plain(command):
     """Values for the options that the command requires."""
     first = {"chains": b"c", "anchors": b"a", "table": b"t", "answers": b"w", "key": b"k1", "x5u": b"u", "iat": b"1443208345", "form": b"base",
-             "earlier": b"911", "seed": b"5", "count": b"3"}
+             "earlier": b"911", "seed": b"5", "count": b"3", "size": b"6"}
     return {name: first[name] for name in COMMANDS[command][0]}
 
 
@@ -360,7 +366,7 @@ SECTIONS = (
      "of a national number and the workers; `explain` the same without the workers, and `ask` without the answers besides. `sign` answers the form,",
      "with the attestation and the identifier after `shaken`, `divert` the earlier number, and both then the name of the key, the URI, the second,",
      "the country and the length of a national number, the file of the answers, and the holder's two files or `- -`. `drill` answers the seed,",
-     "the count and the workers.",
+     "the count and the workers, `once` the slots of a level and the workers.",
      "What a command is; words that are nobody's option; and each command with the options that it requires, and with all."),
     (options, "Each option of each command: absent, twice, empty; by turns without a value, with one that begins with `-`, shortened, in capitals, with",
      "other dashes, with a letter more; and options of other commands."),
@@ -389,12 +395,13 @@ def no_texts():
 
 
 def program_cases():
-    """Words, and the program's status and output where no file is: the first file that it reads is missing, `show` reads an empty input, and `drill` reads nothing."""
+    """Words, and the program's status and output where no file is: the first file that it reads is missing, `show` and `once` read an empty input, and `drill` reads
+    nothing."""
     for words in (*(row for row in lists() if not isinstance(row, str)), *no_texts()):
         found = order(words)
         if found is None:
             yield words, 2, b"words refused\n"
-        elif found[0] == "show":
+        elif found[0] in ("show", "once"):
             yield words, 0, b""
         elif found[0] == "drill":
             yield words, 0, drills.summary(int(found[1]["seed"]), int(found[1]["count"]))

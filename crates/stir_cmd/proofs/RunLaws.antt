@@ -2,9 +2,10 @@
 use Rattle.std.proofs.Common.{◌≡◌, ℕ, ◌≤◌, inl, inr, List, Option, Some, None, refl, sym, subst, arith}
 use Rattle.std.specs.Io.KnownBytes.{Appends}
 use Rattle.stir_outside.specs.Ending.{EndsAs}
-use Rattle.stir_words.specs.Order.{AskBy, DivertBy, DrillBy, ExplainBy, DrillingView, OrderView, ShowCertificates, SignBy, VerifyBy}
+use Rattle.stir_words.specs.Order.{AskBy, DivertBy, DrillBy, ExplainBy, ClaimingView, DrillingView, OnceBy, OrderView, ShowCertificates, SignBy, VerifyBy}
 use Rattle.stir_cmd.specs.Outside.{Outside}
 use Rattle.stir_cmd.specs.Causes.{HasCauses, IsComplete, IsRefusal, IsSaid, IsThrough, Ran, RanOrShort, course_of, no_course}
+use Rattle.stir_cmd.specs.Claiming.{once_answering}
 use Rattle.stir_cmd.specs.Drilling.{CameDrill}
 use Rattle.stir_cmd.specs.Headline.{Headline}
 use Rattle.stir_cmd.specs.Input.{CameInput}
@@ -13,6 +14,7 @@ use Rattle.stir_cmd.specs.Signing.{diverting_command, signing_command}
 use Rattle.stir_cmd.proofs.DrillLaws as drilling
 use Rattle.stir_cmd.proofs.ExplainedLaws as explaining
 use Rattle.stir_cmd.proofs.Keeps.{KeepsAll}
+use Rattle.stir_cmd.proofs.OnceLaws as claiming
 use Rattle.stir_cmd.proofs.ShowLaws as showing
 use Rattle.stir_cmd.proofs.SignLaws as signing
 use Rattle.stir_cmd.proofs.StatusCauses.{CauseOf, at_memory, at_words, at_write}
@@ -37,6 +39,7 @@ keeps_all laws (AskBy words) = explaining.ask_keeps laws.texts laws.well words
 keeps_all laws (SignBy words) = signing.keeps_all (signing_command words)
 keeps_all laws (DivertBy words) = signing.keeps_all (diverting_command words)
 keeps_all laws (DrillBy order) = drilling.keeps_all order
+keeps_all laws (OnceBy order) = claiming.keeps_all order.size
 
 -- what it came to, where memory may have been wanting for the words
 pub ran : Laws → (order : Option OrderView) (before now : Outside) (status : ℕ) → RanOrShort order before now status → Ran order before now status
@@ -51,6 +54,10 @@ ran_show order before now status is shown = subst (λ (x : Option OrderView). Ra
 -- a drill was made, judged and summed up
 pub ran_drill : (order : Option OrderView) (drill : DrillingView) (before now : Outside) (status : ℕ) → order ≡ Some (DrillBy drill) → CameDrill drill before now status → RanOrShort order before now status
 ran_drill order drill before now status is came = subst (λ (x : Option OrderView). RanOrShort x before now status) (sym is) (inl came)
+
+-- tickets were claimed
+pub ran_once : (order : Option OrderView) (claims : ClaimingView) (before now : Outside) (status : ℕ) → order ≡ Some (OnceBy claims) → CameInput (once_answering claims.size) before now status → RanOrShort order before now status
+ran_once order claims before now status is came = subst (λ (x : Option OrderView). RanOrShort x before now status) (sym is) (inl came)
 
 -- ---- no command
 

@@ -17,6 +17,7 @@ pub mod Showing
 pub mod Headline
 pub mod FewReads
 pub mod Drilling
+pub mod Claiming
 pub mod Causes
 pub mod OneReport
 pub mod OneSummary

@@ -6,6 +6,7 @@ ghost use Rattle.stir_cmd.specs.Outside.{io_of};
 
 use crate::answer::Answer;
 use std::alloc::{AllocError, Global};
+use std::thread::Threads;
 use stir_outside::{
     ReadFault, Sink, Source, Status, end_with, memory_line, read_up_to, write_whole,
 };
@@ -13,6 +14,7 @@ use stir_outside::{
 /// A command over a whole input.
 pub(crate) trait InputCommand {
     ghost use Rattle.std.specs.Prelude.{List, ℕ, ◌≡◌, ◌≤◌, length, IfOk};
+    ghost use Rattle.std.specs.Thread.{IsSync};
     ghost use Rattle.stir_outside.specs.Status.{status_number};
 
     /// What may be answered to an input of these bytes: a text and a status.
@@ -27,13 +29,19 @@ pub(crate) trait InputCommand {
     /// What holds of the command before it answers.
     ghost ready: { Self → Type 0 };
 
-    /// The most bytes of an input, at most 65,535.
+    /// The most bytes of an input, at most 67,108,864.
     fn most(&self) -> usize
         ensures exact { result ≡ most self.now }
-        ensures small { result ≤ 65535 };
+        ensures small { result ≤ 67108864 };
 
-    /// The answer to an input of these bytes. Its error is that memory ran out.
-    fn answer(&self, alloc: Global, bytes: &[u8]) -> Result<Answer, AllocError>
+    /// The answer to an input of these bytes; `rt` starts the threads that it wants. Its error is that memory ran out.
+    fn answer<R: Threads + Sync>(
+        &self,
+        rt: &R,
+        alloc: Global,
+        bytes: &[u8],
+    ) -> Result<Answer, AllocError>
+        requires shared { IsSync R.row }
         requires ready { ready self.now }
         requires short { length bytes.now ≤ most self.now }
         ensures gives { IfOk result (λ reply. gives self.now bytes.now reply.text (status_number reply.status)) };
@@ -45,7 +53,8 @@ pub(crate) trait InputCommand {
 
 /// Reads the input, and writes the command's answer to it. No more is read than the longest input and one byte.
 #[tactic(auto, unfolding(log_run::specs::Ending::failed_line))]
-pub(crate) fn answer_input<C: InputCommand, I: Source, O: Sink>(
+pub(crate) fn answer_input<R: Threads + Sync, C: InputCommand, I: Source, O: Sink>(
+    rt: &R,
     alloc: Global,
     command: &C,
     input: &mut I,
@@ -58,14 +67,20 @@ pub(crate) fn answer_input<C: InputCommand, I: Source, O: Sink>(
     let mut bytes = Vec::new(alloc);
     let most = command.most();
     match read_up_to(input, &mut bytes, most + 1) {
-        Ok(()) => reply_to(alloc, command, bytes.as_slice(), sink),
+        Ok(()) => reply_to(rt, alloc, command, bytes.as_slice(), sink),
         Err(ReadFault::Source) => end_with(sink, "read fault input\n", Status::Read),
         Err(ReadFault::Memory) => end_with(sink, memory_line(), Status::Memory),
     }
 }
 
 /// Writes the command's answer to these bytes, which are one more than it takes if the input is too long.
-fn reply_to<C: InputCommand, O: Sink>(alloc: Global, command: &C, bytes: &[u8], sink: &mut O) -> u8
+fn reply_to<R: Threads + Sync, C: InputCommand, O: Sink>(
+    rt: &R,
+    alloc: Global,
+    command: &C,
+    bytes: &[u8],
+    sink: &mut O,
+) -> u8
     requires ready { C.ready command.now }
     ensures { RepliesTo (answering_by (C.most command.now) (C.gives command.now) (C.long command.now)) bytes.now
         (O.written sink.old) (O.written sink.new) (O.faults sink.old) (O.faults sink.new) result }
@@ -74,7 +89,7 @@ fn reply_to<C: InputCommand, O: Sink>(alloc: Global, command: &C, bytes: &[u8], 
         let refusal = command.refuse(alloc);
         return write_answer(sink, refusal);
     }
-    let answer = command.answer(alloc, bytes);
+    let answer = command.answer(rt, alloc, bytes);
     write_answer(sink, answer)
 }
 

@@ -17,6 +17,7 @@ ghost use Rattle.verify_rules.specs.World.{World};
 ghost use Rattle.verify_rules.specs.declared.settings.Settings.{Settings};
 
 use crate::explain::{ask, explain};
+use crate::once::once;
 use crate::show::show;
 use crate::sign::{SignerCommand, sign_message};
 use crate::verify::verify;
@@ -37,10 +38,11 @@ use verify_rules::same_world_law;
 /// meets, up to the first that it breaks; `ask` writes what a provider of signatures is asked for the calls, each question once. `sign` and
 /// `divert` write the message that the input is with a signed Identity header field. `show` writes what the certificates that the input is say,
 /// which are at most six and at most 49,152 bytes. `drill` makes a log from a seed, judges it by the files that are made with it, and writes how many
-/// calls came to what; it reads no file and nothing of the input.
+/// calls came to what; it reads no file and nothing of the input. `once` claims the tickets that the input has on one desk, and writes which claims won:
+/// they are at most 1,000,000, and at most 67,108,864 bytes.
 ///
-/// The status is 0 where all calls are valid or break no rule, what is asked is written, the message is signed, the certificates are shown, or the drill is summed up;
-/// 1 where some call isn't valid or breaks a rule, or the message can't be signed; 2 where the words are refused; 3 where a named file, a file
+/// The status is 0 where all calls are valid or break no rule, what is asked is written, the message is signed, the certificates are shown, the drill is summed up,
+/// or each ticket is won; 1 where some call isn't valid or breaks a rule, the message can't be signed, or some ticket isn't won; 2 where the words are refused; 3 where a named file, a file
 /// of certificates that `ask` needs or the input couldn't be read; 4 where the output couldn't be written; 5 where a named file is missing or
 /// too long, a file or the input is outside its grammar, or the certificate of a holder has no list; and 6 for want of memory. The first of
 /// these in the order of reading decides.
@@ -82,7 +84,9 @@ pub fn run<R: Threads + Sync, S: Shelf, I: Source, O: Sink>(
     // Where the status is 0 or 1, the input was read to its end, or is a message that is too long; and what was written is what the command says
     // in the words of its subject: of `explain` the rules that each call of the log meets, up to the first that it breaks; of `ask` what is asked
     // for its calls; of `sign` and `divert` the message with a new Identity field, which is read as the PASSporT that the words ask for and the
-    // key's signature; of `show` the lines of the certificates; of `drill`, whose input stays as it was, the summary of a legal judgement of its log.
+    // key's signature; of `show` the lines of the certificates; of `drill`, whose input stays as it was, the summary of a legal judgement of its log;
+    // of `once` a line for each ticket of the input, of which at most one a ticket is won, and one where another is lost, and none is full unless
+    // as many other tickets as a level has slots stand there.
     ensures ended { result ≤ 1 → IsThrough (order_of (texts words.now))
         (outside_of S.Shelf I.Source O.Sink shelf.old input.old sink.old)
         (outside_of S.Shelf I.Source O.Sink shelf.new input.new sink.new) result }
@@ -131,6 +135,7 @@ fn carry_out<R: Threads + Sync, S: Shelf, I: Source, O: Sink>(
         Ok(Order::Explain(judging)) => explain(rt, alloc, &judging, shelf, input, sink),
         Ok(Order::Ask(asking)) => ask(rt, alloc, &asking, shelf, input, sink),
         Ok(Order::Sign(signing)) => sign_message(
+            rt,
             alloc,
             &SignerCommand::Sign(signing),
             shelf,
@@ -138,13 +143,14 @@ fn carry_out<R: Threads + Sync, S: Shelf, I: Source, O: Sink>(
             sink,
         ),
         Ok(Order::Divert(diverting)) => sign_message(
+            rt,
             alloc,
             &SignerCommand::Divert(diverting),
             shelf,
             input,
             sink,
         ),
-        Ok(Order::Show) => show(alloc, input, sink),
+        Ok(Order::Show) => show(rt, alloc, input, sink),
         Ok(Order::Drill(drilling)) => run_drill(
             rt,
             alloc,
@@ -153,6 +159,7 @@ fn carry_out<R: Threads + Sync, S: Shelf, I: Source, O: Sink>(
             drilling.workers,
             sink,
         ),
+        Ok(Order::Once(claiming)) => once(rt, alloc, &claiming, input, sink),
         Err(WordsFault::Refused) => end_with(sink, "words refused\n", Status::Words),
         Err(WordsFault::Memory) => end_with(sink, memory_line(), Status::Memory),
     }

@@ -21,6 +21,7 @@ use crate::verify::end_at;
 use auth_service::{DivertOrder, Holder, SignFault, SignOrder, divert, sign};
 use sip_message::MOST_BYTES;
 use std::alloc::{AllocError, Global};
+use std::thread::Threads;
 use stir_files::{SigningMaterials, read_signing};
 use stir_outside::{Shelf, Sink, Source, Status, SteadyProvider};
 use stir_words::{Diverting, HolderFiles, Signing};
@@ -131,7 +132,12 @@ impl InputCommand for MessageCommand<'_, '_> {
         MOST_BYTES
     }
 
-    fn answer(&self, alloc: Global, bytes: &[u8]) -> Result<Answer, AllocError> {
+    fn answer<R: Threads + Sync>(
+        &self,
+        _rt: &R,
+        alloc: Global,
+        bytes: &[u8],
+    ) -> Result<Answer, AllocError> {
         match sign_bytes(alloc, self.command, self.materials, bytes) {
             Ok(out) => Ok(Answer::new(out, Status::Done)),
             Err(fault) => refusal(alloc, self.command.key(), fault),
@@ -146,7 +152,8 @@ impl InputCommand for MessageCommand<'_, '_> {
 
 /// Reads the named files and then the message that the input is, and writes it with its new field, or the line that says why there is none. Of
 /// the input no more is read than the longest message and one byte.
-pub(crate) fn sign_message<S: Shelf, I: Source, O: Sink>(
+pub(crate) fn sign_message<R: Threads + Sync, S: Shelf, I: Source, O: Sink>(
+    rt: &R,
     alloc: Global,
     command: &SignerCommand<'_>,
     shelf: &mut S,
@@ -165,7 +172,7 @@ pub(crate) fn sign_message<S: Shelf, I: Source, O: Sink>(
                 command,
                 materials: &materials,
             };
-            answer_input(alloc, &message, input, sink)
+            answer_input(rt, alloc, &message, input, sink)
         }
         Err(stop) => end_at(alloc, &stop, sink),
     }

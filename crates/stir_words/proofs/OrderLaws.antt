@@ -56,6 +56,13 @@ is_count text n h = let few : n ≤ 100000 = number_within 100000 text n (sym h)
 pub within_memory : (text : List ℕ) (count : ℕ) → Some count ≡ number_up_to 100000 text → count ≤ 100000
 within_memory text count h = number_within 100000 text count (sym h)
 
+-- a number of at most 1,048,576 is one of 32 bits
+pub is_slots : (text : List ℕ) (n : ℕ) → Some n ≡ number_up_to 1048576 text → n < 2 ^ 32
+is_slots text n h = let few : n ≤ 1048576 = number_within 1048576 text n (sym h) in omega arith
+
+pub within_level : (text : List ℕ) (n : ℕ) → number_up_to 1048576 text ≡ Some n → n ≤ 1048576
+within_level text n h = number_within 1048576 text n h
+
 pub within_eight : (text : List ℕ) (n : ℕ) → number_up_to 8 text ≡ Some n → n ≤ 8
 within_eight text n h = number_within 8 text n h
 

@@ -17,7 +17,7 @@ use Rattle.passport_claims.specs.declared.form.Form.{Form}
 use Rattle.passport_claims.specs.declared.form.Form.TheVariants as forms
 use Rattle.passport_claims.specs.declared.kind.Attest.{Attest}
 use Rattle.stir_words.specs.Options.{pairs_of}
-use Rattle.stir_words.specs.Order.{AskBy, CanBeSigned, DivertBy, DivertingView, DrillBy, ExplainBy, HolderNames, IsDiverting, IsSigner, IsSigning, OrderView, ShowCertificates, SignBy, SignerView, SigningView, VerifyBy, asking_of, diverting_by, diverting_from, diverting_of, drilling_of, judging_of, order_by, order_of, order_with, signer_from, signer_of, signing_by, signing_from, signing_of, verifying_of}
+use Rattle.stir_words.specs.Order.{AskBy, CanBeSigned, DivertBy, DivertingView, DrillBy, ExplainBy, HolderNames, IsDiverting, IsSigner, IsSigning, OnceBy, OrderView, ShowCertificates, SignBy, SignerView, SigningView, VerifyBy, asking_of, claiming_of, diverting_by, diverting_from, diverting_of, drilling_of, judging_of, order_by, order_of, order_with, signer_from, signer_of, signing_by, signing_from, signing_of, verifying_of}
 use Rattle.stir_words.specs.Seen.{Orders, order_view}
 use Rattle.stir_words.specs.Table.{Given, accepts, command_named, given_by, options_of}
 use Rattle.stir_words.specs.Values.{earlier_of, form_by, form_of, iat_of, is_key, key_of, shaken_by, text_if, x5u_of}
@@ -128,6 +128,7 @@ ordered_with commands.Divert given order h =
     (λ diverting e. diverting_is (earlier_of given) (signer_of given) diverting e (number_fits given) (is_signer given))
 ordered_with commands.Show given order h = let e : ShowCertificates ≡ order = cc in subst CanBeSigned e tt
 ordered_with commands.Drill given order h = ordered_by DrillBy (drilling_of given) order h (λ drilling e. tt)
+ordered_with commands.Once given order h = ordered_by OnceBy (claiming_of given) order h (λ claiming e. tt)
 
 ordered_if : (t : Bool) (command : Command) (given : Given) (order : OrderView) → cond t (order_with command given) None ≡ Some order → CanBeSigned order
 ordered_if true command given order h = ordered_with command given order h

@@ -10,7 +10,7 @@ use Rattle.passport_claims.specs.Made.{has_origid}
 use Rattle.passport_claims.specs.declared.form.Form.{Form}
 use Rattle.stir_words.specs.Options.{pairs_of}
 use Rattle.stir_words.specs.Table.{Given, accepts, command_named, given_by, options_of}
-use Rattle.stir_words.specs.Values.{count_of, earlier_of, form_of, iat_of, is_key, key_of, local_in, seed_of, window_of, workers_of, x5u_of}
+use Rattle.stir_words.specs.Values.{count_of, earlier_of, form_of, iat_of, is_key, key_of, local_in, seed_of, size_of, window_of, workers_of, x5u_of}
 use Rattle.stir_words.specs.declared.commands.Command.{Command}
 use Rattle.stir_words.specs.declared.commands.Command.TheVariants as commands
 
@@ -79,6 +79,11 @@ pub record DrillingView : Type 0 where
   pub count : ℕ
   pub workers : ℕ
 
+-- how many slots a level of a desk has, and how many workers claim on it
+pub record ClaimingView : Type 0 where
+  pub size : ℕ
+  pub workers : ℕ
+
 -- a command with the values of its options
 pub data OrderView : Type 0 where
   VerifyBy : VerifyingView → OrderView
@@ -88,6 +93,7 @@ pub data OrderView : Type 0 where
   DivertBy : DivertingView → OrderView
   ShowCertificates : OrderView
   DrillBy : DrillingView → OrderView
+  OnceBy : ClaimingView → OrderView
 
 -- ---- the values
 
@@ -151,6 +157,9 @@ abbrev pub drilling_of : Given → Option DrillingView
 drilling_of given = option_and_then (λ seed. option_and_then (λ count. option_map (λ workers. record { seed = seed; count = count; workers = workers })
     (workers_of given)) (count_of given)) (seed_of given)
 
+abbrev pub claiming_of : Given → Option ClaimingView
+claiming_of given = option_and_then (λ size. option_map (λ workers. record { size = size; workers = workers }) (workers_of given)) (size_of given)
+
 -- ---- the whole
 
 -- what a command orders with these options
@@ -162,6 +171,7 @@ order_with commands.Sign given = option_map SignBy (signing_of given)
 order_with commands.Divert given = option_map DivertBy (diverting_of given)
 order_with commands.Show given = Some ShowCertificates
 order_with commands.Drill given = option_map DrillBy (drilling_of given)
+order_with commands.Once given = option_map OnceBy (claiming_of given)
 
 -- what a command orders with words that fall into options of its table
 abbrev pub order_by : Command → List (List ℕ) → Option OrderView
@@ -200,3 +210,4 @@ CanBeSigned (ExplainBy judging) = Unit {0}
 CanBeSigned (AskBy asking) = Unit {0}
 CanBeSigned ShowCertificates = Unit {0}
 CanBeSigned (DrillBy drilling) = Unit {0}
+CanBeSigned (OnceBy claiming) = Unit {0}

@@ -4,18 +4,19 @@ use Rattle.std.specs.Borrow.{Bor}
 use Rattle.std.specs.Option.{option_copied, option_map}
 use Rattle.stir_words.specs.Options.{Named}
 use Rattle.stir_words.specs.Table.{Known}
-use Rattle.stir_words.specs.Order.{AskingView, DivertingView, DrillingView, HolderNames, JudgingView, OrderView, SettingsView, SignerView, SigningView, VerifyingView, VerifyBy, ExplainBy, AskBy, SignBy, DivertBy, ShowCertificates, DrillBy}
+use Rattle.stir_words.specs.Order.{AskingView, ClaimingView, DivertingView, DrillingView, HolderNames, JudgingView, OrderView, SettingsView, SignerView, SigningView, VerifyingView, VerifyBy, ExplainBy, AskBy, SignBy, DivertBy, ShowCertificates, DrillBy, OnceBy}
 use Rattle.stir_words.specs.declared.commands.Row.{Row}
 use Rattle.stir_words.specs.declared.options.Long.{Long}
 use Rattle.stir_words.specs.declared.fault.WordsFault.{WordsFault}
 use Rattle.stir_words.specs.declared.fault.WordsFault.TheVariants.{Refused, Memory}
+use Rattle.stir_words.specs.declared.claiming.Claiming.{Claiming}
 use Rattle.stir_words.specs.declared.drilling.Drilling.{Drilling}
 use Rattle.stir_words.specs.declared.settings.Settings.{Settings}
 use Rattle.stir_words.specs.declared.order.Asking.{Asking}
 use Rattle.stir_words.specs.declared.order.Judging.{Judging}
 use Rattle.stir_words.specs.declared.verifying.Verifying.{Verifying}
 use Rattle.stir_words.specs.declared.order.Order.{Order}
-use Rattle.stir_words.specs.declared.order.Order.TheVariants.{Verify, Explain, Ask, Sign, Divert, Show, Drill}
+use Rattle.stir_words.specs.declared.order.Order.TheVariants.{Verify, Explain, Ask, Sign, Divert, Show, Drill, Once}
 use Rattle.stir_words.specs.declared.signing.Diverting.{Diverting}
 use Rattle.stir_words.specs.declared.signing.HolderFiles.{HolderFiles}
 use Rattle.stir_words.specs.declared.signing.Signer.{Signer}
@@ -92,6 +93,9 @@ diverting_view diverting = record {
 abbrev pub drilling_view : Drilling → DrillingView
 drilling_view drilling = record { seed = drilling.seed; count = drilling.count; workers = drilling.workers }
 
+abbrev pub claiming_view : Claiming → ClaimingView
+claiming_view claiming = record { size = claiming.size; workers = claiming.workers }
+
 abbrev pub order_view : Order → OrderView
 order_view (Verify verifying) = VerifyBy (verifying_view verifying)
 order_view (Explain judging) = ExplainBy (judging_view judging)
@@ -100,6 +104,7 @@ order_view (Sign signing) = SignBy (signing_view signing)
 order_view (Divert diverting) = DivertBy (diverting_view diverting)
 order_view Show = ShowCertificates
 order_view (Drill drilling) = DrillBy (drilling_view drilling)
+order_view (Once claiming) = OnceBy (claiming_view claiming)
 
 -- the answer is what is ordered; or nothing is, or memory was wanting
 abbrev pub Orders : Option OrderView → Result Order WordsFault → Type 0

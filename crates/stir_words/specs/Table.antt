@@ -4,7 +4,7 @@ use Rattle.std.specs.List.{list_any, list_all}
 use Rattle.std.specs.Str.{bytes_eq}
 use Rattle.stir_words.specs.Options.{Pair}
 use Rattle.stir_words.specs.declared.commands.Command.{Command}
-use Rattle.stir_words.specs.declared.commands.Command.TheVariants.{Verify, Explain, Ask, Sign, Divert, Show, Drill}
+use Rattle.stir_words.specs.declared.commands.Command.TheVariants.{Verify, Explain, Ask, Sign, Divert, Show, Drill, Once}
 
 -- an option that a command takes
 pub record Known : Type 0 where
@@ -82,6 +82,7 @@ options_of Sign = needed (codes "form") ∷ optional (codes "attest") ∷ option
 options_of Divert = needed (codes "earlier") ∷ of_signer
 options_of Show = []
 options_of Drill = needed (codes "seed") ∷ needed (codes "count") ∷ optional (codes "workers") ∷ []
+options_of Once = needed (codes "size") ∷ optional (codes "workers") ∷ []
 
 -- the command of that name
 abbrev pub command_named : List ℕ → Option Command
@@ -93,6 +94,7 @@ command_named name =
     else if bytes_eq name (codes "divert") then Some Divert
     else if bytes_eq name (codes "show") then Some Show
     else if bytes_eq name (codes "drill") then Some Drill
+    else if bytes_eq name (codes "once") then Some Once
     else None
 
 -- ---- the same, said of the options

@@ -47,6 +47,10 @@ seed_of given = option_and_then (number_up_to 18446744073709551615) (given (code
 abbrev pub count_of : Given → Option ℕ
 count_of given = option_and_then (number_up_to 100000) (given (codes "count"))
 
+-- `--size`: 1 to 1,048,576 slots
+abbrev pub size_of : Given → Option ℕ
+size_of given = unless_none (option_and_then (number_up_to 1048576) (given (codes "size")))
+
 -- `--national`: a national number has at most 14 digits
 abbrev pub national_of : Given → Option ℕ
 national_of given = number_or 10 14 (given (codes "national"))

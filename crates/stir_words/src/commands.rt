@@ -20,6 +20,8 @@ pub(crate) enum Command {
     Show,
     /// Makes a log, judges it and sums it up.
     Drill,
+    /// Claims tickets on one desk.
+    Once,
 }
 
 /// An option that a command takes: its name, without dashes, and whether it has to stand.
@@ -143,6 +145,12 @@ const COUNT: Row = Row {
     required: true,
 };
 
+/// How many slots a level of a desk has.
+const SIZE: Row = Row {
+    name: "size",
+    required: true,
+};
+
 /// The options of `verify`.
 const VERIFYING: [Row; 8] = [
     CHAINS, ANCHORS, TABLE, ANSWERS, WORKERS, WINDOW, COUNTRY, NATIONAL,
@@ -185,6 +193,9 @@ const DIVERTING: [Row; 9] = [
 /// The options of `drill`.
 const DRILLING: [Row; 3] = [SEED, COUNT, WORKERS];
 
+/// The options of `once`.
+const CLAIMING: [Row; 2] = [SIZE, WORKERS];
+
 impl Command {
     /// The command of that name.
     pub(crate) fn named(name: &str) -> Option<Command>
@@ -198,6 +209,7 @@ impl Command {
             "divert" => Some(Command::Divert),
             "show" => Some(Command::Show),
             "drill" => Some(Command::Drill),
+            "once" => Some(Command::Once),
             _ => None,
         }
     }
@@ -214,6 +226,7 @@ impl Command {
             Command::Divert => &DIVERTING,
             Command::Show => &[],
             Command::Drill => &DRILLING,
+            Command::Once => &CLAIMING,
         }
     }
 }

@@ -24,6 +24,7 @@
 //! Cases: section `words` of `crates/vectors/stdin`, which `tests/vectors/words.py` prints; `tests/cli/words.rows`.
 #![tactic(auto)]
 
+mod claiming;
 mod clap_options;
 mod commands;
 mod drilling;
@@ -35,6 +36,7 @@ mod signing;
 mod values;
 mod verifying;
 
+pub use claiming::Claiming;
 pub use drilling::Drilling;
 pub use fault::WordsFault;
 pub use order::{Asking, Judging, Order};

@@ -2,11 +2,12 @@
 ghost use Rattle.std.specs.Prelude.{◌≡◌, ◌↔◌, ℕ, List, true, Some, IfOk};
 ghost use Rattle.std.specs.Option.{option_map};
 ghost use Rattle.stir_words.specs.Options.{pairs_of, Options, Pair};
-ghost use Rattle.stir_words.specs.Order.{asking_of, drilling_of, judging_of, order_by, order_of, order_with, settings_of, verifying_of, CanBeSigned};
-ghost use Rattle.stir_words.specs.Seen.{asking_view, drilling_view, judging_view, order_view, settings_view, texts, verifying_view, Orders};
+ghost use Rattle.stir_words.specs.Order.{asking_of, claiming_of, drilling_of, judging_of, order_by, order_of, order_with, settings_of, verifying_of, CanBeSigned};
+ghost use Rattle.stir_words.specs.Seen.{asking_view, claiming_view, drilling_view, judging_view, order_view, settings_view, texts, verifying_view, Orders};
 ghost use Rattle.stir_words.specs.Table.{Accepted, Known, accepts};
 ghost use Rattle.stir_words.specs.ClapRules.{values_in};
 
+use crate::claiming::Claiming;
 use crate::clap_options::parsed;
 use crate::commands::Command;
 use crate::drilling::Drilling;
@@ -14,7 +15,7 @@ use crate::fault::WordsFault;
 use crate::options::are_options;
 use crate::settings::Settings;
 use crate::signing::{Diverting, Signing, diverting_of, signing_of};
-use crate::values::{count_of, local_of, seed_of, window_of, workers_of};
+use crate::values::{count_of, local_of, seed_of, size_of, window_of, workers_of};
 use crate::verifying::Verifying;
 use clap::ArgMatches;
 use std::alloc::Global;
@@ -64,6 +65,8 @@ pub enum Order<'a> {
     Show,
     /// To make a log, to judge it and to sum it up.
     Drill(Drilling),
+    /// To claim tickets on one desk.
+    Once(Claiming),
 }
 
 impl<'a> Order<'a> {
@@ -77,7 +80,7 @@ impl<'a> Order<'a> {
     /// all take `--window`, a number of at most 86,400 (60), `--country`, 1 to 3 digits (1), and `--national`, a number (10), the last two of
     /// which have to make a [`Local`](tn_values::Local). `verify` takes `--workers` as well, a number from 1 to 8 (1). Numbers are decimal digits
     /// without a leading zero. `show` takes none. `drill` requires `--seed`, a number below 2^64, and `--count`, a number of at most 100,000, and
-    /// takes `--workers`.
+    /// takes `--workers`. `once` requires `--size`, a number from 1 to 1,048,576, and takes `--workers`.
     ///
     /// `sign` and `divert` require `--key`, the name of a key, `--x5u`, the URI of its certificates, `--iat`, a number of at most
     /// 253,402,300,799, and `--answers`, the name of a file; they take `--leaf` and `--table`, the names of two files that stand together,
@@ -167,6 +170,10 @@ impl<'a> Order<'a> {
                 Some(drilling) => Some(Order::Drill(drilling)),
                 None => None,
             },
+            Command::Once => match claiming_of(given) {
+                Some(claiming) => Some(Order::Once(claiming)),
+                None => None,
+            },
         }
     }
 }
@@ -227,6 +234,19 @@ fn drilling_of(given: &ArgMatches<'_>) -> Option<Drilling>
         count,
         workers,
     })
+}
+
+/// On what desk tickets are claimed.
+fn claiming_of(given: &ArgMatches<'_>) -> Option<Claiming>
+    ensures { option_map claiming_view result ≡ claiming_of (values_in given.now) }
+{
+    let Some(size) = size_of(given) else {
+        return None;
+    };
+    let Some(workers) = workers_of(given) else {
+        return None;
+    };
+    Some(Claiming { size, workers })
 }
 
 /// The window and the local numbering.

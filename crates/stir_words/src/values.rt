@@ -6,7 +6,7 @@ ghost use Rattle.text_grammar.specs.Decimal.{number_up_to};
 ghost use Rattle.text_grammar.specs.Uri.{is_uri};
 ghost use Rattle.passport_claims.specs.Origid.{is_origid};
 ghost use Rattle.stir_words.specs.ClapRules.{values_in};
-ghost use Rattle.stir_words.specs.Values.{count_of, country_of, earlier_of, form_by, form_of, iat_of, is_key, is_key_byte, key_of, local_in, national_of, plain_by, seed_of, shaken_by, text_if, window_of, workers_of, x5u_of};
+ghost use Rattle.stir_words.specs.Values.{count_of, country_of, earlier_of, form_by, form_of, iat_of, is_key, is_key_byte, key_of, local_in, national_of, plain_by, seed_of, shaken_by, size_of, text_if, window_of, workers_of, x5u_of};
 
 use clap::ArgMatches;
 use passport_claims::{Attest, Form, is_origid};
@@ -30,6 +30,9 @@ const LAST_SEED: u64 = 18_446_744_073_709_551_615;
 
 /// The most calls of a drill.
 const MOST_CALLS: u64 = 100_000;
+
+/// The most slots of a level.
+const MOST_SLOTS: u64 = 1_048_576;
 
 /// The most digits of a national number.
 const MOST_NATIONAL: u64 = 14;
@@ -96,6 +99,33 @@ fn call_count(text: &str) -> Option<u32>
     ensures { result ≡ number_up_to 100000 text.now }
 {
     match read_number(text.as_bytes(), MOST_CALLS) {
+        Some(number) => Some(number as u32),
+        None => None,
+    }
+}
+
+/// How many slots a level of a desk has: 1 to 1,048,576.
+#[tactic(auto, using(crate::proofs::OrderLaws::within_level))]
+pub(crate) fn size_of(given: &ArgMatches<'_>) -> Option<u32>
+    ensures exact { result ≡ size_of (values_in given.now) }
+    ensures some { IfSome result (λ size. 1 ≤ size) }
+    ensures few { IfSome result (λ size. size ≤ 1048576) }
+{
+    let Some(text) = given.get_str("size") else {
+        return None;
+    };
+    match slot_count(text) {
+        Some(0) => None,
+        number => number,
+    }
+}
+
+/// The number of at most 1,048,576 that a text writes.
+#[tactic(auto, using(crate::proofs::OrderLaws::is_slots))]
+fn slot_count(text: &str) -> Option<u32>
+    ensures { result ≡ number_up_to 1048576 text.now }
+{
+    match read_number(text.as_bytes(), MOST_SLOTS) {
         Some(number) => Some(number as u32),
         None => None,
     }

@@ -4,7 +4,10 @@ use passport_claims::Form;
 use std::alloc::Global;
 use stir_files::read_materials;
 use stir_outside::ShelfMem;
-use stir_words::{Asking, Diverting, Drilling, HolderFiles, Judging, Order, Settings, Signing, WordsFault};
+use stir_words::{
+    Asking, Claiming, Diverting, Drilling, HolderFiles, Judging, Order, Settings, Signing,
+    WordsFault,
+};
 use vector_table::{Answer, Unread, files_of, numbers_of, put_local, text, word};
 
 /// What a call on words answers.
@@ -37,6 +40,7 @@ fn put_order(answer: Answer, order: &Order<'_>) -> Answer {
         Order::Divert(diverting) => put_diverting(answer.word("divert"), diverting),
         Order::Show => answer.word("show"),
         Order::Drill(drilling) => put_drilling(answer.word("drill"), drilling),
+        Order::Once(claiming) => put_claiming(answer.word("once"), claiming),
     }
 }
 
@@ -101,6 +105,11 @@ fn put_drilling(answer: Answer, drilling: &Drilling) -> Answer {
         .word(drilling.seed)
         .word(drilling.count)
         .word(drilling.workers)
+}
+
+/// Puts how many slots a level has and the number of workers after other words.
+fn put_claiming(answer: Answer, claiming: &Claiming) -> Answer {
+    answer.word(claiming.size).word(claiming.workers)
 }
 
 /// Puts a form behind other words.
