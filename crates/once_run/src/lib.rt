@@ -1,6 +1,23 @@
-//! A list of tickets, claimed on one live desk by many workers, and a line for each of them.
+//! A list of tickets, claimed on one live desk by many workers, and a line for each of them (this project's own rule).
 //!
-//! `specs/Claims` says what may come of the tickets, `specs/Lines` how it is written, and `specs/Ran` what the whole answers.
+//! ```text
+//! text   --read_tickets (once_tickets)-->   tickets   --claim_tickets, on a Live desk-->   a claim each   --lines-->   Report
+//! ```
+//!
+//! - [`run_once`] does all of it for a text in memory, and gives a [`Report`]: the lines, and whether each ticket was won.
+//! - [`claim_tickets`] is the middle alone. Worker w of W has the tickets w, w + W, and so on; the workers run side by side and wait for nobody.
+//!
+//! ```rust
+//! let report = run_once(&rt, alloc, 4, 2, text)?;           // a desk of 4 slots a level, two workers
+//! let well = report.all_won();
+//! ```
+//!
+//! Which of two claims of one ticket wins is nobody's promise, nor are progress and time. Nothing is kept from one run to the next.
+//!
+//! Proved: each ticket has its line, at most one line of a ticket is `won`, a lost ticket was won, and a full level is held by other tickets
+//! (`specs/Claims`); how it is written (`specs/Lines`); what the whole answers (`specs/Ran`). [`room_law`] says when no line is full.
+//!
+//! Cases: `tests/cli/once.rows`.
 #![tactic(auto)]
 
 mod claiming;
