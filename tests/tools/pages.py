@@ -1,5 +1,5 @@
 """The pages that people read: each command that they show is run, in a copy of the tree in which the program stands as the proved one, and what it
-writes is compared; no sentence is too long; man/stir.1 is what tools/man makes; and what docs/PROVED.md names is there.
+writes is compared; no sentence is too long; man/stir.1 is what tools/man makes; what docs/PROVED.md names is there; and its part on refusals is what tools/refusals makes.
 
     pages.py    counts the long sentences of these pages, and names them
 
@@ -138,6 +138,8 @@ def results(program, has_library):
     yield 'docs/PROVED.md, names that aren\'t there', [], list(unknown((TOP / 'docs/PROVED.md').read_text()))
     done = subprocess.run([sys.executable, TOP / 'tools' / 'man', '--check'], stderr=subprocess.PIPE, text=True)
     yield 'tools/man --check', (0, ''), (done.returncode, done.stderr)
+    done = subprocess.run([sys.executable, TOP / 'tools' / 'refusals', '--check'], stdout=subprocess.PIPE, text=True)
+    yield 'tools/refusals --check', (0, 'refusals: docs/PROVED.md has what the sources say\n'), (done.returncode, done.stdout)
 
 
 def main():
