@@ -4,13 +4,23 @@
     runs.py answers  prints the lines of `stdout`
 
 What is answered is worked out here from what docs/FORMATS.md says of a report and of the lines that end a run, and from where the entries of a
-log end. The log is read and the output is written a byte a call, so that the call that fails says how many bytes went before it.
+log end. The log is read and the output is written a byte a call, so that the call that fails says how many bytes went before it. The rule, whatever the
+command:
+
+- A write that fails: the status is 4, and what was written is the first bytes of the whole output, one byte more at each next write. Of an output of more
+  than 200 bytes those writes fail that are first, last or around the end of a line.
+- A read of the input that fails: the status is 3, and the line `read fault input` comes after the lines of the calls whose entries were whole before.
+  `sign`, `divert` and `show` write that line alone.
+- A read of a named file that fails: the status is 3, and `read fault NAME` is all that is written.
+- A read of a chain's file that fails: the call is `unread` at that PASSporT, for `explain` after the lines of rules 1 to 9, and the status is 1. `ask`
+  writes `read fault NAME` after the lines of the chains before, with status 3.
 """
 
 import itertools
 
+import calls
 import columns
-from signing import escaped
+from signing import DIV, ONCE, PLAIN, SHAKEN, ZEROS, answers_of, escaped, line_of
 
 VERIFY = "verify --chains=c --anchors=a --table=t --answers=w"
 
@@ -28,6 +38,13 @@ COMPACT = "@1443208345\\s179\\nINVITE\\ssip:a\\sSIP/2.0\\nf:<tel:+1>\\nt:<tel:+2
 WORLD = "c $MAPPED a $ROOT t $CODES w $ALL leaf.cer $OF_CALL div.cer $OF_LINK"
 VALID = "1 valid - - -\n"
 ENTRIES = (("$ENTRY", len("@1443208345 779\n") + 779, 1), ("$DIVERTED_ENTRY", len("@1443208345 1191\n") + 1191, 2))
+
+# The other commands, with the files that they read first, in their order.
+EXPLAIN = VERIFY.replace("verify", "explain")
+ASK = "ask --chains=c --anchors=a --table=t"
+ORDER = f"--key=k1 --iat={calls.IAT} --answers=w --leaf=l --table=t"
+SIGN = f"sign {ORDER} --x5u={calls.X5U % 'passport'} --form=shaken --attest=A --origid={calls.ORIGID % 0}"
+DIVERT = f"divert {ORDER} --x5u={calls.X5U % 'div'} --earlier={calls.CALLED}"
 
 READ_FAULT = "read fault input\n"
 NAMED = [(3, f"read fault {name}\n") for name in "catw"]
@@ -50,6 +67,32 @@ def each_read(calls, status):
     """Each read of a log of these calls fails: those that were whole before are reported. Behind the last byte a read finds the end."""
     failed = [(3, "".join(line for end, line in calls if end <= taken) + READ_FAULT) for taken in range(calls[-1][0] + 1)]
     return runs(failed, (status, "".join(line for _, line in calls)))
+
+
+# The output up to which each write fails in turn; of a longer one the first writes, the last one, and those around the end of each line.
+EACH = 200
+
+
+def some_writes(said):
+    """The numbers of writes of an output that are tried alone."""
+    ends = [at + 1 for at, letter in enumerate(said) if letter == "\n"]
+    return sorted({1, 2, len(said)} | {write for end in ends for write in (end, end + 1) if write <= len(said)})
+
+
+def each_file(names, others, last):
+    """Each read of a named file fails, and then each of another one."""
+    return runs([(3, f"read fault {name}\n") for name in names] + others, last)
+
+
+def holding(last, call=1):
+    """What `explain` says of a call that breaks no rule up to this one."""
+    return "".join(f"{call} {rule} ok\n" for rule in range(1, last + 1))
+
+
+def shown(number, digit, authority, leaf):
+    """What `show` says of a certificate of the world that a letter's key signed."""
+    said = [f"certificate {number}", "not-before 1420070400", "not-after 1735689600", f"ca {'no' if leaf else 'yes'}", "path-length none", "usage none"]
+    return "\n".join([*said, f"key 04{64 * f'{digit:02x}'}", *authority]) + "\n"
 
 
 def each_write(said, status):
@@ -123,6 +166,98 @@ def rows():
         yield case("each_write", VERIFY, f"{log} {WORLD}", each_write(VALID, 0))
         unread = [(1, f"1 unread - 10 {field}.0\n") for field in range(1, passports + 1)]
         yield case("each_file", VERIFY, f"{log} {WORLD}", runs([*NAMED, *unread], (0, VALID)))
+    yield from other_commands(comment, case, run)
+    yield from malicious(comment, run)
+
+
+def other_commands(comment, case, run):
+    """Each call fails of the other commands, and of `verify` on several workers."""
+
+    def each(words, log, files, read, whole, file):
+        yield case("each_read", words, f"{log} {files}".rstrip(), read)
+        status, said = whole
+        if len(said) <= EACH:
+            yield case("each_write", words, f"{log} {files}".rstrip(), each_write(said, status))
+        else:
+            for write in some_writes(said):
+                yield run(f"x: x: {write}", words, f"{log} {files}".rstrip(), one(4, said[: write - 1], 0, 0, 0, 1))
+        yield case("each_file", words, f"{log} {files}".rstrip(), file)
+
+    yield comment("The same on several workers.")
+    for (log, length, passports), workers in zip(ENTRIES, (2, 8)):
+        unread = [(1, f"1 unread - 10 {field}.0\n") for field in range(1, passports + 1)]
+        answers = each_read([(length, VALID)], 0), (0, VALID), each_file("catw", unread, (0, VALID))
+        yield from each(f"{VERIFY} --workers={workers}", log, WORLD, *answers)
+    yield comment("`explain` on both.")
+    for log, length, passports in ENTRIES:
+        unread = [(1, holding(9) + f"1 10 unread {field}.0\n") for field in range(1, passports + 1)]
+        answers = each_read([(length, holding(17))], 0), (0, holding(17)), each_file("catw", unread, (0, holding(17)))
+        yield from each(EXPLAIN, log, WORLD, *answers)
+    yield comment("`ask` on both: the lines of a chain are written before the next chain's file is read.")
+    leaf, link = calls.answers(("LEAF", "INT")), calls.answers(("DIV",))
+    whole = leaf + calls.answers(("CALL",)), leaf + link + calls.answers(("CALL", "FIRST"))
+    broken = [(3, "read fault leaf.cer\n")], [(3, "read fault leaf.cer\n"), (3, leaf + "read fault div.cer\n")]
+    for (log, length, _), said, faults in zip(ENTRIES, whole, broken):
+        yield from each(ASK, log, WORLD, each_read([(length, said)], 0), (0, said), each_file("cat", faults, (0, said)))
+    yield comment("`sign` and `divert`: nothing is written before the input was read to its end.")
+    signed = PLAIN + line_of(SHAKEN, "passport", "shaken", ZEROS) + b"\r\n"
+    for name, words, message, length, key, leaf, written in (
+        ("CALLED", SIGN, "$TO_1213 $HEAD $END", len(PLAIN) + 2, SHAKEN, "$LEAF", signed),
+        ("MOVED", DIVERT, "$TO_1214 $HEAD $SHAKEN $END", 779, DIV, "$DIV", ONCE + b"\r\n"),
+    ):
+        said = written.decode()
+        yield define(name, message)
+        yield define(f"{name}_ANSWERS", answers_of((key, ZEROS)))
+        read = runs([(3, READ_FAULT)] * (length + 1), (0, said))
+        yield from each(words, f"${name}", f"w ${name}_ANSWERS l {leaf} t $CODES", read, (0, said), each_file("wlt", [], (0, said)))
+    yield comment("`show` on a chain of two; it reads no file.")
+    said = shown(1, 3, ("authority list", "code 709J"), True) + shown(2, 2, ("authority all",), False)
+    length = len(calls.WORLD["LEAF"] + calls.WORLD["INT"])
+    yield from each("show", "$OF_CALL", "", runs([(3, READ_FAULT)] * (length + 1), (0, said)), (0, said), each_file("", [], (0, said)))
+
+
+# The Identity line of the call, with its token in parts, and what comes after the token.
+PARAMETERS = f';info=<{calls.X5U % "passport"}>;alg=ES256;ppt="shaken"\\r\\n'
+HEADER = calls.base64url(calls.header("shaken", "passport"))
+
+
+def with_claims(claims):
+    """The Identity line of a token with this payload."""
+    return f"Identity:\\s {HEADER}.{calls.base64url(claims)}. 86*A {PARAMETERS}", len(HEADER) + len(calls.base64url(claims)) + 88
+
+
+def malicious(comment, run):
+    """Input that is made to break a reader: the log, the chain's file and the PASSporT of a call."""
+
+    def judged(log, line, left=0, chain="$OF_CALL", status=1):
+        return run("x: x: x:", VERIFY, f"{log} {WORLD.replace('$OF_CALL', chain)}", one(status, line, left))
+
+    yield comment("Input that is made to break a reader. A header of a log that no entry has is known at its first byte with which none goes on.")
+    yield judged("@01\\s0\\n", "refused input 0\n", 3, status=5)
+    yield judged("@1\\s131073\\n", "refused input 0\n", 1, status=5)
+    yield comment("A chain's file that is a front of a certificate, each in turn; an empty one; and one of seven certificates.")
+    for size in range(1, len(calls.WORLD["LEAF"])):
+        yield judged("$ENTRY", "1 refused 437 11 1.1\n", chain=f"$LEAF[..{size}]")
+    yield judged("$ENTRY", "1 refused 437 12 1.0\n", chain="x:")
+    yield define("SEVEN", "$LEAF 6*$INT")
+    yield judged("$ENTRY", "1 refused 437 11 1.7\n", chain="$SEVEN")
+    yield comment("The longest message, without a line; a digest text that is too long; nested arrays for a payload; a second past the last; a number that is too long.")
+    yield define("LETTERS", f"@1443208345\\s65535\\n {65535}*A")
+    yield judged("$LETTERS", "1 refused 400 1 0.65535\n")
+    around = len(PLAIN) + 2 + len("Identity: ") + len(PARAMETERS) - 2
+    long_number = calls.payload("1234567890123456", attest="A", origid=calls.ORIGID % 0)
+    for name, (line, size), place in (
+        ("LONG_DIGEST", (f"Identity:\\s 8193*A {PARAMETERS}", 8193), "3 1.8192"),
+        ("NESTED", with_claims(b"[" * 200 + b"]" * 200), "6 1.3"),
+        ("LATE", with_claims(calls.payload(calls.CALLED, 253402300800, attest="A", origid=calls.ORIGID % 0)), "6 1.15"),
+        ("LONG_NUMBER", with_claims(long_number), "6 1.17"),
+    ):
+        yield define(name, f"@1443208345\\s{around + size}\\n $TO_1213 $HEAD {line} $END")
+        yield judged(f"${name}", f"1 refused 438 {place}\n")
+
+
+def define(name, words):
+    return f"{name} = {words}", f"{name} ="
 
 
 if __name__ == "__main__":
