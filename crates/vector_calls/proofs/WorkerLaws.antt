@@ -1,5 +1,5 @@
 -- Workers whose providers say the same.
-use Rattle.std.proofs.Common.{◌≡◌, ℕ, zero, suc, ◌+◌, ◌<◌, List, [], ◌∷◌, ◌++◌, length, get_or, refl, sym, ◌∙◌, arith}
+use Rattle.std.proofs.Common.{◌≡◌, ℕ, zero, suc, ◌<◌, List, [], ◌∷◌, ◌++◌, length, get_or, refl, sym, ◌∙◌, arith}
 use Rattle.cert_store.specs.Rules.{Says}
 use Rattle.stir_outside.specs.Held.{held_says}
 use Rattle.stir_outside.specs.Provided.{ProviderState}
@@ -30,3 +30,7 @@ say_still before now counted same stays w d less = stays w d (omega (arith, coun
 
 pub say_two : {G : Type 0} (says : Says) (one two : Worker ProviderState G) → held_says one.provider.held ≡ says → held_says two.provider.held ≡ says → SaySame (one ∷ two ∷ [])
 say_two says one two is are = say_same says (one ∷ two ∷ []) (say_more says (one ∷ []) two (say_more says [] one (say_none says) is) are)
+
+pub say_one : {G : Type 0} (one : Worker ProviderState G) → SaySame (one ∷ [])
+say_one one zero d less = refl
+say_one one (suc w) d less = absurd (omega arith)

@@ -6,6 +6,8 @@
 //! The lines are the sections of these names in `crates/vectors/stdin`; scripts of `tests/vectors` print the calls in them.
 #![tactic(auto)]
 
+mod lending;
+mod logs;
 pub mod rounds;
 pub mod rules;
 pub mod signing;

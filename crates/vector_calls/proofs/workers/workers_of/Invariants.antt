@@ -1,5 +1,5 @@
 -- Each worker so far says what the answers hold.
-use Rattle.std.proofs.Common.{◌≡◌, ℕ, vec_len}
+use Rattle.std.proofs.Common.{◌≡◌, vec_len}
 use Rattle.stir_outside.specs.Held.{held_says}
 use Rattle.vector_calls.proofs.WorkerLaws.{SayThis}
 use Rattle.vector_calls.proofs.workers.workers_of.Given as goal

@@ -1,6 +1,6 @@
 -- A round changes nothing of what the workers' providers say.
 use Rattle.vector_calls.proofs.WorkerLaws.{say_still}
-use Rattle.vector_calls.proofs.workers.judge.Goals as goal
+use Rattle.vector_calls.proofs.logs.judge.Goals as goal
 
 pub returns-in_err-round-clause-same : goal.returns-in_err-round-clause-same
 returns-in_err-round-clause-same g c =

@@ -3,7 +3,7 @@ use Rattle.std.proofs.Common.{◌≡◌, Some, length, slice_index_or}
 use Rattle.stir_outside.specs.Held.{held_says}
 use Rattle.vector_calls.specs.Workers.{SaySame}
 use Rattle.verify_service.specs.Service.{HoldsRight}
-use Rattle.vector_calls.proofs.rounds.judge_log.Given as goal
+use Rattle.vector_calls.proofs.logs.judge_rounds.Given as goal
 
 abbrev pub invariant-loop-count : goal.invariant-loop-count
 invariant-loop-count g l = record {
