@@ -1,0 +1,28 @@
+-- What comes of a call by all rules but the one on replay, where its chains are there and every question is answered.
+use Rattle.std.specs.Prelude.{◌≡◌, ⊤, List, None, Some}
+use Rattle.std.specs.List.{list_any}
+use Rattle.verify_rules.specs.Call.{Call}
+use Rattle.verify_rules.specs.States.{State}
+use Rattle.verify_rules.specs.World.{First, World}
+use Rattle.verify_rules.specs.declared.verdict.Verdict.{Verdict}
+use Rattle.verify_rules.specs.declared.verdict.Verdict.TheVariants as verdicts
+use Rattle.verify_service.specs.Judging.{IsKnownBy}
+use Rattle.stir_c.specs.declared.found.Found.{Found}
+use Rattle.stir_c.specs.declared.found.Found.TheVariants.{Refused, Passes}
+
+-- It breaks this rule first; or none, and is known again by this ticket up to this second.
+abbrev pub IsFound : World → Call → Found → Type 0
+IsFound world call (Refused refused) = First world call ≡ Some refused
+IsFound world call (Passes pass) = (First world call ≡ None) × IsKnownBy call pass.ticket pass.last
+
+-- by a verdict
+abbrev pub IsOfVerdict : Verdict → Found → Type 0
+IsOfVerdict verdict (Refused refused) = verdict ≡ verdicts.Refused refused
+IsOfVerdict verdict (Passes pass) = verdict ≡ verdicts.Passed
+
+-- nothing sets the call aside
+abbrev pub IsDecided : Verdict → Type 0
+IsDecided verdicts.Passed = ⊤
+IsDecided (verdicts.Refused refused) = ⊤
+IsDecided (verdicts.Unread bad) = ⊥
+IsDecided (verdicts.Unasked bad) = ⊥

@@ -1,0 +1,9 @@
+pub mod Files
+pub mod Inputs
+pub mod Found
+pub mod Asked
+pub mod Steps
+pub mod Handing
+pub mod Written
+pub mod Told
+pub mod Telling

@@ -1,0 +1,178 @@
+//! What C calls. `include/stir.h` declares the same.
+ghost use Rattle.std.specs.Prelude.{◌≡◌, ◌≤◌, ℕ, List};
+ghost use Rattle.stir_c.specs.Told.{AskedInto, HasFault, HasNoRoom, JudgedBy};
+ghost use Rattle.stir_c.specs.Telling.{ToldFor, ToldOf};
+
+use crate::asking::Asked;
+use crate::calls::{ask, judge};
+use crate::chains::ChainFiles;
+use crate::inputs::{Fault, Inputs, Setting};
+use crate::said::{Said, said_for, told};
+use crate::writing::write;
+use std::alloc::Global;
+
+/// The version of these declarations.
+const ABI: u64 = 1;
+
+/// The version of the declarations: a caller that was made for another one calls nothing else.
+#[unsafe(no_mangle)]
+pub extern "C" fn stir_abi() -> u64
+    ensures { result ≡ 1 }
+{
+    ABI
+}
+
+/// Judges a call by rules 1 to 17 (RFC 8224, section 6.2): by its settings, its second and its message, the chain map with the chains, the
+/// trust anchors, the code table, and the answers of a verifier of signatures. Kind 0: it breaks none, and `ticket` and `last` tell how it is known
+/// again. Kind 1: it breaks `rule` first, at `field` and `part`. Kind 2: the input of this number is outside its grammar or its limits.
+#[unsafe(no_mangle)]
+pub extern "C" fn stir_judge(
+    alloc: Global,
+    window: u64,
+    country: &[u8],
+    national: u8,
+    moment: u64,
+    message: &[u8],
+    listed: &[u8],
+    chains: &[u8],
+    sizes: &[usize],
+    anchors: &[u8],
+    table: &[u8],
+    answers: &[u8],
+) -> Said
+    ensures kinds { result.kind ≤ 3 }
+    ensures judged { result.kind ≤ 1 → JudgedBy (record {
+      window = window;
+      country = country.now;
+      national = national;
+      moment = moment;
+      message = message.now;
+      listed = listed.now;
+      sizes = sizes.now;
+      chains = chains.now;
+      anchors = anchors.now;
+      table = table.now;
+    }) answers.now result }
+    ensures faulty { result.kind ≡ 2 → HasFault (record {
+      window = window;
+      country = country.now;
+      national = national;
+      moment = moment;
+      message = message.now;
+      listed = listed.now;
+      sizes = sizes.now;
+      chains = chains.now;
+      anchors = anchors.now;
+      table = table.now;
+    }) answers.now result.input }
+{
+    let setting = Setting {
+        window,
+        country,
+        national,
+        moment,
+    };
+    let files = ChainFiles { sizes, chains };
+    let inputs = Inputs {
+        setting,
+        message,
+        listed,
+        files,
+        anchors,
+        table,
+    };
+    said_for(judge(alloc, &inputs, answers))
+}
+
+/// Asks for a call: writes the lines of what a verifier of signatures is to confirm, and tells what comes of the call if he confirms all of it, as
+/// `stir_judge` does. If he doesn't, `stir_judge` tells by the lines that he confirms. Kind 4: there is no room for the lines.
+#[unsafe(no_mangle)]
+pub extern "C" fn stir_ask(
+    alloc: Global,
+    window: u64,
+    country: &[u8],
+    national: u8,
+    moment: u64,
+    message: &[u8],
+    listed: &[u8],
+    chains: &[u8],
+    sizes: &[usize],
+    anchors: &[u8],
+    table: &[u8],
+    room: &mut [u8],
+) -> Said
+    ensures kinds { result.kind ≤ 4 }
+    ensures asked { result.kind ≤ 1 → AskedInto (record {
+      window = window;
+      country = country.now;
+      national = national;
+      moment = moment;
+      message = message.now;
+      listed = listed.now;
+      sizes = sizes.now;
+      chains = chains.now;
+      anchors = anchors.now;
+      table = table.now;
+    }) room.old room.new result }
+    ensures faulty { (answers : List ℕ) → result.kind ≡ 2 → HasFault (record {
+      window = window;
+      country = country.now;
+      national = national;
+      moment = moment;
+      message = message.now;
+      listed = listed.now;
+      sizes = sizes.now;
+      chains = chains.now;
+      anchors = anchors.now;
+      table = table.now;
+    }) answers result.input }
+    ensures no_room { result.kind ≡ 4 → HasNoRoom (record {
+      window = window;
+      country = country.now;
+      national = national;
+      moment = moment;
+      message = message.now;
+      listed = listed.now;
+      sizes = sizes.now;
+      chains = chains.now;
+      anchors = anchors.now;
+      table = table.now;
+    }) room.old result }
+    ensures as_was { 2 ≤ result.kind → room.new ≡ room.old }
+{
+    let setting = Setting {
+        window,
+        country,
+        national,
+        moment,
+    };
+    let files = ChainFiles { sizes, chains };
+    let inputs = Inputs {
+        setting,
+        message,
+        listed,
+        files,
+        anchors,
+        table,
+    };
+    told_asked(ask(alloc, &inputs), room)
+}
+
+/// What was asked, written into the room and told; or the fault.
+fn told_asked(came: Result<Asked, Fault>, room: &mut [u8]) -> Said
+    ensures { ToldFor came room.old room.new result }
+{
+    match came {
+        Ok(asked) => told_lines(&asked, room),
+        Err(fault) => Said::fault(fault),
+    }
+}
+
+/// What was asked, written into the room and told.
+fn told_lines(asked: &Asked, room: &mut [u8]) -> Said
+    ensures { ToldOf asked.now.lines.items asked.now.found room.old room.new result }
+{
+    let lines = asked.lines.as_slice();
+    let written = write(lines, room);
+    told(&asked.found, lines.len(), written)
+}

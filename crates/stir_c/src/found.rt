@@ -1,0 +1,36 @@
+//! What comes of a call by itself.
+ghost use Rattle.std.specs.Prelude.{◌≡◌, Ok};
+ghost use Rattle.verify_rules.specs.Call.{Call as RuledCall};
+ghost use Rattle.verify_rules.specs.Rules.{early_rules};
+ghost use Rattle.verify_rules.specs.Screened.{IsScreenedBy};
+ghost use Rattle.verify_rules.specs.World.{VerdictOf, World as Judges};
+ghost use Rattle.stir_c.specs.Found.{IsDecided, IsFound, IsOfVerdict};
+
+use verify_rules::{Refusal, Screened, Verdict, screened_law};
+use verify_service::Pass;
+
+/// What comes of a call by all rules but the one on replay.
+#[derive(Clone, Copy)]
+pub(crate) enum Found {
+    /// This is the first rule that it breaks.
+    Refused(Refusal),
+    /// It breaks none.
+    Passes(Pass),
+}
+
+/// What comes of a call that was screened, by a verdict that nothing sets aside.
+pub(crate) fn found_of(verdict: Verdict, screened: &Screened) -> Found
+    requires { IsDecided verdict }
+    ensures { (world : Judges) (call : RuledCall) → IsScreenedBy early_rules call (Ok screened.now) → VerdictOf world call verdict → IsFound world call result }
+{
+    screened_law();
+    match verdict {
+        Verdict::Passed => Found::Passes(Pass {
+            ticket: *screened.ticket(),
+            last: screened.last(),
+        }),
+        Verdict::Refused(refusal) => Found::Refused(refusal),
+        Verdict::Unread(_) => unreachable!(),
+        Verdict::Unasked(_) => unreachable!(),
+    }
+}
