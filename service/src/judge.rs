@@ -1,0 +1,187 @@
+//! A call judged: its chains are picked, its questions asked of OpenSSL, what comes of it taken from the proved library, and its ticket claimed.
+use crate::door::{self, Said};
+use crate::es256::{self, Verifier};
+use crate::lines::lines_of;
+use crate::metrics::{Metrics, Part};
+use crate::past::{Claim, Passed, Past};
+use crate::world::World;
+use std::sync::atomic::{AtomicU64, Ordering};
+use std::sync::{Arc, RwLock};
+use std::time::{Instant, SystemTime, UNIX_EPOCH};
+
+/// What came of a call.
+#[derive(Clone, Copy, Debug, PartialEq, Eq)]
+pub enum Outcome {
+    /// It breaks no rule, and its ticket passed for the first time.
+    Valid,
+    /// It breaks this rule first, at this place.
+    Refused { rule: u32, code: u32, field: u32, part: u32 },
+    /// Its ticket passed before: with the call of this number; 0 if that isn't known.
+    Replay { winner: u64 },
+    /// Nothing is said of it: its ticket can't be told from one that passed, or isn't kept; or memory ran out.
+    Unjudged,
+}
+
+/// A call that was judged: its number, counted from 1 over the life of the journal, and what came of it.
+#[derive(Clone, Copy, Debug)]
+pub struct Judged {
+    pub call: u64,
+    pub outcome: Outcome,
+}
+
+impl Outcome {
+    pub fn name(&self) -> &'static str {
+        match self {
+            Outcome::Valid => "valid",
+            Outcome::Refused { .. } => "refused",
+            Outcome::Replay { .. } => "replay",
+            Outcome::Unjudged => "unjudged",
+        }
+    }
+
+    /// The SIP response code, and the rule that is broken; 0 where there is none.
+    pub fn code(&self) -> u32 {
+        match self {
+            Outcome::Refused { code, .. } => *code,
+            Outcome::Replay { .. } => 438,
+            Outcome::Valid | Outcome::Unjudged => 0,
+        }
+    }
+
+    pub fn rule(&self) -> u32 {
+        match self {
+            Outcome::Refused { rule, .. } => *rule,
+            Outcome::Replay { .. } => 18,
+            Outcome::Valid | Outcome::Unjudged => 0,
+        }
+    }
+
+    /// The value of the `verstat` parameter (ATIS-1000074, section 5.3): nothing was validated of a call that is no INVITE, has no PASSporT of its
+    /// origin, or whose certificates aren't there; one that breaks another rule has failed.
+    pub fn verstat(&self) -> &'static str {
+        match self {
+            Outcome::Valid => "TN-Validation-Passed",
+            Outcome::Refused { code: 400 | 428 | 436, .. } | Outcome::Unjudged => "No-TN-Validation",
+            Outcome::Refused { .. } | Outcome::Replay { .. } => "TN-Validation-Failed",
+        }
+    }
+
+    /// The reason phrase of the code (RFC 8224, section 6.2.2).
+    pub fn reason(&self) -> &'static str {
+        reason_of(self.code())
+    }
+}
+
+pub fn reason_of(code: u32) -> &'static str {
+    match code {
+        400 => "Bad Request",
+        403 => "Stale Date",
+        428 => "Use Identity Header",
+        436 => "Bad Identity Info",
+        437 => "Unsupported Credential",
+        438 => "Invalid Identity Header",
+        _ => "",
+    }
+}
+
+/// The judge with all that it goes by.
+pub struct Judge {
+    pub rules: door::Rules,
+    pub world: RwLock<Arc<World>>,
+    pub verifier: Verifier,
+    pub past: Past,
+    pub numbers: AtomicU64,
+    pub metrics: Metrics,
+}
+
+/// The second of the clock, in Unix time.
+pub fn now() -> u64 {
+    SystemTime::now().duration_since(UNIX_EPOCH).map_or(0, |since| since.as_secs())
+}
+
+impl Judge {
+    /// What comes of an INVITE that came at this moment.
+    pub fn judge(&self, message: &[u8], moment: u64) -> Judged {
+        let world = self.world.read().expect("world").clone();
+        let said = self.said(&world, message, moment);
+        let call = self.numbers.fetch_add(1, Ordering::SeqCst) + 1;
+        let outcome = match said.kind {
+            door::REFUSED => Outcome::Refused { rule: said.rule, code: said.code, field: said.field, part: said.part },
+            door::PASSES => match self.past.claim(said.ticket, Passed { last: said.last, number: call }, moment) {
+                Claim::Won => Outcome::Valid,
+                Claim::Lost(winner) => Outcome::Replay { winner },
+                Claim::Forgotten | Claim::Unable => Outcome::Unjudged,
+            },
+            _ => Outcome::Unjudged,
+        };
+        self.metrics.count(&outcome);
+        Judged { call, outcome }
+    }
+
+    /// What the rules say: asked with each answer taken for good; and if an answer isn't, judged by those that are.
+    fn said(&self, world: &World, message: &[u8], moment: u64) -> Said {
+        let by = world.materials(x5us_in(message));
+        let mut room = Vec::with_capacity(8192);
+        let start = Instant::now();
+        let if_all = door::ask(&self.rules, moment, message, &by, &world.anchors, &mut room);
+        let asked = Instant::now();
+        self.metrics.spend(Part::Ask, asked - start);
+        if if_all.kind != door::PASSES && if_all.kind != door::REFUSED {
+            return if_all;
+        }
+        let mut answers = Vec::new();
+        let mut all = true;
+        for line in lines_of(&room) {
+            if es256::question(line).map_or(false, |question| self.verifier.confirms(&question)) {
+                answers.extend_from_slice(line);
+                answers.push(b'\n');
+            } else {
+                all = false;
+            }
+        }
+        let confirmed = Instant::now();
+        self.metrics.spend(Part::Confirm, confirmed - asked);
+        if all {
+            return if_all;
+        }
+        let said = door::judge(&self.rules, moment, message, &by, &world.anchors, &answers);
+        self.metrics.spend(Part::Judge, confirmed.elapsed());
+        said
+    }
+}
+
+/// The texts that stand in `<` and `>` behind `info` in a message. The x5us of its PASSporTs are among them; others do no harm, as long as no
+/// more than nine are listed.
+fn x5us_in(message: &[u8]) -> impl Iterator<Item = &[u8]> {
+    let mut left = message;
+    std::iter::from_fn(move || loop {
+        let at = left.windows(4).position(|word| word.eq_ignore_ascii_case(b"info"))?;
+        left = &left[at + 4..];
+        let Some(open) = left.iter().take(8).position(|byte| *byte == b'<') else { continue };
+        let text = &left[open + 1..];
+        let Some(close) = text.iter().position(|byte| matches!(byte, b'>' | b'\n')) else { return None };
+        left = &text[close..];
+        return Some(&text[..close]);
+    })
+}
+
+#[cfg(test)]
+mod tests {
+    use super::*;
+
+    #[test]
+    fn the_quick_look_finds_what_stands_in_brackets_behind_info() {
+        let message = b"Identity: a..b;info=<https://a.example/1>;alg=ES256\r\nidentity: c;INFO = <https://b.example/2>\r\nX: info <never\r\n";
+        let found: Vec<&[u8]> = x5us_in(message).collect();
+        assert_eq!(found, [b"https://a.example/1".as_slice(), b"https://b.example/2", b"never\r"]);
+        assert_eq!(x5us_in(b"no such thing").count(), 0);
+    }
+
+    #[test]
+    fn a_call_that_isnt_valid_has_a_reason() {
+        let refused = Outcome::Refused { rule: 9, code: 403, field: 1, part: 0 };
+        assert_eq!((refused.verstat(), refused.reason()), ("TN-Validation-Failed", "Stale Date"));
+        assert_eq!((Outcome::Valid.verstat(), Outcome::Valid.code()), ("TN-Validation-Passed", 0));
+        assert_eq!(Outcome::Unjudged.verstat(), "No-TN-Validation");
+    }
+}

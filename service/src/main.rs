@@ -1,0 +1,74 @@
+//! `stird`: a STIR/SHAKEN service over HTTP. It judges calls by the proved library of `stir` (`include/stir.h`), with ES256 by OpenSSL.
+//! docs/SERVICE.md tells how to run it.
+mod atis;
+mod door;
+mod es256;
+mod http;
+mod journal;
+mod judge;
+mod lines;
+mod metrics;
+mod past;
+mod redis;
+mod service;
+mod settings;
+mod world;
+
+use std::net::TcpListener;
+use std::sync::atomic::AtomicUsize;
+use std::sync::{Arc, Mutex, RwLock};
+
+fn main() {
+    let words: Vec<String> = std::env::args().skip(1).collect();
+    let settings = settings::read(&words).unwrap_or_else(|fault| {
+        eprint!("stird: {fault}\n{}", settings::USAGE);
+        std::process::exit(2)
+    });
+    if let Err(fault) = start(settings) {
+        eprintln!("stird: {fault}");
+        std::process::exit(1);
+    }
+}
+
+fn start(settings: settings::Settings) -> Result<(), String> {
+    if door::abi() != door::ABI {
+        return Err(format!("the library's declarations are of version {}, and {} is wanted", door::abi(), door::ABI));
+    }
+    let world = world::World::read(&settings.rules, &settings.chains, &settings.anchors, &settings.table)?;
+    let (past, greatest) = past_of(&settings)?;
+    let listener = TcpListener::bind(&settings.listen).map_err(|error| format!("{}: {error}", settings.listen))?;
+    let address = listener.local_addr().map_err(|error| error.to_string())?;
+    eprintln!("stird: listens at {address}, with {} chains and {} tickets", world.chains(), past.count());
+    let service = Arc::new(service::Service {
+        judge: judge::Judge {
+            rules: settings.rules.clone(),
+            world: RwLock::new(Arc::new(world)),
+            verifier: es256::Verifier::default(),
+            past,
+            numbers: greatest.into(),
+            metrics: metrics::Metrics::default(),
+        },
+        connections: AtomicUsize::new(0),
+        settings,
+    });
+    let reloading = service.clone();
+    std::thread::spawn(move || reloading.reload());
+    service.run(&listener);
+    Ok(())
+}
+
+/// Where tickets are kept, and the greatest number of a call that has one there.
+fn past_of(settings: &settings::Settings) -> Result<(past::Past, u64), String> {
+    if let Some(address) = &settings.redis {
+        let redis = redis::Redis::new(address).map_err(|error| format!("{address}: {error}"))?;
+        return Ok((past::Past::Shared(redis), 0));
+    }
+    let (journal, tickets, greatest) = match &settings.journal {
+        Some(path) => {
+            let (journal, tickets, greatest) = journal::Journal::open(path, settings.sync).map_err(|error| format!("{}: {error}", path.display()))?;
+            (Some(journal), tickets, greatest)
+        }
+        None => (None, past::Tickets::default(), 0),
+    };
+    Ok((past::Past::Memory { tickets: Mutex::new(tickets), most: settings.tickets, journal }, greatest))
+}

@@ -1,0 +1,164 @@
+//! The endpoints, and the threads behind them.
+use crate::atis;
+use crate::http::{Answer, Connection, Fault, Request};
+use crate::judge::{now, Judge, Judged, Outcome};
+use crate::settings::Settings;
+use crate::world::World;
+use std::net::{TcpListener, TcpStream};
+use std::sync::atomic::{AtomicUsize, Ordering};
+use std::sync::Arc;
+use std::time::Instant;
+
+/// The service: a judge, and how many connections there are.
+pub struct Service {
+    pub settings: Settings,
+    pub judge: Judge,
+    pub connections: AtomicUsize,
+}
+
+impl Service {
+    /// Answers connections, each in a thread of its own, as many at once as there may be.
+    pub fn run(self: Arc<Service>, listener: &TcpListener) {
+        for stream in listener.incoming().flatten() {
+            if self.connections.fetch_add(1, Ordering::SeqCst) >= self.settings.connections {
+                self.connections.fetch_sub(1, Ordering::SeqCst);
+                self.judge.metrics.turn_away();
+                self.turn_away(stream);
+                continue;
+            }
+            let service = self.clone();
+            let thread = std::thread::Builder::new().stack_size(4 << 20).spawn(move || {
+                service.serve(stream);
+                service.connections.fetch_sub(1, Ordering::SeqCst);
+            });
+            if thread.is_err() {
+                self.connections.fetch_sub(1, Ordering::SeqCst);
+                self.judge.metrics.turn_away();
+            }
+        }
+    }
+
+    fn turn_away(&self, stream: TcpStream) {
+        let _ = stream.set_nonblocking(true);
+        if let Ok(mut connection) = Connection::new(stream, self.settings.request, self.settings.idle) {
+            let _ = connection.send(&Answer::text(503, "too many connections\n"), false);
+        }
+    }
+
+    fn serve(&self, stream: TcpStream) {
+        let Ok(mut connection) = Connection::new(stream, self.settings.request, self.settings.idle) else { return };
+        loop {
+            match connection.next() {
+                Ok(request) => {
+                    let start = Instant::now();
+                    let answer = self.answer(&request);
+                    let sent = connection.send(&answer, request.keep);
+                    self.judge.metrics.answered(start.elapsed());
+                    if sent.is_err() || !request.keep {
+                        return;
+                    }
+                }
+                Err(Fault::Closed) => return,
+                Err(Fault::Status(status)) => {
+                    self.judge.metrics.bad_request();
+                    let _ = connection.send(&Answer::text(status, ""), false);
+                    return;
+                }
+            }
+        }
+    }
+
+    fn answer(&self, request: &Request) -> Answer {
+        match (request.method.as_str(), request.path.as_str()) {
+            ("POST", "/verify") => Answer::json(200, told(&self.verify(request))),
+            ("POST", "/verify/line") => Answer::text(200, line(&self.verify(request))),
+            ("POST", "/stir/v1/verification") => self.verification(request),
+            ("GET", "/metrics") => self.metrics(),
+            ("GET", "/healthz") if self.judge.past.is_well() => Answer::text(200, "ok\n"),
+            ("GET", "/healthz") => Answer::text(503, "tickets can't be kept\n"),
+            (_, "/verify" | "/verify/line" | "/stir/v1/verification" | "/metrics" | "/healthz") => Answer::text(405, ""),
+            _ => Answer::text(404, ""),
+        }
+    }
+
+    /// The moment of a call: the clock's, or the one that is said where that is to be taken.
+    fn moment(&self, said: Option<u64>) -> u64 {
+        match said {
+            Some(moment) if self.settings.asked_moments => moment,
+            _ => now(),
+        }
+    }
+
+    fn verify(&self, request: &Request) -> Judged {
+        self.judge.judge(&request.body, self.moment(request.moment))
+    }
+
+    fn verification(&self, request: &Request) -> Answer {
+        match atis::verification(&request.body) {
+            Ok(call) => {
+                let judged = self.judge.judge(&call.message, self.moment(call.time));
+                Answer::json(200, atis::verified(&judged))
+            }
+            Err(refusal) => self.refuse(&refusal),
+        }
+    }
+
+    fn refuse(&self, refusal: &atis::Refusal) -> Answer {
+        self.judge.metrics.bad_request();
+        Answer::json(refusal.status, refusal.body())
+    }
+
+    fn metrics(&self) -> Answer {
+        let chains = self.judge.world.read().expect("world").chains();
+        Answer {
+            status: 200,
+            kind: "text/plain; version=0.0.4",
+            body: self.judge.metrics.text(self.judge.past.count(), chains, self.connections.load(Ordering::SeqCst)),
+        }
+    }
+
+    /// Looks at the files from time to time, and takes what changed if it can be read; else what was read before stays.
+    pub fn reload(&self) {
+        loop {
+            std::thread::sleep(self.settings.reload);
+            let world = self.judge.world.read().expect("world").clone();
+            if world.is_stale() {
+                let files = &self.settings;
+                let read = World::read(&files.rules, &files.chains, &files.anchors, &files.table);
+                let done = read.map(|world| *self.judge.world.write().expect("world") = Arc::new(world));
+                self.tell(done);
+            }
+        }
+    }
+
+    fn tell(&self, done: Result<(), String>) {
+        self.judge.metrics.reload(done.is_ok());
+        if let Err(fault) = done {
+            eprintln!("stird: {fault}: what was read before stays");
+        }
+    }
+}
+
+/// What came of a call, as JSON.
+fn told(judged: &Judged) -> String {
+    let outcome = &judged.outcome;
+    let mut told = serde_json::json!({
+        "call": judged.call,
+        "outcome": outcome.name(),
+        "code": outcome.code(),
+        "reason": outcome.reason(),
+        "rule": outcome.rule(),
+        "verstat": outcome.verstat(),
+    });
+    match outcome {
+        Outcome::Refused { field, part, .. } => told["place"] = format!("{field}.{part}").into(),
+        Outcome::Replay { winner } => told["winner"] = (*winner).into(),
+        Outcome::Valid | Outcome::Unjudged => {}
+    }
+    told.to_string() + "\n"
+}
+
+/// What came of a call, on one line for a proxy without JSON: the code (0 if there is none), the verstat and the reason phrase.
+fn line(judged: &Judged) -> String {
+    format!("{} {} {}", judged.outcome.code(), judged.outcome.verstat(), judged.outcome.reason())
+}

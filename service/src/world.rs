@@ -1,0 +1,152 @@
+//! What calls are judged by: the chain map with its chains, the trust anchors and the code table, read from files and read again if one changes.
+use crate::door::{self, Materials, Rules};
+use crate::lines::lines_of;
+use std::collections::HashMap;
+use std::path::{Path, PathBuf};
+use std::time::SystemTime;
+
+/// The most bytes of a chain, and the most chains of a call.
+const MOST_CHAIN: usize = 49_152;
+const MOST_CHAINS: usize = 9;
+
+/// A chain of certificates, and the lines of the code table on the codes in it. Rules 14 and 17 ask the table for these codes alone, so a call
+/// is judged by them as by the whole table.
+struct Chain {
+    der: Vec<u8>,
+    table: Vec<u8>,
+}
+
+/// What calls are judged by.
+pub struct World {
+    chains: HashMap<Vec<u8>, Chain>,
+    pub anchors: Vec<u8>,
+    stamps: Vec<(PathBuf, Stamp)>,
+}
+
+/// What tells that a file changed: when it was written, and its size.
+type Stamp = Option<(SystemTime, u64)>;
+
+fn stamp(path: &Path) -> Stamp {
+    let data = std::fs::metadata(path).ok()?;
+    Some((data.modified().ok()?, data.len()))
+}
+
+impl World {
+    /// Reads the files, and looks at them as a call would. Names in the chain map are as they stand there: relative ones from the folder in
+    /// which the service runs, as of `stir verify`.
+    pub fn read(rules: &Rules, map: &Path, anchors_path: &Path, table: &Path) -> Result<World, String> {
+        let mut stamps = Vec::new();
+        let mut read = |path: &Path| {
+            stamps.push((path.to_path_buf(), stamp(path)));
+            std::fs::read(path).map_err(|error| format!("{}: {error}", path.display()))
+        };
+        let (map_text, anchors, table_text) = (read(map)?, read(anchors_path)?, read(table)?);
+        let whole = Materials { listed: map_text.clone(), table: table_text.clone(), ..Materials::default() };
+        let said = door::judge(rules, 0, b"", &whole, &anchors, b"");
+        if said.kind == door::BAD_INPUT {
+            let name = match said.input {
+                2 => map.display().to_string(),
+                4 => anchors_path.display().to_string(),
+                5 => table.display().to_string(),
+                _ => "the settings".into(),
+            };
+            return Err(format!("{name}: outside its grammar"));
+        }
+        let table = by_code(&table_text);
+        let mut chains = HashMap::new();
+        for line in lines_of(&map_text) {
+            let Some(space) = line.iter().position(|byte| *byte == b' ') else { continue };
+            let (x5u, name) = (&line[..space], String::from_utf8_lossy(&line[space + 1..]).into_owned());
+            let path = PathBuf::from(name);
+            stamps.push((path.clone(), stamp(&path)));
+            if let Some(der) = read_chain(&path)? {
+                let table = codes_in(&der, &table).iter().filter_map(|code| table.get(*code)).flatten().copied().collect();
+                chains.insert(x5u.to_vec(), Chain { der, table });
+            }
+        }
+        Ok(World { chains, anchors, stamps })
+    }
+
+    /// Whether a file isn't what it was when it was read.
+    pub fn is_stale(&self) -> bool {
+        self.stamps.iter().any(|(path, was)| stamp(path) != *was)
+    }
+
+    /// How many chains there are.
+    pub fn chains(&self) -> usize {
+        self.chains.len()
+    }
+
+    /// What a call with these x5us is judged by; those that aren't listed are passed over, and so is what comes after the ninth.
+    pub fn materials<'a>(&self, x5us: impl Iterator<Item = &'a [u8]>) -> Materials {
+        let mut by = Materials::default();
+        for x5u in x5us {
+            let Some(chain) = self.chains.get(x5u) else { continue };
+            if by.sizes.len() == MOST_CHAINS || is_listed(&by.listed, x5u) {
+                continue;
+            }
+            by.listed.extend_from_slice(x5u);
+            by.listed.extend_from_slice(&[b' ', b'1' + by.sizes.len() as u8, b'\n']);
+            by.chains.extend_from_slice(&chain.der);
+            by.sizes.push(chain.der.len());
+            by.table.extend_from_slice(&chain.table);
+        }
+        by
+    }
+}
+
+/// Whether the map that is being made has this x5u.
+fn is_listed(listed: &[u8], x5u: &[u8]) -> bool {
+    lines_of(listed).any(|line| line.strip_prefix(x5u).map_or(false, |rest| rest.first() == Some(&b' ')))
+}
+
+/// The bytes of a chain; none if there is no such file. One that is too long is cut to one byte more than a chain may have, so that rule 11
+/// still sees that it is.
+fn read_chain(path: &Path) -> Result<Option<Vec<u8>>, String> {
+    match std::fs::read(path) {
+        Ok(mut der) => {
+            der.truncate(MOST_CHAIN + 1);
+            Ok(Some(der))
+        }
+        Err(error) if error.kind() == std::io::ErrorKind::NotFound => Ok(None),
+        Err(error) => Err(format!("{}: {error}", path.display())),
+    }
+}
+
+/// The codes of the table that may be in the certificates: each text of an IA5String (X.690, section 8.23) in the bytes that is one. So those of
+/// an authority list (RFC 8226, section 9) are among them, and others do no harm.
+fn codes_in<'a>(der: &[u8], table: &'a HashMap<Vec<u8>, Vec<u8>>) -> Vec<&'a [u8]> {
+    let mut codes: Vec<&[u8]> = (0..der.len().saturating_sub(2))
+        .filter(|at| der[*at] == 0x16)
+        .filter_map(|at| table.get_key_value(der.get(at + 2..at + 2 + usize::from(der[at + 1]))?))
+        .map(|(code, _)| code.as_slice())
+        .collect();
+    codes.sort_unstable();
+    codes.dedup();
+    codes
+}
+
+/// The lines of a code table by their code.
+fn by_code(text: &[u8]) -> HashMap<Vec<u8>, Vec<u8>> {
+    let mut table: HashMap<Vec<u8>, Vec<u8>> = HashMap::new();
+    for line in lines_of(text) {
+        let code = line.split(|byte| *byte == b' ').next().unwrap_or_default();
+        let lines = table.entry(code.to_vec()).or_default();
+        lines.extend_from_slice(line);
+        lines.push(b'\n');
+    }
+    table
+}
+
+#[cfg(test)]
+mod tests {
+    use super::*;
+
+    #[test]
+    fn the_codes_of_a_list_are_found_and_their_lines_kept() {
+        let table = by_code(b"; the table\n709J 12155550000 10\n42 *\n709J *67\n");
+        let der = [&[0x30, 8, 0xA0, 6, 0x16, 4][..], b"709J", &[0x16]].concat();
+        assert_eq!(codes_in(&der, &table), [b"709J".as_slice()]);
+        assert_eq!(table[b"709J".as_slice()], b"709J 12155550000 10\n709J *67\n");
+    }
+}
