@@ -1,0 +1,109 @@
+"""What the service says of calls, beside what the proved program says."""
+import json
+import shutil
+import subprocess
+import threading
+
+from stird import Stird, line_of, wait_until
+from world import START
+
+
+def report(stir, top, world, calls, folder):
+    """The report of `verify` on these calls, with the signatures confirmed by tools/stir-confirm."""
+    log = world.log(calls)
+    asked = subprocess.run([stir, "ask", *world.words()], input=log, stdout=subprocess.PIPE, check=True).stdout
+    answers = subprocess.run([top / "tools" / "stir-confirm"], input=asked, stdout=subprocess.PIPE, check=True).stdout
+    (folder / "answers.txt").write_bytes(answers)
+    done = subprocess.run([stir, "verify", *world.words(), "--answers", folder / "answers.txt"], input=log, stdout=subprocess.PIPE, check=False)
+    if done.returncode not in (0, 1):
+        raise RuntimeError(f"verify ended with {done.returncode}")
+    return done.stdout.decode()
+
+
+def first_difference(mine, yours):
+    for one, other in zip(mine.splitlines(), yours.splitlines()):
+        if one != other:
+            return f"{one!r} and not {other!r}"
+    return "one is longer"
+
+
+def whole_log(stird, world, calls, expected):
+    with Stird(stird, [*world.words(), "--moments", "asked"]) as service:
+        told = [service.verify(message, moment) for moment, message in calls]
+        lines = "".join(line_of(number, one) for number, one in enumerate(told, 1))
+        assert lines == expected, first_difference(lines, expected)
+        valid = service.metric('stir_calls_total{outcome="valid",rule=""}')
+        assert valid == expected.count(" valid "), f"{valid} are counted as valid"
+    kinds = sorted({" ".join(line.split()[1:4]) for line in expected.splitlines()})
+    assert len(kinds) > 6, f"the log has only {kinds}"
+    return f"{len(calls)} calls, {len(kinds)} outcomes"
+
+
+def at_once(stird, world, calls, expected):
+    """Each call by itself is judged as in the report, and of those with one ticket one passes."""
+    again = [line.split()[1] for line in expected.splitlines()]
+    with Stird(stird, [*world.words(), "--moments", "asked"]) as service:
+        told = [None] * len(calls)
+
+        def work(first):
+            import http.client
+
+            connection = http.client.HTTPConnection("127.0.0.1", service.port, timeout=30)
+            for place in range(first, len(calls), 4):
+                moment, message = calls[place]
+                connection.request("POST", "/verify", message, {"X-Moment": str(moment)})
+                told[place] = json.loads(connection.getresponse().read())
+            connection.close()
+
+        workers = [threading.Thread(target=work, args=(first,)) for first in range(4)]
+        for worker in workers:
+            worker.start()
+        for worker in workers:
+            worker.join()
+    passes = ("valid", "replay")
+    for place, (one, was) in enumerate(zip(told, again)):
+        assert one is not None and (one["outcome"] == was or (one["outcome"] in passes and was in passes)), f"call {place + 1}: {one} and not {was}"
+    valid = sum(one["outcome"] == "valid" for one in told)
+    assert valid == again.count("valid"), f"{valid} valid calls and not {again.count('valid')}"
+
+
+def other_doors(stird, world):
+    with Stird(stird, [*world.words(), "--moments", "asked"]) as service:
+        orig, dest = world.number(1, 5), "13105550100"
+
+        def verification(field, time=START):
+            return service.json("/stir/v1/verification", {"verificationRequest": {"from": {"tn": orig}, "to": {"tn": [dest]}, "time": time, "identity": field}})
+
+        field = world.identity(1, orig, dest, START, 1)
+        assert verification(field) == (200, {"verificationResponse": {"verstat": "TN-Validation-Passed"}})
+        status, told = verification(field)
+        assert (status, told["verificationResponse"]["reasoncode"], told["verificationResponse"]["verstat"]) == (200, "438", "TN-Validation-Failed"), told
+        status, told = verification(world.identity(1, orig, dest, START, 2), START + 61)
+        assert told["verificationResponse"]["reasontext"] == "Stale Date", told
+        status, told = service.json("/stir/v1/verification", {"verificationRequest": {"from": {"tn": orig}}})
+        assert (status, "requestError" in told) == (400, True), told
+        lines = [
+            service.ask("POST", "/verify/line", message, {"X-Moment": str(START)})[1].decode()
+            for message in (world.call(2, START, 9), world.call(2, START, 10, "forged"), world.call(2, START, 11, "unsigned"))
+        ]
+        assert lines == ["0 TN-Validation-Passed ", "438 TN-Validation-Failed Invalid Identity Header", "428 No-TN-Validation Use Identity Header"], lines
+        assert service.ask("GET", "/healthz") == (200, b"ok\n")
+        assert [service.ask("GET", path)[0] for path in ("/", "/verify")] == [404, 405]
+
+
+def reload(stird, world, folder):
+    """A table without the caller's numbers refuses the next call; one that can't be read changes nothing."""
+    other = folder / "changing"
+    other.mkdir()
+    for name in ("anchors.der", "table.txt", "chains.txt"):
+        shutil.copy(world.folder / name, other / name)
+    words = ["--chains", str(other / "chains.txt"), "--anchors", str(other / "anchors.der"), "--table", str(other / "table.txt")]
+    with Stird(stird, [*words, "--moments", "asked"]) as service:
+        assert service.verify(world.call(0, START, 1), START)["outcome"] == "valid"
+        (other / "table.txt").write_text("9999 1 2\nno table\n")
+        assert wait_until(lambda: service.metric("stir_failed_reloads_total") >= 1), "a bad table was taken"
+        assert service.verify(world.call(0, START, 2), START)["outcome"] == "valid"
+        (other / "table.txt").write_text("9999 12345 2\n")
+        assert wait_until(lambda: service.metric("stir_reloads_total") >= 1), "the changed table wasn't taken"
+        told = service.verify(world.call(0, START, 3), START)
+        assert (told["outcome"], told["rule"]) == ("refused", 17), told
