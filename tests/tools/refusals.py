@@ -14,8 +14,8 @@ import words  # noqa: E402
 
 # Words, and what is said of them; None where they aren't refused.
 SAID = {
-    '': 'no command: the first word is verify, explain, ask, sign, divert, show',
-    'Verify': '\'Verify\' is no command: the first word is verify, explain, ask, sign, divert, show',
+    '': 'no command: the first word is verify, explain, ask, sign, divert, show, drill, once',
+    'Verify': '\'Verify\' is no command: the first word is verify, explain, ask, sign, divert, show, drill, once',
     'show x': '\'x\' is no option: an option is --NAME=VALUE, or --NAME and a value',
     'show': None,
     'ask --chains=c --anchors=a': '--table is missing: it is the name of a file',
@@ -30,6 +30,8 @@ SAID = {
         '--country and --national have more than 15 digits together; --national is 10 where it isn\'t given',
     'sign --key=k --x5u=u --iat=0 --form=base --answers=w --leaf=l': '--leaf and --table stand both or neither',
     'sign --key=k --x5u=u --iat=0 --form=shaken --answers=w --attest=A': '--origid stands with --form shaken, and with it alone',
+    'drill --seed=0': '--count is missing: it is how many calls are made, at most 100000',
+    'drill --seed=0 --count=100001': '--count is \'100001\', and must be how many calls are made, at most 100000',
     'divert --key=k --x5u=u --iat=x --earlier=1 --answers=w': '--iat is \'x\', and must be a second of Unix time, at most 253402300799',
 }
 
