@@ -1,8 +1,24 @@
-//! Constraints on the claims of PASSporTs, as a certificate has them: which claims must be there, and which values some may have.
+//! Constraints on the claims of PASSporTs, as a certificate may have them: which claims must be there, and which values some may have.
 //!
-//! They are after the JWTClaimConstraints of RFC 8226, section 8, but their form and their meaning are this project's own. [`Constraints`] are
-//! read from DER, built, written and asked whether a payload meets them. A [`Permit`] is a claim with its permitted values, and [`Texts`] are
-//! names or values in one owned text.
+//! They follow the JWTClaimConstraints of RFC 8226, section 8, but their form and their meaning are this project's own.
+//!
+//! - [`Constraints::read`] takes their DER, and [`Constraints::write`] gives their one DER text, if [`Constraints::is_writable`].
+//! - [`Constraints::build`] makes them of names in [`Texts`] and of [`Permit`]s, each a claim with its permitted values.
+//! - [`Constraints::meets`] asks whether a payload meets them.
+//!
+//! ```rust
+//! let constraints = Constraints::read(alloc, bytes)?;       // ConstraintFault has the kind of the fault and its offset
+//! if !constraints.meets(token.payload()) { .. }
+//! ```
+//!
+//! It isn't part of the rules: a certificate with constraints is refused by `x509_profile`, as that profile has none, so no verdict depends on this
+//! crate. Claims that a certificate excludes (RFC 9118) aren't part of it.
+//!
+//! Proved: constraints are read just if the bytes are their one text, and the first fault is said both ways. They are met just if each claim that
+//! must be there is a member of the payload and each member with permitted values is one of them ([`constraints_law`]; `docs/PROVED.md` has the
+//! clauses).
+//!
+//! Cases: section `constraints` of `crates/vectors/stdin`, which `tests/vectors/constraints.py` prints.
 #![tactic(auto)]
 
 mod constraints;

@@ -1,8 +1,31 @@
-//! A PASSporT token (RFC 8225) as it stands in an Identity header field: three texts in base64url around two
-//! dots, of which the first two are left out in the compact form and are built again from the message. Reading one
-//! checks the form, the encoding and that header and payload are JSON objects; it says nothing of what the claims
-//! mean or whether the signature is genuine. Beside it stand the deterministic form of a JSON value, the text that
-//! is signed for a header and a payload, and its digest.
+//! A PASSporT token as an Identity header field has it (RFC 8225; RFC 7515, section 7.1): three texts in base64url with dots between them.
+//!
+//! # The way through
+//!
+//! - [`Token::read`] takes the text of a token and a [`View`], which is what the message gives: its Date, its numbers, `info` and `ppt`. In the
+//!   compact form (RFC 8225, section 7) the first two texts are left out, and are built again from the view.
+//! - The [`Token`] has the header and the payload as JSON values, the 64 bytes of the signature, and the text that was signed ([`Token::signing`]).
+//! - [`deterministic`] writes a JSON value in its one form (RFC 8225, section 9), if [`is_writable`]. [`signing_input`] joins header and payload,
+//!   and [`ticket`] is the SHA-256 of that: 32 bytes by which a call is known again.
+//!
+//! ```rust
+//! let token = Token::read(alloc, field.token(), &view)?;    // TokenFault says which check refused
+//! let digest = ticket(token.signing());
+//! ```
+//!
+//! # What it isn't
+//!
+//! What the claims mean isn't asked here, but in `passport_claims`. Whether the signature is genuine is asked of a provider, far above
+//! (`verify_rules`). Reading JSON and base64url is the work of the kit's `serde_json` and `base64`.
+//!
+//! # What is proved
+//!
+//! A token is read just if the text is that token for its call, and at most one fits. Each of the five refusals is said in the words of the
+//! serialization, both ways. The deterministic text is one and reads back. `docs/PROVED.md`, "Messages and PASSporTs", has the clauses.
+//!
+//! # Cases
+//!
+//! Section `tokens` of `crates/vectors/stdin`.
 #![tactic(auto)]
 
 mod compact;

@@ -1,13 +1,27 @@
-//! The law of replay, apart from all code: of the calls that break no other rule and have one ticket, exactly one
-//! passes, whatever the cut of the log into rounds and whatever is purged between them.
+//! The law of replay, apart from all code: of the calls that break no other rule and have one ticket exactly one passes.
 //!
-//! `specs/` says what a row, a settled round and legal rows are, in plain numbers. A function here does nothing: its
-//! clause is the law. Whoever needs the law calls the function, and has the clause.
+//! That holds whatever the cut of the log into rounds, and whatever is purged between them. It is this project's own rule.
+//!
+//! `specs/` says what a row, a settled round and legal rows are, in plain numbers: `Row`, `Round`, `Turn`, `Log`, and `Law` for the laws themselves.
+//! A function here does nothing: its clause is the law. Whoever needs the law calls the function, and then has the clause.
+//!
+//! ```rust
+//! legal_together();     // from here on: rounds that were settled one by one are legal together
+//! one_by_one();         // from here on: calls that were answered in turn settle their round
+//! ```
+//!
+//! - A round: [`one_turn_more`], [`one_by_one`], [`purged_alone`], [`same_is_one`].
+//! - A log of rounds: [`one_round_more`], [`more_rounds`], [`legal_together`], [`first_of_all`], [`replay_names_one`], [`one_answer`].
+//!
+//! What a ticket is, and that two different calls don't share one, isn't said here: the laws take it as a premise that `log_rounds` and `stir_cmd`
+//! name.
+//!
+//! All of it is proved, and there is nothing to test: `docs/PROVED.md`, "Rounds", has the laws.
 #![tactic(auto)]
 
 ghost use Rattle.replay_law.specs.Law.{LegalTogether, FirstOfAll, ReplayNamesOne, OneByOne, OneRoundMore, MoreRounds, PurgedAlone, OneTurnMore, SameIsOne, OneAnswer};
 
-/// Rounds that are settled one by one, from an empty past on, are legal together, where calls that pass are fresh,
+/// Rounds that are settled one by one, from an empty past on, are legal together, if calls that pass are fresh,
 /// moments don't fall and tickets are apart. So purging lets no ticket pass a second time.
 pub fn legal_together()
     ensures { LegalTogether }
@@ -18,12 +32,12 @@ pub fn one_by_one()
     ensures { OneByOne }
 {}
 
-/// Where this is so in each round, the first call of the whole log that passes with a ticket is the valid one.
+/// If this is so in each round, the first call of the whole log that passes with a ticket is the valid one.
 pub fn first_of_all()
     ensures { FirstOfAll }
 {}
 
-/// Where numbers rise, a replay names exactly one call of the log: the valid one of its ticket.
+/// If numbers rise, a replay names exactly one call of the log: the valid one of its ticket.
 pub fn replay_names_one()
     ensures { ReplayNamesOne }
 {}
@@ -38,23 +52,23 @@ pub fn one_turn_more()
     ensures { OneTurnMore }
 {}
 
-/// More rounds behind those that are settled, as those of a later run that was handed the past.
+/// More rounds after those that are settled, as those of a later run that was handed the past.
 pub fn more_rounds()
     ensures { MoreRounds }
 {}
 
-/// A past that is only purged is that of a round without calls: where memory was wanting for a round, and where a run
+/// A past that is only purged is that of a round without calls: if memory ran out for a round, and when a run
 /// hands its past on.
 pub fn purged_alone()
     ensures { PurgedAlone }
 {}
 
-/// Where the same is kept for each ticket, one past stands for the other.
+/// If the same is kept for each ticket, one past stands for the other.
 pub fn same_is_one()
     ensures { SameIsOne }
 {}
 
-/// Where the same calls are answered twice, legally and the first with its ticket first, each has one answer.
+/// If the same calls are answered twice, legally and the first with its ticket first, each has one answer.
 pub fn one_answer()
     ensures { OneAnswer }
 {}

@@ -1,4 +1,37 @@
-//! The head of a SIP message (RFC 3261, section 7): [`Message`] with its fields and telephone numbers.
+//! The head of a SIP message (RFC 3261, section 7): its start line and its header fields, and what they say of telephone numbers.
+//!
+//! # The way through
+//!
+//! [`Message::read`] takes the bytes of a message of at most [`MOST_BYTES`]. What it gives is a view into them, and is asked:
+//!
+//! - [`Message::is_invite`];
+//! - the numbers: [`Message::from_number`], [`Message::to_number`], [`Message::target_number`] (the request URI), [`Message::asserted_number`] (RFC
+//!   3325) and [`Message::calling_number`], which is the asserted one or else From's;
+//! - [`Message::date`], in Unix seconds;
+//! - the Identity header fields, as values: [`Message::identity_count`] and [`Message::identity`].
+//!
+//! [`with_field`] goes the other way: it puts one more header field into the bytes of a message, if [`is_addable`] and [`is_field_value`] allow it.
+//!
+//! ```rust
+//! let message = Message::read(alloc, bytes)?;               // MessageFault::Form has the kind of the fault and its offset
+//! let calling = message.calling_number(&local);             // None if the message gives none
+//! let signed = with_field(alloc, bytes, b"Identity", value)?;
+//! ```
+//!
+//! # What it isn't
+//!
+//! No parser of whole SIP: bodies aren't read, header fields other than those above are only split off, and a URI is taken apart as far as its
+//! number. An Identity value is read by `identity_header`.
+//!
+//! # What is proved
+//!
+//! A message is read just if the bytes are one, the first fault and its offset are said both ways, and each number is the one that the grammar of
+//! addresses and URIs gives. A field that was put in is read back as the last. `docs/PROVED.md`, "Messages and PASSporTs", has the clauses, and
+//! [`head_law`] and [`added_field_law`] are the laws for the crates above.
+//!
+//! # Cases
+//!
+//! Section `messages` of `crates/vectors/stdin`, and `signing.with_field` there.
 #![tactic(auto)]
 
 mod added;

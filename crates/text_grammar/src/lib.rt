@@ -1,5 +1,26 @@
-//! What the readers of text formats share: byte classes, URIs, numbers in decimal digits, a text cut in two, and in `specs/` and
-//! `proofs/` grammars, readers on lists, the laws that join them, and the pieces of a text that end at LF.
+//! What the readers of text formats share: byte classes, URIs, decimal numbers, a text cut in two, and grammars in proofs.
+//!
+//! Each function takes bytes and answers a value, or a view into the bytes; none takes memory.
+//!
+//! - One byte: [`is_blank`], [`is_name_byte`], [`is_visible`], [`is_uri_byte`], [`lower`].
+//! - A prefix of a text: [`blank_count`] and [`name_len`] count, [`skip_blanks`] and [`front`] cut. [`byte_at`], [`letter_at`], [`word_at`] and
+//!   [`some_at`] take what a format asks for, or answer a [`Stop`] with the text from where the reader can't go on.
+//! - A whole text: [`is_word`], [`read_number`], [`is_uri`].
+//! - A text in two: [`cut`] at the first such byte, [`behind`] after a prefix.
+//!
+//! ```rust
+//! assert_eq!(read_number(b"65535", 65_535), Some(65_535));
+//! assert_eq!(read_number(b"065535", 65_535), None);
+//! let Some((name, value)) = cut(b"ppt=shaken", b'=') else { .. };
+//! ```
+//!
+//! It knows no format: lines and words of the project's own files are in `text_file`, a message head in `sip_message`, an Identity value in
+//! `identity_header`. URIs aren't taken apart, only tested ([`is_uri`]: 1 to 2,048 bytes, this project's own rule).
+//!
+//! Proved: each function gives exactly what its list function in `specs/` gives. `specs/Grammar` has the pieces of which formats are put together,
+//! and `proofs/Laws` joins a grammar, its reader and the place of a fault. `docs/PROVED.md` lists them under "The outside, and texts".
+//!
+//! Cases: sections `text` and `tokens` (`tokens.is_uri`) of `crates/vectors/stdin`.
 #![tactic(auto)]
 
 mod decimal;
@@ -33,7 +54,7 @@ pub fn is_blank(byte: u8) -> bool
     matches!(byte, b' ' | b'\t')
 }
 
-/// Whether a byte may stand in a name: RFC 3261, section 25.1, `token`.
+/// Whether a byte may be in a name: RFC 3261, section 25.1, `token`.
 pub fn is_name_byte(byte: u8) -> bool
     ensures { result ≡ bytes.is_name_byte byte }
 {
@@ -47,7 +68,7 @@ pub fn is_visible(byte: u8) -> bool
     byte.is_ascii_graphic()
 }
 
-/// Whether a byte may stand in a uri: visible ASCII without `"`, `<`, `>` and backslash.
+/// Whether a byte may be in a URI: visible ASCII without `"`, `<`, `>` and backslash.
 pub fn is_uri_byte(byte: u8) -> bool
     ensures { result ≡ bytes.is_uri_byte byte }
 {
@@ -85,14 +106,14 @@ pub fn name_len(text: &[u8]) -> usize
     text.iter().take_while(|byte| is_name_byte(**byte)).count()
 }
 
-/// What stands behind the blanks that a text begins with.
+/// What follows the blanks that a text begins with.
 pub fn skip_blanks(text: &[u8]) -> &[u8]
     ensures { result.now ≡ reading.skip bytes.is_blank text.now }
 {
     &text[blank_count(text)..]
 }
 
-/// What stands behind this byte; a text that doesn't begin with it is refused.
+/// What follows this byte; a text that doesn't begin with it is refused.
 pub fn byte_at(byte: u8, text: &[u8]) -> Result<&[u8], Stop<'_>>
     ensures { Gives slice_view result (reading.byte_at byte text.now) }
 {
@@ -102,7 +123,7 @@ pub fn byte_at(byte: u8, text: &[u8]) -> Result<&[u8], Stop<'_>>
     }
 }
 
-/// What stands behind this letter, in either case; the letter is given as a small one.
+/// What follows this letter, in either case; the letter is given as a small one.
 pub fn letter_at(letter: u8, text: &[u8]) -> Result<&[u8], Stop<'_>>
     ensures { Gives slice_view result (reading.letter_at letter text.now) }
 {
@@ -112,7 +133,7 @@ pub fn letter_at(letter: u8, text: &[u8]) -> Result<&[u8], Stop<'_>>
     }
 }
 
-/// What stands behind this word, in letters of either case; the word is given in small letters.
+/// What follows this word, in letters of either case; the word is given in small letters.
 pub fn word_at<'a>(word: &[u8], text: &'a [u8]) -> Result<&'a [u8], Stop<'a>>
     ensures { Gives slice_view result (reading.word_at word.now text.now) }
 {
@@ -135,7 +156,7 @@ pub fn front(text: &[u8], most: usize) -> &[u8]
     }
 }
 
-/// The first bytes of a text, and what stands behind them; none are refused.
+/// The first bytes of a text, and what follows them; none are refused.
 pub fn some_at(count: usize, text: &[u8]) -> Result<(&[u8], &[u8]), Stop<'_>>
     requires { count ≤ length text.now }
     ensures { Gives split_view result (reading.some_at count text.now) }

@@ -1,5 +1,43 @@
-//! The rules by which a call is judged (RFC 8224, section 6.2): [`screen`] tries rules 1 to 9 on what the call itself says, before any
-//! certificate is looked at, and [`finish`] rules 10 to 17 over the certificate chains of its PASSporTs.
+//! The rules by which a verification service judges a call (RFC 8224, section 6.2), without replay: rules 1 to 17 of the report.
+//!
+//! # The way through
+//!
+//! ```text
+//! the bytes of a message
+//!    | screen                     rules 1 to 9: what the call itself says, before any certificate is looked at
+//!    v
+//! Screened                        the PASSporTs in the order in which the call went, their digests, the ticket of the last
+//!    | finish, over Chains        rules 10 to 17: what is known of the chain of each PASSporT, as a ChainState
+//!    v
+//! Verdict                         Passed, Refused with the first broken rule and its place, Unread or Unasked
+//! ```
+//!
+//! - [`Settings`] are told once: how numbers are read, and how long a PASSporT is fresh.
+//! - A [`Refusal`] has the number of the rule and the [`Place`]: the Identity field and a part of it. [`code`] gives the response code of a rule.
+//! - [`covers_passport`] is rule 17 by itself: whether the leaf's list covers what a PASSporT speaks for.
+//!
+//! ```rust
+//! match screen(alloc, call.message(), call.moment(), &settings) {
+//!     Ok(screened) => finish(&screened, &chains, call.moment(), &table, &mut provider),
+//!     Err(ScreenFault::Refused(refusal)) => Verdict::Refused(refusal),
+//!     Err(ScreenFault::Memory) => ..,
+//! }
+//! ```
+//!
+//! # What it isn't
+//!
+//! Rule 18, on replay, looks at other calls: it is the work of `verify_service` and `replay_desk`. Chains are handed in, not read: `cert_store`
+//! judges them. No response is sent: a code is a number in a report.
+//!
+//! # What is proved
+//!
+//! A call is refused exactly with the first rule that it breaks, at the first place at which it is broken; the same is said of each rule in the
+//! standard's own words, both ways. `docs/RULES.md` has the rules with their codes, places and sections, and `docs/PROVED.md`, "The rules", the
+//! clauses. The laws re-exported here are what the crates above cite.
+//!
+//! # Cases
+//!
+//! Sections `rules` and `verdicts` of `crates/vectors/stdin`; whole logs in `tests/cli/verify.rows`.
 #![tactic(auto)]
 
 mod asking;

@@ -1,10 +1,45 @@
-//! The verification service (RFC 8224, section 6.2): [`Service::round`] judges the calls of a round over what a shelf of files, the trust
-//! anchors, a code table and a provider of signatures say, and lets each PASSporT by which calls are known again pass one of them.
+//! The verification service (RFC 8224, section 6.2): it judges the calls of a round, and lets each PASSporT pass one call.
 //!
-//! A round first judges each call by itself, by all rules but the one on replay; then it settles, in the order of the calls, which of those
-//! that pass are replays of an earlier one. The calls come from a log, by [`LogReader`]; [`report_line`] writes what came of one.
+//! # The way through
 //!
-//! [`judge_call`] judges a call by itself, without the calls around it, and [`chain_in`] reads one chain.
+//! ```text
+//! the calls of a round, 1 to 256
+//!    | Service::prepare     rules 1 to 9; a class for each ticket; the chains that are needed, read and judged once; all that takes memory
+//!    v
+//! Prepared
+//!    | Service::carry       1 to 8 workers, each in a thread of its own: rules 10 to 17, then the past, then a claim on the desk
+//!    v
+//! Carried                   an Outcome for each call   --report_line-->   the lines of the report
+//! ```
+//!
+//! - [`Service::new`] takes the settings and the [`World`] (chain map, anchors, code table). [`Service::round`] is `prepare` and then `carry`.
+//! - A [`Worker`] is a provider of signatures and a gate. Their providers say the same.
+//! - [`Service::judge`] judges a call of a prepared round, for a caller with threads of its own.
+//! - [`judge_call`] judges a call by itself, without the calls around it, and gives a [`Finding`]; [`chain_in`] reads one chain.
+//!
+//! ```rust
+//! let mut service = Service::new(alloc, settings, world)?;
+//! let carried = service.round(&rt, alloc, &mut shelf, &mut workers, &calls)?;
+//! for outcome in carried.outcomes() {
+//!     // Valid, Refused(refusal), Replay { winner }, Unread(place) or Unasked(place)
+//! }
+//! ```
+//!
+//! The service holds up to 4,096 judged chains, and the past of tickets, from round to round.
+//!
+//! # What it isn't
+//!
+//! It reads no log and writes nothing: `log_rounds` and `log_run` do. The rules themselves are in `verify_rules`, and the claims in `replay_desk`.
+//!
+//! # What is proved
+//!
+//! Each outcome is what the rules say of its call in the world of the files and the signatures. Of the calls that pass with one ticket one is valid,
+//! and each other a replay of it, whatever the workers do at once. A call is set aside no more often than reads or questions failed. If memory runs
+//! out, that is before the first claim. `docs/PROVED.md`, "Rounds", has the clauses, and `docs/ARCHITECTURE.md` the way of a round in detail.
+//!
+//! # Cases
+//!
+//! Sections `rounds` and `workers` of `crates/vectors/stdin`; whole logs in `tests/cli/verify.rows`.
 #![tactic(auto)]
 
 mod carried;
