@@ -39,7 +39,7 @@ enum {
 
 /* Which input is a bad one: `input`, where `kind` is STIR_BAD_INPUT. They are looked at in this order. */
 enum {
-    STIR_SETTINGS = 1, /* the window is more than 86,400 seconds, or there is no such local numbering */
+    STIR_SETTINGS = 1, /* past or future is more than 86,400 seconds, or there is no such local numbering */
     STIR_LISTED = 2,   /* the lines are no chain map, or more than 16,777,216 bytes */
     STIR_CHAINS = 3,   /* there are more than nine */
     STIR_ANCHORS = 4,  /* they aren't certificates of authorities one after another, or more than 256 */
@@ -69,7 +69,8 @@ uint64_t stir_abi(void);
  * STIR_REFUSED) is what comes of the call if the verifier confirms every line: then nothing else has to be called. If he doesn't, stir_judge tells
  * by those that he does confirm.
  *
- * window         how many seconds the moment and the iat of a PASSporT may be apart, at most 86,400
+ * past           how many seconds the moment may be after the iat of a PASSporT, and
+ * future         how many the iat may be after the moment; at most 86,400 each
  * country        the digits of the own country, 1 to 3, and
  * national       how many digits a number in it has, 1 to 14
  * moment         when the call came, in Unix seconds
@@ -80,7 +81,7 @@ uint64_t stir_abi(void);
  * table          lines of a code table (docs/FORMATS.md); those on the codes in the chains are enough
  * room           where the lines go
  */
-stir_said stir_ask(uint64_t window, const uint8_t *country, size_t country_size, uint8_t national, uint64_t moment,
+stir_said stir_ask(uint64_t past, uint64_t future, const uint8_t *country, size_t country_size, uint8_t national, uint64_t moment,
                    const uint8_t *message, size_t message_size, const uint8_t *listed, size_t listed_size,
                    const uint8_t *chains, size_t chains_size, const size_t *sizes, size_t sizes_count,
                    const uint8_t *anchors, size_t anchors_size, const uint8_t *table, size_t table_size,
@@ -90,7 +91,7 @@ stir_said stir_ask(uint64_t window, const uint8_t *country, size_t country_size,
  * Judges a call by rules 1 to 17. The inputs are those of stir_ask; `answers` has the lines of it that the verifier confirmed. STIR_PASSES with a
  * ticket and its last second, or STIR_REFUSED with the first rule that is broken.
  */
-stir_said stir_judge(uint64_t window, const uint8_t *country, size_t country_size, uint8_t national, uint64_t moment,
+stir_said stir_judge(uint64_t past, uint64_t future, const uint8_t *country, size_t country_size, uint8_t national, uint64_t moment,
                      const uint8_t *message, size_t message_size, const uint8_t *listed, size_t listed_size,
                      const uint8_t *chains, size_t chains_size, const size_t *sizes, size_t sizes_count,
                      const uint8_t *anchors, size_t anchors_size, const uint8_t *table, size_t table_size,

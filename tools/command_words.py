@@ -25,7 +25,8 @@ VALUES = {
     'seed': Value('a number below 2^64', r'0|[1-9][0-9]{0,19}', 2**64 - 1),
     'count': Value('how many calls are made, at most 100000', NUMBER, 100_000),
     'size': Value('how many slots a level has, 1 to 1048576', r'[1-9][0-9]{0,6}', 1_048_576),
-    'window': Value('how many seconds a PASSporT is fresh, at most 86400', NUMBER, 86_400),
+    'past': Value('how many seconds old a PASSporT may be, at most 86400', NUMBER, 86_400),
+    'future': Value('how many seconds a PASSporT may be ahead, at most 86400', NUMBER, 86_400),
     'country': Value('1 to 3 digits', r'[0-9]{1,3}'),
     'national': Value('how many digits a national number has, 1 to 14', r'[1-9][0-9]?', 14),
     'key': Value('the name of a key, 1 to 64 visible characters without ; , " < > \\', r'[!#-+\--:=?-\[\]-~]{1,64}'),
@@ -37,6 +38,7 @@ VALUES = {
     'earlier': Value('a telephone number, 1 to 15 of 0-9 * #', r'[0-9*#]{1,15}'),
 }
 
+FRESH = ('past', 'future')
 NUMBERING = ('country', 'national')
 JUDGED = ('chains', 'anchors', 'table')
 SIGNED = ('key', 'x5u', 'iat', 'answers')
@@ -44,15 +46,18 @@ HOLDER = ('leaf', 'table', *NUMBERING)
 
 # The commands, one a line: the options that have to stand, and those that may.
 COMMANDS = {
-    'verify': ((*JUDGED, 'answers'), ('workers', 'window', *NUMBERING)),
-    'explain': ((*JUDGED, 'answers'), ('window', *NUMBERING)),
-    'ask': (JUDGED, ('window', *NUMBERING)),
+    'verify': ((*JUDGED, 'answers'), ('workers', *FRESH, *NUMBERING)),
+    'explain': ((*JUDGED, 'answers'), (*FRESH, *NUMBERING)),
+    'ask': (JUDGED, (*FRESH, *NUMBERING)),
     'sign': ((*SIGNED, 'form'), ('attest', 'origid', *HOLDER)),
     'divert': ((*SIGNED, 'earlier'), HOLDER),
     'show': ((), ()),
     'drill': (('seed', 'count'), ('workers',)),
     'once': (('size',), ('workers',)),
 }
+
+# Options that were taken once, and what is in their place.
+GONE = {'window': '--past and --future are in its place'}
 
 # The most digits of a country and a national number together.
 MOST_DIGITS = 15
@@ -81,7 +86,7 @@ def options(command, words):
             raise Refused(f'{shown(word)!r} is no option: an option is --NAME=VALUE, or --NAME and a value')
         if name not in names:
             others = [other for other, (must, may) in COMMANDS.items() if name in must + may]
-            of = f'; it is one of {", ".join(others)}' if others else like(name, names)
+            of = f'; it is one of {", ".join(others)}' if others else f'; {GONE[name]}' if name in GONE else like(name, names)
             raise Refused(f'--{shown(name)} is no option of {command}{of}')
         if not is_joined:
             value = next(rest, '')

@@ -32,14 +32,14 @@ pub const ABI: u64 = 1;
 extern "C" {
     fn stir_abi() -> u64;
     fn stir_ask(
-        window: u64, country: *const u8, country_size: usize, national: u8, moment: u64,
+        past: u64, future: u64, country: *const u8, country_size: usize, national: u8, moment: u64,
         message: *const u8, message_size: usize, listed: *const u8, listed_size: usize,
         chains: *const u8, chains_size: usize, sizes: *const usize, count: usize,
         anchors: *const u8, anchors_size: usize, table: *const u8, table_size: usize,
         out: *mut u8, room: usize,
     ) -> Said;
     fn stir_judge(
-        window: u64, country: *const u8, country_size: usize, national: u8, moment: u64,
+        past: u64, future: u64, country: *const u8, country_size: usize, national: u8, moment: u64,
         message: *const u8, message_size: usize, listed: *const u8, listed_size: usize,
         chains: *const u8, chains_size: usize, sizes: *const usize, count: usize,
         anchors: *const u8, anchors_size: usize, table: *const u8, table_size: usize,
@@ -47,10 +47,11 @@ extern "C" {
     ) -> Said;
 }
 
-/// How calls are judged: how old a PASSporT may be, in seconds, and the local numbering.
+/// How calls are judged: how old a PASSporT may be, and how far ahead, in seconds; and the local numbering.
 #[derive(Clone, Debug)]
 pub struct Rules {
-    pub window: u64,
+    pub past: u64,
+    pub future: u64,
     pub country: String,
     pub national: u8,
 }
@@ -74,7 +75,7 @@ pub fn abi() -> u64 {
 pub fn ask(rules: &Rules, moment: u64, message: &[u8], by: &Materials, anchors: &[u8], out: &mut Vec<u8>) -> Said {
     with_room(out, |at, room| unsafe {
         stir_ask(
-            rules.window, rules.country.as_ptr(), rules.country.len(), rules.national, moment,
+            rules.past, rules.future, rules.country.as_ptr(), rules.country.len(), rules.national, moment,
             message.as_ptr(), message.len(), by.listed.as_ptr(), by.listed.len(),
             by.chains.as_ptr(), by.chains.len(), by.sizes.as_ptr(), by.sizes.len(),
             anchors.as_ptr(), anchors.len(), by.table.as_ptr(), by.table.len(), at, room,
@@ -86,7 +87,7 @@ pub fn ask(rules: &Rules, moment: u64, message: &[u8], by: &Materials, anchors: 
 pub fn judge(rules: &Rules, moment: u64, message: &[u8], by: &Materials, anchors: &[u8], answers: &[u8]) -> Said {
     unsafe {
         stir_judge(
-            rules.window, rules.country.as_ptr(), rules.country.len(), rules.national, moment,
+            rules.past, rules.future, rules.country.as_ptr(), rules.country.len(), rules.national, moment,
             message.as_ptr(), message.len(), by.listed.as_ptr(), by.listed.len(),
             by.chains.as_ptr(), by.chains.len(), by.sizes.as_ptr(), by.sizes.len(),
             anchors.as_ptr(), anchors.len(), by.table.as_ptr(), by.table.len(), answers.as_ptr(), answers.len(),

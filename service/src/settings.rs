@@ -5,7 +5,8 @@ use std::time::Duration;
 
 pub const USAGE: &str = "usage: stird --chains FILE --anchors FILE --table FILE [OPTION VALUE]..
   --listen HOST:PORT    where to listen (127.0.0.1:8080)
-  --window SECONDS      how far the moment of a call and its iat may be apart (60)
+  --past SECONDS        how old a PASSporT may be (60), and
+  --future SECONDS      how far its iat may be ahead (5)
   --country DIGITS      the own country (1), and
   --national COUNT      how many digits a number in it has (10)
   --moments clock|asked the moment of a call: the clock's (clock), or what X-Moment or time say (asked)
@@ -45,7 +46,7 @@ pub fn read(words: &[String]) -> Result<Settings, String> {
         chains: PathBuf::new(),
         anchors: PathBuf::new(),
         table: PathBuf::new(),
-        rules: Rules { window: 60, country: "1".into(), national: 10 },
+        rules: Rules { past: 60, future: 5, country: "1".into(), national: 10 },
         asked_moments: false,
         journal: None,
         sync: true,
@@ -82,7 +83,8 @@ fn take(settings: &mut Settings, name: &str, value: &str) -> Result<(), String> 
         "--chains" => settings.chains = value.into(),
         "--anchors" => settings.anchors = value.into(),
         "--table" => settings.table = value.into(),
-        "--window" => settings.rules.window = number(name, value, 0, 86_400)?,
+        "--past" => settings.rules.past = number(name, value, 0, 86_400)?,
+        "--future" => settings.rules.future = number(name, value, 0, 86_400)?,
         "--country" => settings.rules.country = value.into(),
         "--national" => settings.rules.national = number(name, value, 1, 14)? as u8,
         "--moments" => settings.asked_moments = choice(name, value, ["clock", "asked"])?,
@@ -124,12 +126,12 @@ mod tests {
     fn three_files_are_enough_and_the_door_is_the_loopback() {
         let settings = of("--chains a --anchors b --table c").unwrap();
         assert_eq!(settings.listen, "127.0.0.1:8080");
-        assert_eq!((settings.rules.window, settings.sync, settings.asked_moments), (60, true, false));
+        assert_eq!((settings.rules.past, settings.rules.future, settings.sync, settings.asked_moments), (60, 5, true, false));
     }
 
     #[test]
     fn words_that_cant_be_taken_are_named() {
-        for words in ["", "--chains a --anchors b", "--chains a --anchors b --table c --window 86401", "--chains a --chains a --anchors b --table c",
+        for words in ["", "--chains a --anchors b", "--chains a --anchors b --table c --past 86401", "--chains a --chains a --anchors b --table c",
             "--chains a --anchors b --table c --journal j --redis r", "--chains a --anchors b --table c --sync maybe", "--chains a --anchors b --table c --listen"] {
             assert!(of(words).is_err(), "{words}");
         }

@@ -84,7 +84,7 @@ def judged(stir, moment, message, listed, chain, anchors, table):
     sizes = (ctypes.c_size_t * 1)(len(chain))
     room = ctypes.create_string_buffer(16384)
     given = (
-        ctypes.c_uint64(60), *bytes_of(b"1"), ctypes.c_uint8(10), ctypes.c_uint64(moment), *bytes_of(message), *bytes_of(listed),
+        ctypes.c_uint64(60), ctypes.c_uint64(5), *bytes_of(b"1"), ctypes.c_uint8(10), ctypes.c_uint64(moment), *bytes_of(message), *bytes_of(listed),
         *bytes_of(chain), sizes, ctypes.c_size_t(1), *bytes_of(anchors), *bytes_of(table),
     )
     said = stir.stir_ask(*given, room, ctypes.c_size_t(len(room)))

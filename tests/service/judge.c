@@ -25,12 +25,12 @@ static bytes read_file(const char *name) {
 static const uint8_t country[] = {'1'};
 
 static stir_said judge(uint64_t moment, bytes message, bytes listed, bytes chain, bytes anchors, bytes table, bytes answers) {
-    return stir_judge(60, country, 1, 10, moment, message.at, message.size, listed.at, listed.size, chain.at, chain.size, &chain.size, 1,
+    return stir_judge(60, 5, country, 1, 10, moment, message.at, message.size, listed.at, listed.size, chain.at, chain.size, &chain.size, 1,
                       anchors.at, anchors.size, table.at, table.size, answers.at, answers.size);
 }
 
 static stir_said ask(uint64_t moment, bytes message, bytes listed, bytes chain, bytes anchors, bytes table, uint8_t *room, size_t size) {
-    return stir_ask(60, country, 1, 10, moment, message.at, message.size, listed.at, listed.size, chain.at, chain.size, &chain.size, 1,
+    return stir_ask(60, 5, country, 1, 10, moment, message.at, message.size, listed.at, listed.size, chain.at, chain.size, &chain.size, 1,
                     anchors.at, anchors.size, table.at, table.size, room, size);
 }
 

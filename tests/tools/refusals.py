@@ -24,8 +24,9 @@ SAID = {
     'ask --chains=c --chains d': '--chains stands twice',
     'ask --chains -c --anchors=a --table=t': '--chains has no value: -c begins with -; --chains=-c hands it on',
     'ask --chains=c --anchors=a --table=': '--table has no value: it is the name of a file',
-    'verify --chains=c --anchors=a --table=t --answers=w --window=060':
-        '--window is \'060\', and must be how many seconds a PASSporT is fresh, at most 86400',
+    'verify --chains=c --anchors=a --table=t --answers=w --past=060':
+        '--past is \'060\', and must be how many seconds old a PASSporT may be, at most 86400',
+    'verify --chains=c --anchors=a --table=t --answers=w --window=60': '--window is no option of verify; --past and --future are in its place',
     'verify --chains=c --anchors=a --table=t --answers=w --country=44 --national=14':
         '--country and --national have more than 15 digits together; --national is 10 where it isn\'t given',
     'sign --key=k --x5u=u --iat=0 --form=base --answers=w --leaf=l': '--leaf and --table stand both or neither',

@@ -161,9 +161,9 @@ def rows_of_messages():
     yield comment("What comes out is judged.")
     for text, ppt, signature in COME_OUT:
         message = escaped(PLAIN + line_of(text, "passport", ppt, signature) + b"\r\n")
-        yield (f"rules.screen 1 10 60 {IAT} {message}", f"screened 1 {IAT + 60} x:{digest(text)}")
-        yield (f"rules.screen 1 10 60 {IAT + 61} {message}", "refused 403 9 1 0")
-    yield (f"rules.screen 1 10 60 {IAT} {escaped(DATED + compact + crlf())}", f"screened 1 {IAT + 60} x:{digest(BASE)}")
+        yield (f"rules.screen 1 10 60 5 {IAT} {message}", f"screened 1 {IAT + 60} x:{digest(text)}")
+        yield (f"rules.screen 1 10 60 5 {IAT + 61} {message}", "refused 403 9 1 0")
+    yield (f"rules.screen 1 10 60 5 {IAT} {escaped(DATED + compact + crlf())}", f"screened 1 {IAT + 60} x:{digest(BASE)}")
     yield ("", "")
 
     yield comment("1: no message, another method, another Date or none in the compact form, also where a number is missing; and a message that gets too long,")
@@ -234,8 +234,8 @@ def rows_of_messages():
     yield comment("Diverted once and again it breaks none of rules 1 to 8.")
     twice = START % 5 + FIELDS + QUOTED + LENGTH + line_of(DIV, "div", "div", ZEROS)
     yield divert("12125551214", escaped(twice + b"\r\n"), "1 ok " + escaped(twice + line_of(SECOND, "div", "div", ONES) + b"\r\n"))
-    yield (f"rules.screen 1 10 60 {IAT} {escaped(ONCE + crlf())}", f"screened 1 2 {IAT + 60} x:{digest(DIV)}")
-    yield (f"rules.screen 1 10 60 {IAT} {escaped(twice + line_of(SECOND, 'div', 'div', ONES) + crlf())}", f"screened 1 2 3 {IAT + 60} x:{digest(SECOND)}")
+    yield (f"rules.screen 1 10 60 5 {IAT} {escaped(ONCE + crlf())}", f"screened 1 2 {IAT + 60} x:{digest(DIV)}")
+    yield (f"rules.screen 1 10 60 5 {IAT} {escaped(twice + line_of(SECOND, 'div', 'div', ONES) + crlf())}", f"screened 1 2 3 {IAT + 60} x:{digest(SECOND)}")
 
 
 def crlf():

@@ -43,7 +43,7 @@ TAKES = {
     "seed": number_up_to(LAST_SEED),
     "count": number_up_to(MOST_CALLS),
     "size": lambda value: re.fullmatch(NUMBER, value) and 1 <= int(value) <= MOST_SLOTS,
-    "window": number_up_to(86400),
+    **dict.fromkeys(("past", "future"), number_up_to(86400)),
     "country": matches(rb"[0-9]{1,3}"),
     "national": matches(NUMBER),
     "key": matches(BARE_BYTES + rb"{1,64}"),
@@ -58,7 +58,7 @@ TAKES = {
 
 # The options of each command: those that must stand, and those that may.
 JUDGING = ("chains", "anchors", "table", "answers")
-SETTINGS = ("window", "country", "national")
+SETTINGS = ("past", "future", "country", "national")
 SIGNING = ("key", "x5u", "iat", "answers")
 HOLDER = ("leaf", "table", "country", "national")
 COMMANDS = {
@@ -126,7 +126,7 @@ def answer(words):
         return "refused"
     command, values = found
     local = [values.get("country", b"1"), values.get("national", b"10")]
-    judging = [*(values.get(name) for name in JUDGING), values.get("window", b"60"), *local]
+    judging = [*(values.get(name) for name in JUDGING), values.get("past", b"60"), values.get("future", b"5"), *local]
     signing = [*(values.get(name) for name in ("key", "x5u", "iat")), *local, values.get("answers"), values.get("leaf", b"-"), values.get("table", b"-")]
     said = {
         "verify": [*judging, values.get("workers", b"1")],
@@ -150,7 +150,8 @@ GOOD = {
     "seed": (b"0", b"7", b"9223372036854775808", b"18446744073709551614", b"18446744073709551615"),
     "count": (b"0", b"1", b"16", b"255", b"256", b"257"),
     "size": (b"1", b"2", b"4", b"1048575", b"1048576"),
-    "window": (b"0", b"1", b"60", b"86399", b"86400"),
+    "past": (b"0", b"1", b"60", b"86399", b"86400"),
+    "future": (b"0", b"5", b"6", b"86399", b"86400"),
     "country": (b"0", b"9", b"01", b"44", b"000", b"999"),
     "national": (b"1", b"2", b"9", b"11", b"12"),
     "key": (b"k", b"-", b"k1", 63 * b"k", 64 * b"k", b"!#$%&'()*+-./", b":=?@[]^_`{|}~", b"0*#"),
@@ -166,7 +167,7 @@ BAD = {
     "count": (b"100001", b"1000000", b"4294967296", b"4294967297", b"18446744073709551616", b"", *NO_NUMBERS),
     "size": (b"0", b"1048577", b"10485760", b"4294967297", b"18446744073709551617", b"", *NO_NUMBERS),
     "workers": (b"0", b"9", b"10", b"08", b"256", b"257", b"18446744073709551617", b"", *NO_NUMBERS),
-    "window": (b"86401", b"100000", b"18446744073709551616", 40 * b"9", *NO_NUMBERS),
+    **dict.fromkeys(("past", "future"), (b"86401", b"100000", b"18446744073709551616", 40 * b"9", *NO_NUMBERS)),
     "country": (b"1000", b"0001", b"+1", b"-1", b"1 ", b"4*", b"#", b"", b"x", "\u0661".encode()),
     "national": (b"0", b"15", b"16", b"255", b"256", b"266", b"9=x", b"4294967306", b"18446744073709551626", *NO_NUMBERS),
     "key": (65 * b"k", 66 * b"k", b"k;", b"k,", *(b"k" + byte for byte in OUTSIDE_URI)),
@@ -189,7 +190,7 @@ def plain(command):
 
 def whole(command):
     """Values for all options of the command."""
-    more = {"workers": b"3", "window": b"5", "country": b"44", "national": b"11", "leaf": b"l", "table": b"t", "attest": b"A", "origid": UUID}
+    more = {"workers": b"3", "past": b"30", "future": b"7", "country": b"44", "national": b"11", "leaf": b"l", "table": b"t", "attest": b"A", "origid": UUID}
     values = plain(command) | {name: more[name] for name in COMMANDS[command][1]}
     return values | {"form": b"shaken"} if command == "sign" else values
 
@@ -230,7 +231,7 @@ def commands():
     for first in ("", "Verify", "VERIFY", "verif", "verify ", "verify=", "drills", "sign,divert", "help", "--help", "--version", "-h", "-", "--",
                   "--verify"):
         yield [first.encode(), *command_line("verify", plain("verify"))[1:]]
-    strays = ("--ch\u00e4ins=c", "--", "--help", "--version", "-h", "-V", "-", "c", "", "--=c", "--help=1", "---", "--workers=1")
+    strays = ("--ch\u00e4ins=c", "--", "--help", "--version", "-h", "-V", "-", "c", "", "--=c", "--help=1", "---", "--workers=1", "--window=60")
     for command in COMMANDS:
         words = command_line(command, plain(command))
         yield words
@@ -341,7 +342,7 @@ class Drawn:
         values = self.some(command)
         kind = int(self.random() * 4)
         if kind == 0:
-            name = self.of([name for name in values if name in BAD] or ["window"])
+            name = self.of([name for name in values if name in BAD] or ["past"])
             values[name] = self.of(BAD[name])
         words = self.words(command, values)
         place = 1 + int(self.random() * (len(words) - 1))
@@ -362,11 +363,11 @@ def drawn(seed, count):
 
 
 SECTIONS = (
-    (commands, "`tests/vectors/words.py` prints the lines from here up to `files`. `verify` answers its four files, the window, the country, the length",
-     "of a national number and the workers; `explain` the same without the workers, and `ask` without the answers besides. `sign` answers the form,",
-     "with the attestation and the identifier after `shaken`, `divert` the earlier number, and both then the name of the key, the URI, the second,",
-     "the country and the length of a national number, the file of the answers, and the holder's two files or `- -`. `drill` answers the seed,",
-     "the count and the workers, `once` the slots of a level and the workers.",
+    (commands, "`tests/vectors/words.py` prints the lines from here up to `files`. `verify` answers its four files, how many seconds old and ahead a",
+     "PASSporT may be, the country, the length of a national number and the workers; `explain` the same without the workers, and `ask` without the",
+     "answers besides. `sign` answers the form, with the attestation and the identifier after `shaken`, `divert` the earlier number, and both then",
+     "the name of the key, the URI, the second, the country and the length of a national number, the file of the answers, and the holder's two",
+     "files or `- -`. `drill` answers the seed, the count and the workers, `once` the slots of a level and the workers.",
      "What a command is; words that are nobody's option; and each command with the options that it requires, and with all."),
     (options, "Each option of each command: absent, twice, empty; by turns without a value, with one that begins with `-`, shortened, in capitals, with",
      "other dashes, with a letter more; and options of other commands."),

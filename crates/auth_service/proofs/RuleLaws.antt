@@ -1,6 +1,5 @@
 -- A message that was signed breaks none of rules 1 to 9 at its next hop, and not rule 16 where its signature is confirmed.
-use Rattle.std.proofs.Common.{◌≡◌, ℕ, ◌≤◌, nat_lt, true, false, List, [], ◌∷◌, ◌++◌, codes, Option, Some, None, Ok, refl, sym, ap, subst, ◌∙◌, arith}
-use Rattle.std.specs.Int.{abs_diff}
+use Rattle.std.proofs.Common.{◌≡◌, ℕ, ◌+◌, ◌≤◌, nat_lt, true, false, List, [], ◌∷◌, ◌++◌, codes, Option, Some, None, Ok, refl, sym, ap, subst, ◌∙◌, arith}
 use Rattle.std.specs.Option.{option_or}
 use Rattle.std.proofs.lemmas.Bool.Decides.{nat_tests}
 use Rattle.lists.proofs.Bytes.{same_bytes}
@@ -104,9 +103,12 @@ no_links : (claims : ClaimsView) (dest : List ℕ) (called : Option (List ℕ)) 
 unfolding order_of first_from undiverted
 no_links claims dest called d c = rw (d, c, same_bytes dest) refl
 
-is_fresh : (window moment : ℕ) (r : Reading) → abs_diff moment r.passport.iat ≤ window → ◌≡◌ {A = Option Place} (stale window moment r) None
+is_fresh : (settings : Settings) (moment : ℕ) (r : Reading) → moment ≤ r.passport.iat + settings.past → r.passport.iat ≤ moment + settings.future
+    → ◌≡◌ {A = Option Place} (stale settings moment r) None
 unfolding stale
-is_fresh window moment r h = let e : nat_lt window (abs_diff moment r.passport.iat) ≡ false = grind (arith, nat_tests) in rw e refl
+is_fresh settings moment r old early =
+    let low : nat_lt (r.passport.iat + settings.past) moment ≡ false = grind (arith, nat_tests) in
+    let high : nat_lt (moment + settings.future) r.passport.iat ≡ false = grind (arith, nat_tests) in rw (low, high) refl
 
 -- ---- what the call is
 
@@ -179,14 +181,15 @@ by_message : (message : MessageView) → is_invite message ≡ true → IsNone (
 by_message message e = rw e refl
 
 holds_all : (call : Call) (order : SignOrder) (message : MessageView) (value text orig dest : List ℕ) (r : Reading) → Hop call order message value text orig dest r
-    → abs_diff call.moment order.iat ≤ call.settings.window → HoldAll early_rules call
-holds_all call order message value text orig dest r h fresh =
+    → call.moment ≤ order.iat + call.settings.past → order.iat ≤ call.moment + call.settings.future → HoldAll early_rules call
+holds_all call order message value text orig dest r h old early =
     let field : Parts = signed_parts order.form text order.x5u.now in
-    let near : abs_diff call.moment r.passport.iat ≤ call.settings.window = subst (λ (n : ℕ). abs_diff call.moment n ≤ call.settings.window) (sym h.issued) fresh in
+    let not_old : call.moment ≤ r.passport.iat + call.settings.past = subst (λ (n : ℕ). call.moment ≤ n + call.settings.past) (sym h.issued) old in
+    let not_early : r.passport.iat ≤ call.moment + call.settings.future = subst (λ (n : ℕ). n ≤ call.moment + call.settings.future) (sym h.issued) early in
     let unread_none = good_at order.local message (one field) r h.read_field_as in
     let calls : (facts call).calling ≡ Some r.passport.orig = ap (λ f. f.calling) h.says ∙ h.calling ∙ ap (λ (x : List ℕ). Some x) (sym h.from) in
     let other_none = not_other (facts call).calling r calls in
-    let stale_none = is_fresh call.settings.window call.moment r near in
+    let stale_none = is_fresh call.settings call.moment r not_old not_early in
     let first_rule : Holds rule_1 call = ap no_invite h.read_as ∙ by_message (with_last message field_name value) h.method in
     let second_rule : Holds rule_2 call = ap no_identity h.values in
     let third_rule : Holds rule_3 call = ap (bad_field 1) h.values ∙ good_field value field h.field_read in
@@ -196,7 +199,7 @@ holds_all call order message value text orig dest r h fresh =
     ap (each (unreadable (facts call))) h.judged ∙ ap (λ f. each (unreadable f) (one field ∷ [])) h.says ∙ ap (λ (x : Option Place). option_or x None) unread_none in
     let seventh_rule : Holds rule_7 call = ap (each (other_calling (facts call).calling)) h.readings ∙ ap (λ (x : Option Place). option_or x None) other_none in
     let eighth_rule : Holds rule_8 call = ap (no_order (in_message call)) h.turn in
-    let ninth_rule : Holds rule_9 call = ap (each (stale call.settings.window call.moment)) h.chain ∙ ap (λ (x : Option Place). option_or x None) stale_none in
+    let ninth_rule : Holds rule_9 call = ap (each (stale call.settings call.moment)) h.chain ∙ ap (λ (x : Option Place). option_or x None) stale_none in
     (first_rule, (second_rule, (third_rule, (fourth_rule, (fifth_rule, (sixth_rule, (seventh_rule, (eighth_rule, (ninth_rule, tt)))))))))
 
 pub first_none : (rules : List Rule) (call : Call) → HoldAll rules call → first rules call ≡ None
@@ -220,7 +223,7 @@ not_forged world r c = good_state world r (truth_for world r) c refl
 pub signed_holds : HeadLaw → AddedLaws → (bytes : List ℕ) (order : SignOrder) (holder : Option HolderView) (signs : List ℕ → List ℕ → Option (List ℕ)) (out : List ℕ) (settings : Settings)
     (moment : ℕ) (s : IsSigned bytes (view_of order) holder signs out) → IsFirstHop s.message (view_of order) settings moment → HoldAll early_rules (call_of settings moment out)
 signed_holds head laws bytes order holder signs out settings moment s h =
-    holds_all (call_of settings moment out) order s.message _ _ s.orig s.dest _ (hop head laws bytes order holder signs out settings moment s h) h.fresh
+    holds_all (call_of settings moment out) order s.message _ _ s.orig s.dest _ (hop head laws bytes order holder signs out settings moment s h) h.not_old h.not_early
 
 pub signed_first : HeadLaw → AddedLaws → (bytes : List ℕ) (order : SignOrder) (holder : Option HolderView) (signs : List ℕ → List ℕ → Option (List ℕ)) (out : List ℕ) (settings : Settings)
     (moment : ℕ) (s : IsSigned bytes (view_of order) holder signs out) → IsFirstHop s.message (view_of order) settings moment → first early_rules (call_of settings moment out) ≡ None

@@ -1,6 +1,5 @@
 -- The call that a signed message is at its next hop, and what must be so for its signature to be confirmed there.
-use Rattle.std.specs.Prelude.{◌≡◌, ℕ, ◌≤◌, true, List, []}
-use Rattle.std.specs.Int.{abs_diff}
+use Rattle.std.specs.Prelude.{◌≡◌, ℕ, ◌+◌, ◌≤◌, true, List, []}
 use Rattle.std.specs.List.{slice_get}
 use Rattle.cert_store.specs.Judged.{JudgedView}
 use Rattle.passport_json.specs.View.{TokenView}
@@ -14,12 +13,13 @@ use Rattle.verify_rules.specs.declared.settings.Settings.{Settings}
 use Rattle.auth_service.specs.Order.{OrderView}
 use Rattle.auth_service.specs.Signed.{claims_by}
 
--- The message had no Identity field; who judges it numbers as the order did, and judges it at a moment that differs from the PASSporT's
--- second by at most the window.
+-- The message had no Identity field; who judges it numbers as the order did, and judges it when the PASSporT is not too old, and its iat not
+-- too far ahead.
 pub record IsFirstHop (message : MessageView) (order : OrderView) (settings : Settings) (moment : ℕ) : Type 0 where
   pub unsigned : identities message ≡ []
   pub numbering : settings.local ≡ order.local
-  pub fresh : abs_diff moment order.iat ≤ settings.window
+  pub not_old : moment ≤ order.iat + settings.past
+  pub not_early : order.iat ≤ moment + settings.future
 
 -- the PASSporT as it is judged: the first Identity field, with what was signed and the signature as its token has them
 abbrev pub judged_of : OrderView → List ℕ → List ℕ → TokenView → Reading

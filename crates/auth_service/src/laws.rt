@@ -13,7 +13,7 @@ ghost use Rattle.auth_service.specs.declared.order.SignOrder.{SignOrder};
 use sip_message::{added_field_law, head_law};
 
 /// What [`sign`](crate::sign) writes into a message that had no Identity field breaks none of rules 1 to 9 at a hop that numbers as the signer
-/// did, within the window. The one PASSporT that is judged there is that which was signed; and where its signature is good under its leaf's
+/// did, while the PASSporT is fresh. The one PASSporT that is judged there is that which was signed; and where its signature is good under its leaf's
 /// key, rule 16 holds too.
 pub fn signed_rules_law()
     ensures early { (bytes : List ℕ) (order : SignOrder) (holder : Option HolderView) (signs : List ℕ → List ℕ → Option (List ℕ)) (out : List ℕ) (settings : Settings) (moment : ℕ)

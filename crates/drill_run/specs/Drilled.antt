@@ -20,9 +20,9 @@ use Rattle.verify_service.specs.Causes.{NoneUnasked, NoneUnread}
 use Rattle.verify_service.specs.Chains.{world_by}
 use Rattle.verify_service.specs.declared.outcome.Outcome.{Outcome}
 
--- the window is 60 seconds, the country 1, and a national number has ten digits
+-- a PASSporT may be 60 seconds old and 5 ahead, the country is 1, and a national number has ten digits
 abbrev pub drill_settings : Settings
-drill_settings = record { local = record { country = codes "1"; national = 10 }; window = 60 }
+drill_settings = record { local = record { country = codes "1"; national = 10 }; past = 60; future = 5 }
 
 abbrev pub config_on : ℕ → JudgeConfig
 config_on workers = record { settings = drill_settings; workers = workers }

@@ -21,8 +21,11 @@ use tn_values::Local;
 use verify_rules::Settings;
 use verify_service::Service;
 
-/// How many seconds the moment of a call and the `iat` of its PASSporT may differ.
-const WINDOW: u64 = 60;
+/// How many seconds old a PASSporT may be.
+const PAST: u64 = 60;
+
+/// How many seconds the `iat` of a PASSporT may be ahead.
+const FUTURE: u64 = 5;
 
 /// What is judged in a drill, and by what.
 #[derive(Drop)]
@@ -139,7 +142,8 @@ fn settings() -> Settings
     match Local::new(b"1", 10) {
         Some(local) => Settings {
             local,
-            window: WINDOW,
+            past: PAST,
+            future: FUTURE,
         },
         None => unreachable!(),
     }

@@ -63,7 +63,7 @@ known_ticket : (settings : Settings) (call : Entry) → (known : IsKnownAgain (c
 unfolding ticket_or_none
 known_ticket settings call known = ap (λ ticket. unwrap_or ticket []) known.ticket
 
-known_last : (settings : Settings) (call : Entry) → (known : IsKnownAgain (call_in settings call)) → last_second (call_in settings call) ≡ last_by settings.window known.signing
+known_last : (settings : Settings) (call : Entry) → (known : IsKnownAgain (call_in settings call)) → last_second (call_in settings call) ≡ last_by settings known.signing
 unfolding call_in last_second
 known_last settings call known = known.last
 
@@ -87,7 +87,7 @@ apart config rounds owed one round place other_round other row same s p t uses =
     let b = passing config (calls_in rounds) same uses.passes g in
     let tickets : ticket_or_none (call_in config.settings f.call) ≡ ticket_or_none (call_in config.settings g.call) = sym (ap (λ (r : Row). r.ticket) f.is) ∙ sym uses.same ∙ ap (λ (r : Row). r.ticket) g.is in
     let inputs : a.signing ≡ b.signing = one f.call g.call a.signing b.signing f.inside g.inside a.signed b.signed (sym (known_ticket config.settings f.call a) ∙ tickets ∙ known_ticket config.settings g.call b) in
-    ap (λ (r : Row). r.last) f.is ∙ known_last config.settings f.call a ∙ ap (last_by config.settings.window) inputs ∙ sym (known_last config.settings g.call b) ∙ sym (ap (λ (r : Row). r.last) g.is)
+    ap (λ (r : Row). r.last) f.is ∙ known_last config.settings f.call a ∙ ap (last_by config.settings) inputs ∙ sym (known_last config.settings g.call b) ∙ sym (ap (λ (r : Row). r.last) g.is)
 
 -- ---- moments don't fall
 

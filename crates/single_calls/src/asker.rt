@@ -1,6 +1,6 @@
 //! What asks for a call.
 ghost use Rattle.stir_outside.specs.Stays.{ShelfStays};
-ghost use Rattle.std.specs.Prelude.{◌≡◌, ◌≤◌, [], Ok, IfErr, IfOk, OnOk, string_bytes};
+ghost use Rattle.std.specs.Prelude.{◌≡◌, [], Ok, IfErr, IfOk, OnOk, string_bytes};
 ghost use Rattle.single_calls.specs.Answering.{StopsBy};
 ghost use Rattle.single_calls.specs.Asker.{AskedBy, BehindAsked, StopsAsking};
 ghost use Rattle.single_calls.specs.Reading.{StopsCall, WritesCall, lines};
@@ -41,20 +41,16 @@ pub struct Asker {
 }
 
 impl Model for Asker {
-    ghost use Rattle.std.specs.Prelude.{◌≤◌};
     ghost use Rattle.single_calls.specs.Asker.{AskerView};
 
     ghost Value = { AskerView };
 
     ghost view = { λ a. record { settings = a.settings; materials = a.world; written = a.written } };
-
-    ghost invariant = { λ a. a.settings.window ≤ 86400 };
 }
 
 impl Asker {
-    /// What asks by these, and has asked nothing. The window of the settings is at most 86,400 seconds.
+    /// What asks by these, and has asked nothing.
     pub fn new(alloc: Global, settings: Settings, world: World) -> Asker
-        requires window { settings.window ≤ 86400 }
         ensures { result ≡ record { settings = settings; materials = world; written = [] } }
     {
         Asker {
@@ -142,7 +138,6 @@ fn ask_call<S: Shelf>(
     written: &mut Written,
     text: &mut String,
 ) -> Result<(), ChainError>
-    requires window { settings.now.window ≤ 86400 }
     ensures writes { OnOk result (WritesCall (S.files shelf.old) world.now (call_in settings.now call.now) (lines written.old (string_bytes text.old)) (lines written.new (string_bytes text.new))) }
     ensures stopped { IfErr result (StopsCall (S.files shelf.old) world.now (call_in settings.now call.now) (lines written.old (string_bytes text.old))
         (lines written.new (string_bytes text.new)) (S.counts shelf.old).faults (S.counts shelf.new).faults) }

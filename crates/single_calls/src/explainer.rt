@@ -1,6 +1,6 @@
 //! What explains a call.
 ghost use Rattle.stir_outside.specs.Stays.{ShelfStays};
-ghost use Rattle.std.specs.Prelude.{◌≡◌, ◌≤◌, IfOk};
+ghost use Rattle.std.specs.Prelude.{◌≡◌, IfOk};
 ghost use Rattle.single_calls.specs.Answer.{found_well, written_of};
 ghost use Rattle.single_calls.specs.Explainer.{BehindAny, ExplainedBy, explanation, status_of};
 ghost use Rattle.single_calls.specs.Singly.{OneAnswer};
@@ -27,20 +27,16 @@ pub struct Explainer<'a> {
 }
 
 impl<'a> Model for Explainer<'a> {
-    ghost use Rattle.std.specs.Prelude.{◌≤◌};
     ghost use Rattle.single_calls.specs.Explainer.{ExplainerView};
 
     ghost Value = { ExplainerView };
 
     ghost view = { λ e. record { settings = e.settings; materials = e.world; answers = e.answers.now } };
-
-    ghost invariant = { λ e. e.settings.window ≤ 86400 };
 }
 
 impl<'a> Explainer<'a> {
-    /// What explains by these. The window of the settings is at most 86,400 seconds.
+    /// What explains by these.
     pub fn new(settings: Settings, world: World, answers: &'a Answers) -> Explainer<'a>
-        requires window { settings.window ≤ 86400 }
         ensures { result ≡ record { settings = settings; materials = world; answers = answers.now } }
     {
         Explainer {

@@ -14,7 +14,7 @@ use Rattle.stir_c.specs.declared.asking.Asked.{Asked}
 use Rattle.stir_c.specs.declared.found.Found.{Found}
 use Rattle.stir_c.proofs.AskedLaws.{Alike, asked_whole}
 
-pub found_by : (given : Handed) (answers : List ℕ) (found : Found) (settings : Settings) (materials : Materials) (held : Held) → AreSettings given.window given.country given.national settings
+pub found_by : (given : Handed) (answers : List ℕ) (found : Found) (settings : Settings) (materials : Materials) (held : Held) → AreSettings given.past given.future given.country given.national settings
     → AreMaterials given materials → AnswersOf answers held → IsFound (world_in given materials (held_says held)) (call_in given settings) found → FoundBy given answers found
 found_by given answers found settings materials held set read answered finds = record {
   settings = settings;
@@ -25,7 +25,7 @@ found_by given answers found settings materials held set read answered finds = r
   finds = finds;
 }
 
-pub asked_by : (given : Handed) (lines : List ℕ) (found : Found) (settings : Settings) (materials : Materials) → AreSettings given.window given.country given.national settings
+pub asked_by : (given : Handed) (lines : List ℕ) (found : Found) (settings : Settings) (materials : Materials) → AreSettings given.past given.future given.country given.national settings
     → AreMaterials given materials → IsAsked materials (files_of given.sizes given.chains) (call_in given settings) lines found → AskedOf given lines found
 asked_by given lines found settings materials set read asked = record {
   settings = settings;

@@ -31,6 +31,6 @@ pub answers_faulty : (given : Handed) (answers : List ℕ) (fault : Fault) → I
 answers_faulty given answers fault (inl (is, cause)) = subst (IsFaulty given answers) (sym is) cause
 answers_faulty given answers fault (inr is) = subst (IsFaulty given answers) (sym is) tt
 
-pub settings_faulty : (given : Handed) (answers : List ℕ) (fault : Fault) → fault ≡ faults.Settings → (86400 < given.window) ⊎ (◌≡◌ {A = Option LocalView} (local_of given.country given.national) None)
+pub settings_faulty : (given : Handed) (answers : List ℕ) (fault : Fault) → fault ≡ faults.Settings → (86400 < given.past) ⊎ (86400 < given.future) ⊎ (◌≡◌ {A = Option LocalView} (local_of given.country given.national) None)
     → IsFaulty given answers fault
 settings_faulty given answers fault is cause = subst (IsFaulty given answers) (sym is) cause

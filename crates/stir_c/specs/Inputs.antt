@@ -20,7 +20,8 @@ use Rattle.stir_c.specs.declared.inputs.Fault.TheVariants as faults
 -- the settings of a call, the second at which it came, in Unix time, and its message; the lines of a chain map, the chains that it names, the
 -- trust anchors one after another, and the lines of a code table
 pub record Handed : Type 0 where
-  pub window : ℕ
+  pub past : ℕ
+  pub future : ℕ
   pub country : List ℕ
   pub national : ℕ
   pub moment : ℕ
@@ -33,7 +34,8 @@ pub record Handed : Type 0 where
 
 abbrev pub handed : Inputs → Handed
 handed inputs = record {
-  window = inputs.setting.window;
+  past = inputs.setting.past;
+  future = inputs.setting.future;
   country = inputs.setting.country.now;
   national = inputs.setting.national;
   moment = inputs.setting.moment;
@@ -47,10 +49,10 @@ handed inputs = record {
 
 -- ---- what it is read as
 
--- the settings: a window of at most a day, and a local numbering
-pub record AreSettings (window : ℕ) (country : List ℕ) (national : ℕ) (settings : Settings) : Type 0 where
-  pub window_is : settings.window ≡ window
-  pub most : window ≤ 86400
+-- the settings: a PASSporT may be past and ahead by at most a day each; and a local numbering
+pub record AreSettings (past future : ℕ) (country : List ℕ) (national : ℕ) (settings : Settings) : Type 0 where
+  pub past_is : settings.past ≡ past
+  pub future_is : settings.future ≡ future
   pub local_is : local_of country national ≡ Some settings.local
 
 pub record AreMaterials (given : Handed) (materials : Materials) : Type 0 where
@@ -61,7 +63,7 @@ pub record AreMaterials (given : Handed) (materials : Materials) : Type 0 where
 
 -- What is handed in is read as these settings and materials.
 pub record IsRead (given : Handed) (settings : Settings) (materials : Materials) : Type 0 where
-  pub set : AreSettings given.window given.country given.national settings
+  pub set : AreSettings given.past given.future given.country given.national settings
   pub materials_are : AreMaterials given materials
 
 -- the world of the call, by what a provider of signatures says
@@ -87,7 +89,7 @@ IsFaultFor this cause fault = ((fault ≡ this) × cause) ⊎ (fault ≡ faults.
 
 -- Which input is outside its grammar or its limits; want of memory is free.
 abbrev pub IsFaulty : Handed → List ℕ → Fault → Type 0
-IsFaulty given answers faults.Settings = (86400 < given.window) ⊎ (local_of given.country given.national ≡ None)
+IsFaulty given answers faults.Settings = (86400 < given.past) ⊎ (86400 < given.future) ⊎ (local_of given.country given.national ≡ None)
 IsFaulty given answers faults.Map = IsBadText 16777216 BadMap given.listed
 IsFaulty given answers faults.Chains = 9 < length given.sizes
 IsFaulty given answers faults.Anchors = AreNoAnchors given.anchors

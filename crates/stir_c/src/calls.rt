@@ -69,7 +69,6 @@ fn judge_call<P: Provider>(
     inputs: &Inputs<'_>,
     provider: &mut P,
 ) -> Result<Found, AllocError>
-    requires window { settings.now.window ≤ 86400 }
     requires few { length inputs.now.files.sizes.now ≤ 9 }
     requires never_fails { (p : P) → P.faults p ≡ 0 }
     ensures { IfOk result (IsFound (world_in (handed inputs.now) world.now (P.says provider.old)) (call_in (handed inputs.now) settings.now)) }
@@ -92,7 +91,6 @@ fn ask_call(
     world: &World,
     inputs: &Inputs<'_>,
 ) -> Result<Asked, AllocError>
-    requires window { settings.now.window ≤ 86400 }
     requires few { length inputs.now.files.sizes.now ≤ 9 }
     ensures { IfOk result (λ asked. IsAsked world.now (files_of inputs.now.files.sizes.now inputs.now.files.chains.now) (call_in (handed inputs.now) settings.now)
         asked.lines.items asked.found) }

@@ -28,7 +28,8 @@ pub extern "C" fn stir_abi() -> u64
 #[unsafe(no_mangle)]
 pub extern "C" fn stir_judge(
     alloc: Global,
-    window: u64,
+    past: u64,
+    future: u64,
     country: &[u8],
     national: u8,
     moment: u64,
@@ -42,7 +43,8 @@ pub extern "C" fn stir_judge(
 ) -> Said
     ensures kinds { result.kind ≤ 3 }
     ensures judged { result.kind ≤ 1 → JudgedBy (record {
-      window = window;
+      past = past;
+      future = future;
       country = country.now;
       national = national;
       moment = moment;
@@ -54,7 +56,8 @@ pub extern "C" fn stir_judge(
       table = table.now;
     }) answers.now result }
     ensures faulty { result.kind ≡ 2 → HasFault (record {
-      window = window;
+      past = past;
+      future = future;
       country = country.now;
       national = national;
       moment = moment;
@@ -67,7 +70,8 @@ pub extern "C" fn stir_judge(
     }) answers.now result.input }
 {
     let setting = Setting {
-        window,
+        past,
+        future,
         country,
         national,
         moment,
@@ -89,7 +93,8 @@ pub extern "C" fn stir_judge(
 #[unsafe(no_mangle)]
 pub extern "C" fn stir_ask(
     alloc: Global,
-    window: u64,
+    past: u64,
+    future: u64,
     country: &[u8],
     national: u8,
     moment: u64,
@@ -103,7 +108,8 @@ pub extern "C" fn stir_ask(
 ) -> Said
     ensures kinds { result.kind ≤ 4 }
     ensures asked { result.kind ≤ 1 → AskedInto (record {
-      window = window;
+      past = past;
+      future = future;
       country = country.now;
       national = national;
       moment = moment;
@@ -115,7 +121,8 @@ pub extern "C" fn stir_ask(
       table = table.now;
     }) room.old room.new result }
     ensures faulty { (answers : List ℕ) → result.kind ≡ 2 → HasFault (record {
-      window = window;
+      past = past;
+      future = future;
       country = country.now;
       national = national;
       moment = moment;
@@ -127,7 +134,8 @@ pub extern "C" fn stir_ask(
       table = table.now;
     }) answers result.input }
     ensures no_room { result.kind ≡ 4 → HasNoRoom (record {
-      window = window;
+      past = past;
+      future = future;
       country = country.now;
       national = national;
       moment = moment;
@@ -141,7 +149,8 @@ pub extern "C" fn stir_ask(
     ensures as_was { 2 ≤ result.kind → room.new ≡ room.old }
 {
     let setting = Setting {
-        window,
+        past,
+        future,
         country,
         national,
         moment,

@@ -25,13 +25,13 @@ const MOST_ANSWERS: usize = 67_108_864;
 /// How many bytes a chain map or a code table may have.
 const MOST_LINES: usize = 16_777_216;
 
-/// How many seconds the window may have.
+/// How many seconds a PASSporT may be past or ahead.
 const MOST_WINDOW: u64 = 86_400;
 
 /// Why an input isn't read.
 #[derive(Clone, Copy)]
 pub(crate) enum Fault {
-    /// The window is longer than a day, or there is no such local numbering.
+    /// A PASSporT may be past or ahead by more than a day, or there is no such local numbering.
     Settings,
     /// The lines of the chain map are too many bytes, or one is bad.
     Map,
@@ -87,7 +87,8 @@ impl From<AllocError> for Fault {
 /// The settings of a call, and the second at which it came, in Unix time.
 #[derive(Clone, Copy)]
 pub(crate) struct Setting<'a> {
-    pub(crate) window: u64,
+    pub(crate) past: u64,
+    pub(crate) future: u64,
     pub(crate) country: &'a [u8],
     pub(crate) national: u8,
     pub(crate) moment: u64,
@@ -107,17 +108,18 @@ pub(crate) struct Inputs<'a> {
 impl Setting<'_> {
     /// The settings, or the fault that there are none.
     pub(crate) fn read(&self) -> Result<Settings, Fault>
-        ensures read { IfOk result (AreSettings self.now.window self.now.country.now self.now.national) }
+        ensures read { IfOk result (AreSettings self.now.past self.now.future self.now.country.now self.now.national) }
         ensures fault { IfErr result (λ fault. fault ≡ Fault.Settings) }
-        ensures cause { IfErr result (λ fault. (86400 < self.now.window) ⊎ (local_of self.now.country.now self.now.national ≡ None)) }
+        ensures cause { IfErr result (λ fault. (86400 < self.now.past) ⊎ (86400 < self.now.future) ⊎ (local_of self.now.country.now self.now.national ≡ None)) }
     {
-        if self.window > MOST_WINDOW {
+        if self.past > MOST_WINDOW || self.future > MOST_WINDOW {
             return Err(Fault::Settings);
         }
         match Local::new(self.country, self.national) {
             Some(local) => Ok(Settings {
                 local,
-                window: self.window,
+                past: self.past,
+                future: self.future,
             }),
             None => Err(Fault::Settings),
         }

@@ -57,7 +57,6 @@ fn judge_by<R: Threads + Sync, S: Shelf, I: Source, O: Sink>(
     input: &mut I,
     sink: &mut O,
 ) -> u8
-    requires window { settings.window ≤ 86400 }
     requires some { 1 ≤ workers }
     requires few { workers ≤ 8 }
     ensures ran { RanBy settings workers materials

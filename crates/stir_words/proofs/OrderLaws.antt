@@ -66,5 +66,5 @@ within_level text n h = number_within 1048576 text n h
 pub within_eight : (text : List ℕ) (n : ℕ) → number_up_to 8 text ≡ Some n → n ≤ 8
 within_eight text n h = number_within 8 text n h
 
-pub within_a_day : (text : List ℕ) (window : ℕ) → number_up_to 86400 text ≡ Some window → window ≤ 86400
-within_a_day text window h = number_within 86400 text window h
+pub within_a_day : (text : List ℕ) (seconds : ℕ) → number_up_to 86400 text ≡ Some seconds → seconds ≤ 86400
+within_a_day text seconds h = number_within 86400 text seconds h

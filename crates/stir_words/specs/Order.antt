@@ -10,13 +10,14 @@ use Rattle.passport_claims.specs.Made.{has_origid}
 use Rattle.passport_claims.specs.declared.form.Form.{Form}
 use Rattle.stir_words.specs.Options.{pairs_of}
 use Rattle.stir_words.specs.Table.{Given, accepts, command_named, given_by, options_of}
-use Rattle.stir_words.specs.Values.{count_of, earlier_of, form_of, iat_of, is_key, key_of, local_in, seed_of, size_of, window_of, workers_of, x5u_of}
+use Rattle.stir_words.specs.Values.{count_of, earlier_of, form_of, future_of, iat_of, is_key, key_of, local_in, past_of, seed_of, size_of, workers_of, x5u_of}
 use Rattle.stir_words.specs.declared.commands.Command.{Command}
 use Rattle.stir_words.specs.declared.commands.Command.TheVariants as commands
 
--- how many seconds a PASSporT is fresh, and how numbers without `+` are read
+-- how many seconds old a PASSporT may be, how many seconds its iat may be ahead, and how numbers without `+` are read
 pub record SettingsView : Type 0 where
-  pub window : ℕ
+  pub past : ℕ
+  pub future : ℕ
   pub local : LocalView
 
 -- the files by which calls are judged, and the settings
@@ -98,7 +99,9 @@ pub data OrderView : Type 0 where
 -- ---- the values
 
 abbrev pub settings_of : Given → Option SettingsView
-settings_of given = option_and_then (λ window. option_map (λ l. record { window = window; local = l }) (local_in given)) (window_of given)
+settings_of given =
+    option_and_then (λ past. option_and_then (λ future. option_map (λ l. record { past = past; future = future; local = l }) (local_in given))
+    (future_of given)) (past_of given)
 
 abbrev pub judging_of : Given → Option JudgingView
 judging_of given =

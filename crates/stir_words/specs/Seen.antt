@@ -33,7 +33,7 @@ abbrev pub known_of : Row → Known
 known_of row = record { name = row.name.now; required = row.required }
 
 abbrev pub settings_view : Settings → SettingsView
-settings_view settings = record { window = settings.window; local = settings.local }
+settings_view settings = record { past = settings.past; future = settings.future; local = settings.local }
 
 abbrev pub judging_view : Judging → JudgingView
 judging_view judging = record {

@@ -56,7 +56,7 @@ optional name = record { name = name; required = false }
 
 -- the options of settings, all of which may be left out
 abbrev pub of_settings : List Known
-of_settings = optional (codes "window") ∷ optional (codes "country") ∷ optional (codes "national") ∷ []
+of_settings = optional (codes "past") ∷ optional (codes "future") ∷ optional (codes "country") ∷ optional (codes "national") ∷ []
 
 -- the options by which calls are judged
 abbrev pub of_judging : List Known

@@ -26,9 +26,13 @@ number_or other most (Some text) = number_up_to most text
 
 -- ---- by what calls are judged and numbers are read
 
--- `--window`: at most a day, in seconds
-abbrev pub window_of : Given → Option ℕ
-window_of given = number_or 60 86400 (given (codes "window"))
+-- `--past`: at most a day, in seconds; 60 where the option doesn't stand
+abbrev pub past_of : Given → Option ℕ
+past_of given = number_or 60 86400 (given (codes "past"))
+
+-- `--future`: at most a day, in seconds; 5 where the option doesn't stand
+abbrev pub future_of : Given → Option ℕ
+future_of given = number_or 5 86400 (given (codes "future"))
 
 -- a number that isn't 0
 abbrev pub unless_none : Option ℕ → Option ℕ

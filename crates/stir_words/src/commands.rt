@@ -55,9 +55,15 @@ const ANSWERS: Row = Row {
     required: true,
 };
 
-/// How many seconds a PASSporT is fresh.
-const WINDOW: Row = Row {
-    name: "window",
+/// How many seconds old a PASSporT may be.
+const PAST: Row = Row {
+    name: "past",
+    required: false,
+};
+
+/// How many seconds the `iat` of a PASSporT may be ahead.
+const FUTURE: Row = Row {
+    name: "future",
     required: false,
 };
 
@@ -152,15 +158,17 @@ const SIZE: Row = Row {
 };
 
 /// The options of `verify`.
-const VERIFYING: [Row; 8] = [
-    CHAINS, ANCHORS, TABLE, ANSWERS, WORKERS, WINDOW, COUNTRY, NATIONAL,
+const VERIFYING: [Row; 9] = [
+    CHAINS, ANCHORS, TABLE, ANSWERS, WORKERS, PAST, FUTURE, COUNTRY, NATIONAL,
 ];
 
 /// The options of `explain`.
-const JUDGING: [Row; 7] = [CHAINS, ANCHORS, TABLE, ANSWERS, WINDOW, COUNTRY, NATIONAL];
+const JUDGING: [Row; 8] = [
+    CHAINS, ANCHORS, TABLE, ANSWERS, PAST, FUTURE, COUNTRY, NATIONAL,
+];
 
 /// The options of `ask`.
-const ASKING: [Row; 6] = [CHAINS, ANCHORS, TABLE, WINDOW, COUNTRY, NATIONAL];
+const ASKING: [Row; 7] = [CHAINS, ANCHORS, TABLE, PAST, FUTURE, COUNTRY, NATIONAL];
 
 /// The options of `sign`.
 const SIGNING: [Row; 11] = [

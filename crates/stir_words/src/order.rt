@@ -15,7 +15,7 @@ use crate::fault::WordsFault;
 use crate::options::are_options;
 use crate::settings::Settings;
 use crate::signing::{Diverting, Signing, diverting_of, signing_of};
-use crate::values::{count_of, local_of, seed_of, size_of, window_of, workers_of};
+use crate::values::{count_of, future_of, local_of, past_of, seed_of, size_of, workers_of};
 use crate::verifying::Verifying;
 use clap::ArgMatches;
 use std::alloc::Global;
@@ -77,10 +77,10 @@ impl<'a> Order<'a> {
     /// at most once, and all that the command requires stand.
     ///
     /// `verify` and `explain` require `--chains`, `--anchors`, `--table` and `--answers`, each the name of a file, and `ask` the first three;
-    /// all take `--window`, a number of at most 86,400 (60), `--country`, 1 to 3 digits (1), and `--national`, a number (10), the last two of
-    /// which have to make a [`Local`](tn_values::Local). `verify` takes `--workers` as well, a number from 1 to 8 (1). Numbers are decimal digits
-    /// without a leading zero. `show` takes none. `drill` requires `--seed`, a number below 2^64, and `--count`, a number of at most 100,000, and
-    /// takes `--workers`. `once` requires `--size`, a number from 1 to 1,048,576, and takes `--workers`.
+    /// all take `--past`, a number of at most 86,400 (60), `--future`, the same (5), `--country`, 1 to 3 digits (1), and `--national`, a number
+    /// (10), the last two of which have to make a [`Local`](tn_values::Local). `verify` takes `--workers` as well, a number from 1 to 8 (1).
+    /// Numbers are decimal digits without a leading zero. `show` takes none. `drill` requires `--seed`, a number below 2^64, and `--count`, a
+    /// number of at most 100,000, and takes `--workers`. `once` requires `--size`, a number from 1 to 1,048,576, and takes `--workers`.
     ///
     /// `sign` and `divert` require `--key`, the name of a key, `--x5u`, the URI of its certificates, `--iat`, a number of at most
     /// 253,402,300,799, and `--answers`, the name of a file; they take `--leaf` and `--table`, the names of two files that stand together,
@@ -249,12 +249,13 @@ fn claiming_of(given: &ArgMatches<'_>) -> Option<Claiming>
     Some(Claiming { size, workers })
 }
 
-/// The window and the local numbering.
+/// How long a PASSporT is fresh, and the local numbering.
 fn settings_of(given: &ArgMatches<'_>) -> Option<Settings>
     ensures { option_map settings_view result ≡ settings_of (values_in given.now) }
 {
     Some(Settings {
-        window: window_of(given)?,
+        past: past_of(given)?,
+        future: future_of(given)?,
         local: local_of(given)?,
     })
 }

@@ -6,18 +6,21 @@ ghost use Rattle.text_grammar.specs.Decimal.{number_up_to};
 ghost use Rattle.text_grammar.specs.Uri.{is_uri};
 ghost use Rattle.passport_claims.specs.Origid.{is_origid};
 ghost use Rattle.stir_words.specs.ClapRules.{values_in};
-ghost use Rattle.stir_words.specs.Values.{count_of, country_of, earlier_of, form_by, form_of, iat_of, is_key, is_key_byte, key_of, local_in, national_of, plain_by, seed_of, shaken_by, size_of, text_if, window_of, workers_of, x5u_of};
+ghost use Rattle.stir_words.specs.Values.{count_of, country_of, earlier_of, form_by, form_of, future_of, iat_of, is_key, is_key_byte, key_of, local_in, national_of, past_of, plain_by, seed_of, shaken_by, size_of, text_if, workers_of, x5u_of};
 
 use clap::ArgMatches;
 use passport_claims::{Attest, Form, is_origid};
 use text_grammar::{LAST_SECOND, is_uri, is_uri_byte, read_number};
 use tn_values::{Local, Number};
 
-/// The longest window, a day in seconds.
-const MOST_WINDOW: u64 = 86_400;
+/// A day in seconds.
+const DAY: u64 = 86_400;
 
-/// The window where none is given, in seconds.
-const WINDOW: u64 = 60;
+/// How many seconds old a PASSporT may be where that isn't given.
+const PAST: u64 = 60;
+
+/// How many seconds the `iat` of a PASSporT may be ahead where that isn't given.
+const FUTURE: u64 = 5;
 
 /// The most workers.
 const MOST_WORKERS: u64 = 8;
@@ -43,15 +46,27 @@ const NATIONAL: u8 = 10;
 /// The country where none is given.
 const COUNTRY: &str = "1";
 
-/// The window, in seconds.
+/// How many seconds old a PASSporT may be.
 #[tactic(auto, using(crate::proofs::OrderLaws::within_a_day))]
-pub(crate) fn window_of(given: &ArgMatches<'_>) -> Option<u64>
-    ensures exact { result ≡ window_of (values_in given.now) }
-    ensures within { IfSome result (λ window. window ≤ 86400) }
+pub(crate) fn past_of(given: &ArgMatches<'_>) -> Option<u64>
+    ensures exact { result ≡ past_of (values_in given.now) }
+    ensures within { IfSome result (λ past. past ≤ 86400) }
 {
-    match given.get_str("window") {
-        Some(text) => read_number(text.as_bytes(), MOST_WINDOW),
-        None => Some(WINDOW),
+    match given.get_str("past") {
+        Some(text) => read_number(text.as_bytes(), DAY),
+        None => Some(PAST),
+    }
+}
+
+/// How many seconds the `iat` of a PASSporT may be ahead.
+#[tactic(auto, using(crate::proofs::OrderLaws::within_a_day))]
+pub(crate) fn future_of(given: &ArgMatches<'_>) -> Option<u64>
+    ensures exact { result ≡ future_of (values_in given.now) }
+    ensures within { IfSome result (λ future. future ≤ 86400) }
+{
+    match given.get_str("future") {
+        Some(text) => read_number(text.as_bytes(), DAY),
+        None => Some(FUTURE),
     }
 }
 

@@ -198,7 +198,11 @@ pub(crate) fn service_of(alloc: Global, world: &[&[u8]]) -> Result<Service, Unre
         table: table_of(alloc, table)?,
     };
     let local = local_of(b"1", b"10")?;
-    let settings = Settings { local, window: 60 };
+    let settings = Settings {
+        local,
+        past: 60,
+        future: 5,
+    };
     Ok(Service::new(alloc, settings, world)?)
 }
 

@@ -4,8 +4,8 @@ use std::alloc::Global;
 use vector_table::{Answer, Unread, joined, local_of, number, word};
 use verify_rules::{Place, Refusal, ScreenFault, Screened, Settings, code, screen};
 
-/// The most that a window may be, in seconds.
-const MOST_WINDOW: u64 = 86_400;
+/// The most seconds that a PASSporT may be old or ahead.
+const MOST_SECONDS: u64 = 86_400;
 
 /// What a call answers.
 pub fn answer(alloc: Global, call: &str, words: &[&[u8]]) -> Result<String, Unread> {
@@ -26,15 +26,12 @@ fn code_answer(alloc: Global, words: &[&[u8]]) -> Result<String, Unread> {
 
 /// What is said of a message that came at a moment.
 fn screened(alloc: Global, words: &[&[u8]]) -> Result<String, Unread> {
-    let [country, national, window, moment, message @ ..] = words else {
+    let [country, national, past, future, moment, message @ ..] = words else {
         return Err(Unread::Call);
     };
-    let settings = settings_of(country, national, window)?;
+    let settings = settings_of(country, national, past, future)?;
     let moment = number(moment)?;
     let message = joined(alloc, message)?;
-    if settings.window > MOST_WINDOW {
-        return Err(Unread::Value);
-    }
     match screen(alloc, message.as_slice(), moment, &settings) {
         Ok(screened) => put_screened(Answer::new(alloc).word("screened"), &screened).line(),
         Err(ScreenFault::Refused(refusal)) => put_refusal(Answer::new(alloc), refusal).line(),
@@ -43,10 +40,23 @@ fn screened(alloc: Global, words: &[&[u8]]) -> Result<String, Unread> {
 }
 
 /// The settings of these words.
-fn settings_of(country: &[u8], national: &[u8], window: &[u8]) -> Result<Settings, Unread> {
+fn settings_of(
+    country: &[u8],
+    national: &[u8],
+    past: &[u8],
+    future: &[u8],
+) -> Result<Settings, Unread> {
     let local = local_of(country, national)?;
-    let window = number(window)?;
-    Ok(Settings { local, window })
+    let past = number(past)?;
+    let future = number(future)?;
+    if past > MOST_SECONDS || future > MOST_SECONDS {
+        return Err(Unread::Value);
+    }
+    Ok(Settings {
+        local,
+        past,
+        future,
+    })
 }
 
 /// Puts the fields of the judged PASSporTs in call order, the last second, and the ticket behind other words.

@@ -53,10 +53,14 @@ fn finish_answer(alloc: Global, words: &[&[u8]]) -> Result<String, Unread> {
         .line()
 }
 
-/// A call that breaks none of the rules 1 to 9, with country 1, national numbers of ten digits and a window of 60 seconds.
+/// A call that breaks none of the rules 1 to 9, with country 1, national numbers of ten digits, and PASSporTs that may be 60 seconds old and 5 ahead.
 fn screened(alloc: Global, message: &[u8], moment: u64) -> Result<Screened, Unread> {
     let local = local_of(b"1", b"10")?;
-    let settings = Settings { local, window: 60 };
+    let settings = Settings {
+        local,
+        past: 60,
+        future: 5,
+    };
     match screen(alloc, message, moment, &settings) {
         Ok(screened) => Ok(screened),
         Err(_) => Err(Unread::Value),

@@ -72,9 +72,12 @@ fn put_asking(answer: Answer, asking: &Asking<'_>) -> Answer {
     put_settings(answer, &asking.settings)
 }
 
-/// Puts the window, the country and the length of national numbers behind other words.
+/// Puts how old and how far ahead a PASSporT may be, the country and the length of national numbers behind other words.
 fn put_settings(answer: Answer, settings: &Settings) -> Answer {
-    put_local(answer.word(settings.window), &settings.local)
+    put_local(
+        answer.word(settings.past).word(settings.future),
+        &settings.local,
+    )
 }
 
 /// Puts what is to be signed of a call behind other words: the form, with the attestation and the identifier where it has them, the key,

@@ -63,7 +63,7 @@ placed settings moment bytes refused heads fields tokens found claims h =
       fresh = λ is.
           let b = broken_at (rule_1 ∷ rule_2 ∷ rule_3 ∷ rule_4 ∷ rule_5 ∷ rule_6 ∷ rule_7 ∷ rule_8 ∷ []) rule_9 [] call refused
           (omega arith, (omega arith, (omega arith, (omega arith, (omega arith, (omega arith, (omega arith, (omega arith, tt)))))))) tt h is in
-          fresh_place call.settings.window call.moment (in_call_order call) refused.place b.broken;
+          fresh_place call.settings call.moment (in_call_order call) refused.place b.broken;
     }
 
 pub all_places : (settings : Settings) (moment : ℕ) (bytes : List ℕ) (result : Result ScreenedView ScreenFault) → HeadLaw → FieldLaw → TokenLaw → TokenFoundLaw → ClaimsLaw

@@ -56,7 +56,7 @@ refused_late bytes call refused high w = record {
   calling = refused_behind 7 (Each (IsFrom (facts call).calling) (in_message call)) refused (omega (arith, high)) w.calling;
   order = refused_behind 8 (CallHasOrder call) refused (omega (arith, high)) w.order;
   went = λ later. w.went;
-  fresh = refused_behind 9 (Each (IsFresh call.settings.window call.moment) (in_call_order call)) refused high w.fresh;
+  fresh = refused_behind 9 (Each (IsFresh call.settings call.moment) (in_call_order call)) refused high w.fresh;
 }
 
 late_above : (world : World) (call : Call) (refused : Refusal) → first (late_rules world) call ≡ Some refused → 9 < refused.rule

@@ -56,6 +56,6 @@ all_words settings moment bytes result heads fields tokens found claims orders h
           (each_means (other_calling (facts call).calling) (IsFrom (facts call).calling) (orig_means (facts call).calling) (in_message call)) h;
       order = order;
       went = went_words orders call result h may were_read order;
-      fresh = means (Each (IsFresh call.settings.window call.moment) (in_call_order call)) (rule_1 ∷ rule_2 ∷ rule_3 ∷ rule_4 ∷ rule_5 ∷ rule_6 ∷ rule_7 ∷ rule_8 ∷ []) rule_9 [] call result (omega arith, (omega arith, (omega arith, (omega arith, (omega arith, (omega arith, (omega arith, (omega arith, tt)))))))) tt
-          (each_means (stale call.settings.window call.moment) (IsFresh call.settings.window call.moment) (fresh_means call.settings.window call.moment) (in_call_order call)) h;
+      fresh = means (Each (IsFresh call.settings call.moment) (in_call_order call)) (rule_1 ∷ rule_2 ∷ rule_3 ∷ rule_4 ∷ rule_5 ∷ rule_6 ∷ rule_7 ∷ rule_8 ∷ []) rule_9 [] call result (omega arith, (omega arith, (omega arith, (omega arith, (omega arith, (omega arith, (omega arith, (omega arith, tt)))))))) tt
+          (each_means (stale call.settings call.moment) (IsFresh call.settings call.moment) (fresh_means call.settings call.moment) (in_call_order call)) h;
     }

@@ -1,7 +1,6 @@
 -- Each of rules 1 to 9 is broken where its words say.
 use Rattle.std.proofs.Common.{◌≡◌, ◌↔◌, ℕ, suc, ◌+◌, ◌<◌, ◌≤◌, nat_lt, Bool, true, false, cond, codes, List, [], ◌∷◌, ◌++◌, length, length-append, append_assoc, Option, Some, None, Result, Ok, Err, refl, sym, ◌∙◌, ap, arith}
 use Rattle.std.specs.Prelude.{unwrap_or}
-use Rattle.std.specs.Int.{abs_diff}
 use Rattle.std.proofs.lemmas.Bool.Decides.{nat_tests}
 use Rattle.std.proofs.lemmas.Slice.Eq.{bytes_eq-Decides}
 use Rattle.identity_header.specs.Parts.{Parts}
@@ -24,11 +23,12 @@ use Rattle.sip_message.specs.Reading.{read}
 use Rattle.sip_message.specs.declared.fault.FormFault.{FormFault}
 use Rattle.verify_rules.specs.Call.{IdentityField, Reading, called_by, given_to_compact, judged_fields, mark_of, marked_or_part, numbered, passports_of, read_field, reading_by, turn_of}
 use Rattle.verify_rules.specs.Places.{AtFirst, AtFirstField, BadFieldAt, IsFirstWrong, IsUnreadableAs, NoInviteAt, NoOrderAt, NoPart, bad_text, by_claims, by_token, no_message, other_method, too_many}
-use Rattle.verify_rules.specs.Rules.{bad_field, bad_or_later, each, field_at, foreign_alg, is_es256, no_invite, no_order, other_calling, place, stale, unreadable, unreadable_at}
+use Rattle.verify_rules.specs.Rules.{bad_field, bad_or_later, each, field_at, foreign_alg, is_es256, is_stale, no_invite, no_order, other_calling, place, stale, unreadable, unreadable_at}
 use Rattle.verify_rules.specs.Words.{CanBeRead, Each, IsEs256, IsFieldText, IsFresh, IsFrom}
 use Rattle.verify_rules.specs.declared.facts.Facts.{Facts}
 use Rattle.verify_rules.specs.declared.readings.Mark.{Mark}
 use Rattle.verify_rules.specs.declared.refusal.Place.{Place}
+use Rattle.verify_rules.specs.declared.settings.Settings.{Settings}
 use Rattle.verify_rules.proofs.PlaceLaws.{each_wrong, each_wrong_of}
 use Rattle.verify_rules.proofs.TokenWords.{ClaimsLaw, FieldLaw, IsJudged, TokenFoundLaw, TokenLaw, are_judged, unreadable_means}
 use Rattle.verify_rules.proofs.TurnSteps.{field_there}
@@ -184,11 +184,11 @@ order_place said (origin ∷ others) bad h = order_by said origin others bad (or
 
 -- ---- rule 9
 
-stale_at : (window moment : ℕ) (one : Reading) (bad : Place) → stale window moment one ≡ Some bad → bad ≡ place one.mark.field 0
+stale_at : (settings : Settings) (moment : ℕ) (one : Reading) (bad : Place) → stale settings moment one ≡ Some bad → bad ≡ place one.mark.field 0
 unfolding stale
-stale_at window moment one bad h = where_at (nat_lt window (abs_diff moment one.passport.iat)) (place one.mark.field 0) bad h
+stale_at settings moment one bad h = where_at (is_stale settings moment one.passport.iat) (place one.mark.field 0) bad h
 
-pub fresh_place : (window moment : ℕ) (readings : List Reading) (bad : Place) → each (stale window moment) readings ≡ Some bad → AtFirst (IsFresh window moment) NoPart readings bad
-fresh_place window moment readings bad h =
-    let w = each_wrong (stale window moment) (IsFresh window moment) (fresh_means window moment) readings bad h in
-    record { one = w.wrong; first = w.is; part = 0; is_part = refl; stands = stale_at window moment w.wrong bad w.at }
+pub fresh_place : (settings : Settings) (moment : ℕ) (readings : List Reading) (bad : Place) → each (stale settings moment) readings ≡ Some bad → AtFirst (IsFresh settings moment) NoPart readings bad
+fresh_place settings moment readings bad h =
+    let w = each_wrong (stale settings moment) (IsFresh settings moment) (fresh_means settings moment) readings bad h in
+    record { one = w.wrong; first = w.is; part = 0; is_part = refl; stands = stale_at settings moment w.wrong bad w.at }

@@ -95,14 +95,14 @@ order_is : (call : Call) (said : Facts) (readings : List Reading) (k : Option Pl
 order_is call said readings k m s h =
     ap (λ x. no_order x (turn_of (facts call) x)) m ∙ ap (no_order readings) (sym s) ∙ h
 
-seen_in : (window : ℕ) (screened : ScreenedView) (chain : List Reading) → screened ≡ screened_by window chain → screened.readings ≡ chain
+seen_in : (settings : Settings) (screened : ScreenedView) (chain : List Reading) → screened ≡ screened_by settings chain → screened.readings ≡ chain
 unfolding screened_by
-seen_in window screened chain e = ap (λ (x : ScreenedView). x.readings) e
+seen_in settings screened chain e = ap (λ (x : ScreenedView). x.readings) e
 
-iats_are : (call : Call) (chain : List Reading) (screened : ScreenedView) (k : Option Place) → in_call_order call ≡ chain → screened ≡ screened_by call.settings.window chain
-    → k ≡ each (stale call.settings.window call.moment) screened.readings → rule_9.broken call ≡ k
+iats_are : (call : Call) (chain : List Reading) (screened : ScreenedView) (k : Option Place) → in_call_order call ≡ chain → screened ≡ screened_by call.settings chain
+    → k ≡ each (stale call.settings call.moment) screened.readings → rule_9.broken call ≡ k
 iats_are call chain screened k c s h =
-    ap (each (stale call.settings.window call.moment)) (c ∙ sym (seen_in call.settings.window screened chain s)) ∙ sym h
+    ap (each (stale call.settings call.moment)) (c ∙ sym (seen_in call.settings screened chain s)) ∙ sym h
 
 -- ---- rules 4 to 6
 
@@ -156,18 +156,18 @@ iats_left call fields o said readings turn is e h5 s h6 r h7 t =
 
 pub refused_stale : (call : Call) (fields : List IdentityField) (o : IdentityField) (said : Facts) (readings : List Reading) (turn : List ℕ) (screened : ScreenedView) (bad : Place) → fields ≡ fields_of call
     → Some o ≡ originating fields → None ≡ each foreign_alg (o ∷ links fields) → Serves said (facts call) (o ∷ links fields) → each (unreadable said) (o ∷ links fields) ≡ None → readings ≡ readings_of said (o ∷ links fields)
-    → None ≡ each (other_calling said.calling) readings → turn_of said readings ≡ Ok turn → screened ≡ screened_by call.settings.window (in_turn readings turn)
-    → Some bad ≡ each (stale call.settings.window call.moment) screened.readings → first field_rules call ≡ Some (refusal 9 bad)
+    → None ≡ each (other_calling said.calling) readings → turn_of said readings ≡ Ok turn → screened ≡ screened_by call.settings (in_turn readings turn)
+    → Some bad ≡ each (stale call.settings call.moment) screened.readings → first field_rules call ≡ Some (refusal 9 bad)
 refused_stale call fields o said readings turn screened bad is e h5 s h6 r h7 t v h9 =
     let c = chain_is call said readings turn (message_is call fields o said readings is e s r) (turn_same said (facts call) readings s.to s.target) t in
     iats_left call fields o said readings turn is e h5 s h6 r h7 t ∙ breaks rule_9 [] call bad (iats_are call (in_turn readings turn) screened (Some bad) c v h9)
 
 pub none_refused : (call : Call) (fields : List IdentityField) (o : IdentityField) (said : Facts) (readings : List Reading) (turn : List ℕ) (screened : ScreenedView) → fields ≡ fields_of call
     → Some o ≡ originating fields → None ≡ each foreign_alg (o ∷ links fields) → Serves said (facts call) (o ∷ links fields) → each (unreadable said) (o ∷ links fields) ≡ None → readings ≡ readings_of said (o ∷ links fields)
-    → None ≡ each (other_calling said.calling) readings → turn_of said readings ≡ Ok turn → screened ≡ screened_by call.settings.window (in_turn readings turn)
-    → None ≡ each (stale call.settings.window call.moment) screened.readings → (first field_rules call ≡ None) × (screened ≡ screened_of call)
+    → None ≡ each (other_calling said.calling) readings → turn_of said readings ≡ Ok turn → screened ≡ screened_by call.settings (in_turn readings turn)
+    → None ≡ each (stale call.settings call.moment) screened.readings → (first field_rules call ≡ None) × (screened ≡ screened_of call)
 none_refused call fields o said readings turn screened is e h5 s h6 r h7 t v h9 =
     let c = chain_is call said readings turn (message_is call fields o said readings is e s r) (turn_same said (facts call) readings s.to s.target) t in (
       iats_left call fields o said readings turn is e h5 s h6 r h7 t ∙ holds rule_9 [] call (iats_are call (in_turn readings turn) screened None c v h9),
-      v ∙ ap (screened_by call.settings.window) (sym c),
+      v ∙ ap (screened_by call.settings) (sym c),
     )

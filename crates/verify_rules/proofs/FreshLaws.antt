@@ -1,17 +1,18 @@
 -- A call by which all rules hold has a last PASSporT, and this is fresh.
-use Rattle.std.proofs.Common.{◌≡◌, ℕ, zero, suc, ◌+◌, ◌-◌, ◌≤◌, nat_lt, Bool, true, false, List, [], ◌∷◌, ◌++◌, length, get_or, cond, Option, Some, None, Result, Ok, Err, refl, sym, ◌∙◌, ap, subst, arith, option_to_list}
+use Rattle.std.proofs.Common.{◌≡◌, ℕ, zero, suc, ◌+◌, ◌-◌, ◌≤◌, nat_lt, ◌||◌, Bool, true, false, List, [], ◌∷◌, ◌++◌, length, get_or, cond, Option, Some, None, Result, Ok, Err, refl, sym, ◌∙◌, ap, subst, arith, option_to_list}
 use Rattle.std.specs.Prelude.{IfOk}
-use Rattle.std.specs.Int.{abs_diff}
 use Rattle.std.specs.List.{slice_get}
 use Rattle.std.specs.Option.{option_or}
+use Rattle.std.proofs.lemmas.Bool.{or_parts}
 use Rattle.std.proofs.lemmas.Bool.Decides.{nat_tests}
 use Rattle.std.proofs.lemmas.Option.{slice_get-get_or}
 use Rattle.verify_rules.specs.Call.{Call, IdentityField, Reading, facts, fields_of, in_call_order, in_message, in_turn, judged_fields, links, or_none, originating, read_field, readings_of, turn_of}
-use Rattle.verify_rules.specs.Rules.{HoldAll, each, early_rules, no_originating, place, stale, unreadable, unreadable_at}
+use Rattle.verify_rules.specs.Rules.{HoldAll, each, early_rules, is_stale, no_originating, place, stale, unreadable, unreadable_at}
 use Rattle.verify_rules.specs.Screened.{IsScreenedBy, ScreenedView, iat_or_none, last_of, screened_by, screened_of}
 use Rattle.verify_rules.specs.declared.facts.Facts.{Facts}
 use Rattle.verify_rules.specs.declared.refusal.Place.{Place}
 use Rattle.verify_rules.specs.declared.refusal.ScreenFault.{ScreenFault}
+use Rattle.verify_rules.specs.declared.settings.Settings.{Settings}
 use Rattle.verify_rules.proofs.FirstLaws.{least}
 
 -- ---- a rule that holds of each
@@ -29,13 +30,14 @@ each_at broken (item ∷ items) (suc i) one none e = each_at broken items i one 
 
 -- ---- one PASSporT
 
-fresh_by : (window moment iat : ℕ) (bad : Place) (t : Bool) → nat_lt window (abs_diff moment iat) ≡ t → cond t (Some bad) None ≡ None → moment ≤ iat + window
-fresh_by window moment iat bad true e h = absurd cc
-fresh_by window moment iat bad false e h = grind (arith, nat_tests)
+fresh_by : (settings : Settings) (moment iat : ℕ) (bad : Place) (t : Bool) → is_stale settings moment iat ≡ t → cond t (Some bad) None ≡ None → moment ≤ iat + settings.past
+fresh_by settings moment iat bad true e h = absurd cc
+fresh_by settings moment iat bad false e h =
+    let o = or_parts (nat_lt (iat + settings.past) moment) (nat_lt (moment + settings.future) iat) e in grind (arith, nat_tests, o.0)
 
-fresh_one : (window moment : ℕ) (one : Reading) → stale window moment one ≡ None → moment ≤ one.passport.iat + window
+fresh_one : (settings : Settings) (moment : ℕ) (one : Reading) → stale settings moment one ≡ None → moment ≤ one.passport.iat + settings.past
 unfolding stale
-fresh_one window moment one h = fresh_by window moment one.passport.iat (place one.mark.field 0) (nat_lt window (abs_diff moment one.passport.iat)) refl h
+fresh_one settings moment one h = fresh_by settings moment one.passport.iat (place one.mark.field 0) (is_stale settings moment one.passport.iat) refl h
 
 -- ---- there is one
 
@@ -66,17 +68,17 @@ some_chain call h =
     let chain : in_call_order call ≡ in_turn (m.0 ∷ m.1) (or_none (turn_of (facts call) (in_message call))) = ap (λ x. in_turn x (or_none (turn_of (facts call) (in_message call)))) m.2 in
     let count = ap length chain in omega (arith, count)
 
-pub fresh_call : (call : Call) → HoldAll early_rules call → call.moment ≤ iat_or_none (last_of (in_call_order call)) + call.settings.window
+pub fresh_call : (call : Call) → HoldAll early_rules call → call.moment ≤ iat_or_none (last_of (in_call_order call)) + call.settings.past
 fresh_call call h =
     let some = some_chain call h in
     let m = some_message call h in
     let at : slice_get (in_call_order call) (length (in_call_order call) - 1) ≡ Some (get_or (in_call_order call) (length (in_call_order call) - 1) m.0) =
     slice_get-get_or (in_call_order call) (length (in_call_order call) - 1) m.0 (omega (arith, some)) in
     let last : Reading = get_or (in_call_order call) (length (in_call_order call) - 1) m.0 in
-    let one = fresh_one call.settings.window call.moment last (each_at (stale call.settings.window call.moment) (in_call_order call) (length (in_call_order call) - 1) last h.1.1.1.1.1.1.1.1.0 at) in
-    subst (λ x. call.moment ≤ iat_or_none x + call.settings.window) (sym at) one
+    let one = fresh_one call.settings call.moment last (each_at (stale call.settings call.moment) (in_call_order call) (length (in_call_order call) - 1) last h.1.1.1.1.1.1.1.1.0 at) in
+    subst (λ x. call.moment ≤ iat_or_none x + call.settings.past) (sym at) one
 
-last_seen : (call : Call) (screened : ScreenedView) → screened ≡ screened_of call → screened.last ≡ iat_or_none (last_of (in_call_order call)) + call.settings.window
+last_seen : (call : Call) (screened : ScreenedView) → screened ≡ screened_of call → screened.last ≡ iat_or_none (last_of (in_call_order call)) + call.settings.past
 unfolding screened_by
 last_seen call screened e = ap (λ (x : ScreenedView). x.last) e
 

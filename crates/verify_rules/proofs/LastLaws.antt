@@ -26,7 +26,7 @@ last_by call readings one same is =
       earlier = h.0;
       one = one;
       order = sym same ∙ h.1;
-      last_is = sym (ap (λ (x : List Reading). iat_or_none (last_of x) + call.settings.window) same) ∙ ap (λ (x : Option Reading). iat_or_none x + call.settings.window) is;
+      last_is = sym (ap (λ (x : List Reading). iat_or_none (last_of x) + call.settings.past) same) ∙ ap (λ (x : Option Reading). iat_or_none x + call.settings.past) is;
     }
 
 pub last_second : (call : Call) → IsKnownAgain call → IsLastSecond call (last_of_call call)

@@ -20,6 +20,7 @@ use Rattle.verify_rules.specs.Signed.{IsKnownAgain, last_by}
 use Rattle.verify_rules.specs.Words.{AreRead, CanBeRead, Each, IsRead}
 use Rattle.verify_rules.specs.declared.facts.Facts.{Facts}
 use Rattle.verify_rules.specs.declared.readings.Mark.{Mark}
+use Rattle.verify_rules.specs.declared.settings.Settings.{Settings}
 use Rattle.verify_rules.proofs.FirstLaws.{none_broken}
 use Rattle.verify_rules.proofs.FreshLaws.{fresh_call, some_chain, some_message}
 use Rattle.verify_rules.proofs.TokenWords.{ClaimsLaw, FieldLaw, TokenFoundLaw, TokenLaw, speaks_of_read, tokens_mean}
@@ -81,10 +82,10 @@ read_at said (field ∷ fields) (r ∷ readings) (suc at) one h e =
 
 -- ---- how long what was signed is fresh
 
-last_is : (window : ℕ) (signing : List ℕ) (payload : Data) (seconds : ℕ) → payload_in signing ≡ Some payload → issued_at payload ≡ Some seconds → last_by window signing ≡ seconds + window
+last_is : (settings : Settings) (signing : List ℕ) (payload : Data) (seconds : ℕ) → payload_in signing ≡ Some payload → issued_at payload ≡ Some seconds → last_by settings signing ≡ seconds + settings.past
 unfolding last_by
-last_is window signing payload seconds there issued =
-    ap (λ (x : Option Data). unwrap_or (option_and_then issued_at x) 0 + window) there ∙ ap (λ (x : Option ℕ). unwrap_or x 0 + window) issued
+last_is settings signing payload seconds there issued =
+    ap (λ (x : Option Data). unwrap_or (option_and_then issued_at x) 0 + settings.past) there ∙ ap (λ (x : Option ℕ). unwrap_or x 0 + settings.past) issued
 
 -- ---- the call
 
@@ -97,8 +98,8 @@ known_by tokens signed call at one h last here =
     signed here.field.parts.token (given_to_compact (facts call) here.field.parts) token here.field.parts.ppt here.field.parts.info one.passport text here.read.claims in
     let iat = here.read.claims.iat in
     let issued : issued_at token.payload ≡ Some one.passport.iat = rw (iat.member, le-leb one.passport.iat last_second iat.within) refl in
-    let until : last_by call.settings.window token.signing ≡ one.passport.iat + call.settings.window =
-    last_is call.settings.window token.signing token.payload one.passport.iat payload issued in
+    let until : last_by call.settings token.signing ≡ one.passport.iat + call.settings.past =
+    last_is call.settings token.signing token.payload one.passport.iat payload issued in
     record {
       signing = token.signing;
       signed = record {
@@ -113,7 +114,7 @@ known_by tokens signed call at one h last here =
         input = refl;
       };
       ticket = ap (option_map digest_in) last ∙ ap (λ (x : Mark). Some x.digest) here.read.mark;
-      last = ap (λ (x : Option Reading). iat_or_none x + call.settings.window) last ∙ sym until;
+      last = ap (λ (x : Option Reading). iat_or_none x + call.settings.past) last ∙ sym until;
       fresh = fresh_call call h;
     }
 

@@ -16,6 +16,7 @@ use Rattle.verify_rules.specs.Screened.{IsTurned}
 use Rattle.verify_rules.specs.Seen.{AreLinks, IsChainable}
 use Rattle.verify_rules.specs.declared.facts.Facts.{Facts}
 use Rattle.verify_rules.specs.declared.refusal.Place.{Place}
+use Rattle.verify_rules.specs.declared.settings.Settings.{Settings}
 
 -- ---- a rule on each
 
@@ -51,16 +52,16 @@ orig_here calling items i one bad o all e is found left = here (other_calling ca
 pub orig_done : (calling : Option (List ℕ)) (items : List Reading) (i : ℕ) (all : Option Place) → length items ≤ i → each (other_calling calling) (drop i items) ≡ all → None ≡ all
 orig_done calling items i all end left = done (other_calling calling) items i all end left
 
-pub stale_more : (window moment : ℕ) (items : List Reading) (i : ℕ) (one : Reading) (o all : Option Place) → slice_get items i ≡ Some one → o ≡ stale window moment one → o ≡ None
-    → each (stale window moment) (drop i items) ≡ all → each (stale window moment) (drop (i + 1) items) ≡ all
-stale_more window moment items i one o all e is none left = more (stale window moment) items i one all e (sym is ∙ none) left
+pub stale_more : (settings : Settings) (moment : ℕ) (items : List Reading) (i : ℕ) (one : Reading) (o all : Option Place) → slice_get items i ≡ Some one → o ≡ stale settings moment one → o ≡ None
+    → each (stale settings moment) (drop i items) ≡ all → each (stale settings moment) (drop (i + 1) items) ≡ all
+stale_more settings moment items i one o all e is none left = more (stale settings moment) items i one all e (sym is ∙ none) left
 
-pub stale_here : (window moment : ℕ) (items : List Reading) (i : ℕ) (one : Reading) (bad : Place) (o all : Option Place) → slice_get items i ≡ Some one → o ≡ stale window moment one
-    → o ≡ Some bad → each (stale window moment) (drop i items) ≡ all → Some bad ≡ all
-stale_here window moment items i one bad o all e is found left = here (stale window moment) items i one bad all e (sym is ∙ found) left
+pub stale_here : (settings : Settings) (moment : ℕ) (items : List Reading) (i : ℕ) (one : Reading) (bad : Place) (o all : Option Place) → slice_get items i ≡ Some one → o ≡ stale settings moment one
+    → o ≡ Some bad → each (stale settings moment) (drop i items) ≡ all → Some bad ≡ all
+stale_here settings moment items i one bad o all e is found left = here (stale settings moment) items i one bad all e (sym is ∙ found) left
 
-pub stale_done : (window moment : ℕ) (items : List Reading) (i : ℕ) (all : Option Place) → length items ≤ i → each (stale window moment) (drop i items) ≡ all → None ≡ all
-stale_done window moment items i all end left = done (stale window moment) items i all end left
+pub stale_done : (settings : Settings) (moment : ℕ) (items : List Reading) (i : ℕ) (all : Option Place) → length items ≤ i → each (stale settings moment) (drop i items) ≡ all → None ≡ all
+stale_done settings moment items i all end left = done (stale settings moment) items i all end left
 
 -- ---- the order
 

@@ -1,7 +1,7 @@
 -- What the holding of each rule means.
-use Rattle.std.proofs.Common.{◌≡◌, ◌↔◌, ◌⊎◌, inl, inr, ℕ, suc, ◌+◌, ◌≤◌, nat_lt, Bool, true, false, List, [], ◌∷◌, length, find, codes, cond, Option, Some, None, Result, Ok, Err, refl, sym, ◌∙◌, ap, arith}
-use Rattle.std.specs.Int.{abs_diff}
+use Rattle.std.proofs.Common.{◌≡◌, ◌↔◌, ◌⊎◌, inl, inr, ℕ, suc, ◌+◌, ◌≤◌, nat_lt, ◌||◌, Bool, true, false, List, [], ◌∷◌, length, find, codes, cond, Option, Some, None, Result, Ok, Err, refl, sym, ◌∙◌, ap, arith}
 use Rattle.std.specs.Option.{option_or}
+use Rattle.std.proofs.lemmas.Bool.{or_parts}
 use Rattle.std.proofs.lemmas.Bool.Decides.{nat_tests}
 use Rattle.std.proofs.lemmas.Slice.Eq.{bytes_eq-Decides}
 use Rattle.identity_header.specs.FieldText.{FieldText}
@@ -15,9 +15,10 @@ use Rattle.sip_message.specs.Reading.{read}
 use Rattle.sip_message.specs.declared.fault.FormFault.{FormFault}
 use Rattle.passport_claims.specs.Passport.{is_text}
 use Rattle.verify_rules.specs.Call.{IdentityField, Reading, has_ppt, is_absent, lacks_ppt, originating}
-use Rattle.verify_rules.specs.Rules.{bad_field, bad_or_later, foreign_alg, other_calling, is_es256, no_identity, no_invite, no_originating, place, stale}
+use Rattle.verify_rules.specs.Rules.{bad_field, bad_or_later, foreign_alg, other_calling, is_es256, is_stale, no_identity, no_invite, no_originating, place, stale}
 use Rattle.verify_rules.specs.Words.{AreFewFields, Each, IsEs256, IsFieldText, IsFresh, IsFrom, IsInvite, MayOriginate, OfOne}
 use Rattle.verify_rules.specs.declared.refusal.Place.{Place}
+use Rattle.verify_rules.specs.declared.settings.Settings.{Settings}
 use Rattle.verify_rules.proofs.Known.{absent_by, text_by}
 
 -- a test that decides whether a rule is broken
@@ -164,15 +165,18 @@ orig_means calling one = (
 
 -- ---- rule 9
 
-fresh_by : (window moment : ℕ) (one : Reading) (bad : Place) (t : Bool) → nat_lt window (abs_diff moment one.passport.iat) ≡ t → cond t (Some bad) None ≡ None → IsFresh window moment one
-fresh_by window moment one bad true e h = absurd cc
-fresh_by window moment one bad false e h = record { not_old = grind (arith, nat_tests); not_early = grind (arith, nat_tests) }
+fresh_by : (settings : Settings) (moment : ℕ) (one : Reading) (bad : Place) (t : Bool) → is_stale settings moment one.passport.iat ≡ t → cond t (Some bad) None ≡ None → IsFresh settings moment one
+fresh_by settings moment one bad true e h = absurd cc
+fresh_by settings moment one bad false e h =
+    let o = or_parts (nat_lt (one.passport.iat + settings.past) moment) (nat_lt (moment + settings.future) one.passport.iat) e in
+    record { not_old = grind (arith, nat_tests, o.0); not_early = grind (arith, nat_tests, o.1) }
 
-pub fresh_means : (window moment : ℕ) (one : Reading) → (stale window moment one ≡ None) ↔ IsFresh window moment one
+pub fresh_means : (settings : Settings) (moment : ℕ) (one : Reading) → (stale settings moment one ≡ None) ↔ IsFresh settings moment one
 unfolding stale
-fresh_means window moment one = (
-  fresh_by window moment one (place one.mark.field 0) (nat_lt window (abs_diff moment one.passport.iat)) refl,
-  (λ (h : IsFresh window moment one).
+fresh_means settings moment one = (
+  fresh_by settings moment one (place one.mark.field 0) (is_stale settings moment one.passport.iat) refl,
+  (λ (h : IsFresh settings moment one).
       let old = h.not_old in let early = h.not_early in
-      let low : nat_lt window (abs_diff moment one.passport.iat) ≡ false = grind (arith, nat_tests) in rw low refl),
+      let low : nat_lt (one.passport.iat + settings.past) moment ≡ false = grind (arith, nat_tests) in
+      let high : nat_lt (moment + settings.future) one.passport.iat ≡ false = grind (arith, nat_tests) in rw (low, high) refl),
 )

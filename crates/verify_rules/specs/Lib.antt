@@ -11,6 +11,7 @@ pub mod Places
 pub mod Numbers
 pub mod Rules
 pub mod Screened
+pub mod Settings
 pub mod Seen
 pub mod Signed
 pub mod States

@@ -98,7 +98,7 @@ pub record IsPlaced (bytes : List ℕ) (call : Call) (refused : Refusal) : Type 
   pub tokens : refused.rule ≡ 6 → AtFirstField (CanBeRead (facts call)) (IsUnreadableAs (facts call)) (judged_fields (fields_of call)) refused.place
   pub calling : refused.rule ≡ 7 → AtFirst (IsFrom (facts call).calling) NoPart (in_message call) refused.place
   pub order : refused.rule ≡ 8 → NoOrderAt (facts call) (in_message call) refused.place
-  pub fresh : refused.rule ≡ 9 → AtFirst (IsFresh call.settings.window call.moment) NoPart (in_call_order call) refused.place
+  pub fresh : refused.rule ≡ 9 → AtFirst (IsFresh call.settings call.moment) NoPart (in_call_order call) refused.place
 
 abbrev pub SpeaksOfPlace : List ℕ → Call → Result ScreenedView ScreenFault → Type 0
 SpeaksOfPlace bytes call (Ok screened) = ⊤

@@ -1,7 +1,6 @@
 -- The rules by which a call is judged, and the first that it breaks. A rule is stated of a call only where all rules before it
 -- hold; what its definition gives elsewhere is never looked at.
-use Rattle.std.specs.Prelude.{◌≡◌, ℕ, suc, nat_lt, Bool, ◌||◌, ⊤, List, [], ◌∷◌, ◌++◌, map, slice_index_or, Option, Some, None, Result, Ok, Err, codes, if◌then◌else◌}
-use Rattle.std.specs.Int.{abs_diff}
+use Rattle.std.specs.Prelude.{◌≡◌, ℕ, suc, ◌+◌, nat_lt, Bool, ◌||◌, ⊤, List, [], ◌∷◌, ◌++◌, map, slice_index_or, Option, Some, None, Result, Ok, Err, codes, if◌then◌else◌}
 use Rattle.std.specs.Option.{option_or}
 use Rattle.identity_header.specs.Parts.{Parts}
 use Rattle.identity_header.specs.Read.{read as read_parts}
@@ -15,6 +14,7 @@ use Rattle.verify_rules.specs.Call.{Call, IdentityField, Reading, facts, fields_
 use Rattle.verify_rules.specs.declared.facts.Facts.{Facts}
 use Rattle.verify_rules.specs.declared.refusal.Place.{Place}
 use Rattle.verify_rules.specs.declared.refusal.Refusal.{Refusal}
+use Rattle.verify_rules.specs.declared.settings.Settings.{Settings}
 
 -- a rule: its number, and where a call breaks it
 pub record Rule : Type 0 where
@@ -104,10 +104,14 @@ abbrev pub no_order : List Reading → Result (List ℕ) ChainFault → Option P
 no_order readings (Ok turn) = None
 no_order readings (Err fault) = Some (place (field_at readings fault.link) fault.kind)
 
--- ---- rule 9, freshness (RFC 8224, section 6.2; the window is this project's own)
+-- ---- rule 9, freshness (RFC 8224, section 6.2; how old and how far ahead is this project's own)
 
-unfoldable pub stale : ℕ → ℕ → Reading → Option Place
-stale window moment one = if nat_lt window (abs_diff moment one.passport.iat) then Some (place one.mark.field 0) else None
+-- it is older than it may be, or further ahead
+abbrev pub is_stale : Settings → ℕ → ℕ → Bool
+is_stale settings moment iat = nat_lt (iat + settings.past) moment || nat_lt (moment + settings.future) iat
+
+unfoldable pub stale : Settings → ℕ → Reading → Option Place
+stale settings moment one = if is_stale settings moment one.passport.iat then Some (place one.mark.field 0) else None
 
 -- ---- the rules
 
@@ -136,7 +140,7 @@ abbrev pub rule_8 : Rule
 rule_8 = record { number = 8; broken = λ call. no_order (in_message call) (turn_of (facts call) (in_message call)) }
 
 abbrev pub rule_9 : Rule
-rule_9 = record { number = 9; broken = λ call. each (stale call.settings.window call.moment) (in_call_order call) }
+rule_9 = record { number = 9; broken = λ call. each (stale call.settings call.moment) (in_call_order call) }
 
 -- those on what the PASSporTs say, on the Identity fields, and on all that the call itself says
 abbrev pub chain_rules : List Rule

@@ -9,6 +9,7 @@ use Rattle.verify_rules.specs.Rules.{HoldAll, IsFirst, Rule, first}
 use Rattle.verify_rules.specs.declared.readings.Mark.{Mark}
 use Rattle.verify_rules.specs.declared.refusal.ScreenFault.{ScreenFault}
 use Rattle.verify_rules.specs.declared.refusal.ScreenFault.TheVariants.{Refused, Memory}
+use Rattle.verify_rules.specs.declared.settings.Settings.{Settings}
 
 -- the judged PASSporTs in call order, and the last second at which the last of them is fresh
 pub record ScreenedView : Type 0 where
@@ -31,20 +32,20 @@ abbrev pub iat_or_none : Option Reading → ℕ
 iat_or_none None = 0
 iat_or_none (Some one) = one.passport.iat
 
--- PASSporTs in call order, with the last one's iat plus the window
-unfoldable pub screened_by : ℕ → List Reading → ScreenedView
-screened_by window readings = record { readings = readings; last = iat_or_none (last_of readings) + window }
+-- PASSporTs in call order, with the last one's iat plus the seconds for which it is fresh
+unfoldable pub screened_by : Settings → List Reading → ScreenedView
+screened_by settings readings = record { readings = readings; last = iat_or_none (last_of readings) + settings.past }
 
 abbrev pub screened_of : Call → ScreenedView
-screened_of call = screened_by call.settings.window (in_call_order call)
+screened_of call = screened_by call.settings (in_call_order call)
 
 -- the ticket by which a call is known again: the digest of its last PASSporT
 abbrev pub ticket_of : Call → Option (List ℕ)
 ticket_of call = option_map digest_in (last_of (in_call_order call))
 
--- the last second at which a call is fresh: the iat of its last PASSporT, and the window
+-- the last second at which a call is fresh: the iat of its last PASSporT, and for how long that is fresh
 abbrev pub last_of_call : Call → ℕ
-last_of_call call = iat_or_none (last_of (in_call_order call)) + call.settings.window
+last_of_call call = iat_or_none (last_of (in_call_order call)) + call.settings.past
 
 -- ---- how they are kept
 

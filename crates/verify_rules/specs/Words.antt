@@ -15,6 +15,7 @@ use Rattle.verify_rules.specs.Went.{WentSo}
 use Rattle.verify_rules.specs.declared.facts.Facts.{Facts}
 use Rattle.verify_rules.specs.declared.refusal.ScreenFault.{ScreenFault}
 use Rattle.verify_rules.specs.declared.refusal.ScreenFault.TheVariants.{Refused, Memory}
+use Rattle.verify_rules.specs.declared.settings.Settings.{Settings}
 
 -- it holds of each of these
 abbrev pub Each : {A : Type 0} → (A → Type 0) → List A → Type 0
@@ -88,10 +89,10 @@ HasOrder said (origin ∷ others) = (turn : List ℕ) × IsOrder origin.passport
 abbrev pub CallHasOrder : Call → Type 0
 CallHasOrder call = HasOrder (facts call) (in_message call)
 
--- 9: the moment and the iat differ by at most the window
-pub record IsFresh (window moment : ℕ) (one : Reading) : Type 0 where
-  pub not_old : moment ≤ one.passport.iat + window
-  pub not_early : one.passport.iat ≤ moment + window
+-- 9: the PASSporT is not too old, and its iat not too far ahead
+pub record IsFresh (settings : Settings) (moment : ℕ) (one : Reading) : Type 0 where
+  pub not_old : moment ≤ one.passport.iat + settings.past
+  pub not_early : one.passport.iat ≤ moment + settings.future
 
 -- ---- what an answer says of a rule
 
@@ -132,4 +133,4 @@ pub record SaysWords (bytes : List ℕ) (call : Call) (result : Result ScreenedV
   pub calling : Means 7 (Each (IsFrom (facts call).calling) (in_message call)) result
   pub order : Means 8 (CallHasOrder call) result
   pub went : SpeaksOfOrder call result
-  pub fresh : Means 9 (Each (IsFresh call.settings.window call.moment) (in_call_order call)) result
+  pub fresh : Means 9 (Each (IsFresh call.settings call.moment) (in_call_order call)) result

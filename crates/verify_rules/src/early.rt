@@ -21,7 +21,7 @@ use sip_message::{Message, MessageFault, head_law};
 use std::alloc::Global;
 
 /// Tries rules 1 to 9 (RFC 8224, section 6.2) on the bytes of a message that came at a moment, in Unix seconds. The first that is broken
-/// refuses the call; a call that breaks none is screened. The window of the settings is at most 86,400 seconds.
+/// refuses the call; a call that breaks none is screened.
 #[tactic(auto, using(crate::proofs::FirstLaws::least, crate::proofs::FirstLaws::first_before, crate::proofs::FreshLaws::still_fresh))]
 pub fn screen(
     alloc: Global,
@@ -29,7 +29,6 @@ pub fn screen(
     moment: u64,
     settings: &Settings,
 ) -> Result<Screened, ScreenFault>
-    requires window { settings.now.window ≤ 86400 }
 
     // Refused exactly with what the rules give first; and screened where they give nothing, as what they see of the call.
     ensures exact { IsScreenedBy early_rules (call_of settings.now moment bytes.now) result }
@@ -67,7 +66,6 @@ fn screen_exactly(
     moment: u64,
     settings: &Settings,
 ) -> Result<Screened, ScreenFault>
-    requires window { settings.now.window ≤ 86400 }
     ensures { IsScreenedBy early_rules (call_of settings.now moment bytes.now) result }
 {
     match Message::read(alloc, bytes) {
@@ -87,7 +85,6 @@ fn screen_message(
     moment: u64,
     settings: &Settings,
 ) -> Result<Screened, ScreenFault>
-    requires window { settings.now.window ≤ 86400 }
     ensures { IsScreenedBy early_rules (read_call settings.now moment message.now) result }
 {
     if !message.is_invite() {
@@ -114,7 +111,6 @@ fn screen_fields(
     moment: u64,
     settings: &Settings,
 ) -> Result<Screened, ScreenFault>
-    requires window { settings.now.window ≤ 86400 }
     requires fields { map field_seen fields.now ≡ fields_of (read_call settings.now moment message.now) }
     ensures { IsScreenedBy field_rules (read_call settings.now moment message.now) result }
 {
@@ -139,8 +135,8 @@ fn screen_fields(
         Ok(order) => order,
         Err(place) => return Err(ScreenFault::broken(8, place)),
     };
-    let screened = Screened::new(readings, order, settings.window);
-    if let Some(place) = stale(&screened, moment, settings.window) {
+    let screened = Screened::new(readings, order, settings);
+    if let Some(place) = stale(&screened, moment, settings) {
         return Err(ScreenFault::broken(9, place));
     }
     Ok(screened)

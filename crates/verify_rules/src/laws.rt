@@ -39,8 +39,8 @@ use sip_message::head_law;
 use x509_profile::chain_law;
 
 /// What comes of a call by rules 1 to 9, in every world: where they refuse it, so does the first broken rule of all; else it is judged on
-/// by the codes and signatures of the world. Its ticket is the digest of its last PASSporT, and it is fresh up to this one's iat and the
-/// window.
+/// by the codes and signatures of the world. Its ticket is the digest of its last PASSporT, and it is fresh up to this one's iat plus
+/// `past`.
 pub fn screened_law()
     ensures refused { (world : World) (call : Call) (refused : Refusal) → IsScreenedBy early_rules call (Err (Refused refused)) → First world call ≡ Some refused }
     ensures judged { (world : World) (call : Call) (table : Table) (says : Says) (moment : ℕ) (screened : ScreenedView) → IsScreenedBy early_rules call (Ok screened)
@@ -147,7 +147,7 @@ pub fn code_law()
     ensures { (rule : ℕ) → HasCode rule (code_of rule) }
 {}
 
-/// A call that breaks none of rules 1 to 9 is fresh up to the `iat` of its last PASSporT plus the window.
+/// A call that breaks none of rules 1 to 9 is fresh up to the `iat` of its last PASSporT plus `past`.
 pub fn last_second_law()
     ensures { (call : Call) → first early_rules call ≡ None → IsLastSecond call (last_of_call call) }
 {

@@ -9,6 +9,7 @@ ghost use Rattle.verify_rules.specs.Seen.{taken_seen};
 
 use crate::readings::{Readings, Taken};
 use crate::refusal::Place;
+use crate::settings::Settings;
 use passport_claims::{Order, Passport};
 use std::marker::Model;
 
@@ -35,12 +36,11 @@ impl Model for Screened {
 }
 
 impl Screened {
-    /// The PASSporTs in this order, each fresh for so many seconds.
+    /// The PASSporTs in this order, fresh for as long as the settings say.
     #[tactic(auto, unfolding(crate::specs::Screened::screened_by))]
-    pub(crate) fn new(readings: Readings, order: Order, window: u64) -> Screened
+    pub(crate) fn new(readings: Readings, order: Order, settings: &Settings) -> Screened
         requires turned { IsTurned readings order.length order.turn }
-        requires window { window ≤ 86400 }
-        ensures { result ≡ screened_by window (in_turn readings (take order.length order.turn)) }
+        ensures { result ≡ screened_by settings.now (in_turn readings (take order.length order.turn)) }
     {
         let turn = order.turn;
         let mut screened = Screened {
@@ -49,7 +49,7 @@ impl Screened {
             links: order.length,
             last: 0,
         };
-        let last = screened.last_iat() + window;
+        let last = screened.last_iat() + settings.past;
         screened.last = last;
         screened
     }
@@ -105,7 +105,7 @@ impl Screened {
         self.digest(count - 1)
     }
 
-    /// The last second at which the call is fresh: the iat of its last PASSporT and the window, in Unix time.
+    /// The last second at which the call is fresh: the iat of its last PASSporT plus `past` of the settings, in Unix time.
     pub fn last(&self) -> u64
         ensures { result ≡ self.now.last }
     {
@@ -135,25 +135,28 @@ impl Screened {
     }
 }
 
-/// Where the first PASSporT stands whose iat and the moment differ by more than the window, in the order in which the call went.
+/// Where the first PASSporT stands that is too old or too far ahead, in the order in which the call went.
 #[tactic(auto, using(crate::proofs::TurnSteps::stale_more, crate::proofs::TurnSteps::stale_here, crate::proofs::TurnSteps::stale_done))]
-pub(crate) fn stale(screened: &Screened, moment: u64, window: u64) -> Option<Place>
-    ensures { result ≡ each (stale window moment) screened.now.readings }
+pub(crate) fn stale(screened: &Screened, moment: u64, settings: &Settings) -> Option<Place>
+    ensures { result ≡ each (stale settings.now moment) screened.now.readings }
 {
     'readings: for i in 0..screened.count() {
-        if let Some(bad) = stale_at(&screened.taken(i), moment, window) {
+        if let Some(bad) = stale_at(&screened.taken(i), moment, settings) {
             return Some(bad);
         }
     }
     None
 }
 
-/// Where this PASSporT stands, if its iat and the moment differ by more than the window.
+/// Where this PASSporT stands, if it is too old or too far ahead.
 #[tactic(auto, unfolding(crate::specs::Rules::stale))]
-fn stale_at(one: &Taken<'_>, moment: u64, window: u64) -> Option<Place>
-    ensures { result ≡ stale window moment (taken_seen one.now) }
+fn stale_at(one: &Taken<'_>, moment: u64, settings: &Settings) -> Option<Place>
+    ensures { result ≡ stale settings.now moment (taken_seen one.now) }
 {
-    if moment.abs_diff(one.passport.iat()) > window {
+    let iat = one.passport.iat();
+    let is_old = moment.saturating_sub(iat) > settings.past;
+    let is_early = iat.saturating_sub(moment) > settings.future;
+    if is_old || is_early {
         return Some(Place::new(one.mark.field, 0));
     }
     None

@@ -34,9 +34,8 @@ pub record ServiceView : Type 0 where
   pub number : ℕ
   pub moment : ℕ
 
--- what holds of every service: its window is at most a day, and it may hold 4,096 chains
-pub record IsSound (window capacity : ℕ) : Type 0 where
-  pub window_most : window ≤ 86400
+-- what holds of every service: it may hold 4,096 chains
+pub record IsSound (capacity : ℕ) : Type 0 where
   pub capacity_is : capacity ≡ 4096
 
 -- the world of a service with the files of a shelf and what a provider says

@@ -1,6 +1,6 @@
 //! Judging a call by itself.
 ghost use Rattle.stir_outside.specs.Stays.{ProviderStays, ShelfStays};
-ghost use Rattle.std.specs.Prelude.{◌≡◌, ◌≤◌, Ok, IfOk};
+ghost use Rattle.std.specs.Prelude.{◌≡◌, Ok, IfOk};
 ghost use Rattle.verify_rules.specs.Call.{Call as RuledCall};
 ghost use Rattle.verify_rules.specs.Rules.{early_rules};
 ghost use Rattle.verify_rules.specs.Screened.{IsScreenedBy};
@@ -19,7 +19,7 @@ use verify_rules::{
 };
 
 /// Judges a call by itself, by all rules but the one on replay: its chains are read from the shelf and judged for it, in place of those that
-/// are handed in. The window of the settings is at most 86,400 seconds. `AllocError` is the only error.
+/// are handed in. `AllocError` is the only error.
 pub fn judge_call<S: Shelf, P: Provider>(
     alloc: Global,
     settings: &Settings,
@@ -29,7 +29,6 @@ pub fn judge_call<S: Shelf, P: Provider>(
     chains: &mut CallChains,
     call: &Call,
 ) -> Result<Finding, AllocError>
-    requires window { settings.now.window ≤ 86400 }
     ensures ticket { IfOk result (HasTicket (call_in settings.now call.now)) }
     ensures signed { IfOk result (HasSigned (call_in settings.now call.now)) }
     ensures found { IfOk result (IsFoundWhere (S.files shelf.old) world.now (P.says provider.old) (call_in settings.now call.now)) }

@@ -51,7 +51,7 @@ pub fn chains_law()
     right_law();
 }
 
-/// A call that breaks none of rules 1 to 9 is known again up to the `iat` of its last PASSporT plus the window.
+/// A call that breaks none of rules 1 to 9 is known again up to the `iat` of its last PASSporT plus `past`.
 pub fn fresh_law()
     ensures { (call : Call) → first early_rules call ≡ None → IsLastSecond call (last_second call) }
 {

@@ -129,7 +129,6 @@ fn prepare_round<R: Threads + Sync, S: Shelf, P: Provider + Send, G: Gate + Send
     calls: &[Call],
     cache: &mut Cache,
 ) -> Result<Prepared, AllocError>
-    requires window { settings.now.window ≤ 86400 }
     requires some { 0 < length workers.old }
     requires few { length workers.old ≤ 8 }
     requires agree { (w : ℕ) (d : _) → w < length workers.old → P.says (slice_index_or workers.old w d).provider ≡ P.says (slice_index_or workers.old 0 d).provider }

@@ -30,7 +30,6 @@ pub(crate) fn ready_calls<R: Threads + Sync>(
     calls: &[Call],
     threads: usize,
 ) -> Result<Vec<ReadyCall>, AllocError>
-    requires window { settings.now.window ≤ 86400 }
     requires threads { 0 < threads }
     ensures ready { IfOk result (λ ready. EachPair (IsReady settings.now) calls.now ready.items) }
 {

@@ -42,7 +42,6 @@ pub(crate) fn screen_all<R: Threads + Sync>(
     threads: usize,
     places: &mut [ReadyCall],
 )
-    requires window { settings.now.window ≤ 86400 }
     requires threads { 0 < threads }
     requires places { length places.old ≡ length calls.now }
     ensures counted { length places.new ≡ length calls.now }
@@ -59,7 +58,6 @@ pub(crate) fn screen_all<R: Threads + Sync>(
 
 /// Screens the call at this index into its place.
 fn screen_at(alloc: Global, settings: &Settings, calls: &[Call], at: usize, place: &mut ReadyCall)
-    requires window { settings.now.window ≤ 86400 }
     ensures { ScreensAt settings.now calls.now at place.old place.new }
 {
     if let Some(call) = calls.get(at) {
@@ -69,7 +67,6 @@ fn screen_at(alloc: Global, settings: &Settings, calls: &[Call], at: usize, plac
 
 /// Screens a call.
 fn screen_call(alloc: Global, settings: &Settings, call: &Call) -> Screening
-    requires window { settings.now.window ≤ 86400 }
     ensures screening { IsScreening (call_in settings.now call.now) result }
     ensures few { length (readings_in result) ≤ 9 }
 {

@@ -1,5 +1,5 @@
 //! The service.
-ghost use Rattle.std.specs.Prelude.{◌≡◌, ◌≤◌, ◌↔◌, IfOk, IsTrue};
+ghost use Rattle.std.specs.Prelude.{◌≡◌, ◌↔◌, IfOk, IsTrue};
 ghost use Rattle.verify_service.specs.Service.{Follow, IsNew, all_follow, follows_on};
 
 use call_log::Call;
@@ -46,13 +46,12 @@ impl Model for Service {
       moment = s.moment;
     } };
 
-    ghost invariant = { λ s. IsSound s.settings.window s.cache.capacity };
+    ghost invariant = { λ s. IsSound s.cache.capacity };
 }
 
 impl Service {
-    /// A service that has judged no call yet. The window of the settings is at most 86,400 seconds. `Memory` is the only error.
+    /// A service that has judged no call yet. `Memory` is the only error.
     pub fn new(alloc: Global, settings: Settings, world: World) -> Result<Service, AllocError>
-        requires window { settings.window ≤ 86400 }
         ensures { IfOk result (IsNew settings world) }
     {
         let cache = Cache::new(alloc, MOST_CHAINS)?;

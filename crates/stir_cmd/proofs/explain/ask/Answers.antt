@@ -14,7 +14,7 @@ pub returns-in-Ok-clause-ran : goal.returns-in-Ok-clause-ran
 returns-in-Ok-clause-ran g c =
     goes_on (ask_over (asking_view c.args.asking.now)) c.in-Ok.world _ _ _ _ _ _ _ _ _ _ c.in-Ok.ensures.read c.in-Ok.ensures.truly c.read_world.ensures.same c.read_world.ensures.go_on c.read_world.ensures.reads
     c.ask_log.ensures.shelf.counts.faults.never_falls
-    (as_viewed AskedBy StopsAsking c.new-asker.result _ _ _ _ _ _ _ (c.new-asker.ensures ∙ ap (λ (s : Settings). asker_by s c.in-Ok.world) c.settings_of.ensures.exact) c.ask_log.ensures.says)
+    (as_viewed AskedBy StopsAsking c.new-asker.result _ _ _ _ _ _ _ (c.new-asker.ensures ∙ ap (λ (s : Settings). asker_by s c.in-Ok.world) c.settings_of.ensures) c.ask_log.ensures.says)
 
 pub returns-in-Err-clause-ran : goal.returns-in-Err-clause-ran
 returns-in-Err-clause-ran g c =

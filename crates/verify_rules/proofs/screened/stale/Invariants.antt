@@ -6,5 +6,5 @@ use Rattle.verify_rules.proofs.screened.stale.Given as goal
 abbrev pub invariant-readings : goal.invariant-readings
 invariant-readings l = record {
   end : l.i-end ≡ length l.screened.readings;
-  left : each (stale l.window l.moment) (drop l.i l.screened.readings) ≡ each (stale l.window l.moment) l.screened.readings;
+  left : each (stale l.settings l.moment) (drop l.i l.screened.readings) ≡ each (stale l.settings l.moment) l.screened.readings;
 }
