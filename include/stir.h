@@ -30,7 +30,7 @@ extern "C" {
 
 /* What `kind` may be. */
 enum {
-    STIR_PASSES = 0,    /* the call breaks none of the rules 1 to 17 */
+    STIR_PASSES = 0,    /* the call breaks none of rules 1 to 17 and 19 */
     STIR_REFUSED = 1,   /* it breaks one */
     STIR_BAD_INPUT = 2, /* an input is outside its grammar or its limits */
     STIR_NO_MEMORY = 3, /* memory ran out, and nothing is said */
@@ -51,7 +51,7 @@ enum {
 typedef struct stir_said {
     uint32_t kind;
     uint32_t input;     /* STIR_BAD_INPUT: which */
-    uint32_t rule;      /* STIR_REFUSED: the first rule that is broken, 1 to 17 (docs/RULES.md), */
+    uint32_t rule;      /* STIR_REFUSED: the first rule that is broken, 1 to 17 or 19 (docs/RULES.md), */
     uint32_t code;      /* its response code (RFC 8224, section 6.2.2), */
     uint32_t field;     /* the Identity header field in which it is broken, counted from 1; 0 if in none, */
     uint32_t part;      /* and the part of it */
@@ -88,7 +88,7 @@ stir_said stir_ask(uint64_t past, uint64_t future, const uint8_t *country, size_
                    uint8_t *room, size_t room_size);
 
 /*
- * Judges a call by rules 1 to 17. The inputs are those of stir_ask; `answers` has the lines of it that the verifier confirmed. STIR_PASSES with a
+ * Judges a call by rules 1 to 17 and 19. The inputs are those of stir_ask; `answers` has the lines of it that the verifier confirmed. STIR_PASSES with a
  * ticket and its last second, or STIR_REFUSED with the first rule that is broken.
  */
 stir_said stir_judge(uint64_t past, uint64_t future, const uint8_t *country, size_t country_size, uint8_t national, uint64_t moment,

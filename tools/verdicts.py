@@ -15,7 +15,7 @@ BROKEN = {1: 'the message can\'t be read, or is no INVITE', 2: 'there is no Iden
           10: 'the certificates of this x5u aren\'t there', 11: 'a certificate is outside the profile', 12: 'the certificates lead to no trust anchor',
           13: 'a certificate is out of date', 14: 'a certificate speaks for more than its issuer', 15: 'a certificate\'s signature isn\'t good',
           16: 'the PASSporT\'s signature isn\'t good', 17: 'the certificate doesn\'t cover the number',
-          18: 'the PASSporT passed before, with call {place}'}
+          18: 'the PASSporT passed before, with call {place}', 19: 'a certificate doesn\'t allow what is claimed'}
 UNREAD = 'the file of the certificates couldn\'t be read'
 
 # A call of which nothing was validated has no verdict on its number: the message, the Identity field or the certificates weren't there.

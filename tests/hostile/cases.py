@@ -68,7 +68,7 @@ def runs():
             unread = [(1, f"1 unread - 10 {field}.0\n") for field in fields]
             yield Run(f"{words.split()[0]}{words[len(VERIFY):]}, {name}", words, given, valid, 0, "catw", unread, len(given))
         unread = [(1, vectors.holding(9) + f"1 10 unread {field}.0\n") for field in fields]
-        yield Run(f"explain, {name}", EXPLAIN, given, vectors.holding(17), 0, "catw", unread, len(given))
+        yield Run(f"explain, {name}", EXPLAIN, given, vectors.holding(19), 0, "catw", unread, len(given))
         files = ("passport.cer", "div.cer")
         unread = [(3, lines + f"read fault {file}\n") for lines, file in zip(broken, files)]
         yield Run(f"ask, {name}", ASK, given, asked, 0, "cat", unread, len(given))
@@ -82,7 +82,7 @@ def runs():
 
 def longer():
     """A log of two calls, one of a round that is written before the last call is judged, and the drill."""
-    rules, again = vectors.holding(17), vectors.holding(17, 2)
+    rules, again = vectors.holding(19), vectors.holding(19, 2)
     given = entry(CALL) + entry(DIVERTED)
     unread = [(1, vectors.holding(9) + "1 10 unread 1.0\n" + again)]
     unread += [(1, rules + vectors.holding(9, 2) + f"2 10 unread {field}.0\n") for field in (1, 2)]

@@ -13,15 +13,48 @@ import json
 import pathlib
 import sys
 
-from certificates import WORLD, certificate
+from certificates import WORLD, certificate, element
 
 X5U = "https://cert.example.org/%s.cer"
 
 # The certificates, with the digit of the issuer's key.
-ISSUED = {"INT": 1, "LEAF": 2, "DIV": 2, "SECOND_DIV": 2, "SHORT_LEAF": 2, "A1": 1, "A2": 6, "A_LEAF": 7}
+ISSUED = {
+    "INT": 1,
+    "LEAF": 2,
+    "DIV": 2,
+    "SECOND_DIV": 2,
+    "SHORT_LEAF": 2,
+    "A1": 1,
+    "A2": 6,
+    "A_LEAF": 7,
+    "FULL_LEAF": 2,
+    "FULL_INT": 1,
+    "FULL_DIV": 2,
+    "PPT_LEAF": 2,
+    "MUST_DIV": 2,
+    "DIV_INT": 1,
+}
+
+
+def constrained(content):
+    """The extension whose content is these constraints on claims."""
+    kind = bytes.fromhex("06082b0601050507011b")
+    return element(0x30, kind + element(0x04, bytes.fromhex(content)))
+
+
+# `attest` must be `A`, if it is there; `attest` must be there; and `div` must be.
+FULL_ATTEST = constrained("3013a111300f300d160661747465737430030c0141")
+SOME_ATTEST = constrained("300ca00a30081606617474657374")
+SOME_DIV = constrained("3009a00730051603646976")
 
 CERTIFICATES = {name: WORLD[name] for name in ("ROOT", *ISSUED) if name in WORLD}
 CERTIFICATES["SECOND_DIV"] = certificate("W", "I", 9, "", "=12125551214")
+CERTIFICATES["FULL_LEAF"] = certificate("L", "I", 3, "", "709J", more=FULL_ATTEST)
+CERTIFICATES["FULL_INT"] = certificate("I", "R", 2, "c", more=FULL_ATTEST)
+CERTIFICATES["FULL_DIV"] = certificate("V", "I", 5, "", "=12125551213", more=FULL_ATTEST)
+CERTIFICATES["PPT_LEAF"] = certificate("L", "I", 3, "", "709J", more=constrained("3009a00730051603707074"))
+CERTIFICATES["MUST_DIV"] = certificate("V", "I", 5, "", "=12125551213", more=SOME_ATTEST)
+CERTIFICATES["DIV_INT"] = certificate("I", "R", 2, "c", more=SOME_DIV)
 
 # When the calls were signed.
 IAT = 1443208345

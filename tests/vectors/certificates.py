@@ -63,12 +63,13 @@ def time(text):
     return element(0x17, text.encode())
 
 
-def certificate(subject, issuer, digit, letters="", words="", end="250101000000Z"):
-    """A certificate with the extensions of these letters and a list of these entries."""
+def certificate(subject, issuer, digit, letters="", words="", end="250101000000Z", more=b""):
+    """A certificate with the extensions of these letters, a list of these entries, and more extensions."""
     own = number(digit)
     extensions = b"".join(bytes.fromhex(EXTENSIONS[letter]) for letter in letters)
     if words:
         extensions += authority_list(words)
+    extensions += more
     content = element(0xA0, number(2)) + own + ALGORITHM + name(issuer)
     content += element(0x30, time("150101000000Z") + time(end)) + name(subject)
     content += element(0x30, KEY + element(0x03, b"\0\4" + bytes([digit]) * 64))

@@ -81,9 +81,9 @@ same_facts laws message value local =
 pub read_at : (local : LocalView) (message : MessageView) (field : IdentityField) (claims : ClaimsView) (token : TokenView)
     → read_token (given_to_compact (facts_of local message) field.parts) field.parts.token ≡ Ok token
     → read_claims token.header token.payload field.parts.ppt field.parts.info ≡ Ok claims
-    → read_field (facts_of local message) field ≡ Ok (reading claims (mark_of field.number token))
+    → read_field (facts_of local message) field ≡ Ok (reading claims token.signing (mark_of field.number token))
 unfolding read_field
-read_at local message field claims token t c = ap (reading_by field) t ∙ ap (marked_or_part (mark_of field.number token)) c
+read_at local message field claims token t c = ap (reading_by field) t ∙ ap (marked_or_part token.signing (mark_of field.number token)) c
 
 pub good_at : (local : LocalView) (message : MessageView) (field : IdentityField) (r : Reading) → read_field (facts_of local message) field ≡ Ok r
     → ◌≡◌ {A = Option Place} (unreadable (facts_of local message) field) None

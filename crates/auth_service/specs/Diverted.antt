@@ -25,4 +25,4 @@ pub record IsDivertible (call : Call) (local : LocalView) (link : ClaimsView) : 
 
 -- the link as it is judged: the last Identity field, with what was signed and the signature as its token has them
 abbrev pub judged_last : MessageView → ClaimsView → TokenView → Reading
-judged_last message link token = reading link (mark_of (1 + length (identities message)) token)
+judged_last message link token = reading link token.signing (mark_of (1 + length (identities message)) token)

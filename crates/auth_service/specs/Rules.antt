@@ -23,7 +23,7 @@ pub record IsFirstHop (message : MessageView) (order : OrderView) (settings : Se
 
 -- the PASSporT as it is judged: the first Identity field, with what was signed and the signature as its token has them
 abbrev pub judged_of : OrderView → List ℕ → List ℕ → TokenView → Reading
-judged_of order orig dest token = reading (claims_by order orig dest) (mark_of 1 token)
+judged_of order orig dest token = reading (claims_by order orig dest) token.signing (mark_of 1 token)
 
 -- the signature is good under the key of the leaf of the chain that is there for the PASSporT
 abbrev pub IsConfirmed : World → Reading → Type 0

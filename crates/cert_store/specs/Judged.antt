@@ -1,7 +1,8 @@
 -- A chain as the rules on it judge it.
-use Rattle.std.specs.Prelude.{◌≡◌, ◌≢◌, ℕ, ◌+◌, ◌≤◌, length, List, [], Option, Some, None, IsSome, Result, Ok, Err}
+use Rattle.std.specs.Prelude.{◌≡◌, ◌≢◌, ℕ, ◌+◌, ◌-◌, ◌≤◌, length, List, [], Option, Some, None, IsSome, Result, Ok, Err}
 use Rattle.std.specs.List.{slice_get}
 use Rattle.stir_outside.specs.Count.{last_count}
+use Rattle.claim_constraints.specs.Constraints.{ConstraintsView}
 use Rattle.x509_profile.specs.View.{CertView}
 use Rattle.delegation.specs.Coverage.{Table}
 use Rattle.delegation.specs.declared.fault.PathFault.{PathFault}
@@ -41,6 +42,14 @@ view_of profile shape authority asked certificates periods keys = record {
 -- where rule 13 is broken at this moment
 abbrev pub out_of_date : JudgedView → ℕ → Option ℕ
 out_of_date judged moment = first_out moment judged.periods
+
+-- what certificate i, the leaf's number being 1, demands of the claims of a PASSporT that is judged under it
+abbrev pub demanded : Option CertView → Option ConstraintsView
+demanded (Some certificate) = certificate.constraints
+demanded None = None
+
+abbrev pub constraints_at : JudgedView → ℕ → Option ConstraintsView
+constraints_at judged i = demanded (slice_get judged.certificates (i - 1))
 
 -- signatures are asked for where rules 11, 12 and 14 hold
 abbrev pub asked_where : Option ℕ → Option ℕ → Option ℕ → Option ℕ → Asked

@@ -3,10 +3,11 @@ ghost use Rattle.std.specs.Prelude.{◌≡◌, ◌≢◌, ◌<◌, ◌≤◌, �
 ghost use Rattle.std.specs.List.{slice_get};
 ghost use Rattle.std.specs.Option.{option_copied, option_map};
 ghost use Rattle.cert_store.specs.Rules.{first_out, is_in_date};
-ghost use Rattle.cert_store.specs.Judged.{IsConsistent, out_of_date};
+ghost use Rattle.cert_store.specs.Judged.{IsConsistent, constraints_at, out_of_date};
 ghost use Rattle.cert_store.specs.Questions.{kept_question, question_at, seen, with_key};
 
 use crate::path::Key;
+use claim_constraints::Constraints;
 use std::marker::Model;
 use x509_profile::Certificate;
 
@@ -144,6 +145,16 @@ impl Judged {
         ensures consistent { IsConsistent self.now }
     {
         self.certificates.len() as u8
+    }
+
+    /// What certificate `i` demands of the claims of a PASSporT that is judged under it, if it demands anything: what rule 19 asks. It is
+    /// one of the chain itself: of the trust anchor above the last certificate nothing is asked.
+    pub fn constraints(&self, i: u8) -> Option<&Constraints>
+        requires some { 1 ≤ i }
+        requires within { i ≤ length self.now.certificates }
+        ensures { option_copied result ≡ constraints_at self.now i }
+    {
+        self.certificates[usize::from(i - 1)].constraints()
     }
 
     /// The question that rule 15 asks for the signature of certificate `i`. None exactly where rule 12 is broken or the certificate is

@@ -11,8 +11,8 @@
 //! if !constraints.meets(token.payload()) { .. }
 //! ```
 //!
-//! It isn't part of the rules: a certificate with constraints is refused by `x509_profile`, as that profile has none, so no verdict depends on this
-//! crate. Claims that a certificate excludes (RFC 9118) aren't part of it.
+//! `x509_profile` reads them of a certificate's extension, and `verify_rules` asks whether payloads meet them. Claims that a certificate excludes
+//! (RFC 9118) aren't part of them.
 //!
 //! Proved: constraints are read just if the bytes are their one text, and the first fault is said both ways. They are met just if each claim that
 //! must be there is a member of the payload and each member with permitted values is one of them ([`constraints_law`]; `docs/PROVED.md` has the

@@ -1,7 +1,8 @@
 -- What explains a call can be read back.
-use Rattle.std.proofs.Common.{◌≡◌, ◌⊎◌, inl, inr, ℕ, zero, suc, ◌+◌, ◌-◌, ◌<◌, ◌^◌, true, false, List, [], ◌∷◌, ◌++◌, get_or, codes, append_assoc, refl, sym, ◌∙◌, ap, arith}
+use Rattle.std.proofs.Common.{◌≡◌, ◌⊎◌, inl, inr, ℕ, zero, suc, ◌+◌, ◌-◌, ◌<◌, ◌≤◌, ◌^◌, nat_lt, Bool, true, false, cond, List, [], ◌∷◌, ◌++◌, get_or, codes, append_assoc, refl, sym, ◌∙◌, ap, arith}
 use Rattle.std.specs.Char.{is_ascii_digit}
 use Rattle.std.specs.Fmt.{decimal}
+use Rattle.std.proofs.lemmas.Bool.Decides.{nat_tests}
 use Rattle.std.proofs.lemmas.List.{append-nil, append_cancel_left, append_cancel_right}
 use Rattle.text_grammar.proofs.DecimalLaws.{number_written}
 use Rattle.verify_rules.specs.Code.{HasCode, code_of}
@@ -12,7 +13,7 @@ use Rattle.verify_service.specs.ReportLine.{PlaceFits}
 use Rattle.verify_service.specs.declared.finding.Finding.{Finding}
 use Rattle.verify_service.specs.declared.finding.Finding.TheVariants.{Refused, Unread, Unasked, Passes}
 use Rattle.verify_service.proofs.ReadBack.{code_fits, first_digit, no_text, refusal_is, same_place, same_then}
-use Rattle.single_calls.specs.Explain.{broken_line, explained, ok_line, ok_lines, unread_line}
+use Rattle.single_calls.specs.Explain.{broken_line, explained, lines_before, ok_line, ok_lines, unread_line}
 use Rattle.single_calls.specs.ToldApart.{AreToldAlike, FindingFits, IsBrokenLine, line_of}
 
 -- ---- the words of a line
@@ -47,7 +48,7 @@ ok_then m r rest =
     append_assoc (decimal m) (codes " " ++ (decimal r ++ codes " ok\n")) rest
     ∙ ap (λ (x : List ℕ). decimal m ++ 32 ∷ x) (append_assoc (decimal r) (codes " ok\n") rest)
 
--- a line that isn't one of a rule that is met
+-- a line that isn't one of a rule of 1 to 18 that is met
 record IsOther (text : List ℕ) : Type 0 where
   number : ℕ
   rule : ℕ
@@ -55,18 +56,22 @@ record IsOther (text : List ℕ) : Type 0 where
   number_fits : number < 2 ^ 64
   rule_fits : rule < 2 ^ 64
   text_is : text ≡ decimal number ++ 32 ∷ (decimal rule ++ 32 ∷ tail)
-  other : get_or tail 0 0 ≡ 111 → ⊥
+  other : (get_or tail 0 0 ≡ 111 → ⊥) ⊎ (rule ≡ 19)
 
 abbrev IsEnd : List ℕ → Type 0
 IsEnd text = (text ≡ []) ⊎ IsOther text
 
-no_end : (m r : ℕ) (rest end : List ℕ) → m < 2 ^ 64 → r < 2 ^ 64 → IsEnd end → ok_line m r ++ rest ≡ end → ⊥
+no_other : (r rule : ℕ) (tail rest : List ℕ) → r < 19 → r ≡ rule → tail ≡ codes "ok\n" ++ rest → (get_or tail 0 0 ≡ 111 → ⊥) ⊎ (rule ≡ 19) → ⊥
+no_other r rule tail rest small same is (inl other) = other (ap (λ (x : List ℕ). get_or x 0 0) is)
+no_other r rule tail rest small same is (inr last) = omega (arith, small, same, last)
+
+no_end : (m r : ℕ) (rest end : List ℕ) → m < 2 ^ 64 → r < 19 → IsEnd end → ok_line m r ++ rest ≡ end → ⊥
 no_end m r rest end low small (inl none) same = no_text (decimal m) 32 (decimal r ++ 32 ∷ (codes "ok\n" ++ rest)) (sym none ∙ sym same ∙ ok_then m r rest)
 no_end m r rest end low small (inr line) same =
     let number = same_then 32 m line.number (decimal r ++ 32 ∷ (codes "ok\n" ++ rest)) (decimal line.rule ++ 32 ∷ line.tail) refl low line.number_fits
     (sym (ok_then m r rest) ∙ same ∙ line.text_is) in
-    let rule = same_then 32 r line.rule (codes "ok\n" ++ rest) line.tail refl small line.rule_fits number.behind in
-    line.other (sym (ap (λ (x : List ℕ). get_or x 0 0) rule.behind))
+    let rule = same_then 32 r line.rule (codes "ok\n" ++ rest) line.tail refl (omega (arith, small)) line.rule_fits number.behind in
+    no_other r line.rule line.tail rest small rule.number (sym rule.behind) line.other
 
 both_met : (m n r : ℕ) (s t : List ℕ) → m < 2 ^ 64 → n < 2 ^ 64 → r < 2 ^ 64 → ok_line m r ++ s ≡ ok_line n r ++ t → s ≡ t
 both_met m n r s t low high small same =
@@ -74,7 +79,7 @@ both_met m n r s t low high small same =
     let rule = same_then 32 r r (codes "ok\n" ++ s) (codes "ok\n" ++ t) refl small small number.behind in
     append_cancel_left (codes "ok\n") s t rule.behind
 
-same_lines : (m n r k j : ℕ) (e f : List ℕ) → m < 4294967296 → n < 4294967296 → r + k < 4294967296 → r + j < 4294967296 → IsEnd e → IsEnd f
+same_lines : (m n r k j : ℕ) (e f : List ℕ) → m < 4294967296 → n < 4294967296 → r + k ≤ 18 → r + j ≤ 18 → IsEnd e → IsEnd f
     → ok_lines m r k ++ e ≡ ok_lines n r j ++ f → (k ≡ j) × (e ≡ f)
 unfolding ok_lines
 same_lines m n r zero zero e f low high small room left right same = (refl, same)
@@ -121,7 +126,7 @@ broken_end number refused low small = record {
   number_fits = omega arith;
   rule_fits = omega arith;
   text_is = broken_text_is number refused;
-  other = no_digit (code_of refused.rule) 111 (codes " " ++ (place_text refused.place ++ codes "\n")) (code_fits refused.rule) refl;
+  other = inl (no_digit (code_of refused.rule) 111 (codes " " ++ (place_text refused.place ++ codes "\n")) (code_fits refused.rule) refl);
 }
 
 unread_end : (number : ℕ) (bad : Place) → number < 4294967296 → IsOther (unread_line number bad)
@@ -132,11 +137,23 @@ unread_end number bad low = record {
   number_fits = omega arith;
   rule_fits = omega arith;
   text_is = unread_text_is number bad;
-  other = λ (is : 117 ≡ 111). omega (arith, is);
+  other = inl (λ (is : 117 ≡ 111). omega (arith, is));
+}
+
+met_end : (number : ℕ) → number < 4294967296 → IsOther (ok_line number 19)
+unfolding ok_line
+met_end number low = record {
+  number = number;
+  rule = 19;
+  tail = codes "ok\n";
+  number_fits = omega arith;
+  rule_fits = omega arith;
+  text_is = refl;
+  other = inr refl;
 }
 
 abbrev count_of : Finding → ℕ
-count_of (Refused refused) = refused.rule - 1
+count_of (Refused refused) = lines_before refused.rule
 count_of (Unread bad) = 9
 count_of (Unasked bad) = 14
 count_of (Passes pass) = 17
@@ -145,25 +162,32 @@ abbrev end_of : ℕ → Finding → List ℕ
 end_of number (Refused refused) = broken_line number refused
 end_of number (Unread bad) = unread_line number bad
 end_of number (Unasked bad) = []
-end_of number (Passes pass) = []
+end_of number (Passes pass) = ok_line number 19
 
 end_is : (number : ℕ) (finding : Finding) → number < 4294967296 → FindingFits finding → IsEnd (end_of number finding)
 end_is number (Refused refused) low fits = inr (broken_end number refused low fits.0)
 end_is number (Unread bad) low fits = inr (unread_end number bad low)
 end_is number (Unasked bad) low fits = inl refl
-end_is number (Passes pass) low fits = inl refl
+end_is number (Passes pass) low fits = inr (met_end number low)
 
-few : (finding : Finding) → FindingFits finding → 1 + count_of finding < 4294967296
-few (Refused refused) fits = omega (arith, fits.0)
-few (Unread bad) fits = omega arith
-few (Unasked bad) fits = omega arith
-few (Passes pass) fits = omega arith
+few_before : (rule : ℕ) → 1 + lines_before rule ≤ 18
+few_before rule = of (nat_lt 17 (rule - 1)) refl
+  where
+    of : (t : Bool) → nat_lt 17 (rule - 1) ≡ t → 1 + cond t 17 (rule - 1) ≤ 18
+    of true e = omega arith
+    of false e = grind (arith, nat_tests)
+
+few : (finding : Finding) → 1 + count_of finding ≤ 18
+few (Refused refused) = few_before refused.rule
+few (Unread bad) = omega arith
+few (Unasked bad) = omega arith
+few (Passes pass) = omega arith
 
 in_two : (number : ℕ) (finding : Finding) → explained number finding ≡ ok_lines number 1 (count_of finding) ++ end_of number finding
 in_two number (Refused refused) = refl
 in_two number (Unread bad) = refl
 in_two number (Unasked bad) = sym (append-nil (ok_lines number 1 14))
-in_two number (Passes pass) = sym (append-nil (ok_lines number 1 17))
+in_two number (Passes pass) = refl
 
 -- ---- the number
 
@@ -182,11 +206,15 @@ opens_met : (number count : ℕ) → Opens number (ok_lines number 1 (suc count)
 unfolding ok_lines
 opens_met number count = (decimal 1 ++ 32 ∷ (codes "ok\n" ++ ok_lines number 2 count), ok_then number 1 (ok_lines number 2 count))
 
+last_text_is : (number : ℕ) → ok_line number 19 ≡ decimal number ++ 32 ∷ (decimal 19 ++ 32 ∷ codes "ok\n")
+unfolding ok_line
+last_text_is number = refl
+
 opens : (number : ℕ) (finding : Finding) → Opens number (explained number finding)
-opens number (Refused refused) = opens_lines number 1 (refused.rule - 1) (broken_line number refused) (decimal refused.rule ++ 32 ∷ behind_code refused, broken_text_is number refused)
+opens number (Refused refused) = opens_lines number 1 (lines_before refused.rule) (broken_line number refused) (decimal refused.rule ++ 32 ∷ behind_code refused, broken_text_is number refused)
 opens number (Unread bad) = opens_lines number 1 9 (unread_line number bad) (decimal 10 ++ 32 ∷ behind_ten bad, unread_text_is number bad)
 opens number (Unasked bad) = opens_met number 13
-opens number (Passes pass) = opens_met number 16
+opens number (Passes pass) = opens_lines number 1 17 (ok_line number 19) (decimal 19 ++ 32 ∷ codes "ok\n", last_text_is number)
 
 number_by : (m n : ℕ) (a b : List ℕ) → m < 4294967296 → n < 4294967296 → Opens m a → Opens n b → a ≡ b → m ≡ n
 number_by m n a b low high (r, left) (s, right) same = (same_then 32 m n r s refl (omega arith) (omega arith) (sym left ∙ same ∙ right)).number
@@ -217,6 +245,13 @@ broken_not_unread m n a b low high small same =
     let rule = same_then 32 a.rule 10 (behind_code a) (behind_ten b) refl (omega arith) (omega arith) number.behind in
     no_digit (code_of a.rule) 117 (codes " " ++ (place_text a.place ++ codes "\n")) (code_fits a.rule) refl (ap (λ (x : List ℕ). get_or x 0 0) rule.behind)
 
+broken_not_met : (m n : ℕ) (a : Refusal) → m < 4294967296 → n < 4294967296 → a.rule < 256 → broken_line m a ≡ ok_line n 19 → ⊥
+broken_not_met m n a low high small same =
+    let number = same_then 32 m n (decimal a.rule ++ 32 ∷ behind_code a) (decimal 19 ++ 32 ∷ codes "ok\n") refl (omega arith) (omega arith)
+    (sym (broken_text_is m a) ∙ same ∙ last_text_is n) in
+    let rule = same_then 32 a.rule 19 (behind_code a) (codes "ok\n") refl (omega arith) (omega arith) number.behind in
+    no_digit (code_of a.rule) 111 (codes " " ++ (place_text a.place ++ codes "\n")) (code_fits a.rule) refl (ap (λ (x : List ℕ). get_or x 0 0) rule.behind)
+
 some_broken : (number : ℕ) (refused : Refusal) → [] ≡ broken_line number refused → ⊥
 some_broken number refused same = no_text (decimal number) 32 (decimal refused.rule ++ 32 ∷ behind_code refused) (same ∙ broken_text_is number refused)
 
@@ -227,22 +262,22 @@ alike_by : (m n : ℕ) (a b : Finding) → m < 4294967296 → n < 4294967296 →
 alike_by m n (Refused a) (Refused b) low high left right count ends = same_broken m n a b low high left.0 right.0 left.1 right.1 ends
 alike_by m n (Refused a) (Unread b) low high left right count ends = broken_not_unread m n a b low high left.0 ends
 alike_by m n (Refused a) (Unasked b) low high left right count ends = some_broken m a (sym ends)
-alike_by m n (Refused a) (Passes b) low high left right count ends = some_broken m a (sym ends)
+alike_by m n (Refused a) (Passes b) low high left right count ends = broken_not_met m n a low high left.0 ends
 alike_by m n (Unread a) (Refused b) low high left right count ends = broken_not_unread n m b a high low right.0 (sym ends)
 alike_by m n (Unread a) (Unread b) low high left right count ends = same_unread_line m n a b low high left right ends
 alike_by m n (Unread a) (Unasked b) low high left right count ends = some_unread m a (sym ends)
-alike_by m n (Unread a) (Passes b) low high left right count ends = some_unread m a (sym ends)
+alike_by m n (Unread a) (Passes b) low high left right count ends = absurd (omega (arith, count))
 alike_by m n (Unasked a) (Refused b) low high left right count ends = some_broken n b ends
 alike_by m n (Unasked a) (Unread b) low high left right count ends = some_unread n b ends
 alike_by m n (Unasked a) (Unasked b) low high left right count ends = tt
 alike_by m n (Unasked a) (Passes b) low high left right count ends = absurd (omega (arith, count))
-alike_by m n (Passes a) (Refused b) low high left right count ends = some_broken n b ends
-alike_by m n (Passes a) (Unread b) low high left right count ends = some_unread n b ends
+alike_by m n (Passes a) (Refused b) low high left right count ends = broken_not_met n m b high low right.0 (sym ends)
+alike_by m n (Passes a) (Unread b) low high left right count ends = absurd (omega (arith, count))
 alike_by m n (Passes a) (Unasked b) low high left right count ends = absurd (omega (arith, count))
 alike_by m n (Passes a) (Passes b) low high left right count ends = tt
 
 pub told_apart : (m n : ℕ) (a b : Finding) → m < 4294967296 → n < 4294967296 → FindingFits a → FindingFits b → explained m a ≡ explained n b → (m ≡ n) × AreToldAlike a b
 told_apart m n a b low high left right same =
-    let h = same_lines m n 1 (count_of a) (count_of b) (end_of m a) (end_of n b) low high (few a left) (few b right) (end_is m a low left) (end_is n b high right)
+    let h = same_lines m n 1 (count_of a) (count_of b) (end_of m a) (end_of n b) low high (few a) (few b) (end_is m a low left) (end_is n b high right)
     (sym (in_two m a) ∙ same ∙ in_two n b) in
     (number_by m n (explained m a) (explained n b) low high (opens m a) (opens n b) same, alike_by m n a b low high left right h.0 h.1)

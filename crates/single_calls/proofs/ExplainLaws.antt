@@ -1,16 +1,20 @@
 -- What is explained is told by the first rule that is broken.
-use Rattle.std.proofs.Common.{◌≡◌, ℕ, suc, ◌-◌, ◌≤◌, List, [], ◌∷◌, ◌++◌, length, append_assoc, Option, Some, None, refl, sym, ◌∙◌, ap, subst, arith}
+use Rattle.std.proofs.Common.{◌≡◌, ℕ, suc, ◌+◌, ◌-◌, ◌<◌, ◌≤◌, nat_lt, Bool, true, false, cond, List, [], ◌∷◌, ◌++◌, length, map, append_assoc, Option, Some, None, refl, sym, ◌∙◌, ap, subst, arith}
 use Rattle.std.specs.Option.{option_or}
+use Rattle.std.proofs.lemmas.Bool.Decides.{nat_tests}
+use Rattle.std.proofs.lemmas.List.{append-nil}
 use Rattle.std.proofs.lemmas.Option.{same_Some}
 use Rattle.verify_rules.proofs.FirstLaws.{none_first}
 use Rattle.verify_rules.proofs.WorldEvents.{first_append}
 use Rattle.verify_rules.specs.Call.{Call}
+use Rattle.verify_rules.specs.Late.{rules_before}
 use Rattle.verify_rules.specs.Rules.{Rule, early_rules, first, or_later, refusal}
-use Rattle.verify_rules.specs.World.{First, MayBeUnasked, MayBeUnread, World, certificate_rules, late_rules}
+use Rattle.verify_rules.specs.World.{First, MayBeUnasked, MayBeUnread, World, asking_rule, certificate_rules, late_rule, late_rules}
+use Rattle.verify_rules.specs.declared.late.LateRule.TheVariants as late
 use Rattle.verify_rules.specs.declared.refusal.Place.{Place}
 use Rattle.verify_rules.specs.declared.refusal.Refusal.{Refusal}
 use Rattle.verify_service.specs.declared.finding.Finding.TheVariants.{Unasked, Unread}
-use Rattle.single_calls.specs.Explain.{Explain, broken_line, broken_text, explain_rules, explained, line_or_more, ok_line, ok_lines, unread_line}
+use Rattle.single_calls.specs.Explain.{Explain, broken_line, broken_text, explain_rules, explained, line_or_more, lines_before, met_text, ok_line, ok_lines, unread_line}
 
 not_none : {A : Type 0} → (a : A) → ◌≡◌ {A = Option A} (Some a) None → ⊥
 not_none a e = cc
@@ -20,8 +24,15 @@ abbrev AreNumbered : ℕ → List Rule → Type 0
 AreNumbered from [] = Unit {0}
 AreNumbered from (rule ∷ others) = (rule.number ≡ from) × AreNumbered (suc from) others
 
-all_numbered : (world : World) → AreNumbered 1 (early_rules ++ late_rules world)
-all_numbered world =
+-- rules 1 to 17, and the last
+abbrev front_rules : World → List Rule
+front_rules world = early_rules ++ (map (late_rule world) rules_before ++ asking_rule world ∷ late_rule world late.Covers ∷ [])
+
+abbrev last_rule : World → Rule
+last_rule world = late_rule world late.Constraints
+
+front_numbered : (world : World) → AreNumbered 1 (front_rules world)
+front_numbered world =
     (refl, (refl, (refl, (refl, (refl, (refl, (refl, (refl, (refl, (refl, (refl, (refl, (refl, (refl, (refl, (refl, (refl, tt)))))))))))))))))
 
 -- ---- where none is broken
@@ -77,15 +88,97 @@ broken_from number from (rule ∷ others) call refused numbered is =
     broken_by number from rule.number (rule.broken call) (first others call) (explain_rules number others call) refused numbered.0 is
     (broken_from number (suc from) others call refused numbered.1)
 
+-- its number is one of theirs
+below_by : (named high : ℕ) (bad : Option Place) (later : Option Refusal) (refused : Refusal) → named < high → or_later named bad later ≡ Some refused
+    → (later ≡ Some refused → refused.rule < high) → refused.rule < high
+below_by named high None later refused low is more = more is
+below_by named high (Some bad) later refused low is more =
+    let same : named ≡ refused.rule = ap (λ (r : Refusal). r.rule) (same_Some (refusal named bad) refused is) in omega (arith, low, same)
+
+numbered_below : (from high : ℕ) (rules : List Rule) (call : Call) (refused : Refusal) → AreNumbered from rules → from + length rules ≤ high → first rules call ≡ Some refused
+    → refused.rule < high
+numbered_below from high [] call refused numbered room is = absurd (cc)
+numbered_below from high (rule ∷ others) call refused numbered room is =
+    below_by rule.number high (rule.broken call) (first others call) refused (omega (arith, numbered.0, room)) is
+    (numbered_below (suc from) high others call refused numbered.1 (omega (arith, room)))
+
+-- ---- of some rules and those behind them
+
+behind_by : (number named : ℕ) (bad : Option Place) (later : Option Refusal) (others more lines : List ℕ) → or_later named bad later ≡ None → (later ≡ None → others ≡ more ++ lines)
+    → line_or_more number named bad others ≡ line_or_more number named bad more ++ lines
+behind_by number named None later others more lines none below = ap (λ (x : List ℕ). ok_line number named ++ x) (below none) ∙ sym (append_assoc (ok_line number named) more lines)
+behind_by number named (Some bad) later others more lines none below = absurd (not_none (refusal named bad) none)
+
+-- where none of the first is broken, the lines of both
+both_explained : (number : ℕ) (rules behind : List Rule) (call : Call) → first rules call ≡ None
+    → explain_rules number (rules ++ behind) call ≡ explain_rules number rules call ++ explain_rules number behind call
+both_explained number [] behind call none = refl
+both_explained number (rule ∷ rules) behind call none =
+    behind_by number rule.number (rule.broken call) (first rules call) (explain_rules number (rules ++ behind) call) (explain_rules number rules call) (explain_rules number behind call) none
+    (both_explained number rules behind call)
+
+stays_by : (number named : ℕ) (bad : Option Place) (later : Option Refusal) (others more : List ℕ) (refused : Refusal) → or_later named bad later ≡ Some refused
+    → (later ≡ Some refused → others ≡ more) → line_or_more number named bad others ≡ line_or_more number named bad more
+stays_by number named None later others more refused is below = ap (λ (x : List ℕ). ok_line number named ++ x) (below is)
+stays_by number named (Some bad) later others more refused is below = refl
+
+-- where one of them is, those of the first alone
+first_explained : (number : ℕ) (rules behind : List Rule) (call : Call) (refused : Refusal) → first rules call ≡ Some refused
+    → explain_rules number (rules ++ behind) call ≡ explain_rules number rules call
+first_explained number [] behind call refused is = absurd (cc)
+first_explained number (rule ∷ rules) behind call refused is =
+    stays_by number rule.number (rule.broken call) (first rules call) (explain_rules number (rules ++ behind) call) (explain_rules number rules call) refused is
+    (first_explained number rules behind call refused)
+
 -- ---- of all rules
 
-pub explains_met : (world : World) (number : ℕ) (call : Call) → First world call ≡ None → Explain world number call ≡ ok_lines number 1 17
+-- the lines of rules 1 to 17, all of which hold, and those of the last
+front_met : (world : World) (number : ℕ) (call : Call) → first (front_rules world) call ≡ None
+    → explain_rules number (early_rules ++ late_rules world) call ≡ ok_lines number 1 17 ++ explain_rules number (last_rule world ∷ []) call
+front_met world number call none =
+    both_explained number (front_rules world) (last_rule world ∷ []) call none
+    ∙ ap (λ (x : List ℕ). x ++ explain_rules number (last_rule world ∷ []) call) (met_all number 1 (front_rules world) call (front_numbered world) none)
+
+last_met : (number : ℕ) (bad : Option Place) → or_later 19 bad None ≡ None → line_or_more number 19 bad [] ≡ ok_line number 19
+last_met number None none = append-nil (ok_line number 19)
+last_met number (Some bad) none = absurd (not_none (refusal 19 bad) none)
+
+last_broken : (number : ℕ) (bad : Option Place) (refused : Refusal) → or_later 19 bad None ≡ Some refused
+    → ok_lines number 1 17 ++ line_or_more number 19 bad [] ≡ broken_text number refused
+last_broken number None refused is = absurd (cc)
+last_broken number (Some bad) refused is = ap (broken_text number) (same_Some (refusal 19 bad) refused is)
+
+met_parts : (world : World) (number : ℕ) (call : Call) (front : Option Refusal) → first (front_rules world) call ≡ front → option_or front (first (last_rule world ∷ []) call) ≡ None
+    → explain_rules number (early_rules ++ late_rules world) call ≡ met_text number
+met_parts world number call None e none =
+    front_met world number call e ∙ ap (λ (x : List ℕ). ok_lines number 1 17 ++ x) (last_met number ((last_rule world).broken call) none)
+met_parts world number call (Some refused) e none = absurd (not_none refused none)
+
+few_lines : (refused : Refusal) → refused.rule < 18 → refused.rule - 1 ≡ lines_before refused.rule
+few_lines refused low = of (nat_lt 17 (refused.rule - 1)) refl
+  where
+    of : (t : Bool) → nat_lt 17 (refused.rule - 1) ≡ t → refused.rule - 1 ≡ cond t 17 (refused.rule - 1)
+    of true e = absurd (grind (arith, nat_tests))
+    of false e = refl
+
+broken_parts : (world : World) (number : ℕ) (call : Call) (refused : Refusal) (front : Option Refusal) → first (front_rules world) call ≡ front
+    → option_or front (first (last_rule world ∷ []) call) ≡ Some refused → explain_rules number (early_rules ++ late_rules world) call ≡ broken_text number refused
+broken_parts world number call refused None e is = front_met world number call e ∙ last_broken number ((last_rule world).broken call) refused is
+broken_parts world number call refused (Some other) e is =
+    let same : first (front_rules world) call ≡ Some refused = e ∙ is in
+    first_explained number (front_rules world) (last_rule world ∷ []) call refused same
+    ∙ (broken_from number 1 (front_rules world) call refused (front_numbered world) same).1
+    ∙ ap (λ n. ok_lines number 1 n ++ broken_line number refused) (few_lines refused (numbered_below 1 18 (front_rules world) call refused (front_numbered world) (omega arith) same))
+
+pub explains_met : (world : World) (number : ℕ) (call : Call) → First world call ≡ None → Explain world number call ≡ met_text number
 unfolding Explain
-explains_met world number call none = met_all number 1 (early_rules ++ late_rules world) call (all_numbered world) none
+explains_met world number call none =
+    met_parts world number call (first (front_rules world) call) refl (sym (first_append (front_rules world) (last_rule world ∷ []) call) ∙ none)
 
 pub explains_broken : (world : World) (number : ℕ) (call : Call) (refused : Refusal) → First world call ≡ Some refused → Explain world number call ≡ broken_text number refused
 unfolding Explain
-explains_broken world number call refused is = (broken_from number 1 (early_rules ++ late_rules world) call refused (all_numbered world) is).1
+explains_broken world number call refused is =
+    broken_parts world number call refused (first (front_rules world) call) refl (sym (first_append (front_rules world) (last_rule world ∷ []) call) ∙ is)
 
 -- ---- where a call is set aside
 

@@ -52,7 +52,8 @@ certificates_low world call refused is =
 
 signatures_high : (world : World) (call : Call) (refused : Refusal) → first (signature_rules world) call ≡ Some refused → 15 ≤ refused.rule
 signatures_high world call refused is =
-    (first_within 15 17 (signature_rules world) call refused (omega arith, omega arith, (omega arith, omega arith, (omega arith, omega arith, tt))) is).0
+    (first_within 15 19 (signature_rules world) call refused
+    (omega arith, omega arith, (omega arith, omega arith, (omega arith, omega arith, (omega arith, omega arith, tt)))) is).0
 
 -- ---- the verdict
 

@@ -1,6 +1,6 @@
 -- What is explained of a call by itself (this project's own format): in the order of the rules a line for each that the call meets, up to
 -- the first that it breaks, and a line for that one. The rule on replay isn't looked at.
-use Rattle.std.specs.Prelude.{ℕ, zero, suc, ◌-◌, List, [], ◌∷◌, ◌++◌, codes, Option, Some, None}
+use Rattle.std.specs.Prelude.{ℕ, zero, suc, ◌-◌, nat_lt, List, [], ◌∷◌, ◌++◌, codes, Option, Some, None, if◌then◌else◌}
 use Rattle.std.specs.Fmt.{decimal}
 use Rattle.verify_rules.specs.Call.{Call}
 use Rattle.verify_rules.specs.Code.{code_of}
@@ -49,15 +49,23 @@ unfoldable pub ok_lines : ℕ → ℕ → ℕ → List ℕ
 ok_lines number rule zero = []
 ok_lines number rule (suc count) = ok_line number rule ++ ok_lines number (suc rule) count
 
+-- how many lines come before that of a rule: rule 18, the one on replay, has none, so that those of rules 1 to 17 come before that of rule 19
+abbrev pub lines_before : ℕ → ℕ
+lines_before rule = if nat_lt 17 (rule - 1) then 17 else rule - 1
+
 abbrev pub broken_text : ℕ → Refusal → List ℕ
-broken_text number refused = ok_lines number 1 (refused.rule - 1) ++ broken_line number refused
+broken_text number refused = ok_lines number 1 (lines_before refused.rule) ++ broken_line number refused
 
 abbrev pub unread_text : ℕ → Place → List ℕ
 unread_text number bad = ok_lines number 1 9 ++ unread_line number bad
+
+-- rules 1 to 17 and 19 are met
+abbrev pub met_text : ℕ → List ℕ
+met_text number = ok_lines number 1 17 ++ ok_line number 19
 
 -- where a signature is left open, rules 1 to 14 are met
 abbrev pub explained : ℕ → Finding → List ℕ
 explained number (found.Refused refused) = broken_text number refused
 explained number (found.Unread bad) = unread_text number bad
 explained number (found.Unasked bad) = ok_lines number 1 14
-explained number (found.Passes pass) = ok_lines number 1 17
+explained number (found.Passes pass) = met_text number

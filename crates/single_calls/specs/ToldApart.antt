@@ -30,7 +30,7 @@ FindingFits (Unasked bad) = ⊤
 FindingFits (Passes pass) = ⊤
 
 -- The rule and the place where it is broken, and the place where a file couldn't be read. Of an unasked call is told only that rules 1 to 14 hold,
--- and of one that passes that all seventeen do.
+-- and of one that passes that rules 1 to 17 and 19 do.
 abbrev pub AreToldAlike : Finding → Finding → Type 0
 AreToldAlike (Refused a) (Refused b) = a ≡ b
 AreToldAlike (Refused a) (Unread b) = ⊥

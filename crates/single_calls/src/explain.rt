@@ -1,14 +1,17 @@
 //! The lines that explain a call.
 ghost use Rattle.std.specs.Prelude.{◌≡◌, ◌++◌, ◌-◌, codes, IfOk, string_bytes};
 ghost use Rattle.verify_service.specs.Report.{place_text};
-ghost use Rattle.single_calls.specs.Explain.{broken_line, broken_text, explained, ok_line, ok_lines, unread_line, unread_text};
+ghost use Rattle.single_calls.specs.Explain.{broken_line, broken_text, explained, lines_before, met_text, ok_line, ok_lines, unread_line, unread_text};
 
 use std::alloc::{AllocError, Global};
 use verify_rules::{Place, Refusal, code};
 use verify_service::Finding;
 
-/// How many rules there are before the one on replay.
+/// How many rules there are before the one on replay, which has no line.
 const RULES: u8 = 17;
+
+/// The rule after it, the last.
+const LAST_RULE: u8 = 19;
 
 /// How many there are before the first that asks for a signature, and before the first that looks at a file.
 const UNSIGNED_RULES: u8 = 14;
@@ -23,7 +26,7 @@ pub(crate) fn explained(alloc: Global, number: u32, finding: &Finding) -> Result
         Finding::Refused(refusal) => broken_text(alloc, number, refusal),
         Finding::Unread(place) => unread_text(alloc, number, place),
         Finding::Unasked(_) => ok_lines(alloc, number, UNSIGNED_RULES),
-        Finding::Passes(_) => ok_lines(alloc, number, RULES),
+        Finding::Passes(_) => met_text(alloc, number),
     }
 }
 
@@ -31,8 +34,26 @@ pub(crate) fn explained(alloc: Global, number: u32, finding: &Finding) -> Result
 fn broken_text(alloc: Global, number: u32, refusal: &Refusal) -> Result<String, AllocError>
     ensures { IfOk result (λ text. string_bytes text ≡ broken_text number refusal.now) }
 {
-    let mut text = ok_lines(alloc, number, refusal.rule.saturating_sub(1))?;
+    let mut text = ok_lines(alloc, number, lines_before(refusal.rule))?;
     let line = broken_line(alloc, number, refusal)?;
+    text.push_str(line.as_str())?;
+    Ok(text)
+}
+
+/// How many lines come before that of this rule, if those before it are met.
+fn lines_before(rule: u8) -> u8
+    ensures { result ≡ lines_before rule }
+{
+    let before = rule.saturating_sub(1);
+    if before > RULES { RULES } else { before }
+}
+
+/// The lines of a call that breaks no rule.
+fn met_text(alloc: Global, number: u32) -> Result<String, AllocError>
+    ensures { IfOk result (λ text. string_bytes text ≡ met_text number) }
+{
+    let mut text = ok_lines(alloc, number, RULES)?;
+    let line = ok_line(alloc, number, LAST_RULE)?;
     text.push_str(line.as_str())?;
     Ok(text)
 }

@@ -10,7 +10,7 @@ ghost use Rattle.single_calls.specs.Agreement.{JudgedAlike};
 ghost use Rattle.single_calls.specs.Asker.{AskedBy, AskerView, asking_world};
 ghost use Rattle.single_calls.specs.Asked.{IsAmong, IsAskedOf, IsOnce};
 ghost use Rattle.single_calls.specs.Asks.{Asks, asked_of};
-ghost use Rattle.single_calls.specs.Explain.{Explain, broken_line, broken_text, explain_rules, explained, ok_line, ok_lines, unread_line};
+ghost use Rattle.single_calls.specs.Explain.{Explain, broken_line, broken_text, explain_rules, explained, met_text, ok_line, unread_line};
 ghost use Rattle.single_calls.specs.ToldApart.{AreToldAlike, FindingFits, IsBrokenLine, line_of};
 ghost use Rattle.stir_outside.specs.Files.{Files};
 ghost use Rattle.verify_rules.specs.Call.{Call};
@@ -26,10 +26,10 @@ ghost use Rattle.verify_service.specs.declared.finding.Finding.TheVariants.{Unas
 use cert_store::questions_law;
 use verify_rules::{code_law, provider_law};
 
-/// What is explained of a call by the first rule that it breaks: the lines of the rules before it and its own, and those of all seventeen
-/// where it breaks none.
+/// What is explained of a call by the first rule that it breaks: the lines of the rules before it and its own, and those of rules 1 to 17
+/// and 19 where it breaks none.
 pub fn explain_law()
-    ensures met { (world : World) (number : ℕ) (call : Call) → First world call ≡ None → Explain world number call ≡ ok_lines number 1 17 }
+    ensures met { (world : World) (number : ℕ) (call : Call) → First world call ≡ None → Explain world number call ≡ met_text number }
     ensures broken { (world : World) (number : ℕ) (call : Call) (refused : Refusal) → First world call ≡ Some refused → Explain world number call ≡ broken_text number refused }
     // Before an unread file stand the lines of rules 1 to 9; and where a signature is left open, those of rules 1 to 14 stand alone.
     ensures unread { (world : World) (number : ℕ) (call : Call) (bad : Place) → MayBeUnread world call bad

@@ -65,7 +65,7 @@ said_of_fault fault = said_by_input (input_of fault)
 
 -- ---- what they tell of a call
 
--- it breaks none of rules 1 to 17, and is known again by this ticket up to this second
+-- it breaks none of rules 1 to 17 and 19, and is known again by this ticket up to this second
 pub record Passed (world : World) (call : Call) (said : Said) : Type 0 where
   pub none : First world call ≡ None
   pub known : IsKnownBy call said.ticket said.last

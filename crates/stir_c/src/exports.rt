@@ -22,7 +22,7 @@ pub extern "C" fn stir_abi() -> u64
     ABI
 }
 
-/// Judges a call by rules 1 to 17 (RFC 8224, section 6.2): by its settings, its second and its message, the chain map with the chains, the
+/// Judges a call by rules 1 to 17 and 19 (RFC 8224, section 6.2): by its settings, its second and its message, the chain map with the chains, the
 /// trust anchors, the code table, and the answers of a verifier of signatures. Kind 0: it breaks none, and `ticket` and `last` tell how it is known
 /// again. Kind 1: it breaks `rule` first, at `field` and `part`. Kind 2: the input of this number is outside its grammar or its limits.
 #[unsafe(no_mangle)]

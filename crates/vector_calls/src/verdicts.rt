@@ -1,4 +1,4 @@
-//! Calls judged by rules 10 to 17 over the chains of their PASSporTs: `screen` and then `finish` of `verify_rules`.
+//! Calls judged by rules 10 to 17 and 19 over the chains of their PASSporTs: `screen` and then `finish` of `verify_rules`.
 ghost use Rattle.std.specs.Prelude.{◌≡◌};
 ghost use Rattle.verify_rules.specs.States.{seen};
 ghost use Rattle.vector_calls.specs.Known.{known_seen};
@@ -21,7 +21,7 @@ pub fn answer(alloc: Global, call: &str, words: &[&[u8]]) -> Result<String, Unre
     }
 }
 
-/// What rules 10 to 17 come to at a moment, where some calls of the provider fail.
+/// What rules 10 to 17 and 19 come to at a moment, where some calls of the provider fail.
 fn finish_answer(alloc: Global, words: &[&[u8]]) -> Result<String, Unread> {
     let [
         moment,
@@ -122,7 +122,7 @@ struct Case<'a> {
 }
 
 impl<'a> Case<'a> {
-    /// What rules 10 to 17 come to.
+    /// What rules 10 to 17 and 19 come to.
     fn judge(
         self,
         alloc: Global,

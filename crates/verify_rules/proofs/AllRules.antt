@@ -62,7 +62,7 @@ refused_late bytes call refused high w = record {
 late_above : (world : World) (call : Call) (refused : Refusal) → first (late_rules world) call ≡ Some refused → 9 < refused.rule
 late_above world call refused h =
     above 9 (late_rules world) call refused
-    (omega arith, (omega arith, (omega arith, (omega arith, (omega arith, (omega arith, (omega arith, (omega arith, tt)))))))) h
+    (omega arith, (omega arith, (omega arith, (omega arith, (omega arith, (omega arith, (omega arith, (omega arith, (omega arith, tt))))))))) h
 
 -- its place is none of an earlier rule
 placed_behind : (bytes : List ℕ) (call : Call) (refused : Refusal) → 9 < refused.rule → IsPlaced bytes call refused

@@ -3,6 +3,9 @@ use Rattle.std.proofs.Common.{◌≡◌, ◌≢◌, ◌↔◌, ℕ, ◌<◌, ◌
 use Rattle.std.specs.Prelude.{slice_index}
 use Rattle.std.proofs.lemmas.Bool.Decides.{nat_tests}
 use Rattle.stir_outside.specs.Files.{file}
+use Rattle.claim_constraints.specs.Constraints.{ConstraintsView}
+use Rattle.claim_constraints.specs.Meets.{Meets, meets}
+use Rattle.serde_json.specs.Data.{Data}
 use Rattle.x509_profile.specs.Chain.{Chain, RefusedCertificate, certificates_in}
 use Rattle.x509_profile.specs.View.{CertView}
 use Rattle.delegation.specs.Coverage.{Table}
@@ -39,11 +42,16 @@ ShortLaw = (bytes : List ℕ) (chain : List CertView) → Chain bytes chain → 
 abbrev pub ChainLaw : Type 0
 ChainLaw = (bytes : List ℕ) (chain : List CertView) → Chain bytes chain → certificates_in bytes ≡ Ok chain
 
+-- the test of a payload passes just if it meets the constraints
+abbrev pub MeetsLaw : Type 0
+MeetsLaw = (c : ConstraintsView) (payload : Data) → (meets c payload ≡ true) ↔ Meets c payload
+
 pub record ChainLaws : Type 0 where
   pub answered : AnsweredLaw
   pub words : WordsLaw
   pub short : ShortLaw
   pub read : ChainLaw
+  pub met : MeetsLaw
 
 -- ---- what is said of a part
 

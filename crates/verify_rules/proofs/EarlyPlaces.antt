@@ -115,7 +115,7 @@ alg_place fields bad h =
 -- ---- rule 6
 
 claims_at : (said : Facts) (field : IdentityField) (token : TokenView) (mark : Mark) (part : ℕ) (r : Result ClaimsView ClaimFault) → read_token (given_to_compact said field.parts) field.parts.token ≡ Ok token
-    → read_claims token.header token.payload field.parts.ppt field.parts.info ≡ r → marked_or_part mark r ≡ Err part → IsUnreadableAs said field part
+    → read_claims token.header token.payload field.parts.ppt field.parts.info ≡ r → marked_or_part token.signing mark r ≡ Err part → IsUnreadableAs said field part
 claims_at said field token mark part (Ok claims) e f h = absurd cc
 claims_at said field token mark part (Err fault) e f h =
     let is : 10 + unwrap_or (claim_number fault) 0 ≡ part = cc in

@@ -1,4 +1,4 @@
--- Each of rules 10 to 17 is broken where its words say.
+-- Each of rules 10 to 17 and 19 is broken where its words say.
 use Rattle.std.proofs.Common.{◌≡◌, ◌↔◌, ℕ, ◌<◌, ◌≤◌, nat_lt, Bool, true, false, cond, List, [], ◌∷◌, length, take, zero, suc, Option, Some, None, refl, sym, ◌∙◌, subst, ◌⊎◌, inl, inr, arith}
 use Rattle.std.specs.List.{slice_get}
 use Rattle.std.proofs.lemmas.Bool.Decides.{nat_tests}
@@ -10,13 +10,14 @@ use Rattle.cert_store.specs.Judged.{JudgedView, judged_of, out_of_date}
 use Rattle.cert_store.specs.Words.{IsAuthorized, IsBrokenAt, IsFirstBroken, IsSigned, IsValid, PathOf, ProfileOf, SignedAs}
 use Rattle.cert_store.specs.declared.judged.Asked.{Asked}
 use Rattle.cert_store.specs.declared.judged.Asked.TheVariants.{NotAsked, Yes, No, Failed}
-use Rattle.verify_rules.specs.Call.{Call, Reading, in_call_order}
+use Rattle.verify_rules.specs.Call.{Call, Reading, in_call_order, payload_of}
 use Rattle.verify_rules.specs.Late.{by_answer, by_part, covers_leaf, is_signed_by, or_broken, tell}
-use Rattle.verify_rules.specs.LatePlaces.{IsFirstOnPath, IsOutsideAt, IsPlacedLate, IsUnanchoredAt, SpeaksOfLatePlace, UnaskedAtChain, UnaskedAtPassport, UnreadAt}
-use Rattle.verify_rules.specs.LateWords.{HasAuthority, HasFile, IsAnchored, IsCertified, IsCovered, IsGenuine, IsInDate, IsInProfile, IsListed}
+use Rattle.verify_rules.specs.LatePlaces.{IsFirstOnPath, IsFirstUnmet, IsOutsideAt, IsPlacedLate, IsUnanchoredAt, SpeaksOfLatePlace, UnaskedAtChain, UnaskedAtPassport, UnreadAt}
+use Rattle.verify_rules.specs.LateWords.{HasAuthority, HasFile, IsAllowed, IsAnchored, IsCertified, IsCovered, IsGenuine, IsInDate, IsInProfile, IsListed, MeetsAt}
 use Rattle.verify_rules.specs.Places.{AtFirst, NoPart}
 use Rattle.verify_rules.specs.Rules.{Rule, each, early_rules, first, place}
 use Rattle.verify_rules.specs.States.{State, have, long, no_chain, unread}
+use Rattle.verify_rules.specs.Unmet.{first_unmet}
 use Rattle.verify_rules.specs.Words.{Each}
 use Rattle.verify_rules.specs.World.{HoldsBytes, IsOpenAtChain, IsOpenAtPassport, MayBeUnasked, MayBeUnread, VerdictOf, World, asking_rule, broken_by, forged, forged_by, late_rule, late_rules, part_at, truth_by, truth_for, unless_good}
 use Rattle.verify_rules.specs.declared.late.LateRule.TheVariants as late
@@ -28,6 +29,7 @@ use Rattle.verify_rules.proofs.AllLateWords.{Meanings, anchored_of, listed_of, m
 use Rattle.verify_rules.proofs.ChainMeans.{ChainLaws, WordsLaw, IsBytes, authority_means, authority_of, dates_mean, dates_of, inside_of, judged_says, known, listed_means, path_means, profile_means, said_of, signatures_mean, signatures_of, truth_of_file}
 use Rattle.verify_rules.proofs.LeafMeans.{CoversLaw, coverage_means, genuine_means}
 use Rattle.verify_rules.proofs.PlaceLaws.{each_wrong, each_wrong_of, broken_at}
+use Rattle.verify_rules.proofs.UnmetLaws.{allowed_means, unmet_says, unmet_worded}
 use Rattle.verify_rules.proofs.WordLaws.{each_means, each_means_of}
 use Rattle.verify_rules.proofs.WorldVerdict.{first_late}
 
@@ -150,6 +152,15 @@ covers_at : (world : World) (moment : ℕ) (one : Reading) (bad : Place) → bro
 unfolding broken_by
 covers_at world moment one bad h = covers_state world.table moment one bad (truth_for world one) h
 
+-- ---- rule 19
+
+unmet_at : ChainLaws → (world : World) → HoldsBytes world → (moment : ℕ) (one : Reading) (bad : Place) → IsInProfile world one → broken_by world late.Constraints moment one ≡ Some bad
+    → InPart (IsFirstUnmet world) one bad
+unmet_at laws world typed moment one bad (chain, c) h =
+    let k = known laws world typed one chain c in
+    let p = part_some one.mark.field (first_unmet (payload_of one) 1 chain) bad (sym (unmet_says world moment one chain k) ∙ h) in
+    (p.0, record { chain = chain; has_chain = c; first = subst (IsFirstBroken (MeetsAt one chain) (length chain)) p.1 (unmet_worded laws.met one chain) }, p.2)
+
 -- ---- all of them
 
 first_of : (broken : Reading → Option Place) (Q P : Reading → Type 0) (Part : Reading → ℕ → Type 0) → ((one : Reading) → Q one → (broken one ≡ None) ↔ P one)
@@ -172,48 +183,54 @@ placed_late laws law world typed call refused h =
     let r15 : Rule = late_rule world late.Asked in
     let r16 : Rule = asking_rule world in
     let r17 : Rule = late_rule world late.Covers in
+    let r19 : Rule = late_rule world late.Constraints in
     record {
       files = λ is.
-          let b = broken_at [] r10 (r11 ∷ r12 ∷ r13 ∷ r14 ∷ r15 ∷ r16 ∷ r17 ∷ []) call refused tt
-          (omega arith, (omega arith, (omega arith, (omega arith, (omega arith, (omega arith, (omega arith, tt))))))) h is in
+          let b = broken_at [] r10 (r11 ∷ r12 ∷ r13 ∷ r14 ∷ r15 ∷ r16 ∷ r17 ∷ r19 ∷ []) call refused tt
+          (omega arith, (omega arith, (omega arith, (omega arith, (omega arith, (omega arith, (omega arith, (omega arith, tt)))))))) h is in
           first_any (broken_by world late.Listed call.moment) (IsListed world) NoPart (listed_means world call.moment) (listed_at world call.moment) (in_call_order call) refused.place b.broken;
       profile = λ is.
-          let b = broken_at (r10 ∷ []) r11 (r12 ∷ r13 ∷ r14 ∷ r15 ∷ r16 ∷ r17 ∷ []) call refused (omega arith, tt)
-          (omega arith, (omega arith, (omega arith, (omega arith, (omega arith, (omega arith, tt)))))) h is in
+          let b = broken_at (r10 ∷ []) r11 (r12 ∷ r13 ∷ r14 ∷ r15 ∷ r16 ∷ r17 ∷ r19 ∷ []) call refused (omega arith, tt)
+          (omega arith, (omega arith, (omega arith, (omega arith, (omega arith, (omega arith, (omega arith, tt))))))) h is in
           first_of (broken_by world late.Profile call.moment) (IsListed world) (IsInProfile world) (IsOutsideAt world) (profile_means laws world typed call.moment)
           (outside_at laws world typed call.moment) (in_call_order call) refused.place (listed_of world call m b.hold.0) b.broken;
       paths = λ is.
-          let b = broken_at (r10 ∷ r11 ∷ []) r12 (r13 ∷ r14 ∷ r15 ∷ r16 ∷ r17 ∷ []) call refused (omega arith, (omega arith, tt))
-          (omega arith, (omega arith, (omega arith, (omega arith, (omega arith, tt))))) h is in
+          let b = broken_at (r10 ∷ r11 ∷ []) r12 (r13 ∷ r14 ∷ r15 ∷ r16 ∷ r17 ∷ r19 ∷ []) call refused (omega arith, (omega arith, tt))
+          (omega arith, (omega arith, (omega arith, (omega arith, (omega arith, (omega arith, tt)))))) h is in
           first_of (broken_by world late.Shape call.moment) (IsInProfile world) (IsAnchored world) (IsUnanchoredAt world) (path_means laws world typed call.moment)
           (path_at laws world typed call.moment) (in_call_order call) refused.place (profile_of world call m b.hold.0 b.hold.1.0) b.broken;
       dates = λ is.
-          let b = broken_at (r10 ∷ r11 ∷ r12 ∷ []) r13 (r14 ∷ r15 ∷ r16 ∷ r17 ∷ []) call refused (omega arith, (omega arith, (omega arith, tt)))
-          (omega arith, (omega arith, (omega arith, (omega arith, tt)))) h is in
+          let b = broken_at (r10 ∷ r11 ∷ r12 ∷ []) r13 (r14 ∷ r15 ∷ r16 ∷ r17 ∷ r19 ∷ []) call refused (omega arith, (omega arith, (omega arith, tt)))
+          (omega arith, (omega arith, (omega arith, (omega arith, (omega arith, tt))))) h is in
           first_of (broken_by world late.Dates call.moment) (IsAnchored world) (IsInDate world call.moment) (IsFirstOnPath world (λ chain anchor. IsValid world.anchors call.moment chain))
           (dates_mean laws world typed call.moment) (dates_at laws world typed call.moment) (in_call_order call) refused.place (anchored_of world call m b.hold.0 b.hold.1.0 b.hold.1.1.0) b.broken;
       authority = λ is.
-          let b = broken_at (r10 ∷ r11 ∷ r12 ∷ r13 ∷ []) r14 (r15 ∷ r16 ∷ r17 ∷ []) call refused (omega arith, (omega arith, (omega arith, (omega arith, tt))))
-          (omega arith, (omega arith, (omega arith, tt))) h is in
+          let b = broken_at (r10 ∷ r11 ∷ r12 ∷ r13 ∷ []) r14 (r15 ∷ r16 ∷ r17 ∷ r19 ∷ []) call refused (omega arith, (omega arith, (omega arith, (omega arith, tt))))
+          (omega arith, (omega arith, (omega arith, (omega arith, tt)))) h is in
           first_of (broken_by world late.Authority call.moment) (IsAnchored world) (HasAuthority world)
           (IsFirstOnPath world (λ chain anchor. IsAuthorized world.table world.anchors anchor chain)) (authority_means laws world typed call.moment) (authority_at laws world typed call.moment)
           (in_call_order call) refused.place (anchored_of world call m b.hold.0 b.hold.1.0 b.hold.1.1.0) b.broken;
       certificates = λ is.
-          let b = broken_at (r10 ∷ r11 ∷ r12 ∷ r13 ∷ r14 ∷ []) r15 (r16 ∷ r17 ∷ []) call refused (omega arith, (omega arith, (omega arith, (omega arith, (omega arith, tt)))))
-          (omega arith, (omega arith, tt)) h is in
+          let b = broken_at (r10 ∷ r11 ∷ r12 ∷ r13 ∷ r14 ∷ []) r15 (r16 ∷ r17 ∷ r19 ∷ []) call refused (omega arith, (omega arith, (omega arith, (omega arith, (omega arith, tt)))))
+          (omega arith, (omega arith, (omega arith, tt))) h is in
           first_of (broken_by world late.Asked call.moment) (HasAuthority world) (IsCertified world) (IsFirstOnPath world (λ chain anchor. IsSigned world.says world.anchors anchor chain))
           (signatures_mean laws world typed call.moment) (signed_at laws world typed call.moment) (in_call_order call) refused.place
           ((m.authority (anchored_of world call m b.hold.0 b.hold.1.0 b.hold.1.1.0)).0 b.hold.1.1.1.1.0) b.broken;
       signatures = λ is.
-          let b = broken_at (r10 ∷ r11 ∷ r12 ∷ r13 ∷ r14 ∷ r15 ∷ []) r16 (r17 ∷ []) call refused
-          (omega arith, (omega arith, (omega arith, (omega arith, (omega arith, (omega arith, tt)))))) (omega arith, tt) h is in
+          let b = broken_at (r10 ∷ r11 ∷ r12 ∷ r13 ∷ r14 ∷ r15 ∷ []) r16 (r17 ∷ r19 ∷ []) call refused (omega arith, (omega arith, (omega arith, (omega arith, (omega arith, (omega arith, tt))))))
+          (omega arith, (omega arith, tt)) h is in
           first_of (forged world) (IsInProfile world) (IsGenuine world) NoPart (genuine_means laws world typed) (λ one bad met e. forged_at world one bad e)
           (in_call_order call) refused.place (profile_of world call m b.hold.0 b.hold.1.0) b.broken;
       coverage = λ is.
-          let b = broken_at (r10 ∷ r11 ∷ r12 ∷ r13 ∷ r14 ∷ r15 ∷ r16 ∷ []) r17 [] call refused
-          (omega arith, (omega arith, (omega arith, (omega arith, (omega arith, (omega arith, (omega arith, tt))))))) tt h is in
+          let b = broken_at (r10 ∷ r11 ∷ r12 ∷ r13 ∷ r14 ∷ r15 ∷ r16 ∷ []) r17 (r19 ∷ []) call refused (omega arith, (omega arith, (omega arith, (omega arith, (omega arith, (omega arith, (omega arith, tt)))))))
+          (omega arith, tt) h is in
           first_of (broken_by world late.Covers call.moment) (IsInProfile world) (IsCovered world) NoPart (coverage_means laws law world typed call.moment)
           (λ one bad met e. covers_at world call.moment one bad e) (in_call_order call) refused.place (profile_of world call m b.hold.0 b.hold.1.0) b.broken;
+      constraints = λ is.
+          let b = broken_at (r10 ∷ r11 ∷ r12 ∷ r13 ∷ r14 ∷ r15 ∷ r16 ∷ r17 ∷ []) r19 [] call refused (omega arith, (omega arith, (omega arith, (omega arith, (omega arith, (omega arith, (omega arith, (omega arith, tt))))))))
+          tt h is in
+          first_of (broken_by world late.Constraints call.moment) (IsInProfile world) (IsAllowed world) (IsFirstUnmet world) (allowed_means laws world typed call.moment)
+          (unmet_at laws world typed call.moment) (in_call_order call) refused.place (profile_of world call m b.hold.0 b.hold.1.0) b.broken;
     }
 
 -- ---- what sets a call aside

@@ -30,6 +30,8 @@ pub mod ScreenedLaws
 pub mod SignedLaws
 pub mod TokenWords
 pub mod TurnSteps
+pub mod UnmetLaws
+pub mod UnmetSteps
 pub mod VerdictLaws
 pub mod WentLaws
 pub mod WordLaws

@@ -1,5 +1,5 @@
 -- Two PASSporTs of a call that are read from one Identity field are one and the same.
-use Rattle.std.proofs.Common.{◌≡◌, ℕ, suc, zero, ◌+◌, ◌<◌, ◌≤◌, ◌⊎◌, inl, inr, Bool, true, false, cond, List, [], ◌∷◌, ◌++◌, map, filter, find, get_or, codes, Option, Some, None, Result, Ok, Err, refl, sym, ap, ◌∙◌, subst, arith}
+use Rattle.std.proofs.Common.{◌≡◌, ℕ, suc, zero, ◌≤◌, ◌⊎◌, inl, inr, Bool, true, false, cond, List, [], ◌∷◌, ◌++◌, map, filter, find, get_or, codes, Option, Some, None, Result, Ok, Err, refl, sym, ap, ◌∙◌, subst, arith}
 use Rattle.std.proofs.lemmas.Option.{same_Some}
 use Rattle.std.specs.List.{cons_option, slice_get}
 use Rattle.std.specs.Option.{option_or, option_to_list}
@@ -73,13 +73,13 @@ of_field said (f ∷ fields) r is = of_by said f fields r (is_read said f) refl 
 
 -- ---- which carries its number
 
-number_by : (mark : Mark) (claims : Result ClaimsView ClaimFault) (r : Reading) → result_ok (marked_or_part mark claims) ≡ Some r → r.mark ≡ mark
-number_by mark (Ok claims) r is = ap (λ (x : Reading). x.mark) (sym (same_Some (reading claims mark) r is))
-number_by mark (Err fault) r is = absurd cc
+number_by : (signing : List ℕ) (mark : Mark) (claims : Result ClaimsView ClaimFault) (r : Reading) → result_ok (marked_or_part signing mark claims) ≡ Some r → r.mark ≡ mark
+number_by signing mark (Ok claims) r is = ap (λ (x : Reading). x.mark) (sym (same_Some (reading claims signing mark) r is))
+number_by signing mark (Err fault) r is = absurd cc
 
 number_of : (field : IdentityField) (token : Result TokenView TokenFault) (r : Reading) → result_ok (reading_by field token) ≡ Some r → r.mark.field ≡ field.number
 number_of field (Ok token) r is =
-    ap (λ (m : Mark). m.field) (number_by (mark_of field.number token) (read_claims token.header token.payload field.parts.ppt field.parts.info) r is)
+    ap (λ (m : Mark). m.field) (number_by token.signing (mark_of field.number token) (read_claims token.header token.payload field.parts.ppt field.parts.info) r is)
 number_of field (Err fault) r is = absurd cc
 
 number_is : (said : Facts) (field : IdentityField) (r : Reading) → is_read said field ≡ Some r → r.mark.field ≡ field.number

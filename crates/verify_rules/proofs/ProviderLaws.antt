@@ -104,4 +104,5 @@ pub signatures_same : (world : World) (other : Says) (call : Call) → truths (w
 signatures_same world other call chains own =
     later_same 15 _ _ _ _ (chains_same world other late.Asked call.moment (in_call_order call) chains)
     (later_same 16 _ _ _ _ own
-    (later_same 17 _ _ _ _ (chains_same world other late.Covers call.moment (in_call_order call) chains) refl))
+    (later_same 17 _ _ _ _ (chains_same world other late.Covers call.moment (in_call_order call) chains)
+    (later_same 19 _ _ _ _ (chains_same world other late.Constraints call.moment (in_call_order call) chains) refl)))

@@ -1,5 +1,5 @@
 -- What a rule on chains says where it leaves nothing open: it holds or is broken, so no event of it sets a call aside.
-use Rattle.std.proofs.Common.{ℕ, Bool, true, false, Option, Some, None}
+use Rattle.std.proofs.Common.{ℕ, Bool, true, false, List, [], ◌∷◌, Option, Some, None}
 use Rattle.std.specs.Prelude.{⊤}
 use Rattle.cert_store.specs.Judged.{JudgedView}
 use Rattle.delegation.specs.Coverage.{Table}
@@ -36,6 +36,12 @@ AsksNothing late.Dates = ⊤
 AsksNothing late.Authority = ⊤
 AsksNothing late.Asked = ⊥
 AsksNothing late.Covers = ⊤
+AsksNothing late.Constraints = ⊤
+
+-- all of these rules
+abbrev pub AskNothing : List LateRule → Type 0
+AskNothing [] = ⊤
+AskNothing (rule ∷ rules) = AsksNothing rule × AskNothing rules
 
 -- of a chain that was judged
 pub judged_definite : (rule : LateRule) (table : Table) (moment : ℕ) (one : Reading) (judged : JudgedView) → AsksNothing rule → IsDefinite (tell_judged rule table moment one judged)
@@ -46,6 +52,7 @@ judged_definite late.Dates table moment one judged nothing = part_definite _
 judged_definite late.Authority table moment one judged nothing = part_definite _
 judged_definite late.Asked table moment one judged nothing = absurd nothing
 judged_definite late.Covers table moment one judged nothing = test_definite _
+judged_definite late.Constraints table moment one judged nothing = part_definite _
 
 -- of one that isn't there, and of one whose file is too long
 pub unjudged_definite : (rule : LateRule) → IsDefinite (tell_missing rule) × IsDefinite (tell_long rule)

@@ -1,34 +1,32 @@
 -- In worlds in which the same is said of each thing each call breaks the same rule first.
-use Rattle.std.proofs.Common.{◌≡◌, ◌↔◌, ◌⊎◌, inl, inr, ℕ, suc, Bool, true, false, ◌||◌, cond, nat_lt, List, [], ◌∷◌, ◌++◌, length, is_some, Option, Some, None, option_and_then, refl, sym, ◌∙◌, ap}
+use Rattle.std.proofs.Common.{◌≡◌, ◌↔◌, inl, inr, ℕ, Bool, ◌||◌, cond, nat_lt, List, [], ◌∷◌, length, is_some, Option, Some, None, option_and_then, refl, sym, ◌∙◌, ap}
 use Rattle.std.specs.Prelude.{IsTrue, ⊤}
 use Rattle.std.specs.List.{list_any, slice_get}
 use Rattle.std.specs.Option.{option_or}
 use Rattle.std.proofs.lemmas.Bool.Decides.{same_from_decides}
 use Rattle.stir_outside.specs.Files.{file}
-use Rattle.tn_auth_list.specs.CodeTable.{SomeOf}
 use Rattle.tn_auth_list.specs.Grant.{GrantHolds, grant_in}
 use Rattle.tn_auth_list.specs.declared.entries.Entry.{Entry}
 use Rattle.tn_auth_list.specs.declared.entries.Entry.TheVariants.{Code, Range, Single}
 use Rattle.x509_profile.specs.View.{CertView}
-use Rattle.delegation.specs.Coverage.{Covers, CoveredBy, In, ListWithin, Table, Within}
+use Rattle.delegation.specs.Coverage.{Covers, In, Table, Within}
 use Rattle.delegation.specs.Decided.{covers_number, is_within}
 use Rattle.cert_store.specs.Judged.{JudgedView, asked_where, judged_of}
 use Rattle.cert_store.specs.Links.{Link, chain_in, links_of, path_of}
 use Rattle.cert_store.specs.ChainMap.{listed}
-use Rattle.cert_store.specs.Rules.{Says, first_outside, first_unauthorized, keys_of, lies_within, periods_from, rule_11, rule_12, rule_14, rule_15}
+use Rattle.cert_store.specs.Rules.{Says, first_outside, first_unauthorized, keys_of, lies_within, periods_from, rule_11, rule_12, rule_15}
 use Rattle.passport_claims.specs.Passport.{ClaimsView}
 use Rattle.passport_claims.specs.declared.kind.Attest.TheVariants as levels
 use Rattle.passport_claims.specs.declared.kind.Kind.{Kind}
 use Rattle.passport_claims.specs.declared.kind.Kind.TheVariants as kinds
 use Rattle.verify_rules.specs.Call.{Call, Reading, in_call_order}
-use Rattle.verify_rules.specs.Late.{covers_by, covers_kind, covers_leaf, is_code, is_signed_by, or_broken, rules_after, rules_before, tell}
+use Rattle.verify_rules.specs.Late.{covers_by, covers_kind, covers_leaf, is_code, is_signed_by, or_broken, tell}
 use Rattle.verify_rules.specs.Rules.{Rule, each, early_rules, first, or_later}
 use Rattle.verify_rules.specs.States.{State, have, long, no_chain, unread}
-use Rattle.verify_rules.specs.World.{First, World, asking_rule, broken_by, content_of, forged, forged_by, late_rule, late_rules, part_at, truth_by, truth_for, truth_of, unless_good}
+use Rattle.verify_rules.specs.World.{First, World, broken_by, content_of, forged, forged_by, late_rules, part_at, truth_by, truth_for, truth_of, unless_good}
 use Rattle.verify_rules.specs.declared.late.LateRule.{LateRule}
 use Rattle.verify_rules.specs.declared.late.LateRule.TheVariants as late
 use Rattle.verify_rules.specs.declared.refusal.Place.{Place}
-use Rattle.verify_rules.specs.declared.refusal.Refusal.{Refusal}
 use Rattle.verify_rules.proofs.WorldEvents.{first_append}
 use Rattle.verify_rules.specs.SameWorld.{SayTheSame}
 
@@ -162,6 +160,7 @@ tell_same law table other same late.Shape moment one (have judged) = refl
 tell_same law table other same late.Dates moment one (have judged) = refl
 tell_same law table other same late.Authority moment one (have judged) = refl
 tell_same law table other same late.Asked moment one (have judged) = refl
+tell_same law table other same late.Constraints moment one (have judged) = refl
 tell_same law table other same rule moment one no_chain = refl
 tell_same law table other same rule moment one long = refl
 tell_same law table other same rule moment one unread = refl
@@ -217,7 +216,7 @@ all_late_same covers within world other same call =
     λ rule. late_same covers within world other same rule call in
     let signed = each_same (forged world) (forged other) (forged_same within world other same) (in_call_order call) in
     first_alike (late_rules world) (late_rules other) call
-    (refl, says late.Listed, (refl, says late.Profile, (refl, says late.Shape, (refl, says late.Dates, (refl, says late.Authority, (refl, says late.Asked, (refl, signed, (refl, says late.Covers, tt))))))))
+    (refl, says late.Listed, (refl, says late.Profile, (refl, says late.Shape, (refl, says late.Dates, (refl, says late.Authority, (refl, says late.Asked, (refl, signed, (refl, says late.Covers, (refl, says late.Constraints, tt)))))))))
 
 pub first_same : CoversLaw → WithinLaw → (world other : World) → SayTheSame world other → (call : Call) → First world call ≡ First other call
 first_same covers within world other same call =

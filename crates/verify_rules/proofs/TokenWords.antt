@@ -121,10 +121,10 @@ are_judged law number values =
 -- ---- what is read is what the text says
 
 claims_by : (said : Facts) (field : IdentityField) (token : TokenView) (one : Reading) (r : Result ClaimsView ClaimFault) → TokenText field.parts.token (given_to_compact said field.parts) token
-    → ((claims : ClaimsView) → r ≡ Ok claims → Claims token.header token.payload field.parts.ppt field.parts.info claims) → marked_or_part (mark_of field.number token) r ≡ Ok one → IsRead said field one
+    → ((claims : ClaimsView) → r ≡ Ok claims → Claims token.header token.payload field.parts.ppt field.parts.info claims) → marked_or_part token.signing (mark_of field.number token) r ≡ Ok one → IsRead said field one
 claims_by said field token one (Ok claims) text law h =
-    let same : reading claims (mark_of field.number token) ≡ one = cc in
-    subst (IsRead said field) same (record { token = token; text = text; claims = law claims refl; mark = refl; number = refl })
+    let same : reading claims token.signing (mark_of field.number token) ≡ one = cc in
+    subst (IsRead said field) same (record { token = token; text = text; claims = law claims refl; signing = refl; mark = refl; number = refl })
 claims_by said field token one (Err fault) text law h = absurd cc
 
 token_by : ClaimsLaw → (said : Facts) (field : IdentityField) (one : Reading) (r : Result TokenView TokenFault) → IsKnown field.parts.ppt
@@ -143,8 +143,8 @@ read_again : TokenLaw → ClaimsLaw → (said : Facts) (field : IdentityField) (
 unfolding read_field
 read_again tokens claims said field one judged h =
     ap (reading_by field) (tokens field.parts.token (given_to_compact said field.parts) h.token h.text)
-    ∙ ap (marked_or_part (mark_of field.number h.token)) ((claims h.token.header h.token.payload field.parts.ppt field.parts.info one.passport judged.0).1 h.claims)
-    ∙ ap (λ x. Ok (reading one.passport x)) (sym h.mark)
+    ∙ ap (marked_or_part h.token.signing (mark_of field.number h.token)) ((claims h.token.header h.token.payload field.parts.ppt field.parts.info one.passport judged.0).1 h.claims)
+    ∙ ap (λ x. Ok (reading one.passport x (mark_of field.number h.token))) (sym h.signing) ∙ ap (λ x. Ok (reading one.passport one.signing x)) (sym h.mark)
 
 -- ---- the rule
 

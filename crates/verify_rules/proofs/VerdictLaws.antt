@@ -20,9 +20,8 @@ use Rattle.verify_rules.specs.declared.late.LateRule.TheVariants as late
 use Rattle.verify_rules.specs.declared.refusal.Place.{Place}
 use Rattle.verify_rules.specs.declared.verdict.Verdict.{Verdict}
 use Rattle.verify_rules.specs.declared.verdict.Verdict.TheVariants.{Passed, Refused, Unread, Unasked}
-use Rattle.lists.proofs.Options.{or_none}
 use Rattle.verify_rules.proofs.FirstOf.{both_none, found, none_at}
-use Rattle.verify_rules.proofs.ResultLaws.{AsksNothing, IsSetAside, definite_event, judged_definite, unjudged_definite}
+use Rattle.verify_rules.proofs.ResultLaws.{AskNothing, AsksNothing, IsSetAside, definite_event, judged_definite, unjudged_definite}
 
 -- ---- what a rule leaves open of a chain: nothing, but where it asks for the chain's signatures, or the chain isn't known
 
@@ -157,12 +156,28 @@ failed_chain rules table moment readings states bad h =
     let f = found (at_rule r.0 table moment) readings states (events.Unasked bad) r.1 in
     failed_here r.0 table moment readings states f.index f.one f.state bad f.is f.chain f.gives
 
-covering_here : (table : Table) (moment : ℕ) (one : Reading) (state : State) (bad : Place) → at_rule late.Covers table moment one state ≡ Some (events.Unasked bad) → ⊥
-unfolding at_rule
-covering_here table moment one (have judged) bad h = judged_closed late.Covers table moment one judged tt (subst IsSetAside (sym h) tt)
-covering_here table moment one no_chain bad h = cc
-covering_here table moment one long bad h = cc
-covering_here table moment one unread bad h = cc
+answered_here : (rule : LateRule) (table : Table) (moment : ℕ) (one : Reading) (state : State) (bad : Place) → AsksNothing rule → at_rule rule table moment one state ≡ Some (events.Unasked bad) → ⊥
+answered_here rule table moment one (have judged) bad nothing h = judged_closed rule table moment one judged nothing (subst IsSetAside (sym h) tt)
+answered_here rule table moment one no_chain bad nothing h = missing_closed rule table moment one (subst IsSetAside (sym h) tt)
+answered_here rule table moment one long bad nothing h = long_closed rule table moment one (subst IsSetAside (sym h) tt)
+answered_here rule table moment one unread bad nothing h = unread_asks_none rule table moment one bad h
+
+rule_answered : (rule : LateRule) (table : Table) (moment : ℕ) (readings : List Reading) (states : List State) (bad : Place) → AsksNothing rule
+    → rule_event rule table moment readings states ≡ Some (events.Unasked bad) → ⊥
+rule_answered rule table moment readings states bad nothing h =
+    let f = found (at_rule rule table moment) readings states (events.Unasked bad) h in answered_here rule table moment f.one f.state bad nothing f.gives
+
+answered_by : (later o : Option Event) (bad : Place) → (o ≡ Some (events.Unasked bad) → ⊥) → (later ≡ Some (events.Unasked bad) → ⊥) → option_or o later ≡ Some (events.Unasked bad) → ⊥
+answered_by later None bad here below h = below h
+answered_by later (Some x) bad here below h = here h
+
+-- rules that ask nothing leave nothing open
+rules_answered : (rules : List LateRule) (table : Table) (moment : ℕ) (readings : List Reading) (states : List State) (bad : Place) → AskNothing rules
+    → first_rule rules table moment readings states ≡ Some (events.Unasked bad) → ⊥
+rules_answered [] table moment readings states bad nothing h = cc
+rules_answered (rule ∷ rules) table moment readings states bad nothing h =
+    answered_by (first_rule rules table moment readings states) (rule_event rule table moment readings states) bad (rule_answered rule table moment readings states bad nothing.0)
+    (rules_answered rules table moment readings states bad nothing.1) h
 
 asking_here : (says : Says) (one : Reading) (state : State) (bad : Place) → at_asking says one state ≡ Some (events.Unasked bad) → ⊥
 unfolding at_asking
@@ -199,9 +214,7 @@ after_by says table moment readings states faults now (events.Refused refused) n
 after_by says table moment readings states faults now (events.Unread bad) none signed h =
     let r = rule_of rules_after table moment readings states (events.Unread bad) h in
     absurd (rule_event_known r.0 table moment readings states bad (listed_holds table moment readings states none) r.1)
-after_by says table moment readings states faults now (events.Unasked bad) none signed h =
-    let e = sym (or_none (rule_event late.Covers table moment readings states)) ∙ h in
-    let f = found (at_rule late.Covers table moment) readings states (events.Unasked bad) e in absurd (covering_here table moment f.one f.state bad f.gives)
+after_by says table moment readings states faults now (events.Unasked bad) none signed h = absurd (rules_answered rules_after table moment readings states bad (tt, (tt, tt)) h)
 
 pub by_before : (says : Says) (table : Table) (moment : ℕ) (readings : List Reading) (states : List State) (faults now : ℕ) (event : Event) (o : Option Event) (v : Verdict)
     → o ≡ first_rule rules_before table moment readings states → o ≡ Some event → v ≡ verdict_of event → IsVerdict says table moment readings states faults now v

@@ -49,6 +49,7 @@ judged_agrees late.Dates table moment one truth judged j = inl (ap (judged_event
 judged_agrees late.Authority table moment one truth judged j = inl (ap (judged_event late.Authority table moment one) (sym j.same))
 judged_agrees late.Asked table moment one truth judged j = answer_agrees one.mark.field truth.asked judged.asked j.so_far
 judged_agrees late.Covers table moment one truth judged j = inl (ap (judged_event late.Covers table moment one) (sym j.same))
+judged_agrees late.Constraints table moment one truth judged j = inl (ap (judged_event late.Constraints table moment one) (sym j.same))
 
 pub state_agrees : (world : World) (rule : LateRule) (moment : ℕ) (one : Reading) (state : State) → IsRight world one.passport.x5u state
     → Agrees (at_rule rule world.table moment one (truth_for world one)) (at_rule rule world.table moment one state)

@@ -20,7 +20,7 @@ early_answer call (Refused refused) = Err (answers.Refused refused)
 early_answer call (Unread bad) = Ok (screened_of call)
 early_answer call (Unasked bad) = Ok (screened_of call)
 
--- each of rules 1 to 9; and each of rules 10 to 17, of a call that breaks none of those
+-- each of rules 1 to 9; and each of rules 10 to 17 and 19, of a call that breaks none of those
 pub record SaysRules (world : World) (bytes : List ℕ) (call : Call) (verdict : Verdict) : Type 0 where
   pub early : SaysWords bytes call (early_answer call verdict)
   pub late : first early_rules call ≡ None → SaysLateWords world call verdict

@@ -15,10 +15,12 @@ use Rattle.passport_claims.specs.declared.fault.ClaimFault.{ClaimFault}
 use Rattle.passport_claims.specs.declared.order.ChainFault.{ChainFault}
 use Rattle.passport_json.specs.Compact.{CallView}
 use Rattle.passport_json.specs.Fault.{fault_number as token_number}
+use Rattle.passport_json.specs.Signed.{payload_in}
 use Rattle.passport_json.specs.Signing.{Ticket}
 use Rattle.passport_json.specs.Token.{read_token}
 use Rattle.passport_json.specs.View.{TokenView}
 use Rattle.passport_json.specs.declared.fault.TokenFault.{TokenFault}
+use Rattle.serde_json.specs.Data.{Data}
 use Rattle.sip_message.specs.Accessors.{calling_number, date, identities, target_number, to_number}
 use Rattle.sip_message.specs.Message.{MessageView}
 use Rattle.sip_message.specs.Reading.{read}
@@ -114,24 +116,29 @@ facts call = facts_in call.settings.local call.message
 abbrev pub given_to_compact : Facts → Parts → CallView
 given_to_compact said parts = record { iat = said.date; orig = said.calling; dest = said.to; info = parts.info; ppt = parts.ppt }
 
--- a PASSporT as it is read: what it says, and its mark, which is the number of its field, its ticket and its signature
+-- a PASSporT as it is read: what it says, what was signed as it, and its mark, which is the number of its field, its ticket and its signature
 pub record Reading : Type 0 where
   pub passport : ClaimsView
+  pub signing : List ℕ
   pub mark : Mark
 
-abbrev pub reading : ClaimsView → Mark → Reading
-reading passport mark = record { passport = passport; mark = mark }
+abbrev pub reading : ClaimsView → List ℕ → Mark → Reading
+reading passport signing mark = record { passport = passport; signing = signing; mark = mark }
+
+-- the payload in what was signed (RFC 8225, section 5; RFC 7515, section 2)
+abbrev pub payload_of : Reading → Option Data
+payload_of one = payload_in one.signing
 
 abbrev pub mark_of : ℕ → TokenView → Mark
 mark_of number token = record { field = number; digest = Ticket token.signing; signature = token.signature }
 
 -- claims are numbered from 11 on
-abbrev pub marked_or_part : Mark → Result ClaimsView ClaimFault → Result Reading ℕ
-marked_or_part mark (Ok claims) = Ok (reading claims mark)
-marked_or_part mark (Err fault) = Err (10 + unwrap_or (claim_number fault) 0)
+abbrev pub marked_or_part : List ℕ → Mark → Result ClaimsView ClaimFault → Result Reading ℕ
+marked_or_part signing mark (Ok claims) = Ok (reading claims signing mark)
+marked_or_part signing mark (Err fault) = Err (10 + unwrap_or (claim_number fault) 0)
 
 abbrev pub reading_by : IdentityField → Result TokenView TokenFault → Result Reading ℕ
-reading_by field (Ok token) = marked_or_part (mark_of field.number token) (read_claims token.header token.payload field.parts.ppt field.parts.info)
+reading_by field (Ok token) = marked_or_part token.signing (mark_of field.number token) (read_claims token.header token.payload field.parts.ppt field.parts.info)
 reading_by field (Err fault) = Err (unwrap_or (token_number fault) 0)
 
 -- the PASSporT of a field, or the number of the first check of its token or its claims that it breaks

@@ -1,9 +1,9 @@
 -- The response code of each rule (RFC 3261, section 21.4.1: 400; RFC 8224, section 6.2.2: 403, 428, 436, 437 and 438).
 use Rattle.std.specs.Prelude.{◌≡◌, ⊤, ℕ, ◌==◌, Bool, ◌||◌, ◌&&◌, nat_le, List, [], ◌∷◌, if◌then◌else◌}
 
--- a certificate that can't be trusted, or an algorithm that isn't judged
+-- a certificate that can't be trusted or doesn't allow what is claimed, or an algorithm that isn't judged
 abbrev pub is_unsupported : ℕ → Bool
-is_unsupported rule = rule == 5 || (nat_le 11 rule && nat_le rule 15) || rule == 17
+is_unsupported rule = rule == 5 || (nat_le 11 rule && nat_le rule 15) || rule == 17 || rule == 19
 
 -- 400 the request, 428 no Identity, 403 an old one, 436 a certificate that isn't there, 437 one that can't be trusted, 438 an Identity
 -- that can't be used
@@ -19,11 +19,11 @@ abbrev pub IsByRows : List (ℕ × ℕ) → ℕ → ℕ → Type 0
 IsByRows [] rule code = ⊤
 IsByRows (row ∷ others) rule code = (rule ≡ row.0 → code ≡ row.1) × IsByRows others rule code
 
--- each rule from 1 to 18, of which 18 is the one on replay, and its response code
+-- each rule from 1 to 19, of which 18 is the one on replay, and its response code
 abbrev pub code_rows : List (ℕ × ℕ)
 code_rows =
     (1, 400) ∷ (2, 428) ∷ (3, 438) ∷ (4, 428) ∷ (5, 437) ∷ (6, 438) ∷ (7, 438) ∷ (8, 438) ∷ (9, 403) ∷ (10, 436) ∷ (11, 437) ∷ (12, 437)
-    ∷ (13, 437) ∷ (14, 437) ∷ (15, 437) ∷ (16, 438) ∷ (17, 437) ∷ (18, 438) ∷ []
+    ∷ (13, 437) ∷ (14, 437) ∷ (15, 437) ∷ (16, 438) ∷ (17, 437) ∷ (18, 438) ∷ (19, 437) ∷ []
 
 -- the rule has this code
 unfoldable pub HasCode : ℕ → ℕ → Type 0

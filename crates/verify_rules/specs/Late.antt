@@ -1,4 +1,4 @@
--- Rules 10 to 17: what the certificate chains of a call's PASSporTs say. Each is asked of a PASSporT and of what is known of its chain, in
+-- Rules 10 to 17 and 19: what the certificate chains of a call's PASSporTs say. Each is asked of a PASSporT and of what is known of its chain, in
 -- the order in which the call went. A rule is stated only where those before it hold; what its definition gives elsewhere is never looked
 -- at.
 use Rattle.std.specs.Prelude.{ℕ, Bool, true, false, ◌||◌, List, [], ◌∷◌, Option, Some, None}
@@ -17,9 +17,10 @@ use Rattle.passport_claims.specs.Passport.{ClaimsView}
 use Rattle.passport_claims.specs.declared.kind.Attest.TheVariants as levels
 use Rattle.passport_claims.specs.declared.kind.Kind.{Kind}
 use Rattle.passport_claims.specs.declared.kind.Kind.TheVariants as kinds
-use Rattle.verify_rules.specs.Call.{Reading}
+use Rattle.verify_rules.specs.Call.{Reading, payload_of}
 use Rattle.verify_rules.specs.Rules.{place, refusal}
 use Rattle.verify_rules.specs.States.{State, have, no_chain, long, unread}
+use Rattle.verify_rules.specs.Unmet.{first_unmet}
 use Rattle.verify_rules.specs.declared.late.Event.{Event}
 use Rattle.verify_rules.specs.declared.late.Event.TheVariants as events
 use Rattle.verify_rules.specs.declared.late.LateRule.{LateRule}
@@ -88,6 +89,7 @@ number late.Dates = 13
 number late.Authority = 14
 number late.Asked = 15
 number late.Covers = 17
+number late.Constraints = 19
 
 -- of a chain that was judged
 abbrev pub tell_judged : LateRule → Table → ℕ → Reading → JudgedView → RuleResult
@@ -98,6 +100,7 @@ tell_judged late.Dates table moment one judged = by_part (out_of_date judged mom
 tell_judged late.Authority table moment one judged = by_part judged.authority
 tell_judged late.Asked table moment one judged = by_answer judged.asked
 tell_judged late.Covers table moment one judged = or_broken (covers_leaf table one.passport (slice_get judged.certificates 0))
+tell_judged late.Constraints table moment one judged = by_part (first_unmet (payload_of one) 1 judged.certificates)
 
 -- rule 10 alone looks at a chain that isn't there (RFC 8224, section 6.2.2)
 abbrev pub tell_missing : LateRule → RuleResult
@@ -108,6 +111,7 @@ tell_missing late.Dates = results.Holds
 tell_missing late.Authority = results.Holds
 tell_missing late.Asked = results.Holds
 tell_missing late.Covers = results.Holds
+tell_missing late.Constraints = results.Holds
 
 -- rule 11 alone looks at one whose file is too long (the limit is this project's own)
 abbrev pub tell_long : LateRule → RuleResult
@@ -118,6 +122,7 @@ tell_long late.Dates = results.Holds
 tell_long late.Authority = results.Holds
 tell_long late.Asked = results.Holds
 tell_long late.Covers = results.Holds
+tell_long late.Constraints = results.Holds
 
 -- of a chain that isn't known no rule says anything
 abbrev pub tell : LateRule → Table → ℕ → Reading → State → RuleResult
@@ -171,7 +176,7 @@ abbrev pub rules_before : List LateRule
 rules_before = late.Listed ∷ late.Profile ∷ late.Shape ∷ late.Dates ∷ late.Authority ∷ late.Asked ∷ []
 
 abbrev pub rules_after : List LateRule
-rules_after = late.Covers ∷ []
+rules_after = late.Covers ∷ late.Constraints ∷ []
 
 abbrev pub first_event : Says → Table → ℕ → List Reading → List State → Option Event
 first_event says table moment readings states =

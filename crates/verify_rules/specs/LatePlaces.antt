@@ -1,4 +1,4 @@
--- Where rules 10 to 17 are broken, in words: at the first PASSporT, in the order in which the call went, of which the rule doesn't hold; and in it at the
+-- Where rules 10 to 17 and 19 are broken, in words: at the first PASSporT, in the order in which the call went, of which the rule doesn't hold; and in it at the
 -- first certificate, where the rule speaks of certificates. And at what a call is set aside.
 use Rattle.std.specs.Prelude.{◌≡◌, ⊤, ◌⊎◌, ℕ, ◌<◌, ◌≤◌, List, length, take, Option, Some}
 use Rattle.std.specs.List.{slice_get}
@@ -7,7 +7,7 @@ use Rattle.delegation.specs.PathFaults.{IsFirstFault}
 use Rattle.cert_store.specs.ChainMap.{listed}
 use Rattle.cert_store.specs.Words.{IsAuthorized, IsBrokenAt, IsFirstBroken, IsSigned, IsValid}
 use Rattle.verify_rules.specs.Call.{Call, Reading, in_call_order}
-use Rattle.verify_rules.specs.LateWords.{HasAuthority, HasChain, HasFile, HasPath, IsAnchored, IsCertified, IsCovered, IsGenuine, IsInDate, IsInProfile, IsListed}
+use Rattle.verify_rules.specs.LateWords.{HasAuthority, HasChain, HasFile, HasPath, IsAllowed, IsAnchored, IsCertified, IsCovered, IsGenuine, IsInDate, IsInProfile, IsListed, MeetsAt}
 use Rattle.verify_rules.specs.Places.{AtFirst, NoPart}
 use Rattle.verify_rules.specs.Rules.{place}
 use Rattle.verify_rules.specs.Words.{Each}
@@ -37,6 +37,12 @@ pub record IsFirstOnPath (world : World) (Holds : List CertView → Option ℕ �
   pub path : HasPath world one chain anchor
   pub first : IsFirstBroken (Holds chain anchor) (length chain) (Some part)
 
+-- 19: the first certificate of the chain that has constraints which the payload doesn't meet
+pub record IsFirstUnmet (world : World) (one : Reading) (part : ℕ) : Type 0 where
+  pub chain : List CertView
+  pub has_chain : HasChain world one chain
+  pub first : IsFirstBroken (MeetsAt one chain) (length chain) (Some part)
+
 -- where each rule is broken, if it is the one that refuses the call
 pub record IsPlacedLate (world : World) (call : Call) (refused : Refusal) : Type 0 where
   pub files : refused.rule ≡ 10 → AtFirst (IsListed world) NoPart (in_call_order call) refused.place
@@ -50,6 +56,7 @@ pub record IsPlacedLate (world : World) (call : Call) (refused : Refusal) : Type
       → AtFirst (IsCertified world) (IsFirstOnPath world (λ chain anchor. IsSigned world.says world.anchors anchor chain)) (in_call_order call) refused.place
   pub signatures : refused.rule ≡ 16 → AtFirst (IsGenuine world) NoPart (in_call_order call) refused.place
   pub coverage : refused.rule ≡ 17 → AtFirst (IsCovered world) NoPart (in_call_order call) refused.place
+  pub constraints : refused.rule ≡ 19 → AtFirst (IsAllowed world) (IsFirstUnmet world) (in_call_order call) refused.place
 
 -- ---- what sets a call aside, in words
 

@@ -1,19 +1,22 @@
--- Rules 10 to 17 in their own words: what holds, in a world, of the certificates of a PASSporT where a rule holds, and which rule is the
+-- Rules 10 to 17 and 19 in their own words: what holds, in a world, of the certificates of a PASSporT where a rule holds, and which rule is the
 -- first that doesn't.
 use Rattle.std.specs.Prelude.{◌≡◌, ⊤, ◌⊎◌, ℕ, ◌<◌, ◌≤◌, true, List, length, Option, Some}
 use Rattle.std.specs.List.{slice_get}
 use Rattle.stir_outside.specs.Files.{file}
 use Rattle.tn_auth_list.specs.declared.entries.Entry.{Entry}
+use Rattle.claim_constraints.specs.Constraints.{ConstraintsView}
+use Rattle.claim_constraints.specs.Meets.{Meets}
+use Rattle.serde_json.specs.Data.{Data}
 use Rattle.x509_profile.specs.Chain.{Chain}
 use Rattle.x509_profile.specs.View.{CertView}
 use Rattle.delegation.specs.Coverage.{Covers, NamesCode, Table}
 use Rattle.delegation.specs.Path.{Path}
 use Rattle.cert_store.specs.ChainMap.{listed}
-use Rattle.cert_store.specs.Words.{IsAuthorized, IsSigned, IsValid}
+use Rattle.cert_store.specs.Words.{IsAuthorized, IsNumbered, IsSigned, IsValid}
 use Rattle.passport_claims.specs.declared.kind.Attest.TheVariants as levels
 use Rattle.passport_claims.specs.declared.kind.Kind.{Kind}
 use Rattle.passport_claims.specs.declared.kind.Kind.TheVariants as kinds
-use Rattle.verify_rules.specs.Call.{Call, Reading, in_call_order}
+use Rattle.verify_rules.specs.Call.{Call, Reading, in_call_order, payload_of}
 use Rattle.verify_rules.specs.Words.{Each}
 use Rattle.verify_rules.specs.World.{World}
 use Rattle.verify_rules.specs.declared.verdict.Verdict.{Verdict}
@@ -103,6 +106,19 @@ pub record IsCovered (world : World) (one : Reading) : Type 0 where
   pub has_list : leaf.list ≡ Some entries
   pub covers : CoversKind world.table entries one.passport.orig one.passport.kind
 
+-- 19: for each certificate of its chain that has constraints, they are met by the PASSporT's payload, which is the one that was signed (after
+-- RFC 8226, section 8; form and meaning are this project's own)
+pub record PayloadMeets (one : Reading) (c : ConstraintsView) : Type 0 where
+  pub payload : Data
+  pub signed : payload_of one ≡ Some payload
+  pub meets : Meets c payload
+
+abbrev pub MeetsAt : Reading → List CertView → ℕ → Type 0
+MeetsAt one chain number = (certificate : CertView) (c : ConstraintsView) → IsNumbered chain number certificate → certificate.constraints ≡ Some c → PayloadMeets one c
+
+abbrev pub IsAllowed : World → Reading → Type 0
+IsAllowed world one = (chain : List CertView) × HasChain world one chain × OfEach chain (MeetsAt one chain)
+
 -- ---- what a verdict says of a rule
 
 -- a call that passed meets it; one that this rule refuses doesn't; one that a later rule refuses does, and so does one that is set aside
@@ -113,7 +129,7 @@ MeansLate number P (Refused refused) = (refused.rule ≡ number → P → ⊥) �
 MeansLate number P (Unread bad) = ⊤
 MeansLate number P (Unasked bad) = number < 15 → P
 
--- each of rules 10 to 17, of each PASSporT in the order in which the call went
+-- each of rules 10 to 17 and 19, of each PASSporT in the order in which the call went
 pub record SaysLateWords (world : World) (call : Call) (verdict : Verdict) : Type 0 where
   pub files : MeansLate 10 (Each (IsListed world) (in_call_order call)) verdict
   pub profile : MeansLate 11 (Each (IsInProfile world) (in_call_order call)) verdict
@@ -123,3 +139,4 @@ pub record SaysLateWords (world : World) (call : Call) (verdict : Verdict) : Typ
   pub certificates : MeansLate 15 (Each (IsCertified world) (in_call_order call)) verdict
   pub signatures : MeansLate 16 (Each (IsGenuine world) (in_call_order call)) verdict
   pub coverage : MeansLate 17 (Each (IsCovered world) (in_call_order call)) verdict
+  pub constraints : MeansLate 19 (Each (IsAllowed world) (in_call_order call)) verdict

@@ -15,6 +15,7 @@ pub mod Settings
 pub mod Seen
 pub mod Signed
 pub mod States
+pub mod Unmet
 pub mod Verdict
 pub mod Went
 pub mod Words

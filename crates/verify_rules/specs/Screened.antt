@@ -6,7 +6,7 @@ use Rattle.passport_claims.specs.Links.{IsOneOf}
 use Rattle.passport_claims.specs.Passport.{ClaimsView}
 use Rattle.verify_rules.specs.Call.{Call, Reading, in_call_order, reading}
 use Rattle.verify_rules.specs.Rules.{HoldAll, IsFirst, Rule, first}
-use Rattle.verify_rules.specs.declared.readings.Mark.{Mark}
+use Rattle.verify_rules.specs.declared.readings.Beside.{Beside}
 use Rattle.verify_rules.specs.declared.refusal.ScreenFault.{ScreenFault}
 use Rattle.verify_rules.specs.declared.refusal.ScreenFault.TheVariants.{Refused, Memory}
 use Rattle.verify_rules.specs.declared.settings.Settings.{Settings}
@@ -49,11 +49,11 @@ last_of_call call = iat_or_none (last_of (in_call_order call)) + call.settings.p
 
 -- ---- how they are kept
 
--- PASSporTs beside their marks
-abbrev pub paired : List ClaimsView → List Mark → List Reading
-paired [] marks = []
+-- PASSporTs with what is kept beside them
+abbrev pub paired : List ClaimsView → List Beside → List Reading
+paired [] beside = []
 paired (passport ∷ others) [] = []
-paired (passport ∷ others) (mark ∷ marks) = reading passport mark ∷ paired others marks
+paired (passport ∷ others) (one ∷ beside) = reading passport one.signed one.mark ∷ paired others beside
 
 -- an order of so many links behind the originating PASSporT: each of its numbers is that of a link
 pub record IsTurned (readings : List Reading) (count : ℕ) (turn : List ℕ) : Type 0 where

@@ -20,7 +20,7 @@ abbrev pub field_seen : NumberedField → IdentityField
 field_seen field = record { number = field.number; parts = field.parts }
 
 abbrev pub marked_seen : Marked → Reading
-marked_seen one = reading one.passport one.mark
+marked_seen one = reading one.passport one.beside.signed one.beside.mark
 
 -- ---- the Identity fields
 
@@ -100,4 +100,4 @@ GivesOrder said readings (Err bad) = no_order readings (turn_of said readings) �
 -- ---- one PASSporT
 
 abbrev pub taken_seen : Taken → Reading
-taken_seen one = reading one.passport.now one.mark.now
+taken_seen one = reading one.passport.now one.signed.now one.mark.now

@@ -59,11 +59,12 @@ abbrev pub IsEs256 : IdentityField → Type 0
 IsEs256 field = (field.parts.alg ≡ None) ⊎ (field.parts.alg ≡ Some (codes "ES256"))
 
 -- 6: the field's text is a token (RFC 8225, sections 3 and 7), with what the message and the field give for the compact form, and header
--- and payload say this; the mark is the field's number, the digest of what was signed, and the signature
+-- and payload say this; it is what was signed as the token, and the mark is the field's number, the digest of that, and the signature
 pub record IsRead (said : Facts) (field : IdentityField) (one : Reading) : Type 0 where
   pub token : TokenView
   pub text : TokenText field.parts.token (given_to_compact said field.parts) token
   pub claims : Claims token.header token.payload field.parts.ppt field.parts.info one.passport
+  pub signing : one.signing ≡ token.signing
   pub mark : one.mark ≡ mark_of field.number token
   pub number : one.mark.field ≡ field.number
 

@@ -68,7 +68,7 @@ part_at field (results.Broken part) = Some (place field part)
 part_at field results.Unknown = None
 part_at field (results.Unasked part) = None
 
--- where a PASSporT breaks one of rules 10 to 15 or rule 17
+-- where a PASSporT breaks one of rules 10 to 15, 17 or 19
 unfoldable pub broken_by : World → LateRule → ℕ → Reading → Option Place
 broken_by world rule moment one = part_at one.mark.field (tell rule world.table moment one (truth_for world one))
 
@@ -100,11 +100,11 @@ unsigned_rules = late.Listed ∷ late.Profile ∷ late.Shape ∷ late.Dates ∷ 
 abbrev pub certificate_rules : World → List Rule
 certificate_rules world = map (late_rule world) unsigned_rules
 
--- rules 15 to 17: those that ask for signatures, and the one behind them
+-- rules 15 to 17 and 19: those that ask for signatures, and the two behind them
 abbrev pub signature_rules : World → List Rule
 signature_rules world = late_rule world late.Asked ∷ asking_rule world ∷ map (late_rule world) rules_after
 
--- rules 10 to 17
+-- rules 10 to 17 and 19
 abbrev pub late_rules : World → List Rule
 late_rules world = map (late_rule world) rules_before ++ asking_rule world ∷ map (late_rule world) rules_after
 

@@ -1,4 +1,4 @@
-//! Rules 10 to 15 and 17, each asked of one PASSporT and of what is known of its chain.
+//! Rules 10 to 15, 17 and 19, each asked of one PASSporT and of what is known of its chain.
 ghost use Rattle.std.specs.Prelude.{◌≡◌};
 ghost use Rattle.verify_rules.specs.Late.{by_answer, by_part, number, or_broken, tell, tell_judged, tell_long, tell_missing};
 ghost use Rattle.verify_rules.specs.Seen.{taken_seen};
@@ -8,6 +8,7 @@ use crate::chains::ChainState;
 use crate::leaf_authority::covers_leaf;
 use crate::readings::Taken;
 use crate::refusal::{Place, Refusal};
+use crate::unmet::first_unmet;
 use cert_store::{Asked, Judged};
 use tn_auth_list::CodeTable;
 
@@ -28,6 +29,8 @@ pub(crate) enum LateRule {
     Asked,
     /// Rule 17: the leaf's authority covers what the PASSporT vouches for (ATIS-1000074, section 5.2.3; RFC 8946, section 4.2).
     Covers,
+    /// Rule 19: the PASSporT's payload meets the constraints of each of its certificates that has some (after RFC 8226, section 8).
+    Constraints,
 }
 
 /// What a rule says of one PASSporT.
@@ -67,6 +70,7 @@ impl LateRule {
             LateRule::Authority => 14,
             LateRule::Asked => 15,
             LateRule::Covers => 17,
+            LateRule::Constraints => 19,
         }
     }
 
@@ -106,6 +110,7 @@ impl LateRule {
             LateRule::Authority => by_part(judged.authority()),
             LateRule::Asked => by_answer(judged.asked()),
             LateRule::Covers => or_broken(covers_leaf(table, one.passport, judged.leaf())),
+            LateRule::Constraints => by_part(first_unmet(judged, one.signed)),
         }
     }
 
@@ -120,7 +125,8 @@ impl LateRule {
             | LateRule::Dates
             | LateRule::Authority
             | LateRule::Asked
-            | LateRule::Covers => RuleResult::Holds,
+            | LateRule::Covers
+            | LateRule::Constraints => RuleResult::Holds,
         }
     }
 
@@ -135,7 +141,8 @@ impl LateRule {
             | LateRule::Dates
             | LateRule::Authority
             | LateRule::Asked
-            | LateRule::Covers => RuleResult::Holds,
+            | LateRule::Covers
+            | LateRule::Constraints => RuleResult::Holds,
         }
     }
 }

@@ -31,6 +31,7 @@ ghost use Rattle.verify_rules.specs.declared.settings.Settings.{Settings};
 ghost use Rattle.verify_rules.specs.declared.verdict.Verdict.{Verdict};
 
 use cert_store::judged_law;
+use claim_constraints::constraints_law;
 use delegation::{covers_law, within_law};
 use identity_header::field_law;
 use passport_claims::{claims_law, order_law, signed_claims_law};
@@ -49,7 +50,7 @@ pub fn screened_law()
     ensures last { (call : Call) (screened : ScreenedView) → IsScreenedBy early_rules call (Ok screened) → screened.last ≡ last_of_call call }
 {}
 
-/// What the first broken rule of all says of rules 10 to 17 in their own words, where the files of the world hold bytes and the call breaks
+/// What the first broken rule of all says of rules 10 to 17 and 19 in their own words, where the files of the world hold bytes and the call breaks
 /// none of the rules before; and what it says of a call that may be set aside.
 pub fn late_words_law()
     ensures { (world : World) (call : Call) (verdict : Verdict) → HoldsBytes world → first early_rules call ≡ None → VerdictOf world call verdict → SaysLateWords world call verdict }
@@ -57,9 +58,10 @@ pub fn late_words_law()
     judged_law();
     chain_law();
     covers_law();
+    constraints_law();
 }
 
-/// What the first broken rule of all says of where it is broken, if it is one of rules 10 to 17, where the files of the world hold bytes;
+/// What the first broken rule of all says of where it is broken, if it is one of rules 10 to 17 and 19, where the files of the world hold bytes;
 /// and what holds before the place at which a call may be set aside.
 pub(crate) fn late_places_law()
     ensures { (world : World) (call : Call) (verdict : Verdict) → HoldsBytes world → first early_rules call ≡ None → VerdictOf world call verdict
@@ -68,6 +70,7 @@ pub(crate) fn late_places_law()
     judged_law();
     chain_law();
     covers_law();
+    constraints_law();
 }
 
 /// Of some rules and others behind them the first broken is that of the first, or where none of these is broken that of the others; and where
@@ -128,7 +131,7 @@ pub fn words_law()
     late_places_law();
 }
 
-/// Rules 10 to 14 depend on no provider of signatures; and rules 15 to 17 say the same by two of them, where both make the same of each chain of
+/// Rules 10 to 14 depend on no provider of signatures; and rules 15 to 17 and 19 say the same by two of them, where both make the same of each chain of
 /// the call and of the signatures of its PASSporTs.
 pub fn provider_law()
     ensures certificates { (world : World) (other : Says) (call : Call) → first (certificate_rules (with_says world other)) call ≡ first (certificate_rules world) call }
@@ -142,7 +145,7 @@ pub fn one_field_law()
     ensures { (call : Call) (at other : ℕ) (one second : Reading) → slice_get (in_call_order call) at ≡ Some one → slice_get (in_call_order call) other ≡ Some second
         → one.mark.field ≡ second.mark.field → one ≡ second }
 {}
-/// Each rule from 1 to 18, of which 18 is the one on replay, has the response code of its row (RFC 3261, section 21.4.1; RFC 8224, section 6.2.2).
+/// Each rule from 1 to 19, of which 18 is the one on replay, has the response code of its row (RFC 3261, section 21.4.1; RFC 8224, section 6.2.2).
 pub fn code_law()
     ensures { (rule : ℕ) → HasCode rule (code_of rule) }
 {}

@@ -9,8 +9,9 @@ ghost use Rattle.verify_rules.specs.Seen.{AreReadings, GivesReading, IsChainable
 
 use crate::facts::Facts;
 use crate::fields::{NumberedField, is_link};
-use crate::readings::{Mark, Readings};
+use crate::readings::{Beside, Mark, Readings};
 use crate::refusal::{Place, Stop};
+use crate::signed_token::SignedToken;
 use identity_header::Field;
 use passport_claims::Passport;
 use passport_json::{Token, View, ticket};
@@ -20,11 +21,11 @@ use text_grammar::uri_law;
 /// The number of a broken claim is this and its own.
 const CLAIMS: u32 = 10;
 
-/// A PASSporT with its mark.
+/// A PASSporT with what is kept beside it.
 #[derive(Drop)]
 pub(crate) struct Marked {
     pub(crate) passport: Passport,
-    pub(crate) mark: Mark,
+    pub(crate) beside: Beside,
 }
 
 /// The PASSporTs of the originating field and of the links among the fields, in message order.
@@ -43,7 +44,7 @@ pub(crate) fn read_all(
     let mut readings = Readings::new(alloc);
     match read_passport(alloc, facts, origin) {
         Ok(one) => {
-            if readings.push(one.passport, one.mark).is_err() {
+            if readings.push(one.passport, one.beside).is_err() {
                 return Err(Stop::Memory);
             }
         }
@@ -53,7 +54,7 @@ pub(crate) fn read_all(
         if is_link(field) {
             match read_passport(alloc, facts, field) {
                 Ok(one) => {
-                    if readings.push(one.passport, one.mark).is_err() {
+                    if readings.push(one.passport, one.beside).is_err() {
                         return Err(Stop::Memory);
                     }
                 }
@@ -85,7 +86,13 @@ fn read_passport(alloc: Global, facts: &Facts, field: &NumberedField<'_>) -> Res
         signature: *token.signature(),
     };
     match Passport::from_token(alloc, &token, field.parts.ppt(), field.parts.info()) {
-        Ok(passport) => Ok(Marked { passport, mark }),
+        Ok(passport) => Ok(Marked {
+            passport,
+            beside: Beside {
+                mark,
+                signed: SignedToken::new(token),
+            },
+        }),
         Err(fault) => match fault.number() {
             Some(number) => Err(Stop::Broken(Place::new(field.number, CLAIMS + u32::from(number)))),
             None => Err(Stop::Memory),

@@ -3,11 +3,12 @@ ghost use Rattle.std.specs.Prelude.{◌≡◌, ◌<◌, [], ◌∷◌, ◌++◌,
 ghost use Rattle.std.specs.List.{slice_get};
 ghost use Rattle.verify_rules.specs.Call.{passports_of, reading};
 
+use crate::signed_token::SignedToken;
 use passport_claims::Passport;
 use std::alloc::{AllocError, Global};
 use std::marker::Model;
 
-/// What is kept of a PASSporT beside its claims: the number of its Identity field, the digest of what was signed, and the signature.
+/// The mark of a PASSporT: the number of its Identity field, the digest of what was signed, and the signature.
 #[derive(Clone, Copy, Debug)]
 pub(crate) struct Mark {
     pub(crate) field: u32,
@@ -15,18 +16,26 @@ pub(crate) struct Mark {
     pub(crate) signature: [u8; 64],
 }
 
-/// A PASSporT and its mark, as they are kept.
+/// What is kept of a PASSporT beside its claims: its mark, and its token with what was signed.
+#[derive(Drop)]
+pub(crate) struct Beside {
+    pub(crate) mark: Mark,
+    pub(crate) signed: SignedToken,
+}
+
+/// A PASSporT with what is kept beside it.
 #[derive(Clone, Copy)]
 pub(crate) struct Taken<'a> {
     pub(crate) passport: &'a Passport,
+    pub(crate) signed: &'a SignedToken,
     pub(crate) mark: &'a Mark,
 }
 
-/// PASSporTs with their marks, in message order. In contracts they are the list of these.
+/// PASSporTs with what was signed as them and their marks, in message order. In contracts they are the list of these.
 #[derive(Drop)]
 pub(crate) struct Readings {
     passports: Vec<Passport>,
-    marks: Vec<Mark>,
+    beside: Vec<Beside>,
 }
 
 impl Model for Readings {
@@ -36,9 +45,9 @@ impl Model for Readings {
 
     ghost Value = { List Reading };
 
-    ghost view = { λ r. paired r.passports.items r.marks.items };
+    ghost view = { λ r. paired r.passports.items r.beside.items };
 
-    ghost invariant = { λ r. length r.passports.items ≡ length r.marks.items };
+    ghost invariant = { λ r. length r.passports.items ≡ length r.beside.items };
 }
 
 impl Readings {
@@ -48,18 +57,18 @@ impl Readings {
     {
         Readings {
             passports: Vec::new(alloc),
-            marks: Vec::new(alloc),
+            beside: Vec::new(alloc),
         }
     }
 
     /// One more.
     #[tactic(auto, using(crate::proofs::ReadingLaws::paired_more))]
-    pub(crate) fn push(&mut self, passport: Passport, mark: Mark) -> Result<(), AllocError>
-        ensures { OnOk result (self.new ≡ self.old ++ reading passport mark ∷ []) }
+    pub(crate) fn push(&mut self, passport: Passport, beside: Beside) -> Result<(), AllocError>
+        ensures { OnOk result (self.new ≡ self.old ++ reading passport beside.signed beside.mark ∷ []) }
     {
-        self.marks.push(mark)?;
+        self.beside.push(beside)?;
         if self.passports.push(passport).is_err() {
-            self.marks.pop();
+            self.beside.pop();
             return Err(AllocError);
         }
         Ok(())
@@ -70,7 +79,7 @@ impl Readings {
     pub(crate) fn len(&self) -> usize
         ensures { result ≡ length self.now }
     {
-        self.marks.len()
+        self.beside.len()
     }
 
     /// What they say.
@@ -82,14 +91,16 @@ impl Readings {
     }
 
     /// The one at this index.
-    #[tactic(auto, using(crate::proofs::ReadingLaws::paired_at, crate::proofs::ReadingLaws::within_marks, crate::proofs::ReadingLaws::within_passports))]
+    #[tactic(auto, using(crate::proofs::ReadingLaws::paired_at, crate::proofs::ReadingLaws::within_beside, crate::proofs::ReadingLaws::within_passports))]
     pub(crate) fn taken(&self, i: usize) -> Taken<'_>
         requires { i < length self.now }
-        ensures { slice_get self.now i ≡ Some (reading result.passport.now result.mark.now) }
+        ensures { slice_get self.now i ≡ Some (reading result.passport.now result.signed.now result.mark.now) }
     {
+        let beside = &self.beside[i];
         Taken {
             passport: &self.passports[i],
-            mark: &self.marks[i],
+            signed: &beside.signed,
+            mark: &beside.mark,
         }
     }
 }

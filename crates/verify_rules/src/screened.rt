@@ -1,8 +1,9 @@
 //! A call that was screened.
-ghost use Rattle.std.specs.Prelude.{◌≡◌, ◌<◌, ◌≤◌, length, take, Some};
+ghost use Rattle.std.specs.Prelude.{◌≡◌, ◌<◌, ◌≤◌, length, option_and_then, take, Some};
 ghost use Rattle.std.specs.List.{slice_get};
 ghost use Rattle.std.specs.Option.{option_map};
-ghost use Rattle.verify_rules.specs.Call.{in_turn, passport_in, reading};
+ghost use Rattle.serde_json.specs.View.{view};
+ghost use Rattle.verify_rules.specs.Call.{in_turn, passport_in, payload_of, reading};
 ghost use Rattle.verify_rules.specs.Rules.{each, stale};
 ghost use Rattle.verify_rules.specs.Screened.{IsTurned, digest_in, field_in, iat_or_none, last_of, screened_by, signature_in};
 ghost use Rattle.verify_rules.specs.Seen.{taken_seen};
@@ -11,6 +12,7 @@ use crate::readings::{Readings, Taken};
 use crate::refusal::Place;
 use crate::settings::Settings;
 use passport_claims::{Order, Passport};
+use serde_json::Value;
 use std::marker::Model;
 
 /// A call that breaks none of the rules 1 to 9: its judged PASSporTs in the order in which the call went, the originating one first,
@@ -86,6 +88,14 @@ impl Screened {
         ensures { option_map digest_in (slice_get self.now.readings i) ≡ Some result.now }
     {
         &self.taken(i).mark.digest
+    }
+
+    /// The payload of the PASSporT at this index: the JSON object in what was signed (RFC 8225, section 5).
+    pub fn payload(&self, i: usize) -> &Value
+        requires { i < length self.now.readings }
+        ensures { option_and_then payload_of (slice_get self.now.readings i) ≡ Some (view result.now) }
+    {
+        self.taken(i).signed.payload()
     }
 
     /// The signature of the PASSporT at this index.

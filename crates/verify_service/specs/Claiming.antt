@@ -26,7 +26,7 @@ use Rattle.verify_service.specs.declared.screening.Screening.TheVariants as scre
 
 -- ---- what is answered
 
--- what rules 10 to 17 came to where this is answered
+-- what rules 10 to 17 and 19 came to where this is answered
 abbrev pub verdict_of : Outcome → Verdict
 verdict_of outcomes.Valid = verdicts.Passed
 verdict_of (outcomes.Refused refused) = verdicts.Refused refused
@@ -34,12 +34,12 @@ verdict_of (outcomes.Replay winner) = verdicts.Passed
 verdict_of (outcomes.Unread bad) = verdicts.Unread bad
 verdict_of (outcomes.Unasked bad) = verdicts.Unasked bad
 
--- it is what rules 10 to 17 give first of these PASSporTs, over the chains that the round has
+-- it is what rules 10 to 17 and 19 give first of these PASSporTs, over the chains that the round has
 abbrev pub IsLateAnswer : Basis → Provided → ℕ → List Reading → Outcome → Type 0
 IsLateAnswer on by moment readings outcome =
     IsVerdict by.says on.materials.table moment readings (states_for on.kept on.held readings) by.faults by.faults_now (verdict_of outcome)
 
--- the refusal by rules 1 to 9, and else what rules 10 to 17 give first
+-- the refusal by rules 1 to 9, and else what rules 10 to 17 and 19 give first
 abbrev pub IsRuled : Basis → Provided → ℕ → Screening → Outcome → Type 0
 IsRuled on by moment screenings.Open outcome = ⊤
 IsRuled on by moment (screenings.Refused refused) outcome = outcome ≡ outcomes.Refused refused

@@ -5,7 +5,7 @@ use Rattle.der_reader.specs.Each.{ComeTo}
 use Rattle.x509_profile.specs.Authority.{SaysAuthority}
 use Rattle.x509_profile.specs.Cert.{Cert}
 use Rattle.x509_profile.specs.Extended.{Adds, AddsAs, BasicText, ExtensionsText}
-use Rattle.x509_profile.specs.ExtensionId.{AuthorityKey, AuthorityList, BasicConstraints, ClaimConstraints, ExtensionName, IsNamed, KeyUsage, SubjectKey, Unknown, certificate_extension}
+use Rattle.x509_profile.specs.ExtensionId.{AuthorityKey, AuthorityList, BasicConstraints, ClaimConstraints, EnhancedConstraints, ExtensionName, IsNamed, KeyUsage, SubjectKey, Unknown, certificate_extension}
 use Rattle.x509_profile.specs.View.{BasicView, CertView, ExtensionView, TbsView, Values, no_values, says_ca}
 
 -- what one extension does to the basic constraints: it leaves them, or it is the first that says them
@@ -26,7 +26,8 @@ step_by KeyUsage before values view named (first, usage, text, e) = inl (ap (λ 
 step_by SubjectKey before values view named (first, key, text, e) = inl (ap (λ (v : Values). v.basic) e)
 step_by AuthorityKey before values view named (first, key, text, e) = inl (ap (λ (v : Values). v.basic) e)
 step_by AuthorityList before values view named (first, list, text, e) = inl (ap (λ (v : Values). v.basic) e)
-step_by ClaimConstraints before values view named h = absurd h
+step_by ClaimConstraints before values view named (first, constraints, text, e) = inl (ap (λ (v : Values). v.basic) e)
+step_by EnhancedConstraints before values view named h = absurd h
 step_by Unknown before values view named (critical, e) = inl (ap (λ (v : Values). v.basic) e)
 
 step_of : (before values : Values) (view : ExtensionView) → Adds before view values → Step before view values

@@ -12,6 +12,9 @@ use Rattle.der_reader.specs.Part.{ItemView, PartView, element_at, item_in, or_br
 use Rattle.der_reader.proofs.BrokenLaws.{end_tells, last_tells, right, same_fault}
 use Rattle.der_reader.proofs.ReadLaws.{Reads, at_end_reads, broken_reads, element_reads, through_reads}
 use Rattle.der_reader.proofs.PartLaws.{Begins, alone, came_by, element_alone, ended, kept, ok_is, some_bytes}
+use Rattle.claim_constraints.specs.ConstraintsText.{ConstraintsText}
+use Rattle.claim_constraints.specs.Read.{read_constraints}
+use Rattle.claim_constraints.proofs.WholeLaws.{read_only, text_found}
 use Rattle.tn_auth_list.specs.ListText.{ListText}
 use Rattle.tn_auth_list.specs.Read.{read_list}
 use Rattle.tn_auth_list.proofs.ListLaws.{list_again, list_found}
@@ -20,7 +23,7 @@ use Rattle.der_reader.specs.Each.{WrongBehind, each_in}
 use Rattle.der_reader.specs.Tags.{sequence_tag}
 use Rattle.x509_profile.specs.Contents.{ExtensionRead, authority_of, basic_of, extension_of, extension_view, subject_key_of, usage_of}
 use Rattle.x509_profile.specs.Extended.{Adds, AddsAs, AuthorityText, BasicText, ExtensionText, ExtensionTexts, ExtensionsText, MarkedText, SubjectKeyText, UsageText, extensions_tag}
-use Rattle.x509_profile.specs.ExtensionId.{ExtensionName, BasicConstraints, KeyUsage, SubjectKey, AuthorityKey, AuthorityList, ClaimConstraints, Unknown, IsNamed, name_of}
+use Rattle.x509_profile.specs.ExtensionId.{ExtensionName, BasicConstraints, KeyUsage, SubjectKey, AuthorityKey, AuthorityList, ClaimConstraints, EnhancedConstraints, Unknown, IsNamed, name_of}
 use Rattle.x509_profile.specs.Extensions.{ended_at, filled, marked_in, optional_in, values_by, values_with}
 use Rattle.x509_profile.specs.Fault.{fault_at}
 use Rattle.x509_profile.specs.View.{ExtensionView, Values, no_values}
@@ -46,8 +49,8 @@ name_found oid name e =
     by_test oid _ _ _ name e (λ is k. subst (IsNamed oid) k is) (λ c e.
     by_test oid _ _ _ name e (λ is k. subst (IsNamed oid) k is) (λ d e.
     by_test oid _ _ _ name e (λ is k. subst (IsNamed oid) k is) (λ f e.
-    by_test oid _ _ _ name e (λ is k. subst (IsNamed oid) k (inl is)) (λ g e.
-    by_test oid _ _ _ name e (λ is k. subst (IsNamed oid) k (inr is)) (λ h k. subst (IsNamed oid) k (a, b, c, d, f, g, h))))))))
+    by_test oid _ _ _ name e (λ is k. subst (IsNamed oid) k is) (λ g e.
+    by_test oid _ _ _ name e (λ is k. subst (IsNamed oid) k is) (λ h k. subst (IsNamed oid) k (a, b, c, d, f, g, h))))))))
 
 differs : (oid text : List ℕ) → oid ≢ text → bytes_eq oid text ≡ false
 differs oid text no_one = of (bytes_eq oid text) refl
@@ -63,7 +66,8 @@ name_again oid KeyUsage is = ap name_of is
 name_again oid SubjectKey is = ap name_of is
 name_again oid AuthorityKey is = ap name_of is
 name_again oid AuthorityList is = ap name_of is
-name_again oid ClaimConstraints is = elim is [ inl one ↦ ap name_of one | inr two ↦ ap name_of two ]
+name_again oid ClaimConstraints is = ap name_of is
+name_again oid EnhancedConstraints is = ap name_of is
 name_again oid Unknown (a, b, c, d, f, g, h) =
     rw (differs oid _ a, differs oid _ b, differs oid _ c, differs oid _ d, differs oid _ f, differs oid _ g, differs oid _ h) refl
 
@@ -88,6 +92,9 @@ authority_forms = record { found = authority_found; again = authority_again }
 
 list_forms : Forms ListText read_list
 list_forms = record { found = list_found; again = list_again }
+
+constraints_forms : Forms ConstraintsText read_constraints
+constraints_forms = record { found = text_found; again = read_only }
 
 err_is : {A : Type 0} {x y : Fault} → x ≡ y → ◌≡◌ {A = Result A Fault} (Err x) (Err y)
 err_is e = ap (λ f. let r : Result _ Fault = Err f in r) e
@@ -139,6 +146,8 @@ one_reads AuthorityKey values read place inner b =
     slot_reads AuthorityText authority_of authority_forms read.octets.content values.authority _ _ (λ x. record values { authority = x }) b
 one_reads AuthorityList values read place inner b = slot_reads ListText read_list list_forms read.octets.content values.list _ _ (λ x. record values { list = x }) b
 one_reads ClaimConstraints values read place inner b =
+    slot_reads ConstraintsText read_constraints constraints_forms read.octets.content values.constraints _ _ (λ x. record values { constraints = x }) b
+one_reads EnhancedConstraints values read place inner b =
     record { found = λ next e. absurd cc; tells = λ fault. (λ e. sym (same_fault _ _ e), λ is. err_is (sym is)) }
 one_reads Unknown values read place inner b = of read.critical refl
   where
@@ -159,7 +168,9 @@ one_again SubjectKey values next read place inner a =
 one_again AuthorityKey values next read place inner a =
     slot_again AuthorityText authority_of authority_forms read.octets.content values.authority _ _ (λ x. record values { authority = x }) next a
 one_again AuthorityList values next read place inner a = slot_again ListText read_list list_forms read.octets.content values.list _ _ (λ x. record values { list = x }) next a
-one_again ClaimConstraints values next read place inner a = absurd a
+one_again ClaimConstraints values next read place inner a =
+    slot_again ConstraintsText read_constraints constraints_forms read.octets.content values.constraints _ _ (λ x. record values { constraints = x }) next a
+one_again EnhancedConstraints values next read place inner a = absurd a
 one_again Unknown values next read place inner a = rw a.0 (ok_is _ _ (sym a.1))
 
 -- ---- the extension that an element is

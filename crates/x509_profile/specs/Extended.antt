@@ -1,6 +1,8 @@
 -- The extensions of a certificate of the profile, as texts, and what they say (RFC 5280, section 4.2).
 use Rattle.std.specs.Prelude.{◌≡◌, ◌⊎◌, ℕ, false, List, [], ◌++◌, Option, Some, None, Ok}
 use Rattle.std.specs.Option.{option_map}
+use Rattle.claim_constraints.specs.Constraints.{ConstraintsView}
+use Rattle.claim_constraints.specs.ConstraintsText.{ConstraintsText}
 use Rattle.der_reader.specs.BitString.{flags_of}
 use Rattle.der_reader.specs.Each.{ComeTo, OneAfterAnother}
 use Rattle.der_reader.specs.Elem.{Elem, Element, MayBeginWith}
@@ -8,7 +10,7 @@ use Rattle.der_reader.specs.Optional.{IsFlag, IsLimit}
 use Rattle.der_reader.specs.Tags.{boolean_tag, integer_tag, bit_string_tag, octet_string_tag, object_identifier_tag, sequence_tag}
 use Rattle.tn_auth_list.specs.declared.entries.Entry.{Entry}
 use Rattle.tn_auth_list.specs.ListText.{ListText}
-use Rattle.x509_profile.specs.ExtensionId.{ExtensionName, BasicConstraints, KeyUsage, SubjectKey, AuthorityKey, AuthorityList, ClaimConstraints, Unknown, IsNamed}
+use Rattle.x509_profile.specs.ExtensionId.{ExtensionName, BasicConstraints, KeyUsage, SubjectKey, AuthorityKey, AuthorityList, ClaimConstraints, EnhancedConstraints, Unknown, IsNamed}
 use Rattle.x509_profile.specs.View.{BasicView, ExtensionView, Values, no_values}
 
 -- basicConstraints: a SEQUENCE of cA and the path length, either of which may be absent (section 4.2.1.9)
@@ -59,7 +61,7 @@ pub record SubjectKeyText (value : List ℕ) (key : List ℕ) : Type 0 where
   pub elem : Elem value octet_string_tag key
 
 -- What one extension more adds to what those before it say, by its name: an extension of the profile stands once, and its content says something;
--- constraints on claims may not stand (RFC 8226, section 8; RFC 9118, section 4), and another extension is passed over, if it isn't critical.
+-- the enhanced constraints on claims may not stand (RFC 9118, section 4), and another extension is passed over, if it isn't critical.
 abbrev pub AddsAs : ExtensionName → Values → ExtensionView → Values → Type 0
 AddsAs BasicConstraints before view values =
     (before.basic ≡ None) × (basic : BasicView) × BasicText view.value basic × (values ≡ record before { basic = Some basic })
@@ -71,7 +73,10 @@ AddsAs AuthorityKey before view values =
 -- the telephone number authorization list (RFC 8226, section 9)
 AddsAs AuthorityList before view values =
     (before.list ≡ None) × (list : List Entry) × ListText view.value list × (values ≡ record before { list = Some list })
-AddsAs ClaimConstraints before view values = ⊥
+-- the constraints on claims (RFC 8226, section 8), in this project's own form
+AddsAs ClaimConstraints before view values =
+    (before.constraints ≡ None) × (constraints : ConstraintsView) × ConstraintsText view.value constraints × (values ≡ record before { constraints = Some constraints })
+AddsAs EnhancedConstraints before view values = ⊥
 AddsAs Unknown before view values = (view.critical ≡ false) × (values ≡ before)
 
 abbrev pub Adds : Values → ExtensionView → Values → Type 0

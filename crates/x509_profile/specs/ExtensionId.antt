@@ -1,10 +1,10 @@
 -- The extensions that the profile knows, by their OIDs.
-use Rattle.std.specs.Prelude.{◌≡◌, ◌≢◌, ◌⊎◌, ℕ, List, [], ◌∷◌, if◌then◌else◌}
+use Rattle.std.specs.Prelude.{◌≡◌, ◌≢◌, ℕ, List, [], ◌∷◌, if◌then◌else◌}
 use Rattle.std.specs.Str.{bytes_eq}
 use Rattle.x509_profile.specs.declared.extension_id.ExtensionId.{ExtensionId}
 use Rattle.x509_profile.specs.declared.extension_id.ExtensionId.TheVariants as code
 
--- the extensions that the profile knows, of which two constrain claims, and all others
+-- the extensions that the profile knows, and all others
 pub data ExtensionName : Type 0 where
   BasicConstraints : ExtensionName
   KeyUsage : ExtensionName
@@ -12,6 +12,7 @@ pub data ExtensionName : Type 0 where
   AuthorityKey : ExtensionName
   AuthorityList : ExtensionName
   ClaimConstraints : ExtensionName
+  EnhancedConstraints : ExtensionName
   Unknown : ExtensionName
 
 -- 2.5.29.n (RFC 5280, section 4.2.1)
@@ -30,7 +31,8 @@ IsNamed oid KeyUsage = oid ≡ certificate_extension 15
 IsNamed oid SubjectKey = oid ≡ certificate_extension 14
 IsNamed oid AuthorityKey = oid ≡ certificate_extension 35
 IsNamed oid AuthorityList = oid ≡ private_extension 26
-IsNamed oid ClaimConstraints = (oid ≡ private_extension 27) ⊎ (oid ≡ private_extension 33)
+IsNamed oid ClaimConstraints = oid ≡ private_extension 27
+IsNamed oid EnhancedConstraints = oid ≡ private_extension 33
 IsNamed oid Unknown =
     (oid ≢ certificate_extension 19) × (oid ≢ certificate_extension 15) × (oid ≢ certificate_extension 14) × (oid ≢ certificate_extension 35)
     × (oid ≢ private_extension 26) × (oid ≢ private_extension 27) × (oid ≢ private_extension 33)
@@ -44,7 +46,7 @@ name_of oid =
     else (if bytes_eq oid (certificate_extension 35) then AuthorityKey
     else (if bytes_eq oid (private_extension 26) then AuthorityList
     else (if bytes_eq oid (private_extension 27) then ClaimConstraints
-    else (if bytes_eq oid (private_extension 33) then ClaimConstraints
+    else (if bytes_eq oid (private_extension 33) then EnhancedConstraints
     else Unknown))))))
 
 -- what the code's own name of an extension is
@@ -55,4 +57,5 @@ named code.SubjectKey = SubjectKey
 named code.AuthorityKey = AuthorityKey
 named code.AuthorityList = AuthorityList
 named code.ClaimConstraints = ClaimConstraints
+named code.EnhancedConstraints = EnhancedConstraints
 named code.Unknown = Unknown

@@ -5,9 +5,10 @@ use Rattle.der_reader.specs.declared.part.Fault.{Fault}
 use Rattle.der_reader.specs.Each.{each_in}
 use Rattle.der_reader.specs.Part.{ItemView, PartView, element_at, end_at, or_broken}
 use Rattle.der_reader.specs.Tags.{sequence_tag}
+use Rattle.claim_constraints.specs.Read.{read_constraints}
 use Rattle.tn_auth_list.specs.Read.{read_list}
 use Rattle.x509_profile.specs.Contents.{ExtensionRead, authority_of, basic_of, extension_of, subject_key_of, usage_of}
-use Rattle.x509_profile.specs.ExtensionId.{ExtensionName, BasicConstraints, KeyUsage, SubjectKey, AuthorityKey, AuthorityList, ClaimConstraints, Unknown, name_of}
+use Rattle.x509_profile.specs.ExtensionId.{ExtensionName, BasicConstraints, KeyUsage, SubjectKey, AuthorityKey, AuthorityList, ClaimConstraints, EnhancedConstraints, Unknown, name_of}
 use Rattle.x509_profile.specs.Fault.{fault_at}
 use Rattle.x509_profile.specs.View.{Values, no_values}
 use Rattle.x509_profile.specs.Extended.{extensions_tag}
@@ -29,7 +30,10 @@ values_by AuthorityKey values read place inner =
     filled values.authority (or_broken (authority_of read.octets.content) (fault_at 1 place)) (fault_at 1 place) >>= λ key. Ok (record values { authority = key })
 values_by AuthorityList values read place inner =
     filled values.list (or_broken (read_list read.octets.content) (fault_at 8 inner)) (fault_at 1 place) >>= λ list. Ok (record values { list = list })
-values_by ClaimConstraints values read place inner = Err (fault_at 7 place)
+values_by ClaimConstraints values read place inner =
+    filled values.constraints (or_broken (read_constraints read.octets.content) (fault_at 7 inner)) (fault_at 1 place)
+    >>= λ constraints. Ok (record values { constraints = constraints })
+values_by EnhancedConstraints values read place inner = Err (fault_at 7 place)
 values_by Unknown values read place inner = if read.critical then Err (fault_at 6 place) else Ok values
 
 -- with the extension that an element is

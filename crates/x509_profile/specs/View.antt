@@ -1,5 +1,6 @@
 -- How contracts see a certificate and its parts.
 use Rattle.std.specs.Prelude.{ℕ, ℤ, Bool, false, List, Option, Some, None, Result, Ok, Err}
+use Rattle.claim_constraints.specs.Constraints.{ConstraintsView}
 use Rattle.tn_auth_list.specs.declared.entries.Entry.{Entry}
 
 -- an answer whose value is seen so
@@ -26,9 +27,10 @@ pub record Values : Type 0 where
   -- the inner option is that of the identifier
   pub authority : Option (Option (List ℕ))
   pub list : Option (List Entry)
+  pub constraints : Option ConstraintsView
 
 abbrev pub no_values : Values
-no_values = record { basic = None; usage = None; subject_key = None; authority = None; list = None }
+no_values = record { basic = None; usage = None; subject_key = None; authority = None; list = None; constraints = None }
 
 -- the first and the last second at which a certificate is valid, in Unix time
 pub record ValidityView : Type 0 where
@@ -70,7 +72,10 @@ pub record CertView : Type 0 where
   pub usage : Option ℕ
   pub subject_key : Option (List ℕ)
   pub authority_key : Option (List ℕ)
+  -- the telephone numbers that the holder may speak for
   pub list : Option (List Entry)
+  -- what it demands of the claims of a PASSporT that is judged under it
+  pub constraints : Option ConstraintsView
 
 -- whether basic constraints say that the key may sign certificates
 abbrev pub says_ca : Option BasicView → Bool
@@ -104,4 +109,5 @@ view_of all tbs digest signature = record {
   subject_key = tbs.extensions.subject_key;
   authority_key = identifier_in_values tbs.extensions.authority;
   list = tbs.extensions.list;
+  constraints = tbs.extensions.constraints;
 }

@@ -6,9 +6,10 @@ use Rattle.der_reader.specs.Broken.{AtEnd, First, IsTagged, LeftOver, Through, U
 use Rattle.der_reader.specs.Each.{WrongBehind}
 use Rattle.der_reader.specs.Part.{ItemView, PartView, at_kind}
 use Rattle.der_reader.specs.Tags.{sequence_tag}
+use Rattle.claim_constraints.specs.ConstraintsText.{ConstraintsText}
 use Rattle.tn_auth_list.specs.ListText.{ListText}
 use Rattle.x509_profile.specs.Extended.{Adds, AuthorityText, BasicText, ExtensionText, ExtensionTexts, SubjectKeyText, UsageText, extensions_tag}
-use Rattle.x509_profile.specs.ExtensionId.{ExtensionName, BasicConstraints, KeyUsage, SubjectKey, AuthorityKey, AuthorityList, ClaimConstraints, Unknown, IsNamed}
+use Rattle.x509_profile.specs.ExtensionId.{ExtensionName, BasicConstraints, KeyUsage, SubjectKey, AuthorityKey, AuthorityList, ClaimConstraints, EnhancedConstraints, Unknown, IsNamed}
 use Rattle.x509_profile.specs.View.{ExtensionView, Values, no_values}
 
 -- one of its name stood before it, which said this, or else its content says nothing
@@ -18,15 +19,16 @@ IsSecondOr Says broken before second fault =
 
 -- Why an extension of this name is refused behind extensions that say these values together. It begins at `place`, and the OCTET STRING of its content
 -- at `inner`: a second of a name and a content that isn't of its form are kind 1 where it begins, but an authorization list outside its grammar kind 8
--- at the OCTET STRING (RFC 8226, section 9); constraints on claims are kind 7 (RFC 8226, section 8; RFC 9118, section 4), and an extension outside
--- the profile that is critical is kind 6.
+-- at the OCTET STRING (RFC 8226, section 9), and constraints on claims outside theirs kind 7 there (RFC 8226, section 8). Enhanced constraints on claims
+-- are kind 7 where they begin (RFC 9118, section 4), and an extension outside the profile that is critical is kind 6.
 abbrev pub IsRefusedBehind : ExtensionName → Values → ExtensionView → ℕ → ℕ → Fault → Type 0
 IsRefusedBehind BasicConstraints values view place inner = IsSecondOr (BasicText view.value) (at_kind 1 place) values.basic (at_kind 1 place)
 IsRefusedBehind KeyUsage values view place inner = IsSecondOr (UsageText view.value) (at_kind 1 place) values.usage (at_kind 1 place)
 IsRefusedBehind SubjectKey values view place inner = IsSecondOr (SubjectKeyText view.value) (at_kind 1 place) values.subject_key (at_kind 1 place)
 IsRefusedBehind AuthorityKey values view place inner = IsSecondOr (AuthorityText view.value) (at_kind 1 place) values.authority (at_kind 1 place)
 IsRefusedBehind AuthorityList values view place inner = IsSecondOr (ListText view.value) (at_kind 8 inner) values.list (at_kind 1 place)
-IsRefusedBehind ClaimConstraints values view place inner = λ fault. fault ≡ at_kind 7 place
+IsRefusedBehind ClaimConstraints values view place inner = IsSecondOr (ConstraintsText view.value) (at_kind 7 inner) values.constraints (at_kind 1 place)
+IsRefusedBehind EnhancedConstraints values view place inner = λ fault. fault ≡ at_kind 7 place
 IsRefusedBehind Unknown values view place inner = λ fault. (view.critical ≡ true) × (fault ≡ at_kind 6 place)
 
 -- an extension stands there

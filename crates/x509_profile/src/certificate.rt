@@ -12,6 +12,7 @@ ghost use Rattle.x509_profile.specs.View.{CertView};
 use crate::fault::CertFault;
 use crate::signature::read_signature;
 use crate::tbs::{ALGORITHM, TbsCertificate, behind_text};
+use claim_constraints::Constraints;
 use der_reader::tags::SEQUENCE;
 use der_reader::{Fault, Outer};
 use sha2::{Digest, Sha256};
@@ -51,8 +52,8 @@ impl Certificate {
     ///
     /// Its parts are read in byte order, and the first that is broken is the answer, with the offset of
     /// its first byte; `DER` has the place of the fault where an element can't be read. Of an extension
-    /// it is the offset of the extension, and `LIST` stands at its OCTET STRING. More than 8,192 bytes
-    /// are `DER` at 8,192.
+    /// it is the offset of the extension; `LIST`, and `CONSTRAINT` of constraints that can't be read, stand
+    /// at its OCTET STRING. More than 8,192 bytes are `DER` at 8,192.
     pub fn read(alloc: Global, bytes: &[u8]) -> Result<Certificate, CertFault>
         // The values, or the first fault.
         ensures exact { Gives (λ certificate. certificate) result (read_certificate bytes.now) }
@@ -186,6 +187,15 @@ impl Certificate {
         ensures { option_copied result ≡ self.now.list }
     {
         self.tbs.extensions.list.as_ref()
+    }
+
+    /// What the certificate demands of the claims of a PASSporT that is judged under it (after RFC 8226,
+    /// section 8; form and meaning are this project's own). A certificate without constraints demands
+    /// nothing.
+    pub fn constraints(&self) -> Option<&Constraints>
+        ensures { option_copied result ≡ self.now.constraints }
+    {
+        self.tbs.extensions.constraints.as_ref()
     }
 }
 

@@ -16,8 +16,10 @@ pub(crate) enum ExtensionId {
     AuthorityKey,
     /// The telephone number authorization list: 1.3.6.1.5.5.7.1.26 (RFC 8226, section 9).
     AuthorityList,
-    /// Either form of constraints on claims: 1.3.6.1.5.5.7.1.27 (RFC 8226, section 8) and 1.3.6.1.5.5.7.1.33 (RFC 9118, section 4).
+    /// Constraints on claims: 1.3.6.1.5.5.7.1.27 (RFC 8226, section 8). Their form is this project's own.
     ClaimConstraints,
+    /// Enhanced constraints on claims: 1.3.6.1.5.5.7.1.33 (RFC 9118, section 4).
+    EnhancedConstraints,
     /// Any other.
     Unknown,
 }
@@ -38,10 +40,10 @@ impl ExtensionId {
             ExtensionId::AuthorityKey
         } else if oid == [0x2B, 0x06, 0x01, 0x05, 0x05, 0x07, 0x01, 26].as_slice() {
             ExtensionId::AuthorityList
-        } else if oid == [0x2B, 0x06, 0x01, 0x05, 0x05, 0x07, 0x01, 27].as_slice()
-            || oid == [0x2B, 0x06, 0x01, 0x05, 0x05, 0x07, 0x01, 33].as_slice()
-        {
+        } else if oid == [0x2B, 0x06, 0x01, 0x05, 0x05, 0x07, 0x01, 27].as_slice() {
             ExtensionId::ClaimConstraints
+        } else if oid == [0x2B, 0x06, 0x01, 0x05, 0x05, 0x07, 0x01, 33].as_slice() {
+            ExtensionId::EnhancedConstraints
         } else {
             ExtensionId::Unknown
         }

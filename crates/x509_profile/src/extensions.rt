@@ -3,6 +3,7 @@
 ghost use Rattle.std.specs.Prelude.{◌+◌, length};
 ghost use Rattle.der_reader.specs.Each.{each_in};
 ghost use Rattle.der_reader.specs.Part.{end_of, item_of, or_broken, part_of};
+ghost use Rattle.claim_constraints.specs.Read.{read_constraints};
 ghost use Rattle.tn_auth_list.specs.Read.{read_list};
 ghost use Rattle.x509_profile.specs.Extensions.{optional_in, values_with};
 ghost use Rattle.x509_profile.specs.Fault.{Gives, IsPlacedUpTo};
@@ -15,6 +16,7 @@ use crate::contents::{
 use crate::extension_id::ExtensionId;
 use crate::fault::CertFault;
 use crate::octets::Octets;
+use claim_constraints::{ConstraintFault, Constraints};
 use der_reader::tags::SEQUENCE;
 use der_reader::{Fault, Item, Part};
 use std::alloc::Global;
@@ -34,6 +36,7 @@ pub(crate) struct KnownExtensions {
     /// The inner option is that of the identifier.
     pub authority: Option<Option<Octets>>,
     pub list: Option<AuthList>,
+    pub constraints: Option<Constraints>,
 }
 
 impl Model for KnownExtensions {
@@ -41,7 +44,7 @@ impl Model for KnownExtensions {
 
     ghost Value = { Values };
 
-    ghost view = { λ k. record { basic = k.basic; usage = k.usage; subject_key = k.subject_key; authority = k.authority; list = k.list } };
+    ghost view = { λ k. record { basic = k.basic; usage = k.usage; subject_key = k.subject_key; authority = k.authority; list = k.list; constraints = k.constraints } };
 }
 
 impl KnownExtensions {
@@ -105,7 +108,11 @@ impl KnownExtensions {
             ExtensionId::AuthorityList if self.list.is_none() => {
                 self.list = Some(read_list(alloc, value, Fault::at(CertFault::LIST, inner))?);
             }
-            ExtensionId::ClaimConstraints => {
+            ExtensionId::ClaimConstraints if self.constraints.is_none() => {
+                let unreadable = Fault::at(CertFault::CONSTRAINT, inner);
+                self.constraints = Some(read_constraints(alloc, value, unreadable)?);
+            }
+            ExtensionId::EnhancedConstraints => {
                 return Err(item.fault(CertFault::CONSTRAINT).into());
             }
             ExtensionId::Unknown if extension.critical => {
@@ -127,5 +134,17 @@ fn read_list(alloc: Global, value: &[u8], broken: Fault) -> Result<AuthList, Cer
         Ok(list) => Ok(list),
         Err(ListFault::At { .. }) => Err(broken.into()),
         Err(ListFault::Memory) => Err(CertFault::Memory),
+    }
+}
+
+/// The constraints on claims that a content is, in this project's own form. Any fault in it is this one.
+fn read_constraints(alloc: Global, value: &[u8], broken: Fault) -> Result<Constraints, CertFault>
+    ensures exact { Gives (λ constraints. constraints) result (or_broken (read_constraints value.now) broken) }
+    ensures place { IsPlacedUpTo broken.place result }
+{
+    match Constraints::read(alloc, value) {
+        Ok(constraints) => Ok(constraints),
+        Err(ConstraintFault::At { .. }) => Err(broken.into()),
+        Err(ConstraintFault::Memory) => Err(CertFault::Memory),
     }
 }

@@ -32,7 +32,7 @@ impl CertFault {
     pub const TIME: u8 = 5;
     /// A critical extension isn't known (RFC 5280, section 4.2).
     pub const CRITICAL: u8 = 6;
-    /// The certificate constrains the claims that may be signed (RFC 8226, section 8, RFC 9118).
+    /// The constraints on claims can't be read (RFC 8226, section 8), or they are enhanced ones (RFC 9118), which the profile doesn't have.
     pub const CONSTRAINT: u8 = 7;
     /// The telephone number authorization list can't be read (RFC 8226, section 9).
     pub const LIST: u8 = 8;
@@ -77,7 +77,7 @@ impl fmt::Display for CertFault {
             CertFault::KEY => "the key isn't an uncompressed point of P-256",
             CertFault::TIME => "the validity isn't two times",
             CertFault::CRITICAL => "a critical extension isn't known",
-            CertFault::CONSTRAINT => "the certificate constrains claims",
+            CertFault::CONSTRAINT => "the constraints on claims can't be read or are enhanced ones",
             CertFault::LIST => "the authorization list can't be read",
             CertFault::SIGNATURE => "the signature isn't two numbers of 256 bits",
             _ => "an element can't be read or isn't of its form",

@@ -6,7 +6,8 @@
 //!   offset.
 //! - The [`Certificate`] is asked for its names, its validity ([`Certificate::not_before`], [`Certificate::not_after`], Unix seconds), its key, the
 //!   digest of what is signed, and the signature. Its extensions say [`Certificate::is_ca`], [`Certificate::path_length`], [`Certificate::usage`],
-//!   the key identifiers, and [`Certificate::list`], the telephone numbers that the holder may speak for.
+//!   the key identifiers, [`Certificate::list`], the telephone numbers that the holder may speak for, and [`Certificate::constraints`], what is
+//!   demanded of the claims of a PASSporT.
 //! - [`read_chain`] takes a file of at most six certificates one after another, the leaf first, of at most [`MOST_CHAIN_BYTES`].
 //!
 //! ```rust
@@ -19,8 +20,8 @@
 //! # What it isn't
 //!
 //! Nothing is verified: whether certificates are a path to a trust anchor is asked in `delegation`, and whether a signature is good of a provider
-//! (`cert_store`). PEM isn't read, but by `tools/stir-chain`. Other algorithms, critical extensions outside the profile and constraints on claims
-//! are refused.
+//! (`cert_store`). PEM isn't read, but by `tools/stir-chain`. Other algorithms, critical extensions outside the profile and enhanced constraints
+//! on claims are refused.
 //!
 //! # What is proved
 //!

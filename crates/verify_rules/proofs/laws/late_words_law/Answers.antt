@@ -1,4 +1,4 @@
--- The words of rules 10 to 17 by the laws of the crates below.
+-- The words of rules 10 to 17 and 19 by the laws of the crates below.
 use Rattle.verify_rules.proofs.AllLateWords.{late_words}
 use Rattle.verify_rules.proofs.ChainMeans.{ChainLaws}
 use Rattle.verify_rules.proofs.laws.late_words_law.Goals as goal
@@ -10,5 +10,6 @@ returns c = λ world call verdict typed early is.
       words = c.judged_law.ensures.words;
       short = c.judged_law.ensures.short;
       read = c.chain_law.ensures.again;
+      met = c.constraints_law.ensures.meets;
     } in
     late_words laws c.covers_law.ensures world typed call verdict early is
