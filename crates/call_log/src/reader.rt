@@ -36,16 +36,25 @@ impl LogReader {
     ghost use Rattle.call_log.specs.Reads.{LogState, Moves, Reads, left_to};
     ghost use Rattle.call_log.specs.Supply.{Draws, supply_of};
 
-    /// A reader at the beginning of a log.
+    /// A reader at the beginning of a log, whose first call has the number 1.
     pub fn new(alloc: Global) -> LogReader
         ensures { result ≡ record { passed = start 0 0; ahead = []; ended = false; fault = None } }
+    {
+        LogReader::after(alloc, 0, 0)
+    }
+
+    /// A reader at the beginning of a log that goes on from an earlier one: its calls are numbered from above `call`, and none comes before `moment`,
+    /// in Unix seconds.
+    pub fn after(alloc: Global, call: u32, moment: u64) -> LogReader
+        requires { call ≤ 4000000000 }
+        ensures { result ≡ record { passed = start call moment; ahead = []; ended = false; fault = None } }
     {
         LogReader {
             alloc,
             ahead: Ahead::new(),
             passed: Progress {
-                number: 0,
-                moment: 0,
+                number: call,
+                moment,
                 count: 0,
                 place: 0,
             },

@@ -4,3 +4,4 @@ pub mod TurnLaws
 pub mod Joining
 pub mod LogLaws
 pub mod OneLaws
+mod RunLaws

@@ -4,3 +4,4 @@ pub mod Round
 pub mod Log
 pub mod Turn
 pub mod Law
+pub mod Runs

@@ -2,7 +2,8 @@
 //!
 //! That holds whatever the cut of the log into rounds, and whatever is purged between them. It is this project's own rule.
 //!
-//! `specs/` says what a row, a settled round and legal rows are, in plain numbers: `Row`, `Round`, `Turn`, `Log`, and `Law` for the laws themselves.
+//! `specs/` says what a row, a settled round and legal rows are, in plain numbers: `Row`, `Round`, `Turn`, `Log`, `Runs`, and `Law` for the laws
+//! themselves.
 //! A function here does nothing: its clause is the law. Whoever needs the law calls the function, and then has the clause.
 //!
 //! ```rust
@@ -12,6 +13,7 @@
 //!
 //! - A round: [`one_turn_more`], [`one_by_one`], [`purged_alone`], [`same_is_one`].
 //! - A log of rounds: [`one_round_more`], [`more_rounds`], [`legal_together`], [`first_of_all`], [`replay_names_one`], [`one_answer`].
+//! - Runs that hand their past on: [`legal_in_runs`].
 //!
 //! What a ticket is, and that two different calls don't share one, isn't said here: the laws take it as a premise that `log_rounds` and `stir_cmd`
 //! name.
@@ -20,6 +22,7 @@
 #![tactic(auto)]
 
 ghost use Rattle.replay_law.specs.Law.{LegalTogether, FirstOfAll, ReplayNamesOne, OneByOne, OneRoundMore, MoreRounds, PurgedAlone, OneTurnMore, SameIsOne, OneAnswer};
+ghost use Rattle.replay_law.specs.Runs.{LegalInRuns};
 
 /// Rounds that are settled one by one, from an empty past on, are legal together, if calls that pass are fresh,
 /// moments don't fall and tickets are apart. So purging lets no ticket pass a second time.
@@ -71,4 +74,10 @@ pub fn same_is_one()
 /// If the same calls are answered twice, legally and the first with its ticket first, each has one answer.
 pub fn one_answer()
     ensures { OneAnswer }
+{}
+
+/// Runs that hand their past on, the first from an empty one, are legal together, if calls that pass are fresh, moments don't fall and tickets are
+/// apart. So handing on lets no ticket pass a second time.
+pub fn legal_in_runs()
+    ensures { LegalInRuns }
 {}

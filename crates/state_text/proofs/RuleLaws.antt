@@ -5,7 +5,7 @@ use Rattle.std.specs.Option.{option_map}
 use Rattle.std.proofs.lemmas.Bool.{and_parts}
 use Rattle.std.proofs.lemmas.Bool.Decides.{nat_tests}
 use Rattle.state_text.specs.Reading.{entries_in, follows, last_ticket, most_last}
-use Rattle.state_text.specs.State.{AreEntries, EachIsEntry, Entry, IsEntry, IsTicket, Rises, is_above}
+use Rattle.state_text.specs.State.{AreEntries, EachIsEntry, EachIsKept, Entry, IsEntry, IsKept, IsTicket, Rises, is_above}
 use Rattle.state_text.proofs.EntryLaws.{entries_found}
 
 abbrev last_from : Option (List ℕ) → List Entry → Option (List ℕ)
@@ -52,12 +52,19 @@ follows_is call before e t h =
     let c = and_parts (nat_le 1 e.1.call) (nat_le e.1.call call) b.0 in
     (record { ticket = t; some = grind (arith, nat_tests, c.0); within = grind (arith, nat_tests, c.1); last = grind (arith, nat_tests, b.1) }, a.1)
 
-follows_of : (call : ℕ) (before : List Entry) (e : Entry) → IsEntry call e → is_above (last_ticket before) e.0 ≡ true → follows call before e ≡ true
-follows_of call before e i above =
+follows_kept : (call : ℕ) (before : List Entry) (e : Entry) → IsKept call e.1 → is_above (last_ticket before) e.0 ≡ true → follows call before e ≡ true
+follows_kept call before e i above =
     let some : nat_le 1 e.1.call ≡ true = grind (arith, nat_tests, i.some) in
     let within : nat_le e.1.call call ≡ true = grind (arith, nat_tests, i.within) in
     let last : nat_le e.1.last most_last ≡ true = grind (arith, nat_tests, i.last) in
     rw (some, within, last) above
+
+follows_of : (call : ℕ) (before : List Entry) (e : Entry) → IsEntry call e → is_above (last_ticket before) e.0 ≡ true → follows call before e ≡ true
+follows_of call before e i above = follows_kept call before e (record { some = i.some; within = i.within; last = i.last }) above
+
+kept_at : (call : ℕ) (es : List Entry) (e : Entry) (others : List Entry) → EachIsKept call (es ++ e ∷ others) → IsKept call e.1
+kept_at call [] e others a = a.0
+kept_at call (f ∷ es) e others a = kept_at call es e others a.1
 
 split_at : (xs : List Entry) (i : ℕ) (d : Entry) → i < length xs → xs ≡ take i xs ++ get_or xs i d ∷ drop (i + 1) xs
 split_at [] i d h = absurd (omega arith)
@@ -82,6 +89,16 @@ entries_not call kept before i e d h is b f a =
     let passes = follows_of call (take i kept) e at.0 (ap (λ l. is_above l e.0) (sym (last_is (take i kept))) ∙ at.1) in
     let both : true ≡ false = sym passes ∙ ap (λ x. follows call x e) (sym b) ∙ f in
     cc
+
+-- what is refused isn't of such calls, or doesn't rise
+pub kept_not : (call : ℕ) (kept before : List Entry) (i : ℕ) (e d : Entry) → i < length kept → e ≡ get_or kept i d → before ≡ take i kept → follows call before e ≡ false → EachIsKept call kept → Rises None kept
+    → false ≡ true
+kept_not call kept before i e d h is b f each rise =
+    let split : kept ≡ take i kept ++ e ∷ drop (i + 1) kept = split_at kept i d h ∙ ap (λ x. take i kept ++ x ∷ drop (i + 1) kept) (sym is) in
+    let one = kept_at call (take i kept) e (drop (i + 1) kept) (subst (EachIsKept call) split each) in
+    let above = rise_at None (take i kept) e (drop (i + 1) kept) (subst (Rises None) split rise) in
+    let passes = follows_kept call (take i kept) e one (ap (λ l. is_above l e.0) (sym (last_is (take i kept))) ∙ above) in
+    sym f ∙ ap (λ x. follows call x e) b ∙ passes
 
 pub read_are : (most number : ℕ) (lines : List (List ℕ)) (found : List Entry) → most < 2 ^ 64 → entries_in most number [] lines ≡ Ok found → AreEntries most None found
 read_are most number lines found low h = let f = entries_found most number [] lines found low h in subst (AreEntries most None) (sym f.all) f.are

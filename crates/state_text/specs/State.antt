@@ -37,6 +37,16 @@ pub record IsEntry (call : ℕ) (entry : Entry) : Type 0 where
   -- a day after the last second of the year 9999
   pub last : entry.1.last ≤ 253402387199
 
+-- the same of what is kept, whatever its ticket
+pub record IsKept (call : ℕ) (kept : Kept) : Type 0 where
+  pub some : 1 ≤ kept.call
+  pub within : kept.call ≤ call
+  pub last : kept.last ≤ 253402387199
+
+abbrev pub EachIsKept : ℕ → List Entry → Type 0
+EachIsKept call [] = ⊤
+EachIsKept call (entry ∷ others) = IsKept call entry.1 × EachIsKept call others
+
 abbrev pub EachIsEntry : ℕ → List Entry → Type 0
 EachIsEntry call [] = ⊤
 EachIsEntry call (entry ∷ others) = IsEntry call entry × EachIsEntry call others

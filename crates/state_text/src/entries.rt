@@ -1,7 +1,7 @@
 //! The rules that the entries of a state meet.
-ghost use Rattle.std.specs.Prelude.{◌≡◌, ◌↔◌, ◌<◌, ℕ, IsTrue, Some, None, slice_index};
+ghost use Rattle.std.specs.Prelude.{◌≡◌, ◌↔◌, ◌<◌, ℕ, true, IsTrue, Some, None, slice_index};
 ghost use Rattle.state_text.specs.Reading.{follows, last_ticket};
-ghost use Rattle.state_text.specs.State.{AreEntries, IsTicket, is_above};
+ghost use Rattle.state_text.specs.State.{AreEntries, EachIsKept, IsTicket, Rises, is_above};
 
 use crate::kept::Kept;
 
@@ -9,9 +9,10 @@ use crate::kept::Kept;
 pub(crate) const MOST_LAST: u64 = 253_402_387_199;
 
 /// Whether these are entries of calls up to this number, whose tickets rise strictly.
-#[tactic(auto, using(crate::proofs::RuleLaws::entries_more, crate::proofs::RuleLaws::entries_not))]
+#[tactic(auto, using(crate::proofs::RuleLaws::entries_more, crate::proofs::RuleLaws::entries_not, crate::proofs::RuleLaws::kept_not))]
 pub(crate) fn are_entries(call: u32, kept: &[([u8; 32], Kept)]) -> bool
-    ensures { IsTrue result ↔ AreEntries call None kept.now }
+    ensures rules { IsTrue result ↔ AreEntries call None kept.now }
+    ensures made { EachIsKept call kept.now → Rises None kept.now → result ≡ true }
 {
     'entries: for index in 0..kept.len() {
         if !follows(call, &kept[..index], &kept[index]) {

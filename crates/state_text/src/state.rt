@@ -1,10 +1,10 @@
 //! What one run hands on to the next.
-ghost use Rattle.std.specs.Prelude.{◌≡◌, ◌↔◌, ◌≤◌, ◌<◌, ◌^◌, ◌-◌, ℕ, List, length, IfOk, IfErr, IfSome, IsSome, Ok, Err};
+ghost use Rattle.std.specs.Prelude.{◌≡◌, ◌↔◌, ◌≤◌, ◌<◌, ◌^◌, ◌-◌, ℕ, List, length, IfOk, IfErr, IfSome, IsSome, None, Ok, Err};
 ghost use Rattle.lists.specs.Given.{Gives};
 ghost use Rattle.state_text.specs.BadLine.{IsBadLine};
 ghost use Rattle.state_text.specs.Reading.{read_state, state_in};
 ghost use Rattle.state_text.specs.Seen.{IfLine, fault_line};
-ghost use Rattle.state_text.specs.State.{IsState, StateView};
+ghost use Rattle.state_text.specs.State.{EachIsKept, IsState, Rises, StateView};
 ghost use Rattle.state_text.specs.StateText.{StateFile, StateText, state_text};
 
 use crate::entries::are_entries;
@@ -76,6 +76,8 @@ impl State {
     pub fn new(window: u64, call: u32, moment: u64, kept: Vec<([u8; 32], Kept)>) -> Option<State>
         ensures exact { IfSome result (λ state. state ≡ record { window = window; call = call; moment = moment; kept = kept.items }) }
         ensures rules { IsSome result ↔ IsState (record { window = window; call = call; moment = moment; kept = kept.items }) }
+        // each ticket is 32 bytes by its type, so that nothing is asked of it but its place
+        ensures made { window ≤ 86400 → moment ≤ 253402300799 → EachIsKept call kept.items → Rises None kept.items → IsSome result }
     {
         if window <= MOST_WINDOW && moment <= LAST_SECOND && are_entries(call, &kept) {
             return Some(State {
