@@ -8,3 +8,4 @@ pub mod LegalLaws
 pub mod StatusLaws
 pub mod BatchesLaws
 pub mod WordsLaws
+mod DayLaws

@@ -7,3 +7,4 @@ pub mod Rounds
 pub mod Reads
 pub mod Judged
 pub mod Batches
+pub mod Day

@@ -1,8 +1,11 @@
 //! Laws: a function here does nothing, and its clauses are the law.
 ghost use Rattle.std.specs.Prelude.{◌≡◌, List};
 ghost use Rattle.log_rounds.specs.AllValid.{AreValid, all_valid};
+ghost use Rattle.log_rounds.specs.Day.{DayIsLegal, DayIsReport};
 ghost use Rattle.log_run.specs.Ending.{report_status};
 ghost use Rattle.verify_service.specs.declared.outcome.Outcome.{Outcome};
+
+use replay_law::{first_is_legal, legal_is_first, one_by_first};
 
 /// The status of a whole report is 0 just where each of its calls is valid, and else 1.
 pub fn status_law()
@@ -10,3 +13,15 @@ pub fn status_law()
     ensures valid { (outcomes : List Outcome) → report_status (all_valid outcomes) ≡ 0 → AreValid outcomes }
     ensures one { (outcomes : List Outcome) → (AreValid outcomes → ⊥) → report_status (all_valid outcomes) ≡ 1 }
 {}
+
+/// A log may be judged call by call, in any order and on any number of machines. If each call that passes and is the first of the log with its ticket is
+/// then valid, and each later one a replay of it, the outcomes are legal for every cut of the log into rounds; and if none is set aside, they are
+/// the outcomes of a run on one worker.
+pub fn day_law()
+    ensures legal { DayIsLegal }
+    ensures report { DayIsReport }
+{
+    first_is_legal();
+    legal_is_first();
+    one_by_first();
+}

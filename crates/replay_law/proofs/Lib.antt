@@ -5,3 +5,6 @@ pub mod Joining
 pub mod LogLaws
 pub mod OneLaws
 mod RunLaws
+mod Places
+mod FirstLaws
+mod DayLaws

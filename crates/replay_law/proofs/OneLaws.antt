@@ -31,7 +31,7 @@ one_place rounds others ticket w v each each_other first first_other =
     ]
 
 -- the call at the place of the valid one is the valid one
-valid_at : (rounds : List Round) (ticket : List ℕ) (w : LogWinner rounds ticket) (round place : ℕ) (row : Row) → StandsIn rounds round place row
+pub valid_at : (rounds : List Round) (ticket : List ℕ) (w : LogWinner rounds ticket) (round place : ℕ) (row : Row) → StandsIn rounds round place row
     → AreOne round place w.round w.place → row.answer ≡ valid
 valid_at rounds ticket w round place row stands one =
     ap (λ (r : Row). r.answer) (one_row rounds round place w.round w.place row w.winner one stands w.stands) ∙ w.wins

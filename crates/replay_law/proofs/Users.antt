@@ -19,7 +19,7 @@ one_ticket a b = by_test (bytes_eq a b) refl where
   by_test false is = inr (λ e. let same = (bytes_eq-Decides a b).1 e in let both : true ≡ false = sym same ∙ is in absurd (cc))
 
 -- a call passes with the ticket, or doesn't
-uses_or_not : (ticket : List ℕ) (row : Row) → Uses ticket row ⊎ (Uses ticket row → ⊥)
+pub uses_or_not : (ticket : List ℕ) (row : Row) → Uses ticket row ⊎ (Uses ticket row → ⊥)
 uses_or_not ticket row = by_passes row.passes refl where
   by_passes : (t : Bool) → row.passes ≡ t → Uses ticket row ⊎ (Uses ticket row → ⊥)
   by_passes true is = elim (one_ticket row.ticket ticket) [ inl same ↦ inl (record { passes = is; same = same }) | inr other ↦ inr (λ u. other u.same) ]

@@ -5,3 +5,4 @@ pub mod Log
 pub mod Turn
 pub mod Law
 pub mod Runs
+pub mod ByFirst

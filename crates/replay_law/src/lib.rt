@@ -14,6 +14,8 @@
 //! - A round: [`one_turn_more`], [`one_by_one`], [`purged_alone`], [`same_is_one`].
 //! - A log of rounds: [`one_round_more`], [`more_rounds`], [`legal_together`], [`first_of_all`], [`replay_names_one`], [`one_answer`].
 //! - Runs that hand their past on: [`legal_in_runs`].
+//! - A log that is answered by the first call of each ticket: [`first_is_legal`], [`legal_is_first`],
+//!   [`one_by_first`], [`day_after_day`].
 //!
 //! What a ticket is, and that two different calls don't share one, isn't said here: the laws take it as a premise that `log_rounds` and `stir_cmd`
 //! name.
@@ -22,6 +24,7 @@
 #![tactic(auto)]
 
 ghost use Rattle.replay_law.specs.Law.{LegalTogether, FirstOfAll, ReplayNamesOne, OneByOne, OneRoundMore, MoreRounds, PurgedAlone, OneTurnMore, SameIsOne, OneAnswer};
+ghost use Rattle.replay_law.specs.ByFirst.{DayAfterDay, FirstIsLegal, LegalIsFirst, OneByFirst};
 ghost use Rattle.replay_law.specs.Runs.{LegalInRuns};
 
 /// Rounds that are settled one by one, from an empty past on, are legal together, if calls that pass are fresh,
@@ -80,4 +83,27 @@ pub fn one_answer()
 /// apart. So handing on lets no ticket pass a second time.
 pub fn legal_in_runs()
     ensures { LegalInRuns }
+{}
+
+/// Answers by the first call of each ticket, without rounds and without a past, are legal for every cut of the log into rounds. So a log may be judged
+/// call by call in any order, on any number of machines, and its calls grouped by ticket afterwards.
+pub fn first_is_legal()
+    ensures { FirstIsLegal }
+{}
+
+/// If the first call of a log that passes with a ticket is the valid one, as on one worker, its legal answers are the answers by the first call of each
+/// ticket.
+pub fn legal_is_first()
+    ensures { LegalIsFirst }
+{}
+
+/// The same calls have one list of answers by the first call of each ticket, however the two came about.
+pub fn one_by_first()
+    ensures { OneByFirst }
+{}
+
+/// A day after others, answered by the first call of each ticket over what is kept of the earlier days, leaves all days answered so, if calls that pass are
+/// fresh, none comes before the moment by which entries were dropped, and tickets are apart.
+pub fn day_after_day()
+    ensures { DayAfterDay }
 {}
