@@ -1,0 +1,56 @@
+"""Telephone calls judged by STIR/SHAKEN, by the proved library libstir_c.a.
+
+    import stir
+
+    world = stir.World.read("chains.txt", "anchors.der", "table.txt")
+    call = stir.Call(moment=1443208345, message=invite)
+    print(stir.verify(call, world.materials(call), stir.confirm))
+
+`verify` asks what signatures a call stands on, has each confirmed, and gives the verdict: `Passes` or `Refused`. `ask` and `judge` are the two
+halves. `explain` says which rules hold, and `sign` writes a message with an Identity field. `stir.logs` reads call logs and cuts them into parts,
+`stir.days` judges a log part by part, and `stir.jobs` hands that to other machines.
+
+What the library says is proved (docs/PROVED.md). What this package hands it, the verifier of signatures and the count of tickets aren't. Any
+number of threads may call at once; a thread needs a stack of 256 kilobytes and what Python takes.
+"""
+from .answers import Answers
+from .calls import Asked, Call, Materials, Passes, Refused, Settings, Verdict, ask, judge, verify
+from .errors import BadFile, BadInput, Input, LibraryError, OutOfMemory, StirError
+from .es256 import Question, confirm
+from .explaining import Explained, explain, x5us
+from .signing import Form, Order, Why, Withheld, sign, signed, signer_by, to_sign
+from .world import World
+
+__all__ = [
+    "Answers",
+    "Asked",
+    "BadFile",
+    "BadInput",
+    "Call",
+    "Explained",
+    "Form",
+    "Input",
+    "LibraryError",
+    "Materials",
+    "Order",
+    "OutOfMemory",
+    "Passes",
+    "Question",
+    "Refused",
+    "Settings",
+    "StirError",
+    "Verdict",
+    "Why",
+    "Withheld",
+    "World",
+    "ask",
+    "confirm",
+    "explain",
+    "judge",
+    "sign",
+    "signed",
+    "signer_by",
+    "to_sign",
+    "verify",
+    "x5us",
+]

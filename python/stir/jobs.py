@@ -1,0 +1,59 @@
+"""A day as it is handed to other machines: by the names of its files, and by what was in them when it began."""
+import dataclasses
+import functools
+import hashlib
+import os
+from dataclasses import dataclass
+from typing import Callable, Optional, Tuple
+
+from . import days
+from .answers import Answers
+from .calls import Settings
+from .errors import BadFile
+from .es256 import Question, confirm
+from .logs import Name, Part
+from .world import World
+
+
+@dataclass(frozen=True)
+class Job:
+    """What a day is judged by. Each machine reads the files under these names, those of the chain map from `folder` on. `answers` names an answers file;
+    without one each machine confirms signatures itself. `digest` is the SHA-256 of what the files held, so that no machine goes by others."""
+
+    chains: str
+    anchors: str
+    table: str
+    folder: str
+    answers: Optional[str]
+    settings: Settings
+    digest: bytes = b""
+
+    @classmethod
+    def of(cls, chains: Name, anchors: Name, table: Name, answers: Optional[Name] = None, settings: Settings = Settings()) -> "Job":
+        """The job of these files, which are read once. Raises OSError, and BadFile if one is outside its grammar."""
+        names = [os.path.abspath(name) for name in (chains, anchors, table)]
+        job = cls(*names, os.getcwd(), os.path.abspath(answers) if answers else None, settings)
+        return dataclasses.replace(job, digest=read(job)[2])
+
+
+def read(job: Job) -> Tuple[World, Callable[[Question], bool], bytes]:
+    """What the calls of a job are judged by, the verifier of signatures, and the digest of both."""
+    world = World.read(job.chains, job.anchors, job.table, job.folder)
+    if not job.answers:
+        return world, confirm, world.digest
+    answers = Answers.read(job.answers)
+    return world, answers, hashlib.sha256(world.digest + answers.digest).digest()
+
+
+@functools.lru_cache(maxsize=1)
+def held(job: Job) -> Tuple[World, Callable[[Question], bool]]:
+    """What the calls of a job are judged by, read once by each process."""
+    world, verifier, digest = read(job)
+    if digest != job.digest:
+        raise BadFile("the chains, anchors, table or answers aren't any more what they were when the job began")
+    return world, verifier
+
+
+def judge(job: Job, part: Part) -> days.Judged:
+    """Judges a part of a log, on whatever machine. Raises OSError, BadFile and OutOfMemory."""
+    return days.judge_part(part, *held(job), job.settings)

@@ -1,0 +1,86 @@
+"""A day on a cluster, beside the report of the proved program."""
+import logging
+import os
+import pathlib
+import signal
+import subprocess
+import sys
+
+import cuts
+import day as example
+import stir
+from distributed import as_completed
+from stir import days, jobs, logs
+
+# Dask says much of workers that are killed, which is what a test does.
+logging.getLogger("distributed.client").setLevel(logging.CRITICAL)
+
+PROGRAM = pathlib.Path(example.__file__)
+
+
+class Day:
+    """The log of a day, its files, and its report."""
+
+    def __init__(self, world, folder, calls, report):
+        self.names, self.folder, self.calls, self.report = world.words()[1::2], folder, calls, report
+        self.log = folder / "day.log"
+        self.log.write_bytes(world.log(calls))
+
+    def job(self, chains=None):
+        return jobs.Job.of(chains or self.names[0], *self.names[1:])
+
+    def judged(self, workers, calls):
+        """The report of so many workers on parts of so many calls."""
+        output = self.folder / "report.txt"
+        with example.connect(workers, None) as client, open(output, "wb") as file:
+            status = example.write_report(client, self.job(), logs.cut([self.log], calls), file)
+        assert status == 1, f"the status is {status}"
+        return output.read_text()
+
+    def workers(self):
+        for workers, calls in ((1, 2000), (2, 130), (4, 37)):
+            assert self.judged(workers, calls) == self.report, f"{workers} workers give another report"
+
+    def program(self):
+        """The program, over three logs of which the last isn't whole, and over the answers file that the report was made with."""
+        files = cuts.pieces(self.folder, self.log.read_bytes(), self.calls, (0, len(self.calls) // 3, len(self.calls) // 2))
+        whole = files[-1].stat().st_size
+        with open(files[-1], "ab") as last:
+            last.write(b"@1 0\n")
+        words = [word for pair in zip(("--chains", "--anchors", "--table"), self.names) for word in pair]
+        words += ["--answers", self.folder / "answers.txt", "--workers", "2", "--calls", "100"]
+        done = subprocess.run([sys.executable, PROGRAM, *words, *files], stdout=subprocess.PIPE, stderr=subprocess.PIPE, check=False, text=True)
+        assert done.stdout == self.report + f"refused input {whole}\n", f"the program gives another report: {done.stderr}"
+        assert f"{files[-1]}: no entry of a log at byte {whole}" in done.stderr, done.stderr
+        assert done.returncode == 5, f"the status is {done.returncode}"
+
+    def killed(self):
+        """A worker is killed when the first part is judged, and the next one when half are: of two workers, and of one."""
+        for workers in (2, 1):
+            cut = logs.cut([self.log], 20)
+            with example.connect(workers, None) as client:
+                judged, reports = example.submit(client, self.job(), list(cut.parts))
+                lost = 0
+                for done, future in enumerate(as_completed(judged), 1):
+                    future.result()
+                    if done in (1, len(cut.parts) // 2):
+                        os.kill(next(iter(client.run(os.getpid).values())), signal.SIGKILL)
+                        lost += 1
+                lines = b"".join(future.result().lines for future in reports).decode()
+            assert lost == 2, f"{lost} workers were killed"
+            assert lines == self.report, f"{workers} workers give another report if some are killed"
+
+    def changed(self):
+        """A worker goes by the files with which the job began, or not at all."""
+        chains = self.folder / "changing.txt"
+        chains.write_bytes(pathlib.Path(self.names[0]).read_bytes())
+        job, part = self.job(chains), logs.cut([self.log], 5).parts[0]
+        assert isinstance(jobs.judge(job, part), days.Judged), "the first part isn't judged"
+        jobs.held.cache_clear()
+        chains.write_bytes(b"")
+        try:
+            jobs.judge(job, part)
+        except stir.BadFile as error:
+            assert "any more" in str(error), error
+        else:
+            raise AssertionError("a worker went by files that had changed")
