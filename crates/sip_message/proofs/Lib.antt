@@ -17,6 +17,7 @@ pub mod PlaceLaws
 pub mod SchemeLaws
 pub mod ShortLaws
 pub mod StartLaws
+pub mod TargetLaws
 pub mod UpToLaws
 pub mod UriLaws
 pub mod ValueSteps

@@ -19,6 +19,7 @@ pub mod Reading
 pub mod Seen
 pub mod Short
 pub mod StartLine
+pub mod Target
 pub mod UpTo
 pub mod UriNumber
 pub mod Value

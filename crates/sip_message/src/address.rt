@@ -41,7 +41,7 @@ pub(crate) fn address_number(value: &[u8], local: &Local) -> Option<Number>
 }
 
 /// The number of a `tel:`, `sip:` or `sips:` URI (RFC 3966, section 3; RFC 3261, section 19.1.6), None where it has none.
-pub(crate) fn uri_number(uri: &[u8], local: &Local) -> Option<Number>
+pub fn uri_number(uri: &[u8], local: &Local) -> Option<Number>
     ensures { result ≡ uri_number uri.now local.now }
 {
     if let Some(text) = behind_scheme(uri, b"tel:") {

@@ -30,8 +30,8 @@ fn are_name_bytes(text: &[u8]) -> bool
     text.iter().all(|byte| is_name_byte(*byte))
 }
 
-/// Whether the text may be the URI of a start line.
-pub(crate) fn is_target(text: &[u8]) -> bool
+/// Whether the text may be the URI of a start line: one or more bytes above the space other than the delete byte.
+pub fn is_target(text: &[u8]) -> bool
     ensures { result ≡ is_target text.now }
 {
     match text {

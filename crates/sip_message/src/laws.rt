@@ -7,6 +7,7 @@ ghost use Rattle.sip_message.specs.Head.{Head};
 ghost use Rattle.sip_message.specs.Message.{MessageView};
 ghost use Rattle.sip_message.specs.Names.{is_asserted, is_date, is_from, is_identity, is_to};
 ghost use Rattle.sip_message.specs.Reading.{read};
+ghost use Rattle.sip_message.specs.Target.{TargetLaw};
 
 /// Bytes are read as a message just where they are its head (RFC 3261, section 7).
 pub fn head_law()
@@ -26,4 +27,9 @@ pub fn added_field_law()
         → to_number (with_last message name value) local ≡ to_number message local }
     ensures target { (message : MessageView) (name value : List ℕ) (local : LocalView)
         → target_number (with_last message name value) local ≡ target_number message local }
+{}
+
+/// A message with another request URI is the same message but for it.
+pub fn target_law()
+    ensures { TargetLaw }
 {}

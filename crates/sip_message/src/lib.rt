@@ -11,6 +11,8 @@
 //! - the Identity header fields, as values: [`Message::identity_count`] and [`Message::identity`].
 //!
 //! [`with_field`] goes the other way: it puts one more header field into the bytes of a message, if [`is_addable`] and [`is_field_value`] allow it.
+//! [`with_target`] puts another request URI into them, if [`is_target`] allows it; [`uri_number`]
+//! gives that URI's number.
 //!
 //! ```rust
 //! let message = Message::read(alloc, bytes)?;               // MessageFault::Form has the kind of the fault and its offset
@@ -26,12 +28,12 @@
 //! # What is proved
 //!
 //! A message is read just if the bytes are one, the first fault and its offset are said both ways, and each number is the one that the grammar of
-//! addresses and URIs gives. A field that was put in is read back as the last. `docs/PROVED.md`, "Messages and PASSporTs", has the clauses, and
-//! [`head_law`] and [`added_field_law`] are the laws for the crates above.
+//! addresses and URIs gives. A field that was put in is read back as the last, and with another request URI all else is read as before. `docs/PROVED.md`,
+//! "Messages and PASSporTs", has the clauses, and [`head_law`], [`added_field_law`] and [`target_law`] are the laws for the crates above.
 //!
 //! # Cases
 //!
-//! Section `messages` of `crates/vectors/stdin`, and `signing.with_field` there.
+//! Section `messages` of `crates/vectors/stdin`, and `signing.with_field` there; `tests/cli/retarget.rows` for another request URI.
 #![tactic(auto)]
 
 mod added;
@@ -46,9 +48,13 @@ mod laws;
 mod lines;
 mod message;
 mod start_line;
+mod target;
 mod value;
 
 pub use added::{is_addable, is_field_value, with_field};
+pub use address::uri_number;
+pub use alphabet::is_target;
 pub use fault::{FormFault, MessageFault};
-pub use laws::{added_field_law, head_law};
+pub use laws::{added_field_law, head_law, target_law};
 pub use message::{MOST_BYTES, Message};
+pub use target::with_target;

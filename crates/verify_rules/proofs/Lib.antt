@@ -44,3 +44,5 @@ pub mod WorldVerdict
 pub mod OnceLaws
 pub mod OneField
 pub mod SameWorldLaws
+pub mod MoreLaws
+pub mod MovedLaws

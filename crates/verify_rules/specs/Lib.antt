@@ -21,3 +21,5 @@ pub mod Went
 pub mod Words
 pub mod World
 pub mod SameWorld
+pub mod More
+pub mod Moved

@@ -50,6 +50,7 @@ mod fields;
 mod late;
 mod laws;
 mod leaf_authority;
+mod next_hop;
 mod once;
 mod passports;
 mod readings;
@@ -69,6 +70,7 @@ pub use laws::{
     one_field_law, provider_law, right_law, same_world_law, screened_law, signed_law, words_law,
 };
 pub use leaf_authority::covers_passport;
+pub use next_hop::{more_law, moved_law};
 pub use refusal::{Place, Refusal, ScreenFault};
 pub use screened::Screened;
 pub use settings::Settings;
