@@ -175,7 +175,7 @@ few_before rule = of (nat_lt 17 (rule - 1)) refl
   where
     of : (t : Bool) → nat_lt 17 (rule - 1) ≡ t → 1 + cond t 17 (rule - 1) ≤ 18
     of true e = omega arith
-    of false e = grind (arith, nat_tests)
+    of false e = let most : rule - 1 ≤ 17 = grind (arith, nat_tests) in omega (arith, most)
 
 few : (finding : Finding) → 1 + count_of finding ≤ 18
 few (Refused refused) = few_before refused.rule

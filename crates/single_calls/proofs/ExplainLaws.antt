@@ -154,11 +154,14 @@ met_parts world number call None e none =
     front_met world number call e ∙ ap (λ (x : List ℕ). ok_lines number 1 17 ++ x) (last_met number ((last_rule world).broken call) none)
 met_parts world number call (Some refused) e none = absurd (not_none refused none)
 
+front_count : (world : World) → length (front_rules world) ≡ 17
+front_count world = refl
+
 few_lines : (refused : Refusal) → refused.rule < 18 → refused.rule - 1 ≡ lines_before refused.rule
 few_lines refused low = of (nat_lt 17 (refused.rule - 1)) refl
   where
     of : (t : Bool) → nat_lt 17 (refused.rule - 1) ≡ t → refused.rule - 1 ≡ cond t 17 (refused.rule - 1)
-    of true e = absurd (grind (arith, nat_tests))
+    of true e = let over : 17 < refused.rule - 1 = grind (arith, nat_tests) in absurd (omega (arith, low, over))
     of false e = refl
 
 broken_parts : (world : World) (number : ℕ) (call : Call) (refused : Refusal) (front : Option Refusal) → first (front_rules world) call ≡ front
@@ -168,7 +171,7 @@ broken_parts world number call refused (Some other) e is =
     let same : first (front_rules world) call ≡ Some refused = e ∙ is in
     first_explained number (front_rules world) (last_rule world ∷ []) call refused same
     ∙ (broken_from number 1 (front_rules world) call refused (front_numbered world) same).1
-    ∙ ap (λ n. ok_lines number 1 n ++ broken_line number refused) (few_lines refused (numbered_below 1 18 (front_rules world) call refused (front_numbered world) (omega arith) same))
+    ∙ ap (λ n. ok_lines number 1 n ++ broken_line number refused) (few_lines refused (numbered_below 1 18 (front_rules world) call refused (front_numbered world) (omega (arith, front_count world)) same))
 
 pub explains_met : (world : World) (number : ℕ) (call : Call) → First world call ≡ None → Explain world number call ≡ met_text number
 unfolding Explain

@@ -1,5 +1,6 @@
 //! A prepared round that is lent to threads of a caller's own: `Service::judge` of `verify_service`.
 ghost use Rattle.std.specs.Prelude.{◌≡◌, ◌<◌, ◌≤◌, Some, IfOk, length, slice_index_or};
+ghost use Rattle.std.specs.Thread.{IsSync};
 ghost use Rattle.stir_outside.specs.Held.{held_says};
 ghost use Rattle.vector_calls.specs.Workers.{SaySame};
 ghost use Rattle.verify_service.specs.Prepared.{IsNewest};
@@ -117,6 +118,7 @@ fn judge_by_two<R: Threads + Sync>(
 {
     let (seat, other_seat) = seats;
     let (provider, other_provider) = providers;
+    may_be_shared(prepared);
     let (even, odd) = join(
         rt,
         move || judge_every_second(alloc, service, prepared, 0, seat, provider),
@@ -126,6 +128,13 @@ fn judge_by_two<R: Threads + Sync>(
     let others = odd?;
     lines.extend_from_slice(others.as_slice())?;
     Ok(lines)
+}
+
+/// It may be lent to several threads at once. The toolchain finds that of a type which holds itself, as a JSON value in a screened call does.
+fn may_be_shared<T: Sync>(value: &T)
+    ensures { IsSync T.row }
+{
+    let _ = value;
 }
 
 /// What comes of the calls of a prepared round at even places, or at odd ones, as this worker judges them.

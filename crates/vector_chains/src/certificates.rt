@@ -1,6 +1,7 @@
 //! Certificates and chains of them: the calls of `x509_profile`.
 
 use crate::authority::put_entries;
+use claim_constraints::Constraints;
 use std::alloc::Global;
 use tn_auth_list::AuthList;
 use vector_table::{Answer, Unread, fault, number, ok, word};
@@ -11,6 +12,7 @@ pub fn answer(alloc: Global, call: &str, words: &[&[u8]]) -> Result<String, Unre
     match call {
         "read" => read(alloc, words),
         "check" => check(alloc, words),
+        "constraints" => constraints(alloc, words),
         "chain" => chain(alloc, words),
         "fault" => says(alloc, words),
         "chain_fault" => chain_says(alloc, words),
@@ -54,6 +56,30 @@ fn check(alloc: Global, words: &[&[u8]]) -> Result<String, Unread> {
         Err(CertFault::At { kind, place }) => fault(alloc, kind, place),
         Err(CertFault::Memory) => Err(Unread::Memory),
     }
+}
+
+/// What a certificate demands of claims, as [`demanded`] gives it, or the fault.
+fn constraints(alloc: Global, words: &[&[u8]]) -> Result<String, Unread> {
+    let [bytes] = words else {
+        return Err(Unread::Call);
+    };
+    match Certificate::read(alloc, bytes) {
+        Ok(certificate) => demanded(alloc, certificate.constraints()),
+        Err(CertFault::At { kind, place }) => fault(alloc, kind, place),
+        Err(CertFault::Memory) => Err(Unread::Memory),
+    }
+}
+
+/// The DER text of constraints, or `none`.
+pub(crate) fn demanded(alloc: Global, constraints: Option<&Constraints>) -> Result<String, Unread> {
+    let Some(constraints) = constraints else {
+        return word(alloc, "none");
+    };
+    if !constraints.is_writable() {
+        return Err(Unread::Value);
+    }
+    let text = constraints.write(alloc)?;
+    Answer::new(alloc).hex(text.as_slice()).line()
 }
 
 /// The values of a certificate, as [`put_values`] and [`put_extensions`] give them.

@@ -1,5 +1,6 @@
 //! Chain maps and the rules on a chain: the calls of `cert_store`.
 
+use crate::certificates::demanded;
 use crate::judging::{anchors_of, judged, map_of, read_map, table_of};
 use cert_store::{Asked, Judged, MapFault, Question};
 use delegation::Anchors;
@@ -71,6 +72,7 @@ impl Case<'_> {
             "leaf" => self.leaf(alloc),
             "length" => self.length(alloc),
             "question" => self.question(alloc, words),
+            "constraints" => self.constraints(alloc, words),
             _ => Err(Unread::Call),
         }
     }
@@ -136,6 +138,20 @@ impl Case<'_> {
             Some(question) => put_question(Answer::new(alloc), question).line(),
             None => word(alloc, "none"),
         }
+    }
+
+    /// What a certificate demands of claims, as [`demanded`] gives it.
+    fn constraints(self, alloc: Global, words: &[&[u8]]) -> Result<String, Unread> {
+        let [place] = words else {
+            return Err(Unread::Call);
+        };
+        let place = number::<u8>(place)?;
+        let mut provider = self.answers.provider(&[])?;
+        let judged = self.judge(alloc, &mut provider)?;
+        if place == 0 || place > judged.length() {
+            return Err(Unread::Value);
+        }
+        demanded(alloc, judged.constraints(place))
     }
 }
 

@@ -52,4 +52,3 @@ mod ClassLaws
 mod SeatingLaws
 mod PreparedLaws
 mod PrepareLaws
-pub mod Shared
