@@ -1,5 +1,5 @@
 -- What is explained is told by the first rule that is broken.
-use Rattle.std.proofs.Common.{◌≡◌, ℕ, suc, ◌+◌, ◌-◌, ◌<◌, ◌≤◌, nat_lt, Bool, true, false, cond, List, [], ◌∷◌, ◌++◌, length, map, append_assoc, Option, Some, None, refl, sym, ◌∙◌, ap, subst, arith}
+use Rattle.std.proofs.Common.{◌≡◌, ℕ, suc, ◌+◌, ◌-◌, ◌<◌, ◌≤◌, nat_lt, Bool, true, false, cond, List, [], ◌∷◌, ◌++◌, length, take, get_or, append_assoc, Option, Some, None, refl, sym, ◌∙◌, ap, subst, arith}
 use Rattle.std.specs.Option.{option_or}
 use Rattle.std.proofs.lemmas.Bool.Decides.{nat_tests}
 use Rattle.std.proofs.lemmas.List.{append-nil}
@@ -7,10 +7,8 @@ use Rattle.std.proofs.lemmas.Option.{same_Some}
 use Rattle.verify_rules.proofs.FirstLaws.{none_first}
 use Rattle.verify_rules.proofs.WorldEvents.{first_append}
 use Rattle.verify_rules.specs.Call.{Call}
-use Rattle.verify_rules.specs.Late.{rules_before}
 use Rattle.verify_rules.specs.Rules.{Rule, early_rules, first, or_later, refusal}
-use Rattle.verify_rules.specs.World.{First, MayBeUnasked, MayBeUnread, World, asking_rule, certificate_rules, late_rule, late_rules}
-use Rattle.verify_rules.specs.declared.late.LateRule.TheVariants as late
+use Rattle.verify_rules.specs.World.{First, MayBeUnasked, MayBeUnread, World, certificate_rules, late_rules}
 use Rattle.verify_rules.specs.declared.refusal.Place.{Place}
 use Rattle.verify_rules.specs.declared.refusal.Refusal.{Refusal}
 use Rattle.verify_service.specs.declared.finding.Finding.TheVariants.{Unasked, Unread}
@@ -26,10 +24,13 @@ AreNumbered from (rule ∷ others) = (rule.number ≡ from) × AreNumbered (suc 
 
 -- rules 1 to 17, and the last
 abbrev front_rules : World → List Rule
-front_rules world = early_rules ++ (map (late_rule world) rules_before ++ asking_rule world ∷ late_rule world late.Covers ∷ [])
+front_rules world = take 17 (early_rules ++ late_rules world)
+
+abbrev no_rule : Rule
+no_rule = record { number = 0; broken = λ call. None }
 
 abbrev last_rule : World → Rule
-last_rule world = late_rule world late.Constraints
+last_rule world = get_or (early_rules ++ late_rules world) 17 no_rule
 
 front_numbered : (world : World) → AreNumbered 1 (front_rules world)
 front_numbered world =
