@@ -7,8 +7,8 @@
     print(stir.verify(call, world.materials(call), stir.confirm))
 
 `verify` asks what signatures a call stands on, has each confirmed, and gives the verdict: `Passes` or `Refused`. `ask` and `judge` are the two
-halves. `explain` says which rules hold, and `sign` writes a message with an Identity field. `stir.logs` reads call logs and cuts them into parts,
-`stir.days` judges a log part by part, and `stir.jobs` hands that to other machines.
+halves. `explain` says which rules hold, `sign` writes a message with an Identity field, and `show` tells what certificates say. `stir.logs` reads call
+logs and cuts them into parts, `stir.days` judges a log part by part, and `stir.jobs` hands that to other machines.
 
 What the library says is proved (docs/PROVED.md). What this package hands it, the verifier of signatures and the count of tickets aren't. Any
 number of threads may call at once; a thread needs a stack of 256 kilobytes and what Python takes.
@@ -18,15 +18,18 @@ from .calls import Asked, Call, Materials, Passes, Refused, Settings, Verdict, a
 from .errors import BadFile, BadInput, Input, LibraryError, OutOfMemory, StirError
 from .es256 import Question, confirm
 from .explaining import Explained, explain, x5us
+from .showing import Authority, Certificate, show
 from .signing import Form, Order, Why, Withheld, sign, signed, signer_by, to_sign
 from .world import World
 
 __all__ = [
     "Answers",
     "Asked",
+    "Authority",
     "BadFile",
     "BadInput",
     "Call",
+    "Certificate",
     "Explained",
     "Form",
     "Input",
@@ -47,6 +50,7 @@ __all__ = [
     "confirm",
     "explain",
     "judge",
+    "show",
     "sign",
     "signed",
     "signer_by",

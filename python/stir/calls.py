@@ -66,7 +66,7 @@ class Materials:
     texts: library.Texts = field(init=False, repr=False, compare=False)
 
     def __post_init__(self) -> None:
-        checks.instance("chains", self.chains, Mapping)
+        checks.mapping("chains", self.chains)
         if len(self.chains) > MOST_CHAINS:
             raise ValueError(f"chains must be at most {MOST_CHAINS}, and are {len(self.chains)}")
         for x5u in self.chains:

@@ -1,5 +1,5 @@
 """The arguments of a caller: a wrong type is a TypeError and a wrong value a ValueError, each with a sentence."""
-from typing import Type, TypeVar
+from typing import Any, Mapping, Type, TypeVar
 
 T = TypeVar("T")
 
@@ -8,6 +8,13 @@ def instance(name: str, value: object, kind: Type[T]) -> T:
     """The value, which is one of this class."""
     if not isinstance(value, kind):
         raise TypeError(f"{name} must be {kind.__name__}, and is {type(value).__name__}")
+    return value
+
+
+def mapping(name: str, value: object) -> Mapping[Any, Any]:
+    """The value, which is a mapping."""
+    if not isinstance(value, Mapping):
+        raise TypeError(f"{name} must be a mapping, and is {type(value).__name__}")
     return value
 
 

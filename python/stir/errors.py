@@ -31,7 +31,7 @@ WHY = {
     Input.ANCHORS: "the trust anchors aren't certificates of authorities one after another, or more than 256",
     Input.TABLE: "the lines are no code table, or more than 16,777,216 bytes",
     Input.ANSWERS: "the lines are no answers file, or more than 67,108,864 bytes",
-    Input.CERTIFICATE: "it is no certificate of the profile, or one without an authority list",
+    Input.CERTIFICATE: "it is no certificate of the profile, or one without an authority list; or no chain of certificates",
     Input.ORDER: "the x5u is no URI of 1 to 2,048 bytes, the second is past the year 9999, or the identifier isn't a UUID in 36 characters",
     Input.SIGNATURE: "the signature hasn't 64 bytes",
 }

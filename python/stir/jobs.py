@@ -31,8 +31,9 @@ class Job:
     @classmethod
     def of(cls, chains: Name, anchors: Name, table: Name, answers: Optional[Name] = None, settings: Settings = Settings()) -> "Job":
         """The job of these files, which are read once. Raises OSError, and BadFile if one is outside its grammar."""
-        names = [os.path.abspath(name) for name in (chains, anchors, table)]
-        job = cls(*names, os.getcwd(), os.path.abspath(answers) if answers else None, settings)
+        verifier = os.path.abspath(os.fspath(answers)) if answers else None
+        chains, anchors, table = (os.path.abspath(os.fspath(name)) for name in (chains, anchors, table))
+        job = cls(chains, anchors, table, os.getcwd(), verifier, settings)
         return dataclasses.replace(job, digest=read(job)[2])
 
 

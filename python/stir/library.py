@@ -63,6 +63,7 @@ DECLARED = {
     "stir_judge": (*JUDGED, *TEXT),
     "stir_explain": (*JUDGED, *TEXT, ctypes.c_uint32, *ROOM_WORDS),
     "stir_x5u": (*CALL, *ROOM_WORDS),
+    "stir_show": (*TEXT, *ROOM_WORDS),
     "stir_to_sign": TO_SIGN,
     "stir_signed": (*TO_SIGN, *TEXT, *ROOM_WORDS),
 }
@@ -95,7 +96,7 @@ class Setting(NamedTuple):
     country: bytes
     national: int
 
-    def words(self) -> tuple:
+    def words(self) -> Tuple[object, ...]:
         return (self.past, self.future, *text(self.country), self.national)
 
 
@@ -108,7 +109,7 @@ class Texts(NamedTuple):
     anchors: bytes
     table: bytes
 
-    def words(self) -> tuple:
+    def words(self) -> Tuple[object, ...]:
         if len(self.chains) > MOST_CHAINS:
             raise BadInput(Input.CHAINS)
         sizes = SIZES(*map(len, self.chains))
@@ -128,7 +129,7 @@ class ToSign(NamedTuple):
     certificate: bytes
     table: bytes
 
-    def words(self) -> tuple:
+    def words(self) -> Tuple[object, ...]:
         texts = (word for content in self[4:] for word in text(content))
         return (*text(self.country), self.national, self.iat, self.form, *texts)
 
@@ -155,6 +156,11 @@ def explain(setting: Setting, moment: int, message: bytes, texts: Texts, answers
 def x5u(setting: Setting, moment: int, message: bytes) -> Tuple[Said, bytes]:
     """What stir_x5u says, and the lines that it writes."""
     return written("stir_x5u", *setting.words(), moment, *text(message))
+
+
+def show(chain: bytes) -> Tuple[Said, bytes]:
+    """What stir_show says, and the lines that it writes."""
+    return written("stir_show", *text(chain))
 
 
 def to_sign(order: ToSign) -> Said:

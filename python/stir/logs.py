@@ -85,7 +85,7 @@ def cut(names: Sequence[Name], calls: int) -> Cut:
     checks.number("calls", calls, 1, MOST_CALLS)
     parts: List[Part] = []
     number, moment = 0, 0
-    for name in map(os.path.abspath, names):
+    for name in (os.path.abspath(os.fspath(name)) for name in names):
         with open(name, "rb", buffering=BUFFER) as file:
             state = os.fstat(file.fileno())
             if not stat.S_ISREG(state.st_mode):

@@ -108,7 +108,9 @@ def sign(order: Order, signer: Callable[[bytes], bytes], settings: Settings = Se
 
 def signer_by(key: ec.EllipticCurvePrivateKey) -> Callable[[bytes], bytes]:
     """A signer by a private key on P-256, as ES256 wants it."""
-    if not isinstance(checks.instance("key", key, ec.EllipticCurvePrivateKey).curve, ec.SECP256R1):
+    if not isinstance(key, ec.EllipticCurvePrivateKey):
+        raise TypeError(f"key must be a private key of an elliptic curve, and is {type(key).__name__}")
+    if not isinstance(key.curve, ec.SECP256R1):
         raise ValueError(f"key must be on P-256, and is on {key.curve.name}")
 
     def signature(digest: bytes) -> bytes:

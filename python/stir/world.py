@@ -31,7 +31,7 @@ class World:
 
         Raises BadInput if anchors or table are outside their grammars.
         """
-        checks.instance("chains", chains, Mapping)
+        checks.mapping("chains", chains)
         self.anchors, table = checks.octets("anchors", anchors), checks.octets("table", table)
         self.chains: Dict[bytes, bytes] = {}
         for x5u, chain in chains.items():

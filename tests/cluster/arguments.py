@@ -23,7 +23,7 @@ REFUSED = [
     (lambda: stir.Settings(country=1), TypeError, "country must be str"),
     (lambda: stir.Settings(national=0), ValueError, "national must be 1 to 14"),
     (lambda: stir.Settings(country="44", national=14), ValueError, "national must be 1 to 13"),
-    (lambda: stir.Materials([], b""), TypeError, "chains must be Mapping"),
+    (lambda: stir.Materials([], b""), TypeError, "chains must be a mapping"),
     (lambda: stir.Materials({str(n): b"" for n in range(10)}, b""), ValueError, "chains must be at most 9"),
     (lambda: stir.Materials({"a b": b""}, b""), ValueError, "an x5u must be visible ASCII"),
     (lambda: stir.Materials({"a 1\nb": b""}, b""), ValueError, "an x5u must be visible ASCII"),
@@ -43,6 +43,8 @@ REFUSED = [
     (lambda: stir.ask(CALL, stir.Materials({}, b"x")), stir.BadInput, "trust anchors"),
     (lambda: stir.judge(CALL, stir.Materials({}, b"", b"709J x 2\n"), []), stir.BadInput, "code table"),
     (lambda: stir.Answers.of(b"confirm 04\n"), stir.BadInput, "answers file"),
+    (lambda: stir.show("x"), TypeError, "chain must be bytes"),
+    (lambda: stir.show(b"x"), stir.BadInput, "no chain"),
     (lambda: stir.World({}, b"x", b""), stir.BadInput, "trust anchors"),
 ]
 

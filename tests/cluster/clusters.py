@@ -9,7 +9,7 @@ import sys
 import cuts
 import day as example
 import stir
-from distributed import as_completed
+from distributed import LocalCluster, as_completed
 from stir import days, jobs, logs
 
 # Dask says much of workers that are killed, which is what a test does.
@@ -53,6 +53,14 @@ class Day:
         assert done.stdout == self.report + f"refused input {whole}\n", f"the program gives another report: {done.stderr}"
         assert f"{files[-1]}: no entry of a log at byte {whole}" in done.stderr, done.stderr
         assert done.returncode == 5, f"the status is {done.returncode}"
+
+    def scheduler(self):
+        """The program, by the scheduler of a cluster that it didn't start."""
+        words = [word for pair in zip(("--chains", "--anchors", "--table"), self.names) for word in pair]
+        with LocalCluster(n_workers=1, threads_per_worker=2, host="127.0.0.1", dashboard_address=None) as cluster:
+            words += ["--scheduler", cluster.scheduler_address, "--calls", "300"]
+            done = subprocess.run([sys.executable, PROGRAM, *words, self.log], stdout=subprocess.PIPE, check=False, text=True)
+        assert done.stdout == self.report and done.returncode == 1, f"another report, with status {done.returncode}"
 
     def killed(self):
         """A worker is killed when the first part is judged, and the next one when half are: of two workers, and of one."""

@@ -23,6 +23,7 @@ import arguments  # noqa: E402
 import clusters  # noqa: E402
 import cuts  # noqa: E402
 import judging  # noqa: E402
+import orders  # noqa: E402
 import verdicts  # noqa: E402
 from world import World  # noqa: E402
 
@@ -37,18 +38,25 @@ def main():
         folder = pathlib.Path(name)
         world = World(folder / "world", given.chains)
         calls = list(world.calls(given.calls))
-        report = judging.report(given.stir.resolve(), TOP, world, calls, folder)
+        program = given.stir.resolve()
+        report = judging.report(program, TOP, world, calls, folder)
         day = clusters.Day(world, folder, calls, report)
         tests = [
             ("a wrong argument is an exception with a sentence", arguments.refused),
             ("no argument brings the process down", arguments.anything),
             ("a log is cut at its entries, whatever the size of a part", lambda: cuts.everywhere(folder)),
-            ("a log that isn't whole has the place of verify", lambda: cuts.faults(given.stir.resolve(), world, folder)),
+            ("a log that isn't whole has the place of verify", lambda: cuts.faults(program, world, folder)),
             ("each call by itself has the verdict of the report", lambda: verdicts.each(world, calls, report)),
+            ("the rules that hold are those of explain", lambda: verdicts.explained(program, world, calls, folder)),
+            ("a call that names many x5us is judged by its own", lambda: verdicts.named(world)),
+            ("certificates say what they were made with", lambda: verdicts.shown(world)),
             ("eight threads at once say the same", lambda: verdicts.at_once(world, calls)),
             ("files outside their grammars are named", lambda: verdicts.bad_files(world, folder)),
+            ("what is signed is what the program writes, and passes", lambda: orders.signed(program, world, folder)),
+            ("what may not be signed isn't", lambda: orders.withheld(program, world, folder)),
             ("one, two and four workers give the report of verify", day.workers),
             ("so does the program on two workers, over an answers file and a log in three files", day.program),
+            ("so does a scheduler that was running", day.scheduler),
             ("a worker killed in the middle changes nothing", day.killed),
             ("files that change in the middle stop the run", day.changed),
         ]

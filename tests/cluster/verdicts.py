@@ -1,8 +1,12 @@
 """Verdicts of the package beside the report of the proved program."""
+import datetime
+import subprocess
 import threading
 
 import stir
+from cryptography.hazmat.primitives import serialization
 from stir import days
+from world import START
 
 
 def world_of(world):
@@ -27,6 +31,44 @@ def each(world, calls, report):
     kinds = {" ".join(line.split()[1:4]) for line in report.splitlines()}
     assert len(kinds) > 6, f"the log has only {sorted(kinds)}"
     return f"{len(calls)} calls, {len(kinds)} outcomes"
+
+
+def explained(program, world, calls, folder):
+    """The rules that hold are those of `stir explain`, by the same answers; and without a certificate's none after the fourteenth hold."""
+    by, calls = world_of(world), calls[:300]
+    words = [program, "explain", *world.words(), "--answers", folder / "answers.txt"]
+    lines = subprocess.run(words, input=world.log(calls), stdout=subprocess.PIPE, check=False).stdout.decode().splitlines()
+    wanted = [tuple(int(line.split()[1]) for line in lines if line.startswith(f"{number} ") and line.endswith(" ok")) for number in range(1, len(calls) + 1)]
+    for number, (call, holds) in enumerate(zip((stir.Call(*call) for call in calls), wanted), 1):
+        materials = by.materials(call)
+        asked = stir.ask(call, materials)
+        said = stir.explain(call, materials, filter(stir.confirm, asked.questions))
+        assert said.holds == holds, f"call {number}: rules {said.holds} hold, and not {holds}"
+        assert said.verdict == stir.verify(call, materials, stir.confirm), f"call {number} has another verdict"
+        if asked.questions:
+            assert stir.explain(call, materials, []).holds == tuple(range(1, 15)), f"call {number}: a rule after the fourteenth holds without answers"
+
+
+def named(world):
+    """The x5us of a call, and the verdict on one that names many others besides."""
+    message = world.call(0, START, 1)
+    assert stir.x5us(stir.Call(START, message)) == (world.x5u(0),), "the x5us of a call aren't its own"
+    assert stir.x5us(stir.Call(START, world.call(0, START, 1, "unsigned"))) == (), "a call without a PASSporT has an x5u"
+    others = b"".join(b"X-Other: info=<%s>\r\n" % world.x5u(n).encode() for n in range(1, 13))
+    call = stir.Call(START, message.replace(b"\r\n", b"\r\n" + others, 1))
+    verdict = stir.verify(call, world_of(world).materials(call), stir.confirm)
+    assert isinstance(verdict, stir.Passes), f"a call that names twelve other x5us: {verdict}"
+
+
+def shown(world):
+    """What certificates say is what they were made with."""
+    leaf, middle = stir.show((world.folder / "chain-3.der").read_bytes())
+    made = int(world.now.replace(tzinfo=datetime.timezone.utc).timestamp())
+    dates = (made - 30 * 86_400, made + 300 * 86_400)
+    point = world.keys[3].public_key().public_bytes(serialization.Encoding.X962, serialization.PublicFormat.UncompressedPoint)
+    assert leaf == stir.Certificate(*dates, False, None, 1, point, stir.Authority(codes=(world.code(3),))), leaf
+    assert (middle.ca, middle.usage, middle.authority) == (True, 0x60, None), middle
+    assert stir.show(b"") == (), "no certificate says something"
 
 
 def at_once(world, calls):
