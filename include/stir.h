@@ -1,5 +1,5 @@
 /*
- * stir.h: calls judged and asked for by the proved library libstir_c.a.
+ * stir.h: calls judged, explained and signed by the proved library libstir_c.a.
  *
  * What a call of the library does. It takes bytes and gives bytes, and keeps nothing: it reads no file, opens no connection, starts no thread, waits
  * for nothing, and frees all that it took from malloc before it returns. So any number of threads may be inside at once, and no call has to be paired
@@ -12,6 +12,7 @@
  * - `chains` are the bytes to which the x5us of `listed` lead.
  * - What is handed in as answers, or taken for confirmed, was confirmed by an honest verifier of ES256 (RFC 7518, section 3.4).
  * - Of the calls that pass with one ticket only one is let through. Up to its second `last` a ticket has to be remembered.
+ * - What is handed in as a signature was made by the key of the certificate whose URI is the x5u, and the caller may be signed for as the form says.
  *
  * What is proved, and of what, is in docs/PROVED.md. A program is linked with libstir_c.a and then with liblibc_c.a of the Rattle kit.
  */
@@ -30,34 +31,39 @@ extern "C" {
 
 /* What `kind` may be. */
 enum {
-    STIR_PASSES = 0,    /* the call breaks none of rules 1 to 17 and 19 */
-    STIR_REFUSED = 1,   /* it breaks one */
+    STIR_PASSES = 0,    /* the call breaks none of rules 1 to 17 and 19 (stir_x5u: 1 to 9); or what was wanted is there */
+    STIR_REFUSED = 1,   /* it breaks one; or the message may not be signed */
     STIR_BAD_INPUT = 2, /* an input is outside its grammar or its limits */
     STIR_NO_MEMORY = 3, /* memory ran out, and nothing is said */
     STIR_NO_ROOM = 4    /* what is to be written has `size` bytes, more than there is room for; nothing was written */
 };
 
-/* Which input is a bad one: `input`, where `kind` is STIR_BAD_INPUT. They are looked at in this order. */
+/* Which input is a bad one: `input`, if `kind` is STIR_BAD_INPUT. To judge they are looked at in this order; to sign as stir_to_sign says. */
 enum {
     STIR_SETTINGS = 1, /* past or future is more than 86,400 seconds, or there is no such local numbering */
     STIR_LISTED = 2,   /* the lines are no chain map, or more than 16,777,216 bytes */
     STIR_CHAINS = 3,   /* there are more than nine */
     STIR_ANCHORS = 4,  /* they aren't certificates of authorities one after another, or more than 256 */
     STIR_TABLE = 5,    /* the lines are no code table, or more than 16,777,216 bytes */
-    STIR_ANSWERS = 6   /* the lines are no answers file, or more than 67,108,864 bytes */
+    STIR_ANSWERS = 6,  /* the lines are no answers file, or more than 67,108,864 bytes */
+    STIR_CERTIFICATE = 7, /* it is no certificate of the profile, or one without an authority list (RFC 8226, section 9); stir_show: no chain */
+    STIR_ORDER = 8,    /* there is no such form; the x5u is no URI of 1 to 2,048 bytes, the second is past 253,402,300,799, or the identifier of the
+                          call isn't a UUID in 36 characters */
+    STIR_SIGNATURE = 9 /* it hasn't 64 bytes */
 };
 
 /* What came of a call of the library. Fields that its kind doesn't name are 0. */
 typedef struct stir_said {
     uint32_t kind;
     uint32_t input;     /* STIR_BAD_INPUT: which */
-    uint32_t rule;      /* STIR_REFUSED: the first rule that is broken, 1 to 17 or 19 (docs/RULES.md), */
-    uint32_t code;      /* its response code (RFC 8224, section 6.2.2), */
+    uint32_t rule;      /* STIR_REFUSED: the first rule that is broken, 1 to 17 or 19 (docs/RULES.md); or why nothing may be signed, a stir_withheld; */
+    uint32_t code;      /* the rule's response code (RFC 8224, section 6.2.2), */
     uint32_t field;     /* the Identity header field in which it is broken, counted from 1; 0 if in none, */
     uint32_t part;      /* and the part of it */
     uint64_t last;      /* STIR_PASSES: the last second at which the call's last PASSporT is fresh, in Unix time */
     uint64_t size;      /* how many bytes were written; STIR_NO_ROOM: how many are to be written */
-    uint8_t ticket[32]; /* STIR_PASSES: by what the call is known again, the SHA-256 of what was signed as its last PASSporT */
+    uint8_t ticket[32]; /* STIR_PASSES: by what the call is known again, the SHA-256 of what was signed as its last PASSporT; stir_to_sign: the
+                           SHA-256 that is to be signed */
 } stir_said;
 
 /* STIR_ABI of the library. */
@@ -96,6 +102,76 @@ stir_said stir_judge(uint64_t past, uint64_t future, const uint8_t *country, siz
                      const uint8_t *chains, size_t chains_size, const size_t *sizes, size_t sizes_count,
                      const uint8_t *anchors, size_t anchors_size, const uint8_t *table, size_t table_size,
                      const uint8_t *answers, size_t answers_size);
+
+/*
+ * Explains a call. The inputs are those of stir_judge, and so is what is said. Into `room` come the lines of the command `explain` (docs/FORMATS.md),
+ * as of the call of this number: `NUMBER RULE ok` for each rule from 1 on that the call meets, and `NUMBER RULE CODE PLACE` for the first that it
+ * breaks. Both STIR_PASSES and STIR_REFUSED have lines, of `size` bytes.
+ */
+stir_said stir_explain(uint64_t past, uint64_t future, const uint8_t *country, size_t country_size, uint8_t national, uint64_t moment,
+                       const uint8_t *message, size_t message_size, const uint8_t *listed, size_t listed_size,
+                       const uint8_t *chains, size_t chains_size, const size_t *sizes, size_t sizes_count,
+                       const uint8_t *anchors, size_t anchors_size, const uint8_t *table, size_t table_size,
+                       const uint8_t *answers, size_t answers_size, uint32_t number, uint8_t *room, size_t room_size);
+
+/*
+ * Lists the chains for which a call asks. Into `room` come the x5us of its PASSporTs, at most nine, in the order in which the call went, each with an
+ * LF; one may come twice. The inputs are those of stir_ask. STIR_PASSES says here that none of rules 1 to 9 is broken, and has the ticket and its last
+ * second: the other rules aren't tried. STIR_REFUSED says which of rules 1 to 9 is broken; then nothing is written.
+ */
+stir_said stir_x5u(uint64_t past, uint64_t future, const uint8_t *country, size_t country_size, uint8_t national, uint64_t moment,
+                   const uint8_t *message, size_t message_size, uint8_t *room, size_t room_size);
+
+/*
+ * Shows what certificates say. Into `room` come the lines of the command `show` (docs/FORMATS.md) for a chain: at most six certificates one after
+ * another, in DER. STIR_PASSES, or STIR_CERTIFICATE if the bytes are no such chain. Nothing is judged.
+ */
+stir_said stir_show(const uint8_t *chain, size_t chain_size, uint8_t *room, size_t room_size);
+
+/* In which form a message is signed. */
+enum {
+    STIR_BASE = 0,      /* a PASSporT without a type (RFC 8225) */
+    STIR_COMPACT = 1,   /* the same in its compact form (RFC 8225, section 7); the message's Date has to be the second of signing */
+    STIR_SHAKEN_A = 'A', /* `shaken` (RFC 8588) with this attestation */
+    STIR_SHAKEN_B = 'B',
+    STIR_SHAKEN_C = 'C'
+};
+
+/* Why nothing may be signed: `rule`, if stir_to_sign or stir_signed says STIR_REFUSED. They are looked at in this order. */
+enum stir_withheld {
+    STIR_FORM = 1,      /* the message is no INVITE, has another Date than a compact PASSporT, or would have more than 65,535 bytes */
+    STIR_NO_NUMBER = 2, /* it has no calling number, or To has none */
+    STIR_AUTHORITY = 3  /* the certificate doesn't cover the calling number */
+};
+
+/*
+ * Tells what is to be signed so that a message gets an Identity field with the PASSporT of its calling number and that of To (RFC 8224, section
+ * 4.1). STIR_PASSES: `ticket` is the digest to be signed by ES256 (RFC 7518, section 3.4). STIR_REFUSED: nothing may be signed. A bad input is one of
+ * STIR_SETTINGS, STIR_CERTIFICATE, STIR_TABLE and STIR_ORDER, looked at in this order.
+ *
+ * country, national  as of stir_ask
+ * iat                when it is signed, in Unix seconds
+ * form               one of the five above
+ * origid             the identifier of the call, a UUID in 36 characters, if the form is `shaken`; else it isn't looked at
+ * x5u                the URI of the certificates of the key
+ * message            the INVITE
+ * certificate        the certificate of the key, in DER; what it covers is signed, and nothing else
+ * table              lines of a code table (docs/FORMATS.md); those on the codes in the certificate are enough
+ */
+stir_said stir_to_sign(const uint8_t *country, size_t country_size, uint8_t national, uint64_t iat, uint8_t form,
+                       const uint8_t *origid, size_t origid_size, const uint8_t *x5u, size_t x5u_size,
+                       const uint8_t *message, size_t message_size, const uint8_t *certificate, size_t certificate_size,
+                       const uint8_t *table, size_t table_size);
+
+/*
+ * Writes the message with the signed field in the last line of its head. The inputs are those of stir_to_sign, and have to be the same; `signature`
+ * has r and s, 32 bytes each, over the digest that it said. That the signature is good isn't looked at. STIR_SIGNATURE is looked at first.
+ */
+stir_said stir_signed(const uint8_t *country, size_t country_size, uint8_t national, uint64_t iat, uint8_t form,
+                      const uint8_t *origid, size_t origid_size, const uint8_t *x5u, size_t x5u_size,
+                      const uint8_t *message, size_t message_size, const uint8_t *certificate, size_t certificate_size,
+                      const uint8_t *table, size_t table_size, const uint8_t *signature, size_t signature_size,
+                      uint8_t *room, size_t room_size);
 
 #ifdef __cplusplus
 }

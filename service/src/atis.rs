@@ -2,7 +2,7 @@
 use crate::judge::{reason_of, Judged, Outcome};
 use serde_json::{json, Value};
 
-/// Why a request is refused, as a service exception of its document: an identifier and a text.
+/// Why a request is refused, as an exception of its document: an identifier and a text.
 #[derive(Debug, PartialEq, Eq)]
 pub struct Refusal {
     pub status: u16,
@@ -14,10 +14,14 @@ pub const NO_BODY: Refusal = Refusal { status: 400, id: "SVC4000", text: "Error:
 pub const BAD_JSON: Refusal = Refusal { status: 400, id: "SVC4003", text: "Error: Invalid JSON." };
 pub const MISSING: Refusal = Refusal { status: 400, id: "SVC4001", text: "Error: Missing mandatory parameter or wrong type." };
 pub const BAD_VALUE: Refusal = Refusal { status: 400, id: "SVC4005", text: "Error: Invalid parameter value." };
+/// This one and the next aren't in the document.
+pub const NOT_OURS: Refusal = Refusal { status: 403, id: "POL4030", text: "Error: This number isn't signed for." };
+pub const FAILED: Refusal = Refusal { status: 500, id: "SVC5000", text: "Error: The call can't be signed now." };
 
 impl Refusal {
     pub fn body(&self) -> String {
-        json!({ "requestError": { "serviceException": { "messageId": self.id, "text": self.text } } }).to_string()
+        let exception = if self.id.starts_with("POL") { "policyException" } else { "serviceException" };
+        json!({ "requestError": { exception: { "messageId": self.id, "text": self.text } } }).to_string()
     }
 }
 
@@ -26,6 +30,17 @@ impl Refusal {
 pub struct Verification {
     pub message: Vec<u8>,
     pub time: Option<u64>,
+}
+
+/// What a request to sign a call says: who calls, the INVITE, the second in Unix time, the identifier of the call, and the best attestation that is
+/// wanted.
+#[derive(Debug, PartialEq, Eq)]
+pub struct Signing {
+    pub orig: String,
+    pub message: Vec<u8>,
+    pub time: Option<u64>,
+    pub origid: String,
+    pub attest: u8,
 }
 
 fn object(body: &[u8], name: &str) -> Result<Value, Refusal> {
@@ -65,7 +80,7 @@ fn identities(request: &Value) -> Result<Vec<String>, Refusal> {
 }
 
 /// The INVITE that a call from one number to another is, with these fields beside the needed ones.
-fn invite(orig: &str, dest: &str, fields: &[(&str, &str)]) -> Vec<u8> {
+pub fn invite(orig: &str, dest: &str, fields: &[(&str, &str)]) -> Vec<u8> {
     let mut message = format!(
         "INVITE sip:{0}@stird.invalid;user=phone SIP/2.0\r\nVia: SIP/2.0/TCP stird.invalid;branch=z9hG4bKstird\r\nMax-Forwards: 70\r\n\
          From: <sip:{1}@stird.invalid;user=phone>;tag=stird\r\nTo: <sip:{0}@stird.invalid;user=phone>\r\nCall-ID: stird\r\nCSeq: 1 INVITE\r\n",
@@ -92,7 +107,26 @@ pub fn verification(body: &[u8]) -> Result<Verification, Refusal> {
     Ok(Verification { message: invite(&from, &to, &fields), time: seconds(request.get("time"))? })
 }
 
+/// A request to `/stir/v1/signing`.
+pub fn signing(body: &[u8]) -> Result<Signing, Refusal> {
+    let request = object(body, "signingRequest")?;
+    let (from, to) = (number(request.get("orig"))?, number(request.get("dest"))?);
+    let origid = request.get("origid").and_then(Value::as_str).ok_or(MISSING)?;
+    let attest = match request.get("attest").map(|attest| attest.as_str().ok_or(MISSING)).transpose()? {
+        None | Some("A") => b'A',
+        Some("B") => b'B',
+        Some("C") => b'C',
+        Some(_) => return Err(BAD_VALUE),
+    };
+    Ok(Signing { message: invite(&from, &to, &[]), orig: from, time: seconds(request.get("iat"))?, origid: origid.into(), attest })
+}
+
 /// The answer to it.
+pub fn signed(identity: &str) -> String {
+    json!({ "signingResponse": { "identity": identity } }).to_string()
+}
+
+/// The answer to a request to verify a call.
 pub fn verified(judged: &Judged) -> String {
     let outcome = &judged.outcome;
     let mut response = json!({ "verstat": outcome.verstat() });
@@ -120,6 +154,19 @@ mod tests {
         assert!(text.starts_with("INVITE sip:+12355550124@") && text.contains("\r\nIdentity: a..b;info=<https://c>\r\n") && text.ends_with("\r\n\r\n"));
         assert!(text.contains("From: <sip:+12155551212@"));
         assert_eq!(request.time, Some(1_504_282_247));
+    }
+
+    #[test]
+    fn a_signing_request_becomes_an_invite_without_a_field() {
+        let body = br#"{"signingRequest":{"attest":"B","orig":{"tn":"12155551212"},"dest":{"tn":["12355550124"]},"iat":1443208345,"origid":"123e4567-e89b-12d3-a456-426655440000"}}"#;
+        let request = signing(body).unwrap();
+        let text = String::from_utf8(request.message).unwrap();
+        assert!(text.starts_with("INVITE sip:+12355550124@") && !text.contains("Identity"));
+        assert_eq!((request.orig.as_str(), request.time, request.attest), ("12155551212", Some(1_443_208_345), b'B'));
+        for body in [r#"{"signingRequest":{"orig":{"tn":"1"},"dest":{"tn":"2"}}}"#, r#"{"signingRequest":{"orig":{"tn":"1"},"dest":{"tn":"2"},"origid":"u","attest":1}}"#] {
+            assert_eq!(signing(body.as_bytes()), Err(MISSING), "{body}");
+        }
+        assert_eq!(signing(br#"{"signingRequest":{"orig":{"tn":"1"},"dest":{"tn":"2"},"origid":"u","attest":"D"}}"#), Err(BAD_VALUE));
     }
 
     #[test]

@@ -19,12 +19,15 @@ pub struct Said {
 
 /// It breaks no rule, or what was asked for is written.
 pub const PASSES: u32 = 0;
-/// It breaks a rule.
+/// It breaks a rule, or may not be signed.
 pub const REFUSED: u32 = 1;
 /// An input is outside its grammar or its limits.
 pub const BAD_INPUT: u32 = 2;
 /// The room is too small for what is to be written.
 pub const NO_ROOM: u32 = 4;
+
+/// Why a message may not be signed: the certificate doesn't cover the calling number.
+pub const AUTHORITY: u32 = 3;
 
 /// The version of the declarations that these are.
 pub const ABI: u64 = 1;
@@ -45,6 +48,17 @@ extern "C" {
         anchors: *const u8, anchors_size: usize, table: *const u8, table_size: usize,
         answers: *const u8, answers_size: usize,
     ) -> Said;
+    fn stir_to_sign(
+        country: *const u8, country_size: usize, national: u8, iat: u64, form: u8, origid: *const u8, origid_size: usize,
+        x5u: *const u8, x5u_size: usize, message: *const u8, message_size: usize,
+        certificate: *const u8, certificate_size: usize, table: *const u8, table_size: usize,
+    ) -> Said;
+    fn stir_signed(
+        country: *const u8, country_size: usize, national: u8, iat: u64, form: u8, origid: *const u8, origid_size: usize,
+        x5u: *const u8, x5u_size: usize, message: *const u8, message_size: usize,
+        certificate: *const u8, certificate_size: usize, table: *const u8, table_size: usize,
+        signature: *const u8, signature_size: usize, out: *mut u8, room: usize,
+    ) -> Said;
 }
 
 /// How calls are judged: how old a PASSporT may be, and how far ahead, in seconds; and the local numbering.
@@ -64,6 +78,18 @@ pub struct Materials {
     pub chains: Vec<u8>,
     pub sizes: Vec<usize>,
     pub table: Vec<u8>,
+}
+
+/// What is to be signed: when, in Unix time; in which form, for `shaken` the letter of the attestation with the identifier of the call; the URI of
+/// the certificates; the INVITE; and the leaf with the lines of a code table.
+pub struct Order<'a> {
+    pub iat: u64,
+    pub form: u8,
+    pub origid: &'a [u8],
+    pub x5u: &'a [u8],
+    pub message: &'a [u8],
+    pub certificate: &'a [u8],
+    pub table: &'a [u8],
 }
 
 /// The version of the library's declarations.
@@ -93,6 +119,29 @@ pub fn judge(rules: &Rules, moment: u64, message: &[u8], by: &Materials, anchors
             anchors.as_ptr(), anchors.len(), by.table.as_ptr(), by.table.len(), answers.as_ptr(), answers.len(),
         )
     }
+}
+
+/// The digest that is to be signed, as the ticket of what is said; or why nothing may be.
+pub fn to_sign(rules: &Rules, order: &Order) -> Said {
+    unsafe {
+        stir_to_sign(
+            rules.country.as_ptr(), rules.country.len(), rules.national, order.iat, order.form, order.origid.as_ptr(), order.origid.len(),
+            order.x5u.as_ptr(), order.x5u.len(), order.message.as_ptr(), order.message.len(),
+            order.certificate.as_ptr(), order.certificate.len(), order.table.as_ptr(), order.table.len(),
+        )
+    }
+}
+
+/// The message with its Identity field, by a signature over that digest.
+pub fn signed(rules: &Rules, order: &Order, signature: &[u8; 64], out: &mut Vec<u8>) -> Said {
+    with_room(out, |at, room| unsafe {
+        stir_signed(
+            rules.country.as_ptr(), rules.country.len(), rules.national, order.iat, order.form, order.origid.as_ptr(), order.origid.len(),
+            order.x5u.as_ptr(), order.x5u.len(), order.message.as_ptr(), order.message.len(),
+            order.certificate.as_ptr(), order.certificate.len(), order.table.as_ptr(), order.table.len(),
+            signature.as_ptr(), signature.len(), at, room,
+        )
+    })
 }
 
 /// Calls with the room that there is in `out`, and once more if it was too small; then `out` has what was written.

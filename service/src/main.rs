@@ -12,6 +12,7 @@ mod past;
 mod redis;
 mod service;
 mod settings;
+mod signing;
 mod world;
 
 use std::net::TcpListener;
@@ -35,10 +36,11 @@ fn start(settings: settings::Settings) -> Result<(), String> {
         return Err(format!("the library's declarations are of version {}, and {} is wanted", door::abi(), door::ABI));
     }
     let world = world::World::read(&settings.rules, &settings.chains, &settings.anchors, &settings.table)?;
+    let blocks = blocks_of(&settings)?;
     let (past, greatest) = past_of(&settings)?;
     let listener = TcpListener::bind(&settings.listen).map_err(|error| format!("{}: {error}", settings.listen))?;
     let address = listener.local_addr().map_err(|error| error.to_string())?;
-    eprintln!("stird: listens at {address}, with {} chains and {} tickets", world.chains(), past.count());
+    eprintln!("stird: listens at {address}, with {} chains, {} tickets and {} blocks of numbers to sign for", world.chains(), past.count(), blocks.count());
     let service = Arc::new(service::Service {
         judge: judge::Judge {
             rules: settings.rules.clone(),
@@ -48,6 +50,7 @@ fn start(settings: settings::Settings) -> Result<(), String> {
             numbers: greatest.into(),
             metrics: metrics::Metrics::default(),
         },
+        blocks: RwLock::new(Arc::new(blocks)),
         connections: AtomicUsize::new(0),
         settings,
     });
@@ -55,6 +58,14 @@ fn start(settings: settings::Settings) -> Result<(), String> {
     std::thread::spawn(move || reloading.reload());
     service.run(&listener);
     Ok(())
+}
+
+/// For which numbers is signed: none if no table is named.
+fn blocks_of(settings: &settings::Settings) -> Result<signing::Blocks, String> {
+    match &settings.signing {
+        Some(path) => signing::Blocks::read(&settings.rules, path, &settings.table),
+        None => Ok(signing::Blocks::default()),
+    }
 }
 
 /// Where tickets are kept, and the greatest number of a call that has one there.

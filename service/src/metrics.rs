@@ -27,6 +27,8 @@ pub struct Metrics {
     nanoseconds: [AtomicU64; 3],
     times: [AtomicU64; 11],
     microseconds: AtomicU64,
+    signed: AtomicU64,
+    unsigned: AtomicU64,
     bad_requests: AtomicU64,
     turned_away: AtomicU64,
     reloads: AtomicU64,
@@ -54,6 +56,11 @@ impl Metrics {
         let at = BOUNDS.iter().position(|bound| time <= *bound).unwrap_or(BOUNDS.len());
         self.times[at].fetch_add(1, Relaxed);
         self.microseconds.fetch_add(time, Relaxed);
+    }
+
+    /// A call was to be signed.
+    pub fn sign(&self, done: bool) {
+        if done { &self.signed } else { &self.unsigned }.fetch_add(1, Relaxed);
     }
 
     pub fn bad_request(&self) {
@@ -96,6 +103,8 @@ impl Metrics {
         }
         writeln!(text, "stir_request_seconds_sum {:.6}\nstir_request_seconds_count {sum}", self.microseconds.load(Relaxed) as f64 / 1e6)?;
         for (name, help, count) in [
+            ("stir_signed_total", "Calls that were signed.", &self.signed),
+            ("stir_unsigned_total", "Calls that weren't, since their number isn't signed for or they can't be.", &self.unsigned),
             ("stir_bad_requests_total", "Requests that were refused for their form, size or time.", &self.bad_requests),
             ("stir_turned_away_total", "Connections past the most that there may be.", &self.turned_away),
             ("stir_reloads_total", "Times that changed files were taken.", &self.reloads),

@@ -3,16 +3,18 @@ use crate::atis;
 use crate::http::{Answer, Connection, Fault, Request};
 use crate::judge::{now, Judge, Judged, Outcome};
 use crate::settings::Settings;
+use crate::signing::{self, Blocks, Unsigned};
 use crate::world::World;
 use std::net::{TcpListener, TcpStream};
 use std::sync::atomic::{AtomicUsize, Ordering};
-use std::sync::Arc;
+use std::sync::{Arc, RwLock};
 use std::time::Instant;
 
-/// The service: a judge, and how many connections there are.
+/// The service: a judge, for whom is signed, and how many connections there are.
 pub struct Service {
     pub settings: Settings,
     pub judge: Judge,
+    pub blocks: RwLock<Arc<Blocks>>,
     pub connections: AtomicUsize,
 }
 
@@ -73,10 +75,12 @@ impl Service {
             ("POST", "/verify") => Answer::json(200, told(&self.verify(request))),
             ("POST", "/verify/line") => Answer::text(200, line(&self.verify(request))),
             ("POST", "/stir/v1/verification") => self.verification(request),
+            ("POST", "/stir/v1/signing") if self.settings.signing.is_some() => self.signing(request),
             ("GET", "/metrics") => self.metrics(),
             ("GET", "/healthz") if self.judge.past.is_well() => Answer::text(200, "ok\n"),
             ("GET", "/healthz") => Answer::text(503, "tickets can't be kept\n"),
             (_, "/verify" | "/verify/line" | "/stir/v1/verification" | "/metrics" | "/healthz") => Answer::text(405, ""),
+            (_, "/stir/v1/signing") if self.settings.signing.is_some() => Answer::text(405, ""),
             _ => Answer::text(404, ""),
         }
     }
@@ -101,6 +105,27 @@ impl Service {
             }
             Err(refusal) => self.refuse(&refusal),
         }
+    }
+
+    fn signing(&self, request: &Request) -> Answer {
+        match atis::signing(&request.body).and_then(|call| self.sign(&call)) {
+            Ok(identity) => Answer::json(200, atis::signed(&identity)),
+            Err(refusal) => self.refuse(&refusal),
+        }
+    }
+
+    /// The Identity value of a call.
+    fn sign(&self, call: &atis::Signing) -> Result<String, atis::Refusal> {
+        let blocks = self.blocks.read().expect("blocks").clone();
+        let wanted = signing::Call { orig: &call.orig, message: &call.message, iat: self.moment(call.time), origid: &call.origid, attest: call.attest };
+        let made = blocks.sign(&self.settings.rules, &wanted);
+        self.judge.metrics.sign(made.is_ok());
+        let message = made.map_err(|why| match why {
+            Unsigned::NotOurs => atis::NOT_OURS,
+            Unsigned::BadValue => atis::BAD_VALUE,
+            Unsigned::Failed => atis::FAILED,
+        })?;
+        signing::identity(&message).ok_or(atis::FAILED)
     }
 
     fn refuse(&self, refusal: &atis::Refusal) -> Answer {
@@ -128,6 +153,17 @@ impl Service {
                 let done = read.map(|world| *self.judge.world.write().expect("world") = Arc::new(world));
                 self.tell(done);
             }
+            self.reload_blocks();
+        }
+    }
+
+    /// The same of the numbers that are signed for.
+    fn reload_blocks(&self) {
+        let Some(path) = &self.settings.signing else { return };
+        if self.blocks.read().expect("blocks").is_stale() {
+            let read = Blocks::read(&self.settings.rules, path, &self.settings.table);
+            let done = read.map(|blocks| *self.blocks.write().expect("blocks") = Arc::new(blocks));
+            self.tell(done);
         }
     }
 

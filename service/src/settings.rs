@@ -18,6 +18,7 @@ pub const USAGE: &str = "usage: stird --chains FILE --anchors FILE --table FILE 
   --request SECONDS     how long a request may take to come, and its answer to go (5)
   --idle SECONDS        how long a connection may be without a request (60)
   --reload SECONDS      how often the files are looked at (1)
+  --signing FILE        sign calls of the numbers in this table, with the keys that it names
 ";
 
 /// What the words order.
@@ -37,6 +38,7 @@ pub struct Settings {
     pub request: Duration,
     pub idle: Duration,
     pub reload: Duration,
+    pub signing: Option<PathBuf>,
 }
 
 /// What the words say, or which can't be taken.
@@ -56,6 +58,7 @@ pub fn read(words: &[String]) -> Result<Settings, String> {
         request: Duration::from_secs(5),
         idle: Duration::from_secs(60),
         reload: Duration::from_secs(1),
+        signing: None,
     };
     let mut seen = Vec::new();
     for pair in words.chunks(2) {
@@ -96,6 +99,7 @@ fn take(settings: &mut Settings, name: &str, value: &str) -> Result<(), String> 
         "--request" => settings.request = Duration::from_secs(number(name, value, 1, 3600)?),
         "--idle" => settings.idle = Duration::from_secs(number(name, value, 1, 86_400)?),
         "--reload" => settings.reload = Duration::from_secs(number(name, value, 1, 86_400)?),
+        "--signing" => settings.signing = Some(value.into()),
         _ => return Err(format!("{name} isn't an option")),
     }
     Ok(())

@@ -24,9 +24,9 @@ pub struct World {
 }
 
 /// What tells that a file changed: when it was written, and its size.
-type Stamp = Option<(SystemTime, u64)>;
+pub type Stamp = Option<(SystemTime, u64)>;
 
-fn stamp(path: &Path) -> Stamp {
+pub fn stamp(path: &Path) -> Stamp {
     let data = std::fs::metadata(path).ok()?;
     Some((data.modified().ok()?, data.len()))
 }
@@ -124,6 +124,12 @@ fn codes_in<'a>(der: &[u8], table: &'a HashMap<Vec<u8>, Vec<u8>>) -> Vec<&'a [u8
     codes.sort_unstable();
     codes.dedup();
     codes
+}
+
+/// The lines of a code table on the codes that may be in a certificate.
+pub fn codes_of(der: &[u8], table: &[u8]) -> Vec<u8> {
+    let table = by_code(table);
+    codes_in(der, &table).iter().filter_map(|code| table.get(*code)).flatten().copied().collect()
 }
 
 /// The lines of a code table by their code.

@@ -1,28 +1,10 @@
-/* Calls stir.h: asks for the call in the file `message`, and judges it with all lines confirmed and with none. */
+/* Calls stir.h: lists the chains of the call in the file `message`, asks for it, judges it with all lines confirmed and with none, and explains it; and
+   shows its chain. */
 #include "stir.h"
 
-#include <stdio.h>
-#include <stdlib.h>
+#include "files.h"
+
 #include <string.h>
-
-typedef struct bytes {
-    uint8_t *at;
-    size_t size;
-} bytes;
-
-static bytes read_file(const char *name) {
-    FILE *file = fopen(name, "rb");
-    if (!file) {
-        perror(name);
-        exit(1);
-    }
-    bytes content = {malloc(1 << 20), 0};
-    content.size = fread(content.at, 1, 1 << 20, file);
-    fclose(file);
-    return content;
-}
-
-static const uint8_t country[] = {'1'};
 
 static stir_said judge(uint64_t moment, bytes message, bytes listed, bytes chain, bytes anchors, bytes table, bytes answers) {
     return stir_judge(60, 5, country, 1, 10, moment, message.at, message.size, listed.at, listed.size, chain.at, chain.size, &chain.size, 1,
@@ -32,6 +14,15 @@ static stir_said judge(uint64_t moment, bytes message, bytes listed, bytes chain
 static stir_said ask(uint64_t moment, bytes message, bytes listed, bytes chain, bytes anchors, bytes table, uint8_t *room, size_t size) {
     return stir_ask(60, 5, country, 1, 10, moment, message.at, message.size, listed.at, listed.size, chain.at, chain.size, &chain.size, 1,
                     anchors.at, anchors.size, table.at, table.size, room, size);
+}
+
+static stir_said explain(uint64_t moment, bytes message, bytes listed, bytes chain, bytes anchors, bytes table, bytes answers, uint8_t *room, size_t size) {
+    return stir_explain(60, 5, country, 1, 10, moment, message.at, message.size, listed.at, listed.size, chain.at, chain.size, &chain.size, 1,
+                        anchors.at, anchors.size, table.at, table.size, answers.at, answers.size, 1, room, size);
+}
+
+static void show_text(const char *what, stir_said said, const uint8_t *room) {
+    printf("%s: kind %u rule %u, %zu bytes:\n%.*s", what, said.kind, said.rule, (size_t)said.size, (int)said.size, (const char *)room);
 }
 
 int main(int count, char **words) {
@@ -53,6 +44,22 @@ int main(int count, char **words) {
     bytes none = {room, 0};
     stir_said said = judge(moment, message, listed, chain, anchors, table, none);
     printf("judged by none: kind %u rule %u code %u at %u.%u\n", said.kind, said.rule, said.code, said.field, said.part);
+
+    static uint8_t text[4096];
+    said = stir_x5u(60, 5, country, 1, 10, moment, message.at, message.size, text, sizeof text);
+    show_text("chains", said, text);
+    said = stir_x5u(60, 5, country, 1, 10, moment + 61, message.at, message.size, text, sizeof text);
+    show_text("chains of an old call", said, text);
+    said = explain(moment, message, listed, chain, anchors, table, lines, text, sizeof text);
+    show_text("explained by all lines", said, text);
+    said = explain(moment, message, listed, chain, anchors, table, none, text, sizeof text);
+    show_text("explained by none", said, text);
+    said = stir_show(chain.at, chain.size, text, sizeof text);
+    show_text("shown", said, text);
+    said = stir_show(chain.at, chain.size - 1, text, sizeof text);
+    printf("no chain: kind %u input %u\n", said.kind, said.input);
+    said = explain(moment, message, listed, chain, anchors, table, none, text, 3);
+    printf("no room to explain: kind %u\n", said.kind);
 
     uint8_t small[8] = {7, 7, 7, 7, 7, 7, 7, 7};
     said = ask(moment, message, listed, chain, anchors, table, small, sizeof small);

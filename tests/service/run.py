@@ -19,6 +19,7 @@ import header  # noqa: E402
 import holding  # noqa: E402
 import judging  # noqa: E402
 import refusing  # noqa: E402
+import signing  # noqa: E402
 from world import World  # noqa: E402
 
 
@@ -42,12 +43,14 @@ def main():
             ("changed files are taken without a restart", lambda: judging.reload(given.stird.resolve(), world, folder)),
             ("killed at twenty moments no ticket passes twice", lambda: holding.kills(given.stird.resolve(), world, folder)),
             ("several services over one Redis let a ticket pass once", lambda: holding.shared(given.stird.resolve(), world, folder)),
+            ("calls are signed for the numbers of a table alone", lambda: signing.all(given.stird.resolve(), world, folder)),
             ("garbage, slow and huge requests are refused and hold nothing", lambda: refusing.all(given.stird.resolve(), world)),
         ]
         if given.library:
             tests += [
-                ("a C program judges by the header", lambda: header.by_c(TOP, given.library, world, calls, folder)),
-                ("Python judges by ctypes", lambda: header.by_python(TOP, given.library, world, calls, report, folder)),
+                ("a C program judges and explains by the header", lambda: header.by_c(TOP, given.stir.resolve(), given.library, world, folder)),
+                ("a C program signs by the header", lambda: header.signed_by_c(TOP, given.stir.resolve(), given.library, world, folder)),
+                ("Python judges and signs by ctypes", lambda: header.by_python(TOP, given.library, world, calls, report, folder)),
             ]
         failed = 0
         for what, test in tests:

@@ -44,6 +44,11 @@ def compact(value):
     return json.dumps(value, separators=(",", ":"), sort_keys=True).encode()
 
 
+def raw(signature):
+    """A signature in DER as its two numbers of 32 bytes."""
+    return b"".join(number.to_bytes(32, "big") for number in utils.decode_dss_signature(signature))
+
+
 class World:
     """Chains of two certificates under one root; each leaf has a code, to which the table gives ten thousand numbers."""
 
@@ -98,6 +103,10 @@ class World:
             builder = builder.add_extension(x509.UnrecognizedExtension(x509.ObjectIdentifier("1.3.6.1.5.5.7.1.26"), authority), False)
         return builder.sign(by, hashes.SHA256()).public_bytes(serialization.Encoding.DER)
 
+    def signature(self, n, digest):
+        """The signature of the n-th key over a digest: r and s (RFC 7518, section 3.4)."""
+        return raw(self.keys[n].sign(digest, ec.ECDSA(utils.Prehashed(hashes.SHA256()))))
+
     def identity(self, n, orig, dest, iat, call, forged=False, x5u=None):
         """The value of an Identity field (RFC 8224, section 4) with a SHAKEN PASSporT (RFC 8588)."""
         x5u = x5u or self.x5u(n)
@@ -106,8 +115,7 @@ class World:
         head = {"alg": "ES256", "ppt": "shaken", "typ": "passport", "x5u": x5u}
         text = base64url(compact(head)) + "." + base64url(compact(claims))
         signer = key("forger") if forged else self.keys[n]
-        r, s = utils.decode_dss_signature(signer.sign(text.encode(), ec.ECDSA(hashes.SHA256())))
-        token = text + "." + base64url(r.to_bytes(32, "big") + s.to_bytes(32, "big"))
+        token = text + "." + base64url(raw(signer.sign(text.encode(), ec.ECDSA(hashes.SHA256()))))
         return f"{token};info=<{x5u}>;alg=ES256;ppt=shaken"
 
     def invite(self, orig, dest, call, field=None):

@@ -19,7 +19,7 @@ const UNSIGNED_RULES: u8 = 14;
 const EARLY_RULES: u8 = 9;
 
 /// The lines that explain the call of this number, by what is found of it. `AllocError` is the only error.
-pub(crate) fn explained(alloc: Global, number: u32, finding: &Finding) -> Result<String, AllocError>
+pub fn explained(alloc: Global, number: u32, finding: &Finding) -> Result<String, AllocError>
     ensures { IfOk result (λ text. string_bytes text ≡ explained number finding.now) }
 {
     match finding {

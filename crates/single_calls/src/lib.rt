@@ -3,7 +3,7 @@
 //! # The way through
 //!
 //! - An [`Explainer`] says of each rule whether a call meets it, up to the first that it breaks. [`explain_log`] writes these lines for each call of
-//!   a log.
+//!   a log, and [`explained`] those of one call by what was found of it.
 //! - An [`Asker`] says which questions a provider would be asked for a call: those of certificates, and those of PASSporTs. [`ask_log`] writes them
 //!   for a log, each question once.
 //! - [`AlwaysYes`] is the provider that the asker judges by: it confirms all, so that each question is seen.
@@ -45,6 +45,7 @@ mod written;
 
 pub use always_yes::AlwaysYes;
 pub use asker::Asker;
+pub use explain::explained;
 pub use explainer::Explainer;
 pub use laws::{agreement_law, asked_law, asks_law, explain_law, lines_law};
 pub use run::{ask_log, explain_log};

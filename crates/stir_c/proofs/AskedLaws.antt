@@ -1,5 +1,5 @@
 -- What is asked for a call, from what is asked for its chains and its PASSporTs; and what a provider that confirms all of it finds.
-use Rattle.std.proofs.Common.{◌≡◌, ℕ, Bool, true, false, cond, List, [], ◌∷◌, ◌++◌, is_none, append-nil, Option, Some, None, refl, sym, ◌∙◌, ap, subst}
+use Rattle.std.proofs.Common.{◌≡◌, ℕ, Bool, true, false, cond, List, [], ◌∷◌, ◌++◌, is_none, append-nil, Option, Some, None, sym, ◌∙◌, ap, subst}
 use Rattle.std.specs.List.{list_any}
 use Rattle.call_log.specs.Entry.{Entry}
 use Rattle.cert_store.specs.Questions.{AgreeOn}
@@ -7,7 +7,7 @@ use Rattle.cert_store.specs.Rules.{QuestionView, Says, is_good}
 use Rattle.cert_store.specs.declared.world.World.{World as Materials}
 use Rattle.single_calls.specs.Agreement.{JudgedAlike}
 use Rattle.single_calls.specs.AlwaysYes.{always_yes}
-use Rattle.single_calls.specs.Asks.{ask_lines, asked_of, calls_questions, fresh, unless_asked, was_asked}
+use Rattle.single_calls.specs.Asks.{ask_lines, asked_of, fresh, unless_asked, was_asked}
 use Rattle.single_calls.specs.CallQuestions.{call_questions, chains_questions, late_questions, own_questions, questions_over}
 use Rattle.single_calls.specs.Verdicts.{asks_own}
 use Rattle.single_calls.proofs.CallLaws.{refused_asks}

@@ -1,9 +1,8 @@
 -- One chain more of those whose questions are written.
-use Rattle.std.proofs.Common.{◌≡◌, ℕ, zero, suc, ◌+◌, ◌<◌, ◌≤◌, List, [], ◌∷◌, ◌++◌, length, drop, Some, refl, sym, ◌∙◌, ap, arith}
+use Rattle.std.proofs.Common.{◌≡◌, ℕ, zero, suc, ◌+◌, ◌<◌, ◌≤◌, List, [], ◌∷◌, ◌++◌, length, drop, Some, refl, ◌∙◌, ap, arith}
 use Rattle.std.specs.List.{slice_get}
 use Rattle.std.proofs.lemmas.List.{drop_all}
 use Rattle.std.proofs.lemmas.Option.{same_Some}
-use Rattle.cert_store.specs.Rules.{QuestionView}
 use Rattle.single_calls.specs.Asks.{ask_lines}
 use Rattle.single_calls.specs.CallQuestions.{chain_questions, chains_questions}
 use Rattle.verify_rules.specs.States.{State}

@@ -1,6 +1,6 @@
 -- What is found of a call, from what its verdict says; and that nothing sets it aside.
-use Rattle.std.proofs.Common.{◌≡◌, ℕ, ◌+◌, ◌-◌, ◌^◌, ◌<◌, ◌≤◌, ◌⊎◌, Bool, true, false, ◌||◌, inl, inr, List, [], ◌∷◌, ◌++◌, Option, Some, None, Ok, unwrap_or, refl, ap, sym, ◌∙◌, subst, arith}
-use Rattle.std.specs.List.{list_any, slice_get}
+use Rattle.std.proofs.Common.{◌≡◌, ℕ, ◌+◌, ◌-◌, ◌^◌, ◌<◌, ◌≤◌, ◌⊎◌, Bool, true, false, ◌||◌, inl, inr, List, [], ◌∷◌, ◌++◌, Option, Some, unwrap_or, refl, ap, sym, ◌∙◌, arith}
+use Rattle.std.specs.List.{list_any}
 use Rattle.std.specs.Option.{option_map}
 use Rattle.std.proofs.lemmas.List.Folds.{list_any-append}
 use Rattle.std.proofs.lemmas.Map.Keys.{any_passes_from_place}
@@ -9,13 +9,9 @@ use Rattle.cert_store.specs.declared.judged.Asked.{Asked}
 use Rattle.cert_store.specs.declared.judged.Asked.TheVariants as asked
 use Rattle.stir_outside.specs.Count.{Rose, last_count}
 use Rattle.verify_rules.specs.Call.{Call, Reading}
-use Rattle.verify_rules.specs.Causes.{HasFailed, IsCaused, IsUnknownAt}
-use Rattle.verify_rules.specs.Screened.{IsScreenedBy, ScreenedView, digest_in, last_of, last_of_call, ticket_of}
-use Rattle.verify_rules.specs.Rules.{early_rules}
+use Rattle.verify_rules.specs.Causes.{IsCaused}
+use Rattle.verify_rules.specs.Screened.{ScreenedView, digest_in, last_of, last_of_call, ticket_of}
 use Rattle.verify_rules.specs.States.{State, have, unread}
-use Rattle.verify_rules.specs.Verdict.{IsLeftOpen}
-use Rattle.verify_rules.specs.World.{VerdictOf, World}
-use Rattle.verify_rules.specs.declared.refusal.Place.{Place}
 use Rattle.verify_rules.specs.declared.verdict.Verdict.{Verdict}
 use Rattle.verify_rules.specs.declared.verdict.Verdict.TheVariants as verdicts
 use Rattle.verify_service.specs.Chains.{is_unasked, is_unread}

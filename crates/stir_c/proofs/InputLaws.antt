@@ -1,10 +1,9 @@
 -- Why an input isn't read, from what its reader says.
-use Rattle.std.proofs.Common.{◌≡◌, ◌↔◌, ℕ, ◌<◌, List, ◌⊎◌, inl, inr, Err, Option, None, Result, refl, sym, subst}
+use Rattle.std.proofs.Common.{◌≡◌, ◌↔◌, ℕ, List, ◌⊎◌, inl, inr, Err, Result, refl, sym, subst}
 use Rattle.cert_store.specs.ChainMap.{FirstBad as BadMap}
 use Rattle.tn_auth_list.specs.CodeTable.{FirstBad as BadTable}
-use Rattle.tn_values.specs.Local.{LocalView, local_of}
 use Rattle.stir_outside.specs.AnswersText.{FirstBad as BadAnswers}
-use Rattle.stir_c.specs.Inputs.{AreNoAnchors, Handed, IsBadText, IsFaultFor, IsFaulty}
+use Rattle.stir_c.specs.Inputs.{AreNoAnchors, AreNoSettings, Handed, IsBadText, IsFaultFor, IsFaulty}
 use Rattle.stir_c.specs.declared.inputs.Fault.{Fault}
 use Rattle.stir_c.specs.declared.inputs.Fault.TheVariants as faults
 
@@ -31,6 +30,6 @@ pub answers_faulty : (given : Handed) (answers : List ℕ) (fault : Fault) → I
 answers_faulty given answers fault (inl (is, cause)) = subst (IsFaulty given answers) (sym is) cause
 answers_faulty given answers fault (inr is) = subst (IsFaulty given answers) (sym is) tt
 
-pub settings_faulty : (given : Handed) (answers : List ℕ) (fault : Fault) → fault ≡ faults.Settings → (86400 < given.past) ⊎ (86400 < given.future) ⊎ (◌≡◌ {A = Option LocalView} (local_of given.country given.national) None)
+pub settings_faulty : (given : Handed) (answers : List ℕ) (fault : Fault) → fault ≡ faults.Settings → AreNoSettings given.past given.future given.country given.national
     → IsFaulty given answers fault
 settings_faulty given answers fault is cause = subst (IsFaulty given answers) (sym is) cause

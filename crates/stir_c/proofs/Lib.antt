@@ -8,3 +8,9 @@ pub mod OwnLaws
 pub mod AskedLaws
 pub mod HandingLaws
 pub mod ToldLaws
+pub mod ExplainingLaws
+pub mod X5uLaws
+pub mod TextLaws
+pub mod OrderLaws
+pub mod SigningLaws
+pub mod ShowingLaws

@@ -1,9 +1,8 @@
 -- One PASSporT more of those whose own questions are written.
-use Rattle.std.proofs.Common.{◌≡◌, ℕ, zero, suc, ◌+◌, ◌<◌, ◌≤◌, List, [], ◌∷◌, ◌++◌, length, drop, Some, inl, inr, refl, sym, ◌∙◌, ap, arith}
+use Rattle.std.proofs.Common.{◌≡◌, ℕ, zero, suc, ◌+◌, ◌<◌, ◌≤◌, List, [], ◌∷◌, ◌++◌, length, drop, Some, inl, inr, refl, ◌∙◌, ap, arith}
 use Rattle.std.proofs.lemmas.Option.{same_Some}
 use Rattle.std.specs.List.{slice_get}
 use Rattle.std.proofs.lemmas.Option.{slice_get_cases}
-use Rattle.cert_store.specs.Rules.{QuestionView}
 use Rattle.single_calls.specs.Asks.{ask_lines}
 use Rattle.single_calls.specs.CallQuestions.{own_question, own_questions}
 use Rattle.verify_rules.specs.Call.{Reading}

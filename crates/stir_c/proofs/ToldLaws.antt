@@ -1,15 +1,13 @@
 -- What is told of a call, from what is found of it.
-use Rattle.std.proofs.Common.{◌≡◌, ℕ, ◌<◌, ◌≤◌, Bool, true, false, List, ◌++◌, length, Option, Some, None, Result, Ok, Err, IfOk, IfErr, nat_le, refl, sym, ◌∙◌, ap, subst, arith}
+use Rattle.std.proofs.Common.{◌≡◌, ℕ, ◌<◌, ◌≤◌, Bool, true, false, List, ◌++◌, drop, length, Option, Some, None, Result, Ok, Err, IfOk, IfErr, nat_le, refl, sym, ◌∙◌, ap, subst, arith}
 use Rattle.std.proofs.lemmas.Bool.Decides.{nat_tests}
-use Rattle.cert_store.specs.Rules.{Says}
-use Rattle.stir_outside.specs.Held.{held_says}
 use Rattle.verify_rules.specs.Call.{Call}
 use Rattle.verify_rules.specs.World.{World}
 use Rattle.stir_c.specs.Found.{IsFound}
 use Rattle.stir_c.specs.Handing.{AskedOf, FoundBy}
 use Rattle.stir_c.specs.Inputs.{Handed, IsFaulty}
-use Rattle.stir_c.specs.Told.{AskedBy, AskedInto, HasFault, HasNoRoom, JudgedBy, Tells, input_of, said_by_input, said_for, said_of, said_of_fault, told}
-use Rattle.stir_c.specs.Written.{HasWritten, has_room}
+use Rattle.stir_c.specs.Told.{AskedInto, HasFault, HasNoRoom, JudgedBy, Tells, input_of, said_by_input, said_for, said_of, told}
+use Rattle.stir_c.specs.Written.{HasWritten}
 use Rattle.stir_c.specs.Telling.{ToldFor}
 use Rattle.stir_c.specs.declared.asking.Asked.{Asked}
 use Rattle.stir_c.specs.declared.found.Found.{Found}
@@ -23,15 +21,15 @@ tells world call (Passes pass) size is = record { passes = λ e. record { none =
 
 -- ---- the kinds
 
-faulty_kind : (input : Option ℕ) → (said_by_input input).kind ≤ 1 → ⊥
+pub faulty_kind : (input : Option ℕ) → (said_by_input input).kind ≤ 1 → ⊥
 faulty_kind (Some number) low = omega arith
 faulty_kind None low = omega arith
 
-numbered : (input : Option ℕ) → (said_by_input input).kind ≡ 2 → input ≡ Some (said_by_input input).input
+pub numbered : (input : Option ℕ) → (said_by_input input).kind ≡ 2 → input ≡ Some (said_by_input input).input
 numbered (Some number) is = refl
 numbered None is = absurd (omega arith)
 
-input_kind : (input : Option ℕ) → (said_by_input input).kind ≤ 3
+pub input_kind : (input : Option ℕ) → (said_by_input input).kind ≤ 3
 input_kind (Some number) = omega arith
 input_kind None = omega arith
 
@@ -165,3 +163,71 @@ pub was_told : (came : Result Asked Fault) (before now : List ℕ) (said : Said)
 was_told (Ok asked) before now said so high =
     so.wrote.as_was (told_low asked.found (length asked.lines.items) so.written (subst (λ (s : Said). 2 ≤ s.kind) so.told_is high))
 was_told (Err fault) before now said so high = so.as_was
+
+-- ---- a text beside what was found, whatever is promised of the two
+
+pub tells_as : (world : World) (call : Call) (found : Found) (lines : List ℕ) (said : Said) → said ≡ said_of found (length lines) → IsFound world call found → Tells world call said
+tells_as world call found lines said is finds = subst (Tells world call) (sym is) (tells world call found (length lines) finds)
+
+size_of : (found : Found) (size : ℕ) → (said_of found size).size ≡ size
+size_of (Refused refused) size = refl
+size_of (Passes pass) size = refl
+
+pub size_said : (found : Found) (lines : List ℕ) (said : Said) → said ≡ said_of found (length lines) → said.size ≡ length lines
+size_said found lines said is = ap (λ (s : Said). s.size) is ∙ size_of found (length lines)
+
+-- the text was written
+pub record WrittenSo (So : List ℕ → Found → Type 0) (before now : List ℕ) (said : Said) : Type 0 where
+  pub lines : List ℕ
+  pub found : Found
+  pub so : So lines found
+  pub told_is : said ≡ said_of found (length lines)
+  pub text : now ≡ lines ++ drop (length lines) before
+
+-- there is no room for it
+pub record RoomlessSo (So : List ℕ → Found → Type 0) (before : List ℕ) (said : Said) : Type 0 where
+  pub lines : List ℕ
+  pub found : Found
+  pub so : So lines found
+  pub size_is : said.size ≡ length lines
+  pub more : length before < said.size
+
+written_as : (So : List ℕ → Found → Type 0) (lines : List ℕ) (found : Found) (before now : List ℕ) (written : Bool) (said : Said) → So lines found
+    → said ≡ told found (length lines) written → HasWritten lines before now written → said.kind ≤ 1 → WrittenSo So before now said
+written_as So lines found before now true said so is wrote low = record { lines = lines; found = found; so = so; told_is = is; text = wrote.text_is refl }
+written_as So lines found before now false said so is wrote low = absurd (let four = subst (λ (s : Said). s.kind ≤ 1) is low in omega (arith, four))
+
+pub written_so : (So : List ℕ → Found → Type 0) (came : Result Asked Fault) (before now : List ℕ) (said : Said) → IfOk came (λ asked. So asked.lines.items asked.found)
+    → ToldFor came before now said → said.kind ≤ 1 → WrittenSo So before now said
+written_so So (Ok asked) before now said so told low = written_as So asked.lines.items asked.found before now told.written said so told.told_is told.wrote low
+written_so So (Err fault) before now said so told low = absurd (faulty_kind (input_of fault) (subst (λ (s : Said). s.kind ≤ 1) told.told_is low))
+
+roomless_as : (So : List ℕ → Found → Type 0) (lines : List ℕ) (found : Found) (before now : List ℕ) (written : Bool) (said : Said) → So lines found
+    → said ≡ told found (length lines) written → HasWritten lines before now written → said.kind ≡ 4 → RoomlessSo So before said
+roomless_as So lines (Refused refused) before now true said so is wrote none = absurd (let four = subst (λ (s : Said). s.kind ≡ 4) is none in omega (arith, four))
+roomless_as So lines (Passes pass) before now true said so is wrote none = absurd (let four = subst (λ (s : Said). s.kind ≡ 4) is none in omega (arith, four))
+roomless_as So lines found before now false said so is wrote none =
+    let small : nat_le (length lines) (length before) ≡ false = sym wrote.exactly in
+    let size : said.size ≡ length lines = ap (λ (s : Said). s.size) is in
+    let more : length before < length lines = grind (arith, nat_tests) in
+    record { lines = lines; found = found; so = so; size_is = size; more = subst (λ n. length before < n) (sym size) more }
+
+pub roomless_so : (So : List ℕ → Found → Type 0) (came : Result Asked Fault) (before now : List ℕ) (said : Said) → IfOk came (λ asked. So asked.lines.items asked.found)
+    → ToldFor came before now said → said.kind ≡ 4 → RoomlessSo So before said
+roomless_so So (Ok asked) before now said so told none = roomless_as So asked.lines.items asked.found before now told.written said so told.told_is told.wrote none
+roomless_so So (Err fault) before now said so told none =
+    absurd (let low = input_kind (input_of fault) in let four = subst (λ (s : Said). s.kind ≡ 4) told.told_is none in omega (arith, low, four))
+
+-- a fault with its number, and what is promised of it
+pub record FaultSo (So : Fault → Type 0) (said : Said) : Type 0 where
+  pub fault : Fault
+  pub number : input_of fault ≡ Some said.input
+  pub so : So fault
+
+pub fault_so : (So : Fault → Type 0) (came : Result Asked Fault) (before now : List ℕ) (said : Said) → IfErr came So → ToldFor came before now said → said.kind ≡ 2 → FaultSo So said
+fault_so So (Ok asked) before now said so told is = absurd (told_good asked.found (length asked.lines.items) told.written (subst (λ (s : Said). s.kind ≡ 2) told.told_is is))
+fault_so So (Err fault) before now said so told is = record {
+  fault = fault;
+  number = numbered (input_of fault) (subst (λ (s : Said). s.kind ≡ 2) told.told_is is) ∙ ap (λ (s : Said). Some s.input) (sym told.told_is);
+  so = so;
+}

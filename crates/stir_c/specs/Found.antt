@@ -1,8 +1,6 @@
 -- What comes of a call by all rules but the one on replay, where its chains are there and every question is answered.
-use Rattle.std.specs.Prelude.{◌≡◌, ⊤, List, None, Some}
-use Rattle.std.specs.List.{list_any}
+use Rattle.std.specs.Prelude.{◌≡◌, ⊤, None, Some}
 use Rattle.verify_rules.specs.Call.{Call}
-use Rattle.verify_rules.specs.States.{State}
 use Rattle.verify_rules.specs.World.{First, World}
 use Rattle.verify_rules.specs.declared.verdict.Verdict.{Verdict}
 use Rattle.verify_rules.specs.declared.verdict.Verdict.TheVariants as verdicts

@@ -1,5 +1,5 @@
 -- What comes of a call that is handed in, and what is asked for it.
-use Rattle.std.specs.Prelude.{◌≡◌, ℕ, List}
+use Rattle.std.specs.Prelude.{ℕ, List}
 use Rattle.cert_store.specs.declared.world.World.{World as Materials}
 use Rattle.stir_outside.specs.Held.{AnswersOf, Held, held_says}
 use Rattle.verify_rules.specs.declared.settings.Settings.{Settings}

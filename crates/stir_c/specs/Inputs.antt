@@ -7,7 +7,7 @@ use Rattle.delegation.specs.Anchors.{AnchorText, EndsAt}
 use Rattle.stir_outside.specs.AnswersText.{FirstBad as BadAnswers}
 use Rattle.tn_auth_list.specs.CodeTable.{FirstBad as BadTable}
 use Rattle.tn_auth_list.specs.Grant.{TableOf}
-use Rattle.tn_values.specs.Local.{LocalView, local_of}
+use Rattle.tn_values.specs.Local.{local_of}
 use Rattle.verify_rules.specs.Call.{Call, call_of}
 use Rattle.verify_rules.specs.World.{World}
 use Rattle.verify_rules.specs.declared.settings.Settings.{Settings}
@@ -75,6 +75,10 @@ call_in given settings = call_of settings given.moment given.message
 
 -- ---- what isn't read
 
+-- a PASSporT may be past or ahead by more than a day, or there is no such local numbering
+abbrev pub AreNoSettings : ℕ → ℕ → List ℕ → ℕ → Type 0
+AreNoSettings past future country national = (86400 < past) ⊎ (86400 < future) ⊎ (local_of country national ≡ None)
+
 -- a text of lines has more bytes than the most, or a line of it is bad
 abbrev pub IsBadText : ℕ → (List ℕ → ℕ → Type 0) → List ℕ → Type 0
 IsBadText most FirstBad text = (most < length text) ⊎ ((line : ℕ) × FirstBad text line)
@@ -89,7 +93,7 @@ IsFaultFor this cause fault = ((fault ≡ this) × cause) ⊎ (fault ≡ faults.
 
 -- Which input is outside its grammar or its limits; want of memory is free.
 abbrev pub IsFaulty : Handed → List ℕ → Fault → Type 0
-IsFaulty given answers faults.Settings = (86400 < given.past) ⊎ (86400 < given.future) ⊎ (local_of given.country given.national ≡ None)
+IsFaulty given answers faults.Settings = AreNoSettings given.past given.future given.country given.national
 IsFaulty given answers faults.Map = IsBadText 16777216 BadMap given.listed
 IsFaulty given answers faults.Chains = 9 < length given.sizes
 IsFaulty given answers faults.Anchors = AreNoAnchors given.anchors

@@ -7,3 +7,9 @@ pub mod Handing
 pub mod Written
 pub mod Told
 pub mod Telling
+pub mod Explaining
+pub mod X5us
+pub mod WrittenText
+pub mod Order
+pub mod Signing
+pub mod Showing

@@ -1,5 +1,5 @@
 -- A text in a room.
-use Rattle.std.specs.Prelude.{◌≡◌, ℕ, ◌<◌, ◌≤◌, Bool, true, false, List, ◌++◌, drop, length, nat_le}
+use Rattle.std.specs.Prelude.{◌≡◌, ℕ, Bool, true, false, List, ◌++◌, drop, length, nat_le}
 
 -- whether there is room for it
 abbrev pub has_room : List ℕ → List ℕ → Bool

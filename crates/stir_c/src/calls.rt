@@ -1,6 +1,7 @@
 //! A call judged, or asked for, by what is handed in.
 ghost use Rattle.std.specs.Prelude.{◌≡◌, ◌≤◌, ℕ, IfErr, IfOk, List, length};
 ghost use Rattle.stir_c.specs.Asked.{IsAsked};
+ghost use Rattle.stir_c.specs.Explaining.{ExplainedOf};
 ghost use Rattle.stir_c.specs.Files.{files_of};
 ghost use Rattle.stir_c.specs.Found.{IsFound};
 ghost use Rattle.stir_c.specs.Handing.{AskedOf, FoundBy};
@@ -11,7 +12,7 @@ use crate::found::Found;
 use crate::inputs::{Fault, Inputs, read_answers};
 use crate::judging::judge_screened;
 use cert_store::World;
-use single_calls::agreement_law;
+use single_calls::{agreement_law, explain_law, explained};
 use std::alloc::{AllocError, Global};
 use stir_outside::Provider;
 use verify_rules::{ScreenFault, Settings, screen, screened_law};
@@ -37,6 +38,30 @@ pub(crate) fn judge(alloc: Global, inputs: &Inputs<'_>, answers: &[u8]) -> Resul
     let mut provider = answers.steady();
     match judge_call(alloc, &settings, &world, inputs, &mut provider) {
         Ok(found) => Ok(found),
+        Err(_) => Err(Fault::Memory),
+    }
+}
+
+/// The lines that explain a call by answers under a number, and what comes of it.
+pub(crate) fn explain(
+    alloc: Global,
+    inputs: &Inputs<'_>,
+    number: u32,
+    answers: &[u8],
+) -> Result<Asked, Fault>
+    ensures explained { IfOk result (λ asked. ExplainedOf (handed inputs.now) number answers.now asked.lines.items asked.found) }
+    ensures fault { IfErr result (IsFaulty (handed inputs.now) answers.now) }
+{
+    explain_law();
+    let found = match judge(alloc, inputs, answers) {
+        Ok(found) => found,
+        Err(fault) => return Err(fault),
+    };
+    match explained(alloc, number, &found.finding()) {
+        Ok(text) => Ok(Asked {
+            lines: text.into_bytes(),
+            found,
+        }),
         Err(_) => Err(Fault::Memory),
     }
 }

@@ -1,14 +1,17 @@
 //! What C calls. `include/stir.h` declares the same.
 ghost use Rattle.std.specs.Prelude.{◌≡◌, ◌≤◌, ℕ, List};
+ghost use Rattle.stir_c.specs.Explaining.{ExplainedInto, HasNoRoomFor};
+ghost use Rattle.stir_c.specs.Inputs.{AreNoSettings};
 ghost use Rattle.stir_c.specs.Told.{AskedInto, HasFault, HasNoRoom, JudgedBy};
 ghost use Rattle.stir_c.specs.Telling.{ToldFor, ToldOf};
+ghost use Rattle.stir_c.specs.X5us.{ListedInto, ListsMore};
 
 use crate::asking::Asked;
-use crate::calls::{ask, judge};
-use crate::chains::ChainFiles;
+use crate::calls::{ask, explain, judge};
 use crate::inputs::{Fault, Inputs, Setting};
 use crate::said::{Said, said_for, told};
 use crate::writing::write;
+use crate::x5us::list;
 use std::alloc::Global;
 
 /// The version of these declarations.
@@ -69,22 +72,9 @@ pub extern "C" fn stir_judge(
       table = table.now;
     }) answers.now result.input }
 {
-    let setting = Setting {
-        past,
-        future,
-        country,
-        national,
-        moment,
-    };
-    let files = ChainFiles { sizes, chains };
-    let inputs = Inputs {
-        setting,
-        message,
-        listed,
-        files,
-        anchors,
-        table,
-    };
+    let inputs = Inputs::new(
+        past, future, country, national, moment, message, listed, chains, sizes, anchors, table,
+    );
     said_for(judge(alloc, &inputs, answers))
 }
 
@@ -148,6 +138,114 @@ pub extern "C" fn stir_ask(
     }) room.old result }
     ensures as_was { 2 ≤ result.kind → room.new ≡ room.old }
 {
+    let inputs = Inputs::new(
+        past, future, country, national, moment, message, listed, chains, sizes, anchors, table,
+    );
+    told_asked(ask(alloc, &inputs), room)
+}
+
+/// Explains a call, as `stir_judge` judges it: writes a line for each of rules 1 to 17 and 19 in their order, up to the first that is broken, and tells what
+/// `stir_judge` does. The lines begin with `number`. Kind 4: there is no room for the lines.
+#[unsafe(no_mangle)]
+pub extern "C" fn stir_explain(
+    alloc: Global,
+    past: u64,
+    future: u64,
+    country: &[u8],
+    national: u8,
+    moment: u64,
+    message: &[u8],
+    listed: &[u8],
+    chains: &[u8],
+    sizes: &[usize],
+    anchors: &[u8],
+    table: &[u8],
+    answers: &[u8],
+    number: u32,
+    room: &mut [u8],
+) -> Said
+    ensures kinds { result.kind ≤ 4 }
+    ensures explained { result.kind ≤ 1 → ExplainedInto (record {
+      past = past;
+      future = future;
+      country = country.now;
+      national = national;
+      moment = moment;
+      message = message.now;
+      listed = listed.now;
+      sizes = sizes.now;
+      chains = chains.now;
+      anchors = anchors.now;
+      table = table.now;
+    }) number answers.now room.old room.new result }
+    ensures faulty { result.kind ≡ 2 → HasFault (record {
+      past = past;
+      future = future;
+      country = country.now;
+      national = national;
+      moment = moment;
+      message = message.now;
+      listed = listed.now;
+      sizes = sizes.now;
+      chains = chains.now;
+      anchors = anchors.now;
+      table = table.now;
+    }) answers.now result.input }
+    ensures no_room { result.kind ≡ 4 → HasNoRoomFor (record {
+      past = past;
+      future = future;
+      country = country.now;
+      national = national;
+      moment = moment;
+      message = message.now;
+      listed = listed.now;
+      sizes = sizes.now;
+      chains = chains.now;
+      anchors = anchors.now;
+      table = table.now;
+    }) number answers.now room.old result }
+    ensures as_was { 2 ≤ result.kind → room.new ≡ room.old }
+{
+    let inputs = Inputs::new(
+        past, future, country, national, moment, message, listed, chains, sizes, anchors, table,
+    );
+    told_asked(explain(alloc, &inputs, number, answers), room)
+}
+
+/// Lists the chains of certificates for which a call asks: writes the x5us of its PASSporTs (RFC 8225, section 4.3), in the order in which the call
+/// went, each with an LF. Kind 0: the call breaks none of rules 1 to 9, and `ticket` and `last` tell how it is known again; the other rules aren't
+/// tried. Kind 1: it breaks `rule` first, and asks for no chain. Kind 4: there is no room for the lines.
+#[unsafe(no_mangle)]
+pub extern "C" fn stir_x5u(
+    alloc: Global,
+    past: u64,
+    future: u64,
+    country: &[u8],
+    national: u8,
+    moment: u64,
+    message: &[u8],
+    room: &mut [u8],
+) -> Said
+    ensures kinds { result.kind ≤ 4 }
+    ensures listed { result.kind ≤ 1 → ListedInto (record {
+      past = past;
+      future = future;
+      country = country.now;
+      national = national;
+      moment = moment;
+      message = message.now;
+    }) room.old room.new result }
+    ensures faulty { result.kind ≡ 2 → (result.input ≡ 1) × AreNoSettings past future country.now national }
+    ensures no_room { result.kind ≡ 4 → ListsMore (record {
+      past = past;
+      future = future;
+      country = country.now;
+      national = national;
+      moment = moment;
+      message = message.now;
+    }) room.old result }
+    ensures as_was { 2 ≤ result.kind → room.new ≡ room.old }
+{
     let setting = Setting {
         past,
         future,
@@ -155,16 +253,7 @@ pub extern "C" fn stir_ask(
         national,
         moment,
     };
-    let files = ChainFiles { sizes, chains };
-    let inputs = Inputs {
-        setting,
-        message,
-        listed,
-        files,
-        anchors,
-        table,
-    };
-    told_asked(ask(alloc, &inputs), room)
+    told_asked(list(alloc, &setting, message), room)
 }
 
 /// What was asked, written into the room and told; or the fault.

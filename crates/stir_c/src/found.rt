@@ -4,10 +4,12 @@ ghost use Rattle.verify_rules.specs.Call.{Call as RuledCall};
 ghost use Rattle.verify_rules.specs.Rules.{early_rules};
 ghost use Rattle.verify_rules.specs.Screened.{IsScreenedBy};
 ghost use Rattle.verify_rules.specs.World.{VerdictOf, World as Judges};
-ghost use Rattle.stir_c.specs.Found.{IsDecided, IsFound, IsOfVerdict};
+ghost use Rattle.verify_service.specs.Judging.{IsKnownBy};
+ghost use Rattle.stir_c.specs.Explaining.{finding_of};
+ghost use Rattle.stir_c.specs.Found.{IsDecided, IsFound};
 
 use verify_rules::{Refusal, Screened, Verdict, screened_law};
-use verify_service::Pass;
+use verify_service::{Finding, Pass};
 
 /// What comes of a call by all rules but the one on replay.
 #[derive(Clone, Copy)]
@@ -18,17 +20,36 @@ pub(crate) enum Found {
     Passes(Pass),
 }
 
+impl Found {
+    /// What was found, for whom explains it.
+    pub(crate) fn finding(&self) -> Finding
+        ensures { result ≡ finding_of self.now }
+    {
+        match self {
+            Found::Refused(refusal) => Finding::Refused(*refusal),
+            Found::Passes(pass) => Finding::Passes(*pass),
+        }
+    }
+}
+
+/// By what a call that was screened is known again, if it passes.
+pub(crate) fn pass_of(screened: &Screened) -> Pass
+    ensures { (call : RuledCall) → IsScreenedBy early_rules call (Ok screened.now) → IsKnownBy call result.ticket result.last }
+{
+    screened_law();
+    Pass {
+        ticket: *screened.ticket(),
+        last: screened.last(),
+    }
+}
+
 /// What comes of a call that was screened, by a verdict that nothing sets aside.
 pub(crate) fn found_of(verdict: Verdict, screened: &Screened) -> Found
     requires { IsDecided verdict }
     ensures { (world : Judges) (call : RuledCall) → IsScreenedBy early_rules call (Ok screened.now) → VerdictOf world call verdict → IsFound world call result }
 {
-    screened_law();
     match verdict {
-        Verdict::Passed => Found::Passes(Pass {
-            ticket: *screened.ticket(),
-            last: screened.last(),
-        }),
+        Verdict::Passed => Found::Passes(pass_of(screened)),
         Verdict::Refused(refusal) => Found::Refused(refusal),
         Verdict::Unread(_) => unreachable!(),
         Verdict::Unasked(_) => unreachable!(),

@@ -1,13 +1,12 @@
 //! What is handed in to be judged.
-ghost use Rattle.std.specs.Prelude.{◌≡◌, ◌≤◌, ◌<◌, ⊤, ◌⊎◌, ℕ, IfOk, IfErr, List, length, None};
-ghost use Rattle.delegation.specs.Anchors.{AnchorText, EndsAt};
+ghost use Rattle.std.specs.Prelude.{◌≡◌, ℕ, IfOk, IfErr, List};
+ghost use Rattle.delegation.specs.Anchors.{AnchorText};
 ghost use Rattle.cert_store.specs.ChainMap.{FirstBad as BadMap, MapOf};
 ghost use Rattle.stir_outside.specs.AnswersText.{FirstBad as BadAnswers};
 ghost use Rattle.stir_outside.specs.Held.{AnswersOf};
 ghost use Rattle.tn_auth_list.specs.CodeTable.{FirstBad as BadTable};
 ghost use Rattle.tn_auth_list.specs.Grant.{TableOf};
-ghost use Rattle.tn_values.specs.Local.{local_of};
-ghost use Rattle.stir_c.specs.Inputs.{AreMaterials, AreSettings, IsBadText, AreNoAnchors, IsFaultFor, IsFaulty, handed};
+ghost use Rattle.stir_c.specs.Inputs.{AreMaterials, AreNoAnchors, AreNoSettings, AreSettings, IsBadText, IsFaultFor, IsFaulty, handed};
 ghost use Rattle.stir_c.specs.Told.{input_of};
 
 use crate::chains::{ChainFiles, MOST_CHAINS};
@@ -110,7 +109,7 @@ impl Setting<'_> {
     pub(crate) fn read(&self) -> Result<Settings, Fault>
         ensures read { IfOk result (AreSettings self.now.past self.now.future self.now.country.now self.now.national) }
         ensures fault { IfErr result (λ fault. fault ≡ Fault.Settings) }
-        ensures cause { IfErr result (λ fault. (86400 < self.now.past) ⊎ (86400 < self.now.future) ⊎ (local_of self.now.country.now self.now.national ≡ None)) }
+        ensures cause { IfErr result (λ fault. AreNoSettings self.now.past self.now.future self.now.country.now self.now.national) }
     {
         if self.past > MOST_WINDOW || self.future > MOST_WINDOW {
             return Err(Fault::Settings);
@@ -126,7 +125,51 @@ impl Setting<'_> {
     }
 }
 
-impl Inputs<'_> {
+impl<'a> Inputs<'a> {
+    /// The inputs, as they come from C.
+    pub(crate) fn new(
+        past: u64,
+        future: u64,
+        country: &'a [u8],
+        national: u8,
+        moment: u64,
+        message: &'a [u8],
+        listed: &'a [u8],
+        chains: &'a [u8],
+        sizes: &'a [usize],
+        anchors: &'a [u8],
+        table: &'a [u8],
+    ) -> Inputs<'a>
+        ensures { handed result ≡ record {
+          past = past;
+          future = future;
+          country = country.now;
+          national = national;
+          moment = moment;
+          message = message.now;
+          listed = listed.now;
+          sizes = sizes.now;
+          chains = chains.now;
+          anchors = anchors.now;
+          table = table.now;
+        } }
+    {
+        Inputs {
+            setting: Setting {
+                past,
+                future,
+                country,
+                national,
+                moment,
+            },
+            message,
+            listed,
+            files: ChainFiles { sizes, chains },
+            anchors,
+            table,
+        }
+    }
+
     /// What the call is judged by, or the first input that isn't read.
     #[tactic(auto, using(crate::proofs::InputLaws::map_faulty, crate::proofs::InputLaws::anchors_faulty, crate::proofs::InputLaws::table_faulty))]
     pub(crate) fn read_world(&self, alloc: Global) -> Result<World, Fault>

@@ -1,9 +1,12 @@
 //! What came of a call to the library, as C sees it.
 ghost use Rattle.std.specs.Prelude.{◌≡◌};
+ghost use Rattle.stir_c.specs.Signing.{said_digest, said_of_unsigned, said_withheld};
 ghost use Rattle.stir_c.specs.Told.{no_room, plain, said_for, said_of, said_of_fault, told};
+ghost use Rattle.stir_c.specs.WrittenText.{said_written};
 
 use crate::found::Found;
 use crate::inputs::Fault;
+use crate::signing::Unsigned;
 use verify_rules::code;
 
 /// What `kind` may be.
@@ -26,7 +29,8 @@ pub struct Said {
     pub kind: u32,
     /// Of kind 2, which input.
     pub input: u32,
-    /// Of kind 1, the first rule that is broken, its response code, and where: the Identity field, counted from 1, and the part of it.
+    /// Of kind 1, the first rule that is broken, its response code, and where: the Identity field, counted from 1, and the part of it; or of what
+    /// isn't signed, the number of the cause.
     pub rule: u32,
     pub code: u32,
     pub field: u32,
@@ -79,6 +83,39 @@ impl Said {
         }
     }
 
+    /// This digest is to be signed.
+    fn digest(digest: [u8; 32]) -> Said
+        ensures { result ≡ said_digest digest }
+    {
+        Said {
+            ticket: digest,
+            ..Said::of(PASSES)
+        }
+    }
+
+    /// Nothing may be signed, for the cause of this number.
+    fn withheld(number: u32) -> Said
+        ensures { result ≡ said_withheld number }
+    {
+        Said {
+            rule: number,
+            ..Said::of(REFUSED)
+        }
+    }
+
+    /// So many bytes were written, or there is no room for them.
+    pub(crate) fn written(size: usize, written: bool) -> Said
+        ensures { result ≡ said_written size written }
+    {
+        if !written {
+            return Said::no_room(size);
+        }
+        Said {
+            size: size as u64,
+            ..Said::of(PASSES)
+        }
+    }
+
     /// There is no room for so many bytes.
     pub(crate) fn no_room(size: usize) -> Said
         ensures { result ≡ no_room size }
@@ -121,4 +158,15 @@ pub(crate) fn told(found: &Found, size: usize, written: bool) -> Said
         return Said::found(found, size);
     }
     Said::no_room(size)
+}
+
+/// Why no message comes out.
+pub(crate) fn said_of_unsigned(unsigned: Unsigned) -> Said
+    ensures { result ≡ said_of_unsigned unsigned }
+{
+    match unsigned {
+        Unsigned::Input(fault) => Said::fault(fault),
+        Unsigned::Withheld(number) => Said::withheld(number),
+        Unsigned::Digest(digest) => Said::digest(digest),
+    }
 }

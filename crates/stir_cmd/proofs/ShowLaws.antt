@@ -3,7 +3,7 @@ use Rattle.std.proofs.Common.{◌≡◌, ℕ, ◌⊎◌, inl, inr, List, Result,
 use Rattle.x509_profile.specs.Chain.{Chain, RefusedCertificate, certificates_in}
 use Rattle.x509_profile.specs.View.{CertView}
 use Rattle.stir_cmd.specs.Answer.{refused_input, shown}
-use Rattle.stir_cmd.specs.Show.{show}
+use Rattle.chain_lines.specs.Show.{show}
 use Rattle.stir_cmd.specs.Showing.{IsNoChain, ShowGives, Shows, show_answering, show_course}
 use Rattle.stir_cmd.proofs.InputLaws.{Decides, IsAnswer, keeps_whole}
 use Rattle.stir_cmd.proofs.Keeps.{KeepsAll}

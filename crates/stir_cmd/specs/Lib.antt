@@ -11,7 +11,6 @@ pub mod Singly
 pub mod Explained
 pub mod Signing
 pub mod SignCode
-pub mod Show
 pub mod Answer
 pub mod Showing
 pub mod Headline

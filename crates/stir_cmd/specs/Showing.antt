@@ -6,7 +6,7 @@ use Rattle.x509_profile.specs.View.{CertView}
 use Rattle.stir_cmd.specs.Answer.{long_line, shown}
 use Rattle.stir_cmd.specs.Course.{Course}
 use Rattle.stir_cmd.specs.Input.{Answering, answering_by, input_course}
-use Rattle.stir_cmd.specs.Show.{show}
+use Rattle.chain_lines.specs.Show.{show}
 
 -- the bytes are a chain of certificates, whose lines are the text
 pub record Shows (bytes text : List ℕ) : Type 0 where

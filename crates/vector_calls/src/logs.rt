@@ -185,7 +185,7 @@ pub(crate) fn shelf_of(alloc: Global, failing: &[u8], world: &[&[u8]]) -> Result
     Ok(ShelfMem::new(files_of(alloc, files)?, failing))
 }
 
-/// A service by a chain map, anchors and a code table, for country 1, national numbers of ten digits and a window of 60 seconds.
+/// A service by a chain map, anchors and a code table, for country 1, national numbers of ten digits, and PASSporTs that may be 60 seconds old and 5 ahead.
 pub(crate) fn service_of(alloc: Global, world: &[&[u8]]) -> Result<Service, Unread>
     ensures none_held { IfOk result (λ service. service.held.entries ≡ []) }
 {

@@ -6,7 +6,7 @@ use Rattle.verify_rules.specs.World.{World}
 use Rattle.verify_rules.specs.declared.refusal.ScreenFault.{ScreenFault}
 use Rattle.stir_c.specs.Files.{files_of}
 use Rattle.stir_c.specs.Inputs.{call_in, handed}
-use Rattle.stir_c.proofs.AskedLaws.{asked_refused, asked_whole}
+use Rattle.stir_c.proofs.AskedLaws.{asked_refused}
 use Rattle.stir_c.proofs.HandingLaws.{if_ok_asked}
 use Rattle.stir_c.proofs.calls.ask_call.Goals as goal
 

@@ -1,8 +1,7 @@
 -- One chain more is right, and all is known of it.
 use Rattle.std.proofs.Common.{◌≡◌, ◌≤◌, ◌+◌, ◌<◌, [], ◌∷◌, ◌++◌, List, Some, length, take, refl, sym, ap, ◌∙◌, subst, arith}
 use Rattle.std.specs.List.{list_any}
-use Rattle.std.proofs.lemmas.List.{length_push, take_all}
-use Rattle.verify_rules.specs.Call.{Reading}
+use Rattle.std.proofs.lemmas.List.{length_push}
 use Rattle.verify_rules.specs.States.{State}
 use Rattle.verify_service.specs.Chains.{AreRightWhere, is_unasked, is_unread, state_of}
 use Rattle.stir_c.specs.Files.{files_of}

@@ -1,0 +1,90 @@
+-- For which chains of certificates a call asks.
+use Rattle.std.specs.Prelude.{◌≡◌, ℕ, ◌<◌, List, [], ◌∷◌, ◌++◌, drop, length, None, Some}
+use Rattle.verify_rules.specs.Call.{Call, Reading, call_of, in_call_order}
+use Rattle.verify_rules.specs.Rules.{early_rules, first}
+use Rattle.verify_rules.specs.World.{First, World}
+use Rattle.verify_rules.specs.declared.settings.Settings.{Settings}
+use Rattle.verify_service.specs.Judging.{IsKnownBy}
+use Rattle.stir_c.specs.Inputs.{AreSettings}
+use Rattle.stir_c.specs.Told.{Broken}
+use Rattle.stir_c.specs.declared.found.Found.{Found}
+use Rattle.stir_c.specs.declared.found.Found.TheVariants.{Refused, Passes}
+use Rattle.stir_c.specs.declared.inputs.Setting.{Setting}
+use Rattle.stir_c.specs.declared.said.Said.{Said}
+
+-- the x5u of a PASSporT (RFC 8225, section 4.3), on a line of its own
+abbrev pub x5u_line : Reading → List ℕ
+x5u_line one = one.passport.x5u ++ 10 ∷ []
+
+abbrev pub x5u_lines : List Reading → List ℕ
+x5u_lines [] = []
+x5u_lines (one ∷ others) = x5u_line one ++ x5u_lines others
+
+-- the settings of a call, the second at which it came, in Unix time, and its message
+pub record HandedCall : Type 0 where
+  pub past : ℕ
+  pub future : ℕ
+  pub country : List ℕ
+  pub national : ℕ
+  pub moment : ℕ
+  pub message : List ℕ
+
+abbrev pub handed_call : Setting → List ℕ → HandedCall
+handed_call setting message = record {
+  past = setting.past;
+  future = setting.future;
+  country = setting.country.now;
+  national = setting.national;
+  moment = setting.moment;
+  message = message;
+}
+
+abbrev pub call_with : HandedCall → Settings → Call
+call_with given settings = call_of settings given.moment given.message
+
+-- ---- what is asked for
+
+-- The call breaks none of rules 1 to 9, and is known again by this ticket up to this second; the lines have the x5us of its PASSporTs, in the
+-- order in which it went.
+pub record ListsX5us (call : Call) (lines ticket : List ℕ) (last : ℕ) : Type 0 where
+  pub none : first early_rules call ≡ None
+  pub known : IsKnownBy call ticket last
+  pub lists : lines ≡ x5u_lines (in_call_order call)
+
+-- Such lines; or the call breaks this rule first, whatever it is judged by, and asks for nothing.
+abbrev pub IsListed : Call → List ℕ → Found → Type 0
+IsListed call lines (Refused refused) = ((world : World) → First world call ≡ Some refused) × (lines ≡ [])
+IsListed call lines (Passes pass) = ListsX5us call lines pass.ticket pass.last
+
+-- the settings are read so, and this is asked for
+pub record ListedOf (given : HandedCall) (lines : List ℕ) (found : Found) : Type 0 where
+  pub settings : Settings
+  pub set : AreSettings given.past given.future given.country given.national settings
+  pub listed : IsListed (call_with given settings) lines found
+
+-- ---- what is told
+
+pub record BreaksEarly (call : Call) (lines : List ℕ) (said : Said) : Type 0 where
+  pub broken : (world : World) → Broken world call said
+  pub none : lines ≡ []
+
+-- Of kind 0 chains are asked for; of kind 1 the call breaks a rule before.
+pub record TellsEarly (call : Call) (lines : List ℕ) (said : Said) : Type 0 where
+  pub passes : said.kind ≡ 0 → ListsX5us call lines said.ticket said.last
+  pub breaks : said.kind ≡ 1 → BreaksEarly call lines said
+
+-- so it is told; the lines stand in the room, and what is behind them is as it was
+pub record ListedInto (given : HandedCall) (before now : List ℕ) (said : Said) : Type 0 where
+  pub settings : Settings
+  pub set : AreSettings given.past given.future given.country given.national settings
+  pub lines : List ℕ
+  pub tells : TellsEarly (call_with given settings) lines said
+  pub size_is : said.size ≡ length lines
+  pub text : now ≡ lines ++ drop (length lines) before
+
+-- the lines have more bytes than there is room for, and it is said how many
+pub record ListsMore (given : HandedCall) (before : List ℕ) (said : Said) : Type 0 where
+  pub settings : Settings
+  pub set : AreSettings given.past given.future given.country given.national settings
+  pub size_is : said.size ≡ length (x5u_lines (in_call_order (call_with given settings)))
+  pub more : length before < said.size

@@ -1,0 +1,217 @@
+//! Calls signed: by the number that calls a block of numbers is found, which has a key and an attestation. What is signed is said by the proved
+//! library, which first holds the number against the key's certificate.
+use crate::door::{self, Order, Rules};
+use crate::lines::lines_of;
+use crate::world::{codes_of, stamp, Stamp};
+use openssl::ecdsa::EcdsaSig;
+use openssl::pkey::{PKey, Private};
+use openssl::x509::X509;
+use std::collections::HashMap;
+use std::path::{Path, PathBuf};
+use std::sync::Arc;
+
+/// A key with the certificate that goes with it: the leaf in DER, its URI, and the lines of the code table on the codes in it.
+pub struct Key {
+    key: PKey<Private>,
+    leaf: Vec<u8>,
+    x5u: String,
+    table: Vec<u8>,
+}
+
+/// Numbers that follow each other, with how well their callers are known (RFC 8588, section 4) and the key that signs for them.
+struct Block {
+    first: u64,
+    count: u64,
+    attest: u8,
+    key: Arc<Key>,
+}
+
+/// For which numbers is signed.
+#[derive(Default)]
+pub struct Blocks {
+    blocks: Vec<Block>,
+    stamps: Vec<(PathBuf, Stamp)>,
+}
+
+/// Why nothing is signed.
+#[derive(Debug, PartialEq, Eq)]
+pub enum Unsigned {
+    /// No block has the number, or its certificate doesn't cover it.
+    NotOurs,
+    /// What the library can't take or won't sign: a number or an identifier is no such thing.
+    BadValue,
+    /// The key or the memory failed.
+    Failed,
+}
+
+/// What is to be signed: who calls, the INVITE, the second in Unix time, the identifier of the call, and the best attestation that is wanted.
+pub struct Call<'a> {
+    pub orig: &'a str,
+    pub message: &'a [u8],
+    pub iat: u64,
+    pub origid: &'a str,
+    pub attest: u8,
+}
+
+impl Blocks {
+    /// Reads the lines `FIRST COUNT ATTEST KEY CERTIFICATES X5U`: a number and how many follow it, `A`, `B` or `C`, the file of a private key in PEM,
+    /// the file of its certificates in DER, the leaf first, and the URI under which these are found. Each key has to be that of its leaf, which
+    /// has to cover the first number of its block and the last.
+    pub fn read(rules: &Rules, path: &Path, table_path: &Path) -> Result<Blocks, String> {
+        let mut blocks = Blocks::default();
+        let text = blocks.file(path)?;
+        let table = blocks.file(table_path)?;
+        let mut keys = HashMap::new();
+        for (at, line) in lines_of(&text).enumerate() {
+            let line = std::str::from_utf8(line).map_err(|_| format!("{}: line {} isn't text", path.display(), at + 1))?;
+            let block = blocks.block(line, &table, &mut keys).map_err(|fault| format!("{}: line {} that says something: {fault}", path.display(), at + 1))?;
+            block.test(rules)?;
+            blocks.blocks.push(block);
+        }
+        Ok(blocks)
+    }
+
+    fn file(&mut self, path: &Path) -> Result<Vec<u8>, String> {
+        self.stamps.push((path.to_path_buf(), stamp(path)));
+        std::fs::read(path).map_err(|error| format!("{}: {error}", path.display()))
+    }
+
+    fn block(&mut self, line: &str, table: &[u8], keys: &mut HashMap<[String; 3], Arc<Key>>) -> Result<Block, String> {
+        let words: Vec<&str> = line.split(' ').collect();
+        let [first, count, attest, key, certificates, x5u] = words[..] else { return Err("six words are wanted".into()) };
+        let first = first.parse().map_err(|_| "no number")?;
+        let count = count.parse().ok().filter(|count| *count > 0).ok_or("no count")?;
+        if !["A", "B", "C"].contains(&attest) {
+            return Err("the attestation is A, B or C".into());
+        }
+        let name = [key, certificates, x5u].map(String::from);
+        let key = match keys.get(&name) {
+            Some(key) => Arc::clone(key),
+            None => {
+                let read = Arc::new(self.key(Path::new(key), Path::new(certificates), x5u, table)?);
+                keys.insert(name, Arc::clone(&read));
+                read
+            }
+        };
+        Ok(Block { first, count, attest: attest.as_bytes()[0], key })
+    }
+
+    fn key(&mut self, path: &Path, certificates: &Path, x5u: &str, table: &[u8]) -> Result<Key, String> {
+        let key = PKey::private_key_from_pem(&self.file(path)?).map_err(|_| format!("{} is no private key in PEM", path.display()))?;
+        let chain = self.file(certificates)?;
+        let leaf = first_element(&chain).ok_or_else(|| format!("{} is no certificate in DER", certificates.display()))?.to_vec();
+        let public = X509::from_der(&leaf).and_then(|leaf| leaf.public_key()).map_err(|_| format!("{} is no certificate in DER", certificates.display()))?;
+        if !public.public_eq(&key) {
+            return Err(format!("{} isn't the key of {}", path.display(), certificates.display()));
+        }
+        let table = codes_of(&leaf, table);
+        Ok(Key { key, leaf, x5u: x5u.into(), table })
+    }
+
+    /// Whether a file isn't what it was when it was read.
+    pub fn is_stale(&self) -> bool {
+        self.stamps.iter().any(|(path, was)| stamp(path) != *was)
+    }
+
+    /// How many there are.
+    pub fn count(&self) -> usize {
+        self.blocks.len()
+    }
+
+    /// The message of a call with its Identity field.
+    pub fn sign(&self, rules: &Rules, call: &Call) -> Result<Vec<u8>, Unsigned> {
+        let number: u64 = call.orig.parse().map_err(|_| Unsigned::NotOurs)?;
+        let block = self.blocks.iter().find(|block| block.has(number)).ok_or(Unsigned::NotOurs)?;
+        block.sign(rules, call)
+    }
+}
+
+impl Block {
+    fn has(&self, number: u64) -> bool {
+        number.checked_sub(self.first).map_or(false, |place| place < self.count)
+    }
+
+    /// Signs nothing, but looks whether the first number and the last could be signed for.
+    fn test(&self, rules: &Rules) -> Result<(), String> {
+        let last = self.first.checked_add(self.count - 1).ok_or("the block is too long")?;
+        for number in [self.first, last] {
+            let orig = number.to_string();
+            let message = crate::atis::invite(&orig, "12125551213", &[]);
+            let call = Call { orig: &orig, message: &message, iat: 0, origid: "00000000-0000-4000-8000-000000000000", attest: self.attest };
+            let said = door::to_sign(rules, &self.order(&call));
+            if said.kind != door::PASSES {
+                return Err(format!("the certificate of {} isn't one that covers {orig}", self.key.x5u));
+            }
+        }
+        Ok(())
+    }
+
+    fn order<'a>(&'a self, call: &'a Call) -> Order<'a> {
+        // The letters are in order: the later is the lower attestation.
+        let form = self.attest.max(call.attest);
+        Order { iat: call.iat, form, origid: call.origid.as_bytes(), x5u: self.key.x5u.as_bytes(), message: call.message, certificate: &self.key.leaf, table: &self.key.table }
+    }
+
+    fn sign(&self, rules: &Rules, call: &Call) -> Result<Vec<u8>, Unsigned> {
+        let order = self.order(call);
+        let said = door::to_sign(rules, &order);
+        match said.kind {
+            door::PASSES => {}
+            door::REFUSED if said.rule == door::AUTHORITY => return Err(Unsigned::NotOurs),
+            door::REFUSED | door::BAD_INPUT => return Err(Unsigned::BadValue),
+            _ => return Err(Unsigned::Failed),
+        }
+        let signature = signature(&self.key.key, &said.ticket).ok_or(Unsigned::Failed)?;
+        let mut message = Vec::with_capacity(call.message.len() + 2048);
+        match door::signed(rules, &order, &signature, &mut message).kind {
+            door::PASSES => Ok(message),
+            _ => Err(Unsigned::Failed),
+        }
+    }
+}
+
+/// The signature over a digest: r and s, 32 bytes each (RFC 7518, section 3.4).
+fn signature(key: &PKey<Private>, digest: &[u8; 32]) -> Option<[u8; 64]> {
+    let made = EcdsaSig::sign(digest, key.ec_key().ok()?.as_ref()).ok()?;
+    let numbers = [made.r().to_vec_padded(32).ok()?, made.s().to_vec_padded(32).ok()?].concat();
+    numbers.try_into().ok()
+}
+
+/// The value of the last Identity field of a message that was signed, in the last line of its head.
+pub fn identity(message: &[u8]) -> Option<String> {
+    let text = std::str::from_utf8(message).ok()?;
+    let (head, _) = text.split_once("\r\n\r\n")?;
+    let (_, last) = head.rsplit_once("\r\n")?;
+    Some(last.strip_prefix("Identity: ")?.into())
+}
+
+/// The first element of DER (X.690, section 8.1), if it is a SEQUENCE that is there.
+fn first_element(der: &[u8]) -> Option<&[u8]> {
+    let (head, size) = match der {
+        [0x30, size, ..] if *size < 0x80 => (2, usize::from(*size)),
+        [0x30, 0x81, size, ..] => (3, usize::from(*size)),
+        [0x30, 0x82, high, low, ..] => (4, usize::from(*high) * 256 + usize::from(*low)),
+        _ => return None,
+    };
+    der.get(..head + size)
+}
+
+#[cfg(test)]
+mod tests {
+    use super::*;
+
+    #[test]
+    fn the_leaf_of_a_chain_is_its_first_element() {
+        assert_eq!(first_element(&[0x30, 2, 5, 0, 0x30, 0]), Some(&[0x30, 2, 5, 0][..]));
+        assert_eq!(first_element(&[0x30, 0x81, 1, 9, 7]), Some(&[0x30, 0x81, 1, 9][..]));
+        assert_eq!(first_element(&[0x30, 3, 0]), None);
+        assert_eq!(first_element(b""), None);
+    }
+
+    #[test]
+    fn the_field_of_a_signed_message_is_its_last_line() {
+        let message = b"INVITE sip:a SIP/2.0\r\nIdentity: old\r\nTo: b\r\nIdentity: a.b.c;info=<d>\r\n\r\nIdentity: body";
+        assert_eq!(identity(message).as_deref(), Some("a.b.c;info=<d>"));
+        assert_eq!(identity(b"INVITE sip:a SIP/2.0\r\nTo: b\r\n\r\n"), None);
+    }
+}
