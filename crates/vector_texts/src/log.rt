@@ -3,12 +3,13 @@
 use call_log::{Call, LogFault, LogReader};
 use std::alloc::Global;
 use stir_outside::SourceMem;
-use vector_table::{Answer, Drip, Unread, joined, numbers_of};
+use vector_table::{Answer, Drip, Unread, joined, number, numbers_of};
 
 /// What a call answers.
 pub fn answer(alloc: Global, call: &str, words: &[&[u8]]) -> Result<String, Unread> {
     match call {
         "read" => read(alloc, words),
+        "after" => after(alloc, words),
         "count" => count(alloc, words),
         _ => Err(Unread::Call),
     }
@@ -16,6 +17,9 @@ pub fn answer(alloc: Global, call: &str, words: &[&[u8]]) -> Result<String, Unre
 
 /// How many calls are read at most.
 const MOST_SHOWN: u32 = 8;
+
+/// The greatest number of a call from which a log can go on.
+const MOST_CALL: u32 = 4_000_000_000;
 
 /// What [`put_calls`] says of a log some of whose reads fail, and how many bytes of it are left.
 fn read(alloc: Global, words: &[&[u8]]) -> Result<String, Unread> {
@@ -27,13 +31,31 @@ fn read(alloc: Global, words: &[&[u8]]) -> Result<String, Unread> {
     let mut source = Drip {
         source: SourceMem::new(bytes, failing),
     };
-    let answer = put_calls(alloc, &mut source)?;
+    let mut reader = LogReader::new(alloc);
+    let answer = put_calls(alloc, &mut reader, &mut source)?;
+    answer.word(source.source.bytes().len()).line()
+}
+
+/// The same of a log that goes on from a call of this number and this moment, and of which no read fails.
+fn after(alloc: Global, words: &[&[u8]]) -> Result<String, Unread> {
+    let [call, moment, log @ ..] = words else {
+        return Err(Unread::Call);
+    };
+    let call: u32 = number(call)?;
+    let moment: u64 = number(moment)?;
+    if call > MOST_CALL {
+        return Err(Unread::Value);
+    }
+    let mut source = Drip {
+        source: SourceMem::new(joined(alloc, log)?, Vec::new(alloc)),
+    };
+    let mut reader = LogReader::after(alloc, call, moment);
+    let answer = put_calls(alloc, &mut reader, &mut source)?;
     answer.word(source.source.bytes().len()).line()
 }
 
 /// The number, moment and message of each call, and how the log ends; a fault is answered again by the next call.
-fn put_calls(alloc: Global, source: &mut Drip) -> Result<Answer, Unread> {
-    let mut reader = LogReader::new(alloc);
+fn put_calls(alloc: Global, reader: &mut LogReader, source: &mut Drip) -> Result<Answer, Unread> {
     let mut answer = Answer::new(alloc);
     for _ in 0..MOST_SHOWN {
         match reader.next(source) {

@@ -14,9 +14,9 @@ use Rattle.verify_rules.specs.Screened.{IsScreenedBy, ScreenedView, digest_in, l
 use Rattle.verify_rules.specs.declared.settings.Settings.{Settings}
 use Rattle.verify_service.specs.Carrying.{out_at}
 use Rattle.verify_service.specs.Judging.{EachPair, last_second, ticket_or_none}
-use Rattle.verify_service.specs.Ready.{is_passed, last_in, ticket_in}
+use Rattle.verify_service.specs.Ready.{is_passed, ticket_in}
 use Rattle.verify_service.specs.Rows.{answer_of, held, kept_of_past, passes, row_of, rows_of}
-use Rattle.verify_service.specs.Screening.{IsReady, IsScreening}
+use Rattle.verify_service.specs.Screening.{IsReady, IsScreening, last_in}
 use Rattle.verify_service.specs.declared.outcome.Outcome.{Outcome}
 use Rattle.verify_service.specs.declared.outcome.Outcome.TheVariants as outcomes
 use Rattle.verify_service.specs.declared.screening.ReadyCall.{ReadyCall}

@@ -16,9 +16,9 @@ use Rattle.verify_service.specs.Adding.{IsAdded, IsOnceValid, kept_as}
 use Rattle.verify_service.specs.Carrying.{HasClaims, IsWin, Placed, out_at}
 use Rattle.verify_service.specs.Claiming.{ReplaysKept, loss_of, pair_of}
 use Rattle.verify_service.specs.Judging.{EachPair, call_in}
-use Rattle.verify_service.specs.Ready.{AreClassed, AreNumbered, class_in, is_passed, last_in, ticket_in}
+use Rattle.verify_service.specs.Ready.{AreClassed, AreNumbered, class_in, is_passed, ticket_in}
 use Rattle.verify_service.specs.Rows.{answer_of, held, kept_of_past, passes, row_of, rows_of}
-use Rattle.verify_service.specs.Screening.{IsReady}
+use Rattle.verify_service.specs.Screening.{IsReady, last_in}
 use Rattle.verify_service.specs.declared.outcome.Outcome.{Outcome}
 use Rattle.verify_service.specs.declared.outcome.Outcome.TheVariants as outcomes
 use Rattle.verify_service.specs.declared.screening.ReadyCall.{ReadyCall}

@@ -9,13 +9,15 @@ use Rattle.call_log.specs.Entry.{Entry}
 use Rattle.cert_store.specs.Using.{IsOnce, has}
 use Rattle.replay_desk.specs.Holder.{DeskId}
 use Rattle.verify_rules.specs.declared.settings.Settings.{Settings}
+use Rattle.state_text.specs.State.{IsKept}
+use Rattle.verify_service.specs.Adding.{kept_as}
 use Rattle.verify_service.specs.Classes.{AreGivenClasses, IsGivenClass, tickets_in}
 use Rattle.verify_service.specs.Judging.{EachPair, call_in}
 use Rattle.verify_service.specs.Needed.{once}
-use Rattle.verify_service.specs.Prepared.{AreScreened, HaveClass, numbers_of}
+use Rattle.verify_service.specs.Prepared.{AreScreened, AreUpTo, HaveClass, numbers_of}
 use Rattle.verify_service.specs.Ready.{AreClassed, AreNumbered, HasRoom, class_in, is_passed, ticket_in}
-use Rattle.verify_service.specs.Screening.{IsReady, IsScreening, is_open, readings_in}
-use Rattle.verify_service.specs.Service.{EachFollows, last_number, number_or}
+use Rattle.verify_service.specs.Screening.{IsReady, IsScreening, is_open, readings_in, last_in}
+use Rattle.verify_service.specs.Service.{EachFollows, last_entry, last_moment_of, last_number, moment_or, number_or}
 use Rattle.verify_service.specs.declared.screening.ReadyCall.{ReadyCall}
 use Rattle.verify_service.specs.declared.screening.Screening.{Screening}
 use Rattle.verify_service.specs.declared.screening.Screening.TheVariants.{Open, Refused, Passed}
@@ -101,6 +103,7 @@ ready_still settings entry tickets old new ready given = record {
   screening = subst (λ (s : Screening). IsScreening (call_in settings entry) s) (sym given.screening) ready.screening;
   known = ap is_open given.screening ∙ ready.known;
   few = subst (λ (s : Screening). length (readings_in s) ≤ 9) (sym given.screening) ready.few;
+  last = subst (λ (s : Screening). last_in s ≤ 253402387199) (sym given.screening) ready.last;
 }
 
 each_moved : {A B : Type 0} → (R : A → B → Type 0) (T : B → B → Type 0) → ((x : A) (o n : B) → R x o → T o n → R x n) → (xs : List A) (os ns : List B) → EachPair R xs os
@@ -196,15 +199,65 @@ number_at number [] i within = absurd (omega arith)
 number_at number (e ∷ entries) zero within = refl
 number_at number (e ∷ entries) (suc i) within = number_at number entries i (omega arith)
 
-pub last_screened : (settings : Settings) (number moment : ℕ) (entries : List Entry) (calls : List ReadyCall) → 1 ≤ length entries → EachPair (IsReady settings) entries calls
-    → AreScreened settings (last_number number entries) calls
-last_screened settings number moment entries calls some each = record {
+-- the last call is that of those after the first, if there are any
+last_behind : (x y : Entry) (ys : List Entry) → last_entry (x ∷ y ∷ ys) ≡ last_entry (y ∷ ys)
+last_behind x y ys = let e : length (x ∷ y ∷ ys) - 1 ≡ suc (length (y ∷ ys) - 1) = omega arith in ap (slice_get (x ∷ y ∷ ys)) e
+
+last_front : (number : ℕ) (x : Entry) (xs : List Entry) → last_number number (x ∷ xs) ≡ last_number x.number xs
+last_front number x [] = refl
+last_front number x (y ∷ ys) = ap (number_or number) (last_behind x y ys) ∙ last_front number y ys ∙ sym (last_front x.number y ys)
+
+pub rises_to : (number moment : ℕ) (entries : List Entry) → EachFollows number moment entries → number ≤ last_number number entries
+rises_to number moment [] each = omega arith
+rises_to number moment (e ∷ entries) each =
+    let above : number < e.number = each.0.above in
+    let more : e.number ≤ last_number e.number entries = rises_to e.number e.moment entries each.1 in
+    subst (λ n. number ≤ n) (sym (last_front number e entries)) (omega arith)
+
+last_moment_front : (moment : ℕ) (x : Entry) (xs : List Entry) → last_moment_of moment (x ∷ xs) ≡ last_moment_of x.moment xs
+last_moment_front moment x [] = refl
+last_moment_front moment x (y ∷ ys) = ap (moment_or moment) (last_behind x y ys) ∙ last_moment_front moment y ys ∙ sym (last_moment_front x.moment y ys)
+
+-- the last call comes by the end of the year 9999
+pub moments_within : (number moment : ℕ) (entries : List Entry) → EachFollows number moment entries → moment ≤ 253402300799 → last_moment_of moment entries ≤ 253402300799
+moments_within number moment [] each within = within
+moments_within number moment (e ∷ entries) each within =
+    subst (λ n. n ≤ 253402300799) (sym (last_moment_front moment e entries)) (moments_within e.number e.moment entries each.1 each.0.within)
+
+number_upto : (number moment : ℕ) (entries : List Entry) (i : ℕ) (entry : Entry) → EachFollows number moment entries → slice_get entries i ≡ Some entry → entry.number ≤ last_number number entries
+number_upto number moment [] i entry each is = absurd cc
+number_upto number moment (e ∷ entries) zero entry each is =
+    subst (λ n. entry.number ≤ n) (sym (last_front number e entries))
+    (subst (λ (x : Entry). x.number ≤ last_number e.number entries) (same_Some e entry is) (rises_to e.number e.moment entries each.1))
+number_upto number moment (e ∷ entries) (suc i) entry each is =
+    subst (λ n. entry.number ≤ n) (sym (last_front number e entries)) (number_upto e.number e.moment entries i entry each.1 is)
+
+are_upto : (settings : Settings) (number moment : ℕ) (entries : List Entry) (calls : List ReadyCall) → EachFollows number moment entries → EachPair (IsReady settings) entries calls
+    → AreUpTo (last_number number entries) calls
+are_upto settings number moment entries calls follow each = λ at call is.
+    beside (IsReady settings) entries calls at call each is (λ entry entry_is ready.
+    let same : call.number ≡ entry.number = ready.number in
+    let above : number < entry.number = number_above number moment entries at entry follow entry_is in
+    let upto : entry.number ≤ last_number number entries = number_upto number moment entries at entry follow entry_is in
+    (omega arith, subst (λ n. n ≤ last_number number entries) (sym same) upto))
+
+pub last_screened : (settings : Settings) (number moment : ℕ) (entries : List Entry) (calls : List ReadyCall) → 1 ≤ length entries → EachFollows number moment entries
+    → EachPair (IsReady settings) entries calls → AreScreened settings (last_number number entries) calls
+last_screened settings number moment entries calls some follow each = record {
   entries = entries;
   screened = each;
   last = ap (λ (l : List ℕ). slice_get l (length calls - 1)) (numbers_are settings entries calls each)
       ∙ ap (λ n. slice_get (map number_in entries) (n - 1)) (each_length (IsReady settings) entries calls each)
       ∙ number_at number entries (length entries - 1) (omega arith);
+  upto = are_upto settings number moment entries calls follow each;
 }
+
+-- what is kept of each such call is within its bounds
+pub are_kept : (settings : Settings) (number : ℕ) (calls : List ReadyCall) → AreScreened settings number calls
+    → (at : ℕ) (call : ReadyCall) → slice_get calls at ≡ Some call → IsKept number (kept_as call)
+are_kept settings number calls screened = λ at call is.
+    let bounds = screened.upto at call is in
+    beside (IsReady settings) screened.entries calls at call screened.screened is (λ entry entry_is ready. record { some = bounds.0; within = bounds.1; last = ready.last })
 
 -- ---- one call more is given its class
 

@@ -49,6 +49,8 @@ mod PairLaws
 mod RoomLaws
 mod EachCallLaws
 mod ClassLaws
+mod KeepingLaws
+mod HandingLaws
 mod SeatingLaws
 mod PreparedLaws
 mod PrepareLaws

@@ -1,13 +1,13 @@
 -- The calls of a prepared round are ready to be judged.
 use Rattle.std.proofs.Common.{◌≡◌, ℕ, zero, suc, ◌<◌, ◌≤◌, ◌||◌, true, false, Bool, List, [], ◌∷◌, ◌++◌, get_or, length, Some, refl, sym, ap, ◌∙◌, subst, arith}
 use Rattle.std.proofs.lemmas.Option.{same_Some}
-use Rattle.std.specs.List.{list_any, slice_get}
+use Rattle.std.specs.List.{slice_get}
 use Rattle.std.specs.Str.{bytes_eq}
 use Rattle.cert_store.specs.Using.{has}
 use Rattle.replay_desk.specs.Holder.{DeskId}
 use Rattle.verify_service.specs.Needed.{all_named, named_by, x5us}
 use Rattle.verify_service.specs.Kept.{Kept}
-use Rattle.verify_service.specs.Prepared.{AreScreened, HaveClass, HasClass, IsNewest, PreparedView, basis_in}
+use Rattle.verify_service.specs.Prepared.{AreScreened, HaveClass, IsNewest, PreparedView, basis_in}
 use Rattle.verify_service.specs.Ready.{AreAllReady, Basis, CallReady, HasRoom}
 use Rattle.verify_service.specs.RightChains.{AreThere}
 use Rattle.verify_service.specs.Screening.{readings_in}
@@ -91,6 +91,7 @@ newest_as service old new same_calls same_kept newest = record {
   there = subst (λ (cs : List ReadyCall). AreThere service.chains service.held.entries new.kept (all_named cs)) (sym same_calls)
       (subst (λ (k : Kept). AreThere service.chains service.held.entries k (all_named old.calls)) (sym same_kept) newest.there);
   room = subst (λ (cs : List ReadyCall). HasRoom cs service.past.spare) (sym same_calls) newest.room;
+  begun = newest.begun;
 }
 
 -- the same of all its calls

@@ -1,5 +1,5 @@
 -- Calls that were screened into their places are ready.
-use Rattle.std.proofs.Common.{◌≡◌, ℕ, zero, suc, ◌+◌, ◌<◌, ◌≤◌, ◌||◌, Bool, true, false, List, [], ◌∷◌, ◌++◌, drop, get_or, length, take, refl, sym, ap, ◌∙◌, subst, arith, append-nil}
+use Rattle.std.proofs.Common.{◌≡◌, ℕ, suc, ◌<◌, ◌||◌, Bool, true, false, List, [], ◌∷◌, ◌++◌, drop, get_or, length, take, refl, ap, ◌∙◌, arith, append-nil}
 use Rattle.std.proofs.lemmas.List.{drop_all, take_all}
 use Rattle.std.specs.List.{list_any}
 use Rattle.call_log.specs.Entry.{Entry}
@@ -17,7 +17,7 @@ any_open calls = list_any (λ (call : ReadyCall). is_open call.screening) calls
 
 ready_one : (settings : Settings) (entry : Entry) (old new : ReadyCall) → IsPlaceOf entry old → Screens (call_in settings entry) old new → is_open new.screening ≡ false → IsReady settings entry new
 ready_one settings entry old new place screens known =
-    record { number = screens.number ∙ place.number; moment = screens.moment ∙ place.moment; screening = screens.screening; known = known; few = screens.few }
+    record { number = screens.number ∙ place.number; moment = screens.moment ∙ place.moment; screening = screens.screening; known = known; few = screens.few; last = screens.last }
 
 -- of each, one by one
 screens_all : (settings : Settings) (entries : List Entry) (olds news : List ReadyCall) (d : ReadyCall) (e : Entry) → EachPair IsPlaceOf entries olds → length news ≡ length entries

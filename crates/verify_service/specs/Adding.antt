@@ -4,7 +4,8 @@ use Rattle.std.specs.List.{slice_get}
 use Rattle.replay_desk.specs.Past.{PastView, found}
 use Rattle.state_text.specs.declared.kept.Kept.{Kept as Passing}
 use Rattle.verify_service.specs.Carrying.{one_if, out_at}
-use Rattle.verify_service.specs.Ready.{is_passed, last_in, ticket_in}
+use Rattle.verify_service.specs.Ready.{is_passed, ticket_in}
+use Rattle.verify_service.specs.Screening.{last_in}
 use Rattle.verify_service.specs.declared.outcome.Outcome.{Outcome}
 use Rattle.verify_service.specs.declared.outcome.Outcome.TheVariants.{Valid, Refused, Replay, Unread, Unasked}
 use Rattle.verify_service.specs.declared.screening.ReadyCall.{ReadyCall}

@@ -21,3 +21,4 @@ pub mod Prepared
 pub mod Carrying
 pub mod Adding
 pub mod Carried
+pub mod Handing

@@ -1,5 +1,5 @@
 -- What a contract sees of a round that is prepared, and what makes it the newest of a service.
-use Rattle.std.specs.Prelude.{◌≡◌, ◌<◌, ◌≤◌, ◌-◌, ℕ, false, List, length, map, is_some, Option, Some}
+use Rattle.std.specs.Prelude.{◌≡◌, ◌<◌, ◌≤◌, ◌-◌, ℕ, true, false, List, length, map, is_some, Option, Some}
 use Rattle.std.specs.List.{slice_get}
 use Rattle.call_log.specs.Entry.{Entry}
 use Rattle.replay_desk.specs.Holder.{DeskId, Holder}
@@ -59,18 +59,24 @@ pub record IsPrepared (calls : List ReadyCall) (kept : Kept) (desk : DeskId) (se
 
 -- ---- the newest of a service
 
--- They are calls of a log, screened by these settings, and this is the number of the last.
+-- each has a number from 1 up to this one
+abbrev pub AreUpTo : ℕ → List ReadyCall → Type 0
+AreUpTo number calls = (at : ℕ) (call : ReadyCall) → slice_get calls at ≡ Some call → (1 ≤ call.number) × (call.number ≤ number)
+
+-- They are calls of a log, screened by these settings, and this is the number of the last, up to which those before it go.
 pub record AreScreened (settings : Settings) (number : ℕ) (calls : List ReadyCall) : Type 0 where
   pub entries : List Entry
   pub screened : EachPair (IsReady settings) entries calls
   pub last : slice_get (numbers_of calls) (length calls - 1) ≡ Some number
+  pub upto : AreUpTo number calls
 
 -- Its calls were screened by the service's settings, and the last one's number is the service's; each chain that they need is held by the service
--- or kept by the round; and the past has room for as many calls as there are classes.
+-- or kept by the round; the past has room for as many calls as there are classes; and the state wasn't taken since a round was prepared.
 pub record IsNewest (service : ServiceView) (prepared : PreparedView) : Type 0 where
   pub calls : AreScreened service.settings service.number prepared.calls
   pub there : AreThere service.chains service.held.entries prepared.kept (all_named prepared.calls)
   pub room : HasRoom prepared.calls service.past.spare
+  pub begun : service.begun ≡ true
 
 -- what its calls are judged on
 abbrev pub basis_in : ServiceView → PreparedView → Basis

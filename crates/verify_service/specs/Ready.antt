@@ -65,12 +65,6 @@ ticket_by readings = unwrap_or (option_map digest_in (last_of readings)) []
 abbrev pub ticket_in : Screening → List ℕ
 ticket_in screening = ticket_by (readings_in screening)
 
--- the last second at which its last PASSporT is fresh
-abbrev pub last_in : Screening → ℕ
-last_in Open = 0
-last_in (Refused refused) = 0
-last_in (Passed screened) = screened.last
-
 -- the class of its ticket
 abbrev pub class_in : ReadyCall → ℕ
 class_in call = unwrap_or call.class 0

@@ -1,6 +1,6 @@
 -- What a round knows of the chains of its texts, and which of them are held or kept from then on.
-use Rattle.std.specs.Prelude.{◌≡◌, ⊤, ℕ, suc, ◌+◌, ◌≤◌, ◌<◌, ◌%◌, ◌==◌, Bool, true, false, List, [], ◌∷◌, length, filter, take, Option, Some, None, if◌then◌else◌}
-use Rattle.cert_store.specs.Asking.{FailedAt, is_failed}
+use Rattle.std.specs.Prelude.{◌≡◌, ⊤, ℕ, suc, ◌+◌, ◌≤◌, ◌%◌, ◌==◌, Bool, true, false, List, [], ◌∷◌, length, filter, take, Option, Some, None, if◌then◌else◌}
+use Rattle.cert_store.specs.Asking.{FailedAt}
 use Rattle.cert_store.specs.Holding.{Chains, Holding}
 use Rattle.cert_store.specs.Judged.{JudgedView}
 use Rattle.cert_store.specs.Rules.{Says}

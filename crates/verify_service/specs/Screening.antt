@@ -23,6 +23,12 @@ readings_in Open = []
 readings_in (Refused refused) = []
 readings_in (Passed screened) = screened.readings
 
+-- the last second at which its last PASSporT is fresh
+abbrev pub last_in : Screening → ℕ
+last_in Open = 0
+last_in (Refused refused) = 0
+last_in (Passed screened) = screened.last
+
 -- the place of this call of the log
 pub record IsPlaceOf (entry : Entry) (place : ReadyCall) : Type 0 where
   pub number : place.number ≡ entry.number
@@ -36,6 +42,8 @@ pub record Screens (call : Call) (old new : ReadyCall) : Type 0 where
   pub class : new.class ≡ old.class
   -- a call has at most nine PASSporTs
   pub few : length (readings_in new.screening) ≤ 9
+  -- the last of them is fresh until a day after the year 9999 at most
+  pub last : last_in new.screening ≤ 253402387199
 
 -- the same of the call at this index
 pub record ScreensAt (settings : Settings) (entries : List Entry) (at : ℕ) (old new : ReadyCall) : Type 0 where
@@ -55,3 +63,4 @@ pub record IsReady (settings : Settings) (entry : Entry) (call : ReadyCall) : Ty
   pub screening : IsScreening (call_in settings entry) call.screening
   pub known : is_open call.screening ≡ false
   pub few : length (readings_in call.screening) ≤ 9
+  pub last : last_in call.screening ≤ 253402387199

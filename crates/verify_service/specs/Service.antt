@@ -10,6 +10,8 @@ use Rattle.cert_store.specs.Using.{names}
 use Rattle.delegation.specs.Coverage.{Table}
 use Rattle.replay_desk.specs.Past.{PastView, found}
 use Rattle.replay_law.specs.Held.{Held, Same, purged}
+use Rattle.state_text.specs.State.{IsKept}
+use Rattle.state_text.specs.declared.kept.Kept.{Kept as Passing}
 use Rattle.stir_outside.specs.Files.{Files as ShelfFiles}
 use Rattle.verify_rules.specs.World.{World}
 use Rattle.verify_rules.specs.declared.settings.Settings.{Settings}
@@ -33,10 +35,18 @@ pub record ServiceView : Type 0 where
   -- of the last call that was handed in; 0 before the first
   pub number : ℕ
   pub moment : ℕ
+  -- whether a round may be its newest: one was prepared since the state was taken
+  pub begun : Bool
 
--- what holds of every service: it may hold 4,096 chains
-pub record IsSound (capacity : ℕ) : Type 0 where
+-- each that is kept is of a call up to this number, and fresh until a day after the year 9999 at most
+abbrev pub EachKept : ℕ → PastView → Type 0
+EachKept number past = (ticket : List ℕ) (kept : Passing) → found past ticket ≡ Some kept → IsKept number kept
+
+-- what holds of every service: it may hold 4,096 chains, its last call came by the end of the year 9999, and what it keeps is of the calls so far
+pub record IsSound (capacity number moment : ℕ) (past : PastView) : Type 0 where
   pub capacity_is : capacity ≡ 4096
+  pub moment_within : moment ≤ 253402300799
+  pub each_kept : EachKept number past
 
 -- the world of a service with the files of a shelf and what a provider says
 abbrev pub world_of : ServiceView → ShelfFiles → Says → World

@@ -25,7 +25,8 @@
 //! }
 //! ```
 //!
-//! The service holds up to 4,096 judged chains, and the past of tickets, from round to round.
+//! The service holds up to 4,096 judged chains, and the past of tickets, from round to round. From run to run [`Service::state`] hands its past on,
+//! and [`Service::restore`] goes on from it; no command calls them yet.
 //!
 //! # What it isn't
 //!
@@ -50,6 +51,7 @@ mod classing;
 mod closing;
 mod fetching;
 mod finding;
+mod handing;
 mod judge;
 mod kept;
 mod laws;
@@ -81,6 +83,7 @@ pub use laws::{call_law, chains_law, fresh_law, report_law};
 pub use outcome::Outcome;
 pub use prepared::Prepared;
 pub use reading::chain_in;
+pub use replay_desk::State;
 pub use report::report_line;
 pub use service::Service;
 pub use worker::Worker;

@@ -1,6 +1,6 @@
 //! Preparing a round: all that can want memory.
 ghost use Rattle.stir_outside.specs.Stays.{ProviderStays, ShelfStays};
-ghost use Rattle.std.specs.Prelude.{◌≡◌, ◌<◌, ◌≤◌, ◌+◌, [], ℕ, length, IfOk, slice_index_or};
+ghost use Rattle.std.specs.Prelude.{◌≡◌, ◌<◌, ◌≤◌, ◌+◌, [], ℕ, true, length, IfOk, slice_index_or};
 ghost use Rattle.cert_store.specs.Holding.{AreAnswered};
 ghost use Rattle.verify_service.specs.Carried.{AreClasses};
 ghost use Rattle.verify_service.specs.Judging.{EachPair};
@@ -106,14 +106,18 @@ impl Service {
         ensures moment { self.new.moment ≡ last_moment_of self.old.moment calls.now }
         ensures held { self.new.held ≡ self.old.held }
         ensures purged { IsPurged calls.now (held self.old.past) (held self.new.past) }
+        ensures begun { self.new.begun ≡ true }
     {
-        if let Some(first) = calls.first() {
-            self.past.purge(first.moment());
-        }
-        if let Some(last) = calls.last() {
-            self.number = last.number();
-            self.moment = last.moment();
-        }
+        self.begun = true;
+        let Some(first) = calls.first() else {
+            return;
+        };
+        let Some(last) = calls.last() else {
+            return;
+        };
+        self.past.purge(first.moment());
+        self.number = last.number();
+        self.moment = last.moment();
     }
 }
 

@@ -1,7 +1,8 @@
 //! Screening the calls of a round: what rules 1 to 9 say of each, tried in several threads.
 ghost use Rattle.std.specs.Prelude.{◌≡◌, ◌<◌, ◌≤◌, ℕ, length, slice_index_or};
+ghost use Rattle.verify_rules.specs.Screened.{screened_by};
 ghost use Rattle.verify_service.specs.Judging.{call_in};
-ghost use Rattle.verify_service.specs.Screening.{IsScreening, ScreensAt, readings_in};
+ghost use Rattle.verify_service.specs.Screening.{IsScreening, ScreensAt, last_in, readings_in};
 ghost use Rattle.verify_service.specs.declared.screening.ReadyCall.{ReadyCall};
 
 use crate::laws::call_law;
@@ -69,11 +70,12 @@ fn screen_at(alloc: Global, settings: &Settings, calls: &[Call], at: usize, plac
 fn screen_call(alloc: Global, settings: &Settings, call: &Call) -> Screening
     ensures screening { IsScreening (call_in settings.now call.now) result }
     ensures few { length (readings_in result) ≤ 9 }
+    ensures last { last_in result ≤ 253402387199 }
 {
     call_law();
     match screen(alloc, call.message(), call.moment(), settings) {
         Ok(screened) => {
-            let _ = screened.count();
+            last_law(&screened, settings);
             Screening::Passed(screened)
         }
         Err(fault) => match fault {
@@ -81,4 +83,16 @@ fn screen_call(alloc: Global, settings: &Settings, call: &Call) -> Screening
             ScreenFault::Memory => Screening::Open,
         },
     }
+}
+
+/// A law, with nothing to do: a call has at most nine PASSporTs, and is fresh until a day after the last second of the year 9999 at most.
+#[tactic(auto, using(crate::proofs::LastLaws::last_within))]
+fn last_law(screened: &Screened, settings: &Settings)
+    requires { screened.now ≡ screened_by settings.now screened.now.readings }
+    ensures few { length screened.now.readings ≤ 9 }
+    ensures last { screened.now.last ≤ 253402387199 }
+{
+    let _past = settings.past;
+    let count = screened.count();
+    let _iat = screened.passport(count - 1).iat();
 }

@@ -14,12 +14,12 @@ use verify_rules::Settings;
 const MOST_CALLS: usize = 256;
 
 /// The most chains that are held.
-const MOST_CHAINS: usize = 4096;
+pub(crate) const MOST_CHAINS: usize = 4096;
 
 /// Judges calls round by round: what it judges them by, which calls passed before, and the chains that it judged and holds.
 ///
-/// A contract sees the settings, the chain map, the anchors, the code table, the past, the chains that are held, and the number and moment of the
-/// last call that was handed in.
+/// A contract sees the settings, the chain map, the anchors, the code table, the past, the chains that are held, the number and moment of the
+/// last call that was handed in, and whether a round may be its newest.
 #[derive(Drop)]
 pub struct Service {
     pub(crate) settings: Settings,
@@ -28,6 +28,8 @@ pub struct Service {
     pub(crate) cache: Cache,
     pub(crate) number: u32,
     pub(crate) moment: u64,
+    /// Whether a round was prepared since the state was taken.
+    pub(crate) begun: bool,
 }
 
 impl Model for Service {
@@ -44,13 +46,15 @@ impl Model for Service {
       held = s.cache;
       number = s.number;
       moment = s.moment;
+      begun = s.begun;
     } };
 
-    ghost invariant = { λ s. IsSound s.cache.capacity };
+    ghost invariant = { λ s. IsSound s.cache.capacity s.number s.moment s.past };
 }
 
 impl Service {
-    /// A service that has judged no call yet. `Memory` is the only error.
+    /// A service that has judged no call yet. `Memory` is the only error. [`Service::restore`] makes one that goes on from an earlier run.
+    #[tactic(auto, using(crate::proofs::KeepingLaws::none_kept))]
     pub fn new(alloc: Global, settings: Settings, world: World) -> Result<Service, AllocError>
         ensures { IfOk result (IsNew settings world) }
     {
@@ -62,6 +66,7 @@ impl Service {
             cache,
             number: 0,
             moment: 0,
+            begun: false,
         })
     }
 

@@ -5,7 +5,11 @@ use Rattle.verify_rules.specs.Rules.{early_rules}
 use Rattle.verify_rules.specs.Screened.{IsScreenedBy}
 use Rattle.verify_rules.specs.declared.refusal.ScreenFault.{ScreenFault}
 use Rattle.verify_rules.specs.declared.refusal.ScreenFault.TheVariants as faults
+use Rattle.verify_service.proofs.LastLaws.{by_readings}
 use Rattle.verify_service.proofs.screening.screen_call.Goals as goal
+
+pub last_law-requires : goal.last_law-requires
+last_law-requires c = by_readings c.args.settings.now _ c.in-Ok.screened c.in-Ok.ensures.exact.1
 
 pub returns-in-Ok-clause-screening : goal.returns-in-Ok-clause-screening
 returns-in-Ok-clause-screening c =

@@ -1,5 +1,5 @@
 -- A round that is prepared is the newest of its service.
-use Rattle.std.proofs.Common.{◌≡◌, ◌<◌, ℕ, [], get_or, length, sym, ap, ◌∙◌, subst}
+use Rattle.std.proofs.Common.{◌≡◌, ◌<◌, ℕ, [], get_or, length, sym, ap, ◌∙◌, subst, arith}
 use Rattle.cert_store.specs.Holding.{Holding}
 use Rattle.cert_store.specs.declared.world.World.{World as Materials}
 use Rattle.verify_rules.specs.declared.settings.Settings.{Settings}
@@ -7,12 +7,37 @@ use Rattle.verify_service.specs.Carried.{AreClasses}
 use Rattle.verify_service.specs.Prepared.{AreScreened, classes_of}
 use Rattle.verify_service.specs.RightChains.{AreRightHeld}
 use Rattle.verify_service.specs.RoundRead.{HasAskedOwn, RoundReads}
-use Rattle.verify_service.specs.Service.{ServiceView, materials_of}
+use Rattle.replay_desk.specs.Past.{PastView}
+use Rattle.replay_law.specs.Held.{Same, purged}
+use Rattle.verify_service.specs.Rows.{held}
+use Rattle.verify_service.specs.Service.{ServiceView, first_moment_of, materials_of}
+use Rattle.verify_service.proofs.KeepingLaws.{same_kept}
+use Rattle.verify_service.proofs.PastLaws.{held_same}
 use Rattle.verify_service.proofs.ClassLaws.{last_screened}
 use Rattle.verify_service.proofs.PreparedLaws.{more_room}
 use Rattle.verify_service.proofs.RoundAllLaws.{right_after}
 use Rattle.verify_service.proofs.RoundLaws.{materials_same}
 use Rattle.verify_service.proofs.service.Service.prepare.Goals as goal
+
+-- room in the past changes nothing of what is kept
+pub invariant_of-self-in_err-prepared : goal.invariant_of-self-in_err-prepared
+invariant_of-self-in_err-prepared g c = record {
+  capacity_is = c.prepare_round.ensures.capacity ∙ c.self.invariant.capacity_is;
+  moment_within = c.self.invariant.moment_within;
+  each_kept = same_kept c.self.inside.number c.self.inside.number c.self.inside.past c.reserve.new.self (omega arith) c.self.invariant.each_kept c.reserve.ensures.same;
+}
+
+pub invariant_of-self-2 : goal.invariant_of-self-2
+invariant_of-self-2 g c = record {
+  capacity_is = c.prepare_round.ensures.capacity ∙ c.self.invariant.capacity_is;
+  moment_within = c.self.invariant.moment_within;
+  each_kept = same_kept c.self.inside.number c.self.inside.number c.self.inside.past c.reserve.new.self (omega arith) c.self.invariant.each_kept c.reserve.ensures.same;
+}
+
+pub returns-clause-purged : goal.returns-clause-purged
+returns-clause-purged g c =
+    held_same c.self.inside.past c.reserve.new.self (purged (first_moment_of c.args.calls.now) (held c.args.self.now.past)) c.reserve.ensures.same
+    (subst (λ (v : PastView). Same (purged (first_moment_of c.args.calls.now) (held c.args.self.now.past)) (held v)) (sym (ap (λ (s : ServiceView). s.past) c.self.view_is)) c.begin.ensures.purged)
 
 pub returns-in_err-prepared-clause-right : goal.returns-in_err-prepared-clause-right
 returns-in_err-prepared-clause-right g c = λ d.
@@ -33,9 +58,10 @@ returns-clause-right g c = λ d.
 pub returns-clause-newest : goal.returns-clause-newest
 returns-clause-newest g c = record {
   calls = subst (λ n. AreScreened c.self.inside.settings n c.in_ok-prepared.prepared.calls) (sym (ap (λ (s : ServiceView). s.number) c.self.view_is ∙ c.begin.ensures.number))
-      (last_screened c.self.inside.settings c.args.self.now.number c.args.self.now.moment c.args.calls.now c.in_ok-prepared.prepared.calls c.requires.follow.some c.in_ok-prepared.ensures.calls);
+      (last_screened c.self.inside.settings c.args.self.now.number c.args.self.now.moment c.args.calls.now c.in_ok-prepared.prepared.calls c.requires.follow.some c.requires.follow.each c.in_ok-prepared.ensures.calls);
   there = c.in_ok-prepared.ensures.there;
   room = more_room c.in_ok-prepared.prepared.calls (length c.args.calls.now) c.reserve.new.self.spare c.in_ok-prepared.ensures.room c.in_ok-reserve.ensures.room;
+  begun = ap (λ (s : ServiceView). s.begun) c.self.view_is ∙ c.begin.ensures.begun;
 }
 
 pub returns-clause-classes : goal.returns-clause-classes
