@@ -1,6 +1,6 @@
 -- A log that is judged call by call and settled by its tickets alone.
-use Rattle.std.proofs.Common.{◌≡◌, ⊤, Bool, true, false, List, [], ◌∷◌, ◌++◌, Option, Some, None, ◌×◌, ◌⊎◌, inl, inr, refl, sym, ◌∙◌, ap, subst}
-use Rattle.std.specs.Bool.{◌||◌}
+use Rattle.std.proofs.Common.{◌≡◌, ◌||◌, Bool, true, false, List, [], ◌∷◌, ◌++◌, Option, Some, None, ◌⊎◌, inl, inr, refl, sym, ◌∙◌, ap, subst}
+use Rattle.std.specs.Bool.{⊤}
 use Rattle.std.specs.List.{list_any}
 use Rattle.std.proofs.lemmas.Option.{none-some, same_Some}
 use Rattle.call_log.specs.Entry.{Entry}
@@ -192,7 +192,7 @@ day_is_report law one world config rounds outcomes legal first read asked read_d
     let settings = config.settings in
     let calls = calls_in rounds in
     let rounds_first : AnsweredByFirst (rows_of settings calls (outcomes_in rounds)) =
-        subst AnsweredByFirst (all_rows config rounds (all_counted (JudgedIn world settings) rounds legal.each)) (law (row_rounds config rounds) legal.once first) in
+    subst AnsweredByFirst (all_rows config rounds (all_counted (JudgedIn world settings) rounds legal.each)) (law (row_rounds config rounds) legal.once first) in
     let mine = all_settle world settings calls outcomes (all_judged world settings calls outcomes day.each) read_day asked_day in
     let theirs = all_settle world settings calls (outcomes_in rounds) (of_all (JudgedIn world settings) rounds legal.each) read asked in
     one_list world settings calls outcomes (outcomes_in rounds) mine theirs

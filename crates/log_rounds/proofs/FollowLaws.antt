@@ -28,11 +28,11 @@ last_behind : (x y : Entry) (ys : List Entry) → last_entry (x ∷ y ∷ ys) �
 last_behind x y ys = let e : length (x ∷ y ∷ ys) - 1 ≡ suc (length (y ∷ ys) - 1) = omega arith in ap (slice_get (x ∷ y ∷ ys)) e
 
 -- The number and the moment of the last call are those that come of taking the calls one by one from the front.
-number_front : (number : ℕ) (x : Entry) (xs : List Entry) → last_number number (x ∷ xs) ≡ last_number x.number xs
+pub number_front : (number : ℕ) (x : Entry) (xs : List Entry) → last_number number (x ∷ xs) ≡ last_number x.number xs
 number_front number x [] = refl
 number_front number x (y ∷ ys) = ap (number_or number) (last_behind x y ys) ∙ number_front number y ys ∙ sym (number_front x.number y ys)
 
-moment_front : (moment : ℕ) (x : Entry) (xs : List Entry) → last_moment_of moment (x ∷ xs) ≡ last_moment_of x.moment xs
+pub moment_front : (moment : ℕ) (x : Entry) (xs : List Entry) → last_moment_of moment (x ∷ xs) ≡ last_moment_of x.moment xs
 moment_front moment x [] = refl
 moment_front moment x (y ∷ ys) = ap (moment_or moment) (last_behind x y ys) ∙ moment_front moment y ys ∙ sym (moment_front x.moment y ys)
 

@@ -20,12 +20,12 @@ use Rattle.verify_service.specs.declared.outcome.Outcome.{Outcome}
 
 -- ---- the call of a row
 
-record OfCall (config : JudgeConfig) (P : Entry → Outcome → Type 0) (calls : List Entry) (row : Row) : Type 0 where
-  call : Entry
-  outcome : Outcome
-  is : row ≡ row_of config.settings call outcome
-  holds : P call outcome
-  inside : IsIn call calls
+pub record OfCall (config : JudgeConfig) (P : Entry → Outcome → Type 0) (calls : List Entry) (row : Row) : Type 0 where
+  pub call : Entry
+  pub outcome : Outcome
+  pub is : row ≡ row_of config.settings call outcome
+  pub holds : P call outcome
+  pub inside : IsIn call calls
 
 in_front : (call : Entry) (xs ys : List Entry) → IsIn call xs → IsIn call (xs ++ ys)
 in_front call [] ys i = absurd i
@@ -44,7 +44,7 @@ in_round config P (c ∷ cs) (o ∷ os) (suc place) row p s =
     let f = in_round config P cs os place row p.1 s in
     record { call = f.call; outcome = f.outcome; is = f.is; holds = f.holds; inside = inr f.inside }
 
-of_call : (config : JudgeConfig) (P : Entry → Outcome → Type 0) (rounds : List Round) (round place : ℕ) (row : Row) → InEach P rounds → StandsIn (row_rounds config rounds) round place row → OfCall config P (calls_in rounds) row
+pub of_call : (config : JudgeConfig) (P : Entry → Outcome → Type 0) (rounds : List Round) (round place : ℕ) (row : Row) → InEach P rounds → StandsIn (row_rounds config rounds) round place row → OfCall config P (calls_in rounds) row
 of_call config P [] round place row a s = absurd (none-some row s)
 of_call config P (r ∷ rs) zero place row a s =
     let f = in_round config P r.calls r.outcomes place row a.0 s in
@@ -55,15 +55,15 @@ of_call config P (r ∷ rs) (suc round) place row a s =
 
 -- ---- a call that passes, by what was signed as its last PASSporT
 
-known_fresh : (settings : Settings) (call : Entry) → IsKnownAgain (call_in settings call) → call.moment ≤ last_second (call_in settings call)
+pub known_fresh : (settings : Settings) (call : Entry) → IsKnownAgain (call_in settings call) → call.moment ≤ last_second (call_in settings call)
 unfolding call_in last_second
 known_fresh settings call known = known.fresh
 
-known_ticket : (settings : Settings) (call : Entry) → (known : IsKnownAgain (call_in settings call)) → ticket_or_none (call_in settings call) ≡ Ticket known.signing
+pub known_ticket : (settings : Settings) (call : Entry) → (known : IsKnownAgain (call_in settings call)) → ticket_or_none (call_in settings call) ≡ Ticket known.signing
 unfolding ticket_or_none
 known_ticket settings call known = ap (λ ticket. unwrap_or ticket []) known.ticket
 
-known_last : (settings : Settings) (call : Entry) → (known : IsKnownAgain (call_in settings call)) → last_second (call_in settings call) ≡ last_by settings known.signing
+pub known_last : (settings : Settings) (call : Entry) → (known : IsKnownAgain (call_in settings call)) → last_second (call_in settings call) ≡ last_by settings known.signing
 unfolding call_in last_second
 known_last settings call known = known.last
 
@@ -91,11 +91,11 @@ apart config rounds owed one round place other_round other row same s p t uses =
 
 -- ---- moments don't fall
 
-behind_calls : (passed : Passed) (xs ys : List Entry) → AreCalls passed (xs ++ ys) → AreCalls (after_all passed xs) ys
+pub behind_calls : (passed : Passed) (xs ys : List Entry) → AreCalls passed (xs ++ ys) → AreCalls (after_all passed xs) ys
 behind_calls passed [] ys a = a
 behind_calls passed (x ∷ xs) ys a = behind_calls (after passed x) xs ys a.1
 
-not_below : (passed : Passed) (calls : List Entry) (call : Entry) → AreCalls passed calls → IsIn call calls → passed.moment ≤ call.moment
+pub not_below : (passed : Passed) (calls : List Entry) (call : Entry) → AreCalls passed calls → IsIn call calls → passed.moment ≤ call.moment
 not_below passed [] call a i = absurd i
 not_below passed (c ∷ cs) call a (inl e) = omega (arith, a.0.not_backward, ap (λ (x : Entry). x.moment) e)
 not_below passed (c ∷ cs) call a (inr i) = omega (arith, a.0.not_backward, not_below (after passed c) cs call a.1 i)
@@ -107,7 +107,7 @@ first_below config passed (c ∷ cs) others [] call a i = omega arith
 first_below config passed (c ∷ cs) others (o ∷ os) call a (inl e) = omega (arith, ap (λ (x : Entry). x.moment) e)
 first_below config passed (c ∷ cs) others (o ∷ os) call a (inr i) = not_below (after passed c) (cs ++ others) call a.1 i
 
-falls : (config : JudgeConfig) (P : Entry → Outcome → Type 0) (passed : Passed) (rounds : List Round) → InEach P rounds → AreCalls passed (calls_in rounds) → NeverFalls (row_rounds config rounds)
+pub falls : (config : JudgeConfig) (P : Entry → Outcome → Type 0) (passed : Passed) (rounds : List Round) → InEach P rounds → AreCalls passed (calls_in rounds) → NeverFalls (row_rounds config rounds)
 falls config P passed [] each follow earlier later place round row here order s = absurd (none-some round here)
 falls config P passed (r ∷ rs) each follow zero later place round row here order s =
     let f = of_call config P (r ∷ rs) later place row each s in

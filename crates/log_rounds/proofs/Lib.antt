@@ -9,3 +9,5 @@ pub mod StatusLaws
 pub mod BatchesLaws
 pub mod WordsLaws
 mod DayLaws
+mod RunsLaws
+mod HandedLaws

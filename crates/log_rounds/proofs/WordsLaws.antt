@@ -35,14 +35,14 @@ same_calls [] (y ∷ ys) a = absurd a
 same_calls (x ∷ xs) [] a = absurd a
 same_calls (x ∷ xs) (y ∷ ys) a = ap (λ t. t ++ calls_in xs) a.0 ∙ ap (λ t. y.calls ++ t) (same_calls xs ys a.3)
 
-same_good : (xs : List Batch) (ys : List Round) → AreRounds xs ys → all_well xs ≡ all_valid (outcomes_in ys)
+pub same_good : (xs : List Batch) (ys : List Round) → AreRounds xs ys → all_well xs ≡ all_valid (outcomes_in ys)
 same_good [] [] a = refl
 same_good [] (y ∷ ys) a = absurd a
 same_good (x ∷ xs) [] a = absurd a
 same_good (x ∷ xs) (y ∷ ys) a = ap (λ t. t && all_well xs) a.2 ∙ ap (λ t. all_valid y.outcomes && t) (same_good xs ys a.3) ∙ sym (valid_both y.outcomes (outcomes_in ys))
 
 -- the cut into rounds of 256
-same_cut : (xs : List Batch) (ys : List Round) → AreRounds xs ys → IsCut 256 xs → IsCutInRounds ys
+pub same_cut : (xs : List Batch) (ys : List Round) → AreRounds xs ys → IsCut 256 xs → IsCutInRounds ys
 same_cut [] [] a c = tt
 same_cut [] (y ∷ ys) a c = absurd a
 same_cut (x ∷ xs) [] a c = absurd a
@@ -105,7 +105,7 @@ judged_batches legal first judged config chains passed a mid b xs empty shelf pr
   provider_stays = omega (arith, j.provider_stays, provider);
 }
 
-other_stop : {X : Type 0} (text name : String Global) → ◌≡◌ {A = AnswerError} (Unread text name) Memory → X
+pub other_stop : {X : Type 0} (text name : String Global) → ◌≡◌ {A = AnswerError} (Unread text name) Memory → X
 other_stop text name e = absurd (cc)
 
 closes : (judged : Entry → Outcome → Type 0) (config : JudgeConfig) (chains : ChainFiles) (a b : JudgeState) (batches : List Batch) (text : List ℕ) → a.held ≡ [] → text ≡ [] → JudgedRounds judged config chains a b batches

@@ -8,3 +8,5 @@ pub mod Reads
 pub mod Judged
 pub mod Batches
 pub mod Day
+pub mod Runs
+pub mod Handed

@@ -4,6 +4,7 @@ ghost use Rattle.log_rounds.specs.Batches.{OneRound};
 ghost use Rattle.log_rounds.specs.Judge.{Moves, RoundJudged};
 ghost use Rattle.log_rounds.specs.Verifier.{AnswersBy, TrustsHeld, basis_of, config_of, state_of};
 ghost use Rattle.stir_outside.specs.Stays.{ShelfStays};
+ghost use Rattle.verify_service.specs.Handing.{IsStateOf};
 ghost use Rattle.verify_service.specs.Service.{Follow};
 
 use crate::report::{all_valid, first_number, lines_of};
@@ -16,7 +17,7 @@ use std::alloc::{AllocError, Global};
 use std::thread::Threads;
 use stir_outside::Shelf;
 use verify_rules::words_law;
-use verify_service::Carried;
+use verify_service::{Carried, State};
 
 impl<'a> LogVerifier<'a> {
     /// Judges the calls of a round, of which there are 1 to 256. Their numbers rise and their moments don't fall, from those of the last
@@ -45,8 +46,15 @@ impl<'a> LogVerifier<'a> {
             .round(rt, alloc, shelf, workers.as_mut_slice(), calls)
     }
 
+    /// What the service hands on to the next run. `AllocError` is the only error.
+    pub(crate) fn hand_on(&mut self, alloc: Global) -> Result<State, AllocError>
+        ensures state { IfOk result (IsStateOf self.old.service) }
+    {
+        self.service.state(alloc)
+    }
+
     /// Judges a round, and gives its lines. Only memory stops that.
-    fn answer_round<R: Threads + Sync, S: Shelf>(
+    pub(crate) fn answer_round<R: Threads + Sync, S: Shelf>(
         &mut self,
         rt: &R,
         alloc: Global,

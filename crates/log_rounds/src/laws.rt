@@ -2,10 +2,11 @@
 ghost use Rattle.std.specs.Prelude.{◌≡◌, List};
 ghost use Rattle.log_rounds.specs.AllValid.{AreValid, all_valid};
 ghost use Rattle.log_rounds.specs.Day.{DayIsLegal, DayIsReport};
+ghost use Rattle.log_rounds.specs.Runs.{RunsLegal};
 ghost use Rattle.log_run.specs.Ending.{report_status};
 ghost use Rattle.verify_service.specs.declared.outcome.Outcome.{Outcome};
 
-use replay_law::{first_is_legal, legal_is_first, one_by_first};
+use replay_law::{first_is_legal, legal_in_runs, legal_is_first, one_by_first};
 
 /// The status of a whole report is 0 just where each of its calls is valid, and else 1.
 pub fn status_law()
@@ -24,4 +25,11 @@ pub fn day_law()
     first_is_legal();
     legal_is_first();
     one_by_first();
+}
+
+/// Runs that hand their state on are legal together: of the calls of all runs that pass with one ticket one is valid, and each other is a replay of it.
+pub fn runs_law()
+    ensures { RunsLegal }
+{
+    legal_in_runs();
 }

@@ -3,6 +3,8 @@
 //! - A [`LogVerifier`] is the service, the answers and how many workers there are. It implements `LogCommand` of `log_run`.
 //! - [`judge_log`] reads the calls of a log in rounds of 256, has the verifier judge each round, and writes a line for each call before the next
 //!   round is read. Its answer is the status: 0 if all calls are valid, 1 if some aren't, and 3 to 6 if something stopped it.
+//! - [`judge_log_on`] is the same from the state of an earlier run on, and writes the state that a [`HandingVerifier`] hands on. No command calls it
+//!   yet.
 //!
 //! ```rust
 //! let mut verifier = LogVerifier { service, answers: &answers, workers: 1 };
@@ -14,12 +16,14 @@
 //!
 //! Proved: what was written is the report of the rounds, each outcome may be given to its call, and by the premise that no two signed texts have one
 //! SHA-256 the outcomes of the whole log are legal (`replay_law`). The reads of files are bounded. `specs/Batches`, `Judged` and `Reads` have the
-//! words, and `docs/PROVED.md`, "A log", the clauses. [`status_law`] says what the status of a whole report means,
-//! and [`day_law`] that a log may be judged call by call, on any number of machines, and settled by its tickets afterwards.
+//! words, and `docs/PROVED.md`, "A log", the clauses. [`status_law`] says what the status of a whole report means, [`runs_law`] that runs which hand
+//! their state on are legal together, and [`day_law`] that a log may be judged call by call, on any number of machines, and settled by its tickets
+//! afterwards.
 //!
 //! Cases: `tests/cli/verify.rows`, and `crates/vectors_runs/stdin` for reads and writes that fail.
 #![tactic(auto)]
 
+mod handing;
 mod judging;
 mod laws;
 mod report;
@@ -27,7 +31,8 @@ mod run;
 mod verifier;
 mod workers;
 
-pub use laws::{day_law, status_law};
+pub use handing::{HandingVerifier, judge_log_on};
+pub use laws::{day_law, runs_law, status_law};
 pub use run::judge_log;
 pub use verifier::LogVerifier;
 /// Memory ran out.

@@ -302,13 +302,21 @@ pub log_says : OneLog → (words : Words) (Known : List Batch → Type 0) (Stopp
 log_says law words Known Stopped Closed passed source Drained left left_now s t status speaks r =
     says_by words Known Stopped Closed passed left left_now Drained s t status speaks r.batches r.mid r.cut r.read r.good_so r.stay law r.so
 
--- from a reader at the beginning of a log
-first_at : (left : Option (List ℕ)) (reader : LogState) → reader ≡ record { passed = start 0 0; ahead = []; ended = false; fault = None } → at reader.passed left (left_to reader left) true ≡ at (start 0 0) left left true
-first_at left reader new = λ i. at (ap (λ (x : LogState). x.passed) new i) left ((ap (λ (x : LogState). left_to x left) new ∙ prepend_known-nil left) i) true
+-- from a reader at the beginning of a log that goes on from this number and this moment
+begun_at : (number moment : ℕ) (left : Option (List ℕ)) (reader : LogState) → reader ≡ record { passed = start number moment; ahead = []; ended = false; fault = None }
+    → at reader.passed left (left_to reader left) true ≡ at (start number moment) left left true
+begun_at number moment left reader new = λ i. at (ap (λ (x : LogState). x.passed) new i) left ((ap (λ (x : LogState). left_to x left) new ∙ prepend_known-nil left) i) true
 
+pub begun_says : OneLog → (number moment : ℕ) (words : Words) (Known : List Batch → Type 0) (Stopped : List Batch → List Entry → AnswerError → Type 0) (Closed : List Batch → List ℕ → Type 0)
+    (reader : LogState) (Drained : Type 0) (left left_now : Option (List ℕ)) (s t : Streams) (status : ℕ) → reader ≡ record { passed = start number moment; ahead = []; ended = false; fault = None }
+    → Speaks words (start number moment) Known Stopped Closed → LogRan words.most Known Stopped Closed (at reader.passed left (left_to reader left) true) Drained left_now s t status
+    → LogSays words (start number moment) (run_state left s) (run_state left_now t) status
+begun_says law number moment words Known Stopped Closed reader Drained left left_now s t status new speaks r =
+    log_says law words Known Stopped Closed (start number moment) left Drained left left_now s t status speaks
+    (subst (λ (x : At). LogRan words.most Known Stopped Closed x Drained left_now s t status) (begun_at number moment left reader new) r)
+
+-- from one at the beginning of a log
 pub first_says : OneLog → (words : Words) (Known : List Batch → Type 0) (Stopped : List Batch → List Entry → AnswerError → Type 0) (Closed : List Batch → List ℕ → Type 0) (reader : LogState) (Drained : Type 0) (left left_now : Option (List ℕ)) (s t : Streams)
     (status : ℕ) → reader ≡ record { passed = start 0 0; ahead = []; ended = false; fault = None } → Speaks words (start 0 0) Known Stopped Closed
     → LogRan words.most Known Stopped Closed (at reader.passed left (left_to reader left) true) Drained left_now s t status → LogSays words (start 0 0) (run_state left s) (run_state left_now t) status
-first_says law words Known Stopped Closed reader Drained left left_now s t status new speaks r =
-    log_says law words Known Stopped Closed (start 0 0) left Drained left left_now s t status speaks
-    (subst (λ (x : At). LogRan words.most Known Stopped Closed x Drained left_now s t status) (first_at left reader new) r)
+first_says law = begun_says law 0 0

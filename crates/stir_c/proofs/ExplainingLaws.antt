@@ -1,10 +1,12 @@
 -- What explains a call, from what is found of it; and what is told of it.
 use Rattle.std.proofs.Common.{◌≡◌, ℕ, ◌≤◌, List, length, Result, IfOk, None, Some, sym, ◌∙◌, ap}
 use Rattle.stir_outside.specs.Held.{held_says}
-use Rattle.single_calls.specs.Explain.{Explain, broken_text, explained, ok_lines}
+use Rattle.single_calls.specs.Explain.{Explain, broken_text, explained}
 use Rattle.verify_rules.specs.Call.{Call}
 use Rattle.verify_rules.specs.World.{First, World}
 use Rattle.verify_rules.specs.declared.refusal.Refusal.{Refusal}
+use Rattle.verify_service.specs.declared.finding.Finding.TheVariants as findings
+use Rattle.verify_service.specs.declared.finding.Pass.{Pass}
 use Rattle.stir_c.specs.Explaining.{ExplainedInto, ExplainedOf, HasNoRoomFor, finding_of}
 use Rattle.stir_c.specs.Found.{IsFound}
 use Rattle.stir_c.specs.Handing.{FoundBy}
@@ -18,19 +20,20 @@ use Rattle.stir_c.specs.declared.inputs.Fault.{Fault}
 use Rattle.stir_c.specs.declared.said.Said.{Said}
 use Rattle.stir_c.proofs.ToldLaws.{RoomlessSo, WrittenSo, roomless_so, size_said, tells_as, written_so}
 
--- what is explained of a call that breaks no rule, and of one that does
-abbrev pub MetLaw : Type 0
-MetLaw = (world : World) (number : ℕ) (call : Call) → First world call ≡ None → Explain world number call ≡ ok_lines number 1 17
+-- what is explained of a call that breaks no rule, whatever it is known again by; and of one that does
+abbrev pub MetLaw : Pass → Type 0
+MetLaw pass = (world : World) (number : ℕ) (call : Call) → First world call ≡ None → Explain world number call ≡ explained number (findings.Passes pass)
 
 abbrev pub BrokenLaw : Type 0
 BrokenLaw = (world : World) (number : ℕ) (call : Call) (refused : Refusal) → First world call ≡ Some refused → Explain world number call ≡ broken_text number refused
 
-lines_are : MetLaw → BrokenLaw → (world : World) (number : ℕ) (call : Call) (found : Found) → IsFound world call found → Explain world number call ≡ explained number (finding_of found)
+lines_are : ((pass : Pass) → MetLaw pass) → BrokenLaw → (world : World) (number : ℕ) (call : Call) (found : Found) → IsFound world call found
+    → Explain world number call ≡ explained number (finding_of found)
 lines_are met broken world number call (Refused refused) is = broken world number call refused is
-lines_are met broken world number call (Passes pass) is = met world number call is.0
+lines_are met broken world number call (Passes pass) is = met pass world number call is.0
 
-pub explained_of : (given : Handed) (number : ℕ) (answers lines : List ℕ) (found : Found) → MetLaw → BrokenLaw → FoundBy given answers found → lines ≡ explained number (finding_of found)
-    → ExplainedOf given number answers lines found
+pub explained_of : (given : Handed) (number : ℕ) (answers lines : List ℕ) (found : Found) → ((pass : Pass) → MetLaw pass) → BrokenLaw → FoundBy given answers found
+    → lines ≡ explained number (finding_of found) → ExplainedOf given number answers lines found
 explained_of given number answers lines found met broken by is = record {
   by = by;
   explains = is ∙ sym (lines_are met broken (world_in given by.materials (held_says by.held)) number (call_in given by.settings) found by.finds);

@@ -1,4 +1,3 @@
 pub mod KnownLaws
 pub mod SeatLaws
-pub mod Shared
 pub mod WorkerLaws

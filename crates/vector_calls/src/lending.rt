@@ -1,6 +1,5 @@
-//! A prepared round that is lent to threads of a caller's own: `Service::judge` of `verify_service`.
+//! A prepared round that is lent to judges of a caller's own: `Service::judge` of `verify_service`.
 ghost use Rattle.std.specs.Prelude.{◌≡◌, ◌<◌, ◌≤◌, Some, IfOk, length, slice_index_or};
-ghost use Rattle.std.specs.Thread.{IsSync};
 ghost use Rattle.stir_outside.specs.Held.{held_says};
 ghost use Rattle.vector_calls.specs.Workers.{SaySame};
 ghost use Rattle.verify_service.specs.Prepared.{IsNewest};
@@ -9,13 +8,13 @@ ghost use Rattle.verify_service.specs.Service.{HoldsRight, ServiceView};
 use crate::logs::{Line, calls_in, one_worker, put_counts, service_of, shelf_of, winner_of};
 use replay_desk::Seat;
 use std::alloc::Global;
-use std::thread::{Threads, join};
+use std::thread::Threads;
 use stir_outside::{AnswerProvider, Answers, NoGate, ShelfMem};
 use vector_table::{Answer, Unread, answers_of};
 use verify_service::{Call, Outcome, Prepared, Service, Worker};
 
-/// Of a log that is one round: how many of its calls are valid, and how many are replays of the last valid one, if two threads judge them by one
-/// prepared round that is lent to both.
+/// Of a log that is one round: how many of its calls are valid, and how many are replays of the last valid one, if two judges with a seat each judge
+/// them by one prepared round that is lent to both.
 pub(crate) fn lent<R: Threads + Sync>(
     rt: &R,
     alloc: Global,
@@ -30,7 +29,7 @@ pub(crate) fn lent<R: Threads + Sync>(
     put_counts(Answer::new(alloc), winner, lines.as_slice()).line()
 }
 
-/// What comes of the calls of a log, by a round that is lent to two threads, whose providers say what these answers hold.
+/// What comes of the calls of a log, by a round that is lent to two judges, whose providers say what these answers hold.
 fn judge_lent<R: Threads + Sync>(
     rt: &R,
     alloc: Global,
@@ -41,7 +40,7 @@ fn judge_lent<R: Threads + Sync>(
     let (service, mut prepared) = prepare_log(rt, alloc, answers, log, world)?;
     let seats = two_seats(&mut prepared)?;
     let providers = (answers.provider(&[])?, answers.provider(&[])?);
-    judge_by_two(rt, alloc, &service, &prepared, seats, providers)
+    judge_by_two(alloc, &service, &prepared, seats, providers)
 }
 
 /// A service, and its newest round: the calls of a log, prepared.
@@ -103,9 +102,8 @@ fn two_seats(prepared: &mut Prepared) -> Result<(Seat, Seat), Unread>
     Ok((seat, other))
 }
 
-/// What comes of the calls of a prepared round if one thread judges those at even places and another those at odd ones.
-fn judge_by_two<R: Threads + Sync>(
-    rt: &R,
+/// What comes of the calls of a prepared round if one judge takes those at even places and then another those at odd ones.
+fn judge_by_two(
     alloc: Global,
     service: &Service,
     prepared: &Prepared,
@@ -118,23 +116,10 @@ fn judge_by_two<R: Threads + Sync>(
 {
     let (seat, other_seat) = seats;
     let (provider, other_provider) = providers;
-    may_be_shared(prepared);
-    let (even, odd) = join(
-        rt,
-        move || judge_every_second(alloc, service, prepared, 0, seat, provider),
-        move || judge_every_second(alloc, service, prepared, 1, other_seat, other_provider),
-    );
-    let mut lines = even?;
-    let others = odd?;
+    let mut lines = judge_every_second(alloc, service, prepared, 0, seat, provider)?;
+    let others = judge_every_second(alloc, service, prepared, 1, other_seat, other_provider)?;
     lines.extend_from_slice(others.as_slice())?;
     Ok(lines)
-}
-
-/// It may be lent to several threads at once. The toolchain finds that of a type which holds itself, as a JSON value in a screened call does.
-fn may_be_shared<T: Sync>(value: &T)
-    ensures { IsSync T.row }
-{
-    let _ = value;
 }
 
 /// What comes of the calls of a prepared round at even places, or at odd ones, as this worker judges them.
