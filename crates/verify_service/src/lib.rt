@@ -15,7 +15,7 @@
 //! - [`Service::new`] takes the settings and the [`World`] (chain map, anchors, code table). [`Service::round`] is `prepare` and then `carry`.
 //! - A [`Worker`] is a provider of signatures and a gate. Their providers say the same.
 //! - [`Service::judge`] judges a call of a prepared round, for a caller with threads of its own.
-//! - [`judge_call`] judges a call by itself, without the calls around it, and gives a [`Finding`]; [`chain_in`] reads one chain.
+//! - [`judge_call`] judges a call by itself, without the calls around it, and gives a [`Finding`]; [`chain_in`] reads one chain, and [`read_chains`] those of a call.
 //!
 //! ```rust
 //! let mut service = Service::new(alloc, settings, world)?;
@@ -82,9 +82,9 @@ pub use judge::judge_call;
 pub use laws::{call_law, chains_law, fresh_law, report_law};
 pub use outcome::Outcome;
 pub use prepared::Prepared;
-pub use reading::chain_in;
+pub use reading::{chain_in, read_chains};
 pub use replay_desk::State;
-pub use report::report_line;
+pub use report::{report_line, said};
 pub use service::Service;
 pub use worker::Worker;
 /// Memory ran out.

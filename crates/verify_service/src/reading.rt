@@ -15,7 +15,7 @@ use verify_rules::{Screened, right_law};
 use x509_profile::MOST_CHAIN_BYTES;
 
 /// Reads and judges the chain of each PASSporT of a call, in the order in which the call went, in place of those that there were.
-pub(crate) fn read_chains<S: Shelf, P: Provider>(
+pub fn read_chains<S: Shelf, P: Provider>(
     alloc: Global,
     world: &World,
     shelf: &mut S,

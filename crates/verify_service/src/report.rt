@@ -22,8 +22,8 @@ pub fn report_line(alloc: Global, number: u32, outcome: &Outcome) -> Result<Vec<
     Ok(line.into_bytes())
 }
 
-/// What the line says behind the number.
-fn said(alloc: Global, outcome: &Outcome) -> Result<String, AllocError>
+/// What the line says behind the number, without an LF. `Memory` is the only error.
+pub fn said(alloc: Global, outcome: &Outcome) -> Result<String, AllocError>
     ensures { IfOk result (λ said. string_bytes said ≡ said_text outcome.now) }
 {
     match outcome {
