@@ -9,8 +9,8 @@ use Rattle.log_run.specs.Speaks.{AreBatches, Speaks}
 use Rattle.log_run.specs.declared.stop.AnswerError.{AnswerError}
 use Rattle.log_run.specs.declared.stop.AnswerError.TheVariants.{Memory}
 use Rattle.log_rounds.specs.Batches.{JudgedRounds, OneRound, RoundsStopped}
-use Rattle.log_rounds.specs.Handed.{ClosesState, GoesOnFrom, HandsBehind, HasJudgedOn, IsHanded, JudgedOn, StateClosed, words_on}
-use Rattle.log_rounds.specs.Judge.{JudgeConfig, JudgeState, Moves, counts_of}
+use Rattle.log_rounds.specs.Handed.{ClosesState, GoesOnFrom, HandsBehind, HasJudgedOn, JudgedOn, StateClosed, words_on}
+use Rattle.log_rounds.specs.Judge.{JudgeConfig, JudgeState, counts_of}
 use Rattle.log_rounds.specs.Reads.{ReadsNamed}
 use Rattle.log_rounds.specs.Rounds.{calls_in as calls_of}
 use Rattle.log_rounds.specs.Verifier.{AnswersBy, JudgeBasis, basis_of, config_of, state_of}

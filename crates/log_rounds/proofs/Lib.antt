@@ -11,3 +11,4 @@ pub mod WordsLaws
 mod DayLaws
 mod RunsLaws
 mod HandedLaws
+mod OutputLaws

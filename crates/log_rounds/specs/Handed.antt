@@ -1,5 +1,5 @@
 -- A log that goes on from a state: its rounds, and the state that is handed on after them (this project's own rule).
-use Rattle.std.specs.Prelude.{◌≡◌, ℕ, ◌+◌, ◌≤◌, List, [], Option}
+use Rattle.std.specs.Prelude.{◌≡◌, ℕ, ◌+◌, ◌≤◌, List, [], ◌++◌, Option}
 use Rattle.call_log.specs.Entry.{Entry}
 use Rattle.call_log.specs.Log.{Passed}
 use Rattle.cert_store.specs.Files.{Files as ChainFiles}
@@ -17,7 +17,7 @@ use Rattle.log_rounds.specs.declared.verifier.LogVerifier.{LogVerifier}
 use Rattle.replay_law.specs.Held.{Held, Same, purged}
 use Rattle.replay_law.specs.Round.{Rounds}
 use Rattle.state_text.specs.State.{IsState, StateView}
-use Rattle.state_text.specs.StateText.{state_text}
+use Rattle.state_text.specs.StateText.{StateFile, state_text}
 use Rattle.stir_outside.specs.Count.{NotRisen}
 use Rattle.stir_outside.specs.Files.{Counts, Files}
 use Rattle.verify_service.specs.Handing.{IsStateOf, kept_by}
@@ -85,6 +85,12 @@ words_on basis told past passed before now = record {
   Closes = ClosesState (AnswersBy basis told) (config_of basis) basis.materials.chains past passed (outside_counts before.faults 0 before.reads)
       (outside_counts now.faults 0 now.reads);
 }
+
+-- The report and the text of a state behind it are a file that holds this state, whatever comes behind them: so the whole output of a run may be handed to
+-- the next.
+abbrev pub OutputIsState : Type 0
+OutputIsState = (number window : ℕ) (outcomes : List Outcome) (state : StateView) (behind : List ℕ) → IsState state → state.call ≤ 4000000000
+    → StateFile window (report number outcomes ++ (state_text state ++ behind)) state
 
 -- ---- what the loop knows of them
 

@@ -2,6 +2,7 @@
 ghost use Rattle.std.specs.Prelude.{◌≡◌, List};
 ghost use Rattle.log_rounds.specs.AllValid.{AreValid, all_valid};
 ghost use Rattle.log_rounds.specs.Day.{DayIsLegal, DayIsReport};
+ghost use Rattle.log_rounds.specs.Handed.{OutputIsState};
 ghost use Rattle.log_rounds.specs.Runs.{RunsLegal};
 ghost use Rattle.log_run.specs.Ending.{report_status};
 ghost use Rattle.verify_service.specs.declared.outcome.Outcome.{Outcome};
@@ -33,3 +34,8 @@ pub fn runs_law()
 {
     legal_in_runs();
 }
+
+/// The whole output of a run that hands its state on is a file that holds this state: none of the report's lines is the first line of a state.
+pub fn output_law()
+    ensures { OutputIsState }
+{}
