@@ -1,19 +1,18 @@
 -- A log that is judged call by call and settled by its tickets alone.
-use Rattle.std.proofs.Common.{◌≡◌, ◌||◌, Bool, true, false, List, [], ◌∷◌, ◌++◌, Option, Some, None, ◌⊎◌, inl, inr, refl, sym, ◌∙◌, ap, subst}
+use Rattle.std.proofs.Common.{◌≡◌, ◌||◌, Bool, true, false, List, [], ◌∷◌, ◌++◌, Some, None, ◌⊎◌, inl, inr, refl, sym, ◌∙◌, ap, subst}
 use Rattle.std.specs.Bool.{⊤}
 use Rattle.std.specs.List.{list_any}
 use Rattle.std.proofs.lemmas.Option.{none-some, same_Some}
 use Rattle.call_log.specs.Entry.{Entry}
-use Rattle.log_rounds.specs.Day.{AreCounted, DayIsLegal, DayIsReport, IsByItself, IsDay, JudgedIn}
+use Rattle.log_rounds.specs.Day.{AreCounted, DayIsLegal, DayIsReport, IsByItself, JudgedIn}
 use Rattle.log_rounds.specs.Judge.{JudgeConfig}
-use Rattle.log_rounds.specs.Rounds.{FirstWinsIn, InEach, Legal, Round, calls_in, outcomes_in, row_rounds}
+use Rattle.log_rounds.specs.Rounds.{InEach, Round, calls_in, outcomes_in, row_rounds}
 use Rattle.replay_law.specs.ByFirst.{AnsweredByFirst, AreAnsweredAlike, AreSameCalls, FirstIsLegal, LegalIsFirst, OneByFirst, rows_in}
-use Rattle.replay_law.specs.Row.{Answer, Row, neither, replay, valid}
 use Rattle.verify_rules.specs.World.{World, First}
 use Rattle.verify_rules.specs.declared.refusal.Refusal.{Refusal}
 use Rattle.verify_rules.specs.declared.settings.Settings.{Settings}
 use Rattle.verify_service.specs.Causes.{NoneUnasked, NoneUnread, is_unasked, is_unread}
-use Rattle.verify_service.specs.Judging.{ComesOf, EachPair, IsFound, IsJudged, call_in}
+use Rattle.verify_service.specs.Judging.{ComesOf, EachPair, IsFound, call_in}
 use Rattle.verify_service.specs.Rows.{answer_of, passes, row_of, rows_of}
 use Rattle.verify_service.specs.declared.finding.Finding.{Finding}
 use Rattle.verify_service.specs.declared.finding.Finding.TheVariants as found
@@ -22,7 +21,7 @@ use Rattle.verify_service.specs.declared.outcome.Outcome.TheVariants.{Valid, Ref
 
 -- ---- a call by itself, and as it is judged among others
 
-judged_by : (world : World) (settings : Settings) (entry : Entry) (outcome : Outcome) (finding : Finding) → IsFound world (call_in settings entry) finding
+pub judged_by : (world : World) (settings : Settings) (entry : Entry) (outcome : Outcome) (finding : Finding) → IsFound world (call_in settings entry) finding
     → ComesOf finding outcome → JudgedIn world settings entry outcome
 judged_by world settings entry outcome (found.Refused refused) is comes = subst (JudgedIn world settings entry) (sym comes) is
 judged_by world settings entry outcome (found.Unread bad) is comes = subst (JudgedIn world settings entry) (sym comes) is

@@ -36,7 +36,7 @@ in_behind : (call : Entry) (xs ys : List Entry) → IsIn call ys → IsIn call (
 in_behind call [] ys i = i
 in_behind call (x ∷ xs) ys i = inr (in_behind call xs ys i)
 
-in_round : (config : JudgeConfig) (P : Entry → Outcome → Type 0) (calls : List Entry) (outcomes : List Outcome) (place : ℕ) (row : Row) → EachPair P calls outcomes → Stands (rows_of config.settings calls outcomes) place row → OfCall config P calls row
+pub in_round : (config : JudgeConfig) (P : Entry → Outcome → Type 0) (calls : List Entry) (outcomes : List Outcome) (place : ℕ) (row : Row) → EachPair P calls outcomes → Stands (rows_of config.settings calls outcomes) place row → OfCall config P calls row
 in_round config P [] outcomes place row p s = absurd (none-some row s)
 in_round config P (c ∷ cs) [] place row p s = absurd p
 in_round config P (c ∷ cs) (o ∷ os) zero row p s = record { call = c; outcome = o; is = sym (same_Some (row_of config.settings c o) row s); holds = p.0; inside = inl refl }

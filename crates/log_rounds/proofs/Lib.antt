@@ -9,6 +9,8 @@ pub mod StatusLaws
 pub mod BatchesLaws
 pub mod WordsLaws
 mod DayLaws
+mod DaysLaws
+mod KeptLaws
 mod RunsLaws
 mod HandedLaws
 mod OutputLaws

@@ -6,11 +6,10 @@ use Rattle.std.specs.Option.{option_and_then}
 use Rattle.call_log.specs.Entry.{Entry}
 use Rattle.call_log.specs.Log.{AreCalls, Passed, after, after_all}
 use Rattle.log_rounds.specs.Judge.{IsIn, JudgeConfig}
-use Rattle.log_rounds.specs.Rounds.{InEach, Round, calls_in, row_round, row_rounds}
+use Rattle.log_rounds.specs.Rounds.{Round, calls_in, row_round, row_rounds}
 use Rattle.log_rounds.specs.Runs.{AreApart, AreRunsAfter, Run, RunsLegal, last_moment_in, row_runs}
 use Rattle.passport_json.specs.IssuedAt.{issued_at}
 use Rattle.passport_json.specs.Signed.{payload_in}
-use Rattle.passport_json.specs.Signing.{Ticket}
 use Rattle.replay_law.specs.Law.{IsFresh, NeverFalls, IsApart as RowsApart}
 use Rattle.replay_law.specs.Log.{StandsIn}
 use Rattle.replay_law.specs.Round.{Round as RowRound, first_moment, purge_at}
@@ -19,7 +18,7 @@ use Rattle.replay_law.specs.Runs.{LegalInRuns, rounds_in}
 use Rattle.verify_rules.specs.Signed.{IsKnownAgain, last_by}
 use Rattle.verify_rules.specs.declared.settings.Settings.{Settings}
 use Rattle.verify_service.specs.Judging.{call_in, last_second, ticket_or_none}
-use Rattle.verify_service.specs.Rows.{IsOwed, row_of, rows_of}
+use Rattle.verify_service.specs.Rows.{IsOwed, rows_of}
 use Rattle.verify_service.specs.declared.outcome.Outcome.{Outcome}
 use Rattle.log_rounds.proofs.FollowLaws.{moment_same}
 use Rattle.log_rounds.proofs.LegalLaws.{OfCall, behind_calls, falls, known_fresh, known_last, known_ticket, not_below, of_call}
@@ -66,7 +65,7 @@ fresh past runs are round place row s p =
     let last : row.last ≡ last_second (call_in o.run.config.settings o.of.call) = ap (λ (r : Row). r.last) o.of.is in
     omega (arith, moment, last, known_fresh o.run.config.settings o.of.call (passing past runs row p o))
 
-last_alike : (one two : Settings) (signing : List ℕ) → one.past ≡ two.past → last_by one signing ≡ last_by two signing
+pub last_alike : (one two : Settings) (signing : List ℕ) → one.past ≡ two.past → last_by one signing ≡ last_by two signing
 unfolding last_by
 last_alike one two signing same = ap (λ n. unwrap_or (option_and_then issued_at (payload_in signing)) 0 + n) same
 

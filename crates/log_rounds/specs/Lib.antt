@@ -8,5 +8,6 @@ pub mod Reads
 pub mod Judged
 pub mod Batches
 pub mod Day
+pub mod Days
 pub mod Runs
 pub mod Handed

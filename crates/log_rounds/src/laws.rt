@@ -2,12 +2,14 @@
 ghost use Rattle.std.specs.Prelude.{◌≡◌, List};
 ghost use Rattle.log_rounds.specs.AllValid.{AreValid, all_valid};
 ghost use Rattle.log_rounds.specs.Day.{DayIsLegal, DayIsReport};
+ghost use Rattle.log_rounds.specs.Days.{DaysAreLegal, DaysAreOne, DaysHandOn};
 ghost use Rattle.log_rounds.specs.Handed.{OutputIsState};
 ghost use Rattle.log_rounds.specs.Runs.{RunsLegal};
 ghost use Rattle.log_run.specs.Ending.{report_status};
 ghost use Rattle.verify_service.specs.declared.outcome.Outcome.{Outcome};
 
-use replay_law::{first_is_legal, legal_in_runs, legal_is_first, one_by_first};
+use replay_law::{day_after_day, first_is_legal, legal_in_runs, legal_is_first, one_by_first};
+use verify_rules::{first_law, signed_law};
 
 /// The status of a whole report is 0 just where each of its calls is valid, and else 1.
 pub fn status_law()
@@ -26,6 +28,20 @@ pub fn day_law()
     first_is_legal();
     legal_is_first();
     one_by_first();
+}
+
+/// A day may be judged so after others, over what is kept of their calls. If all days have one `past`, all of them together are answered by the first call of
+/// each ticket, so their outcomes are legal for every cut into rounds. What is kept is right if each day hands on to the next what was kept before it and what
+/// it won, but for entries that are too old for the next day.
+pub fn days_law()
+    ensures one { DaysAreOne }
+    ensures legal { DaysAreLegal }
+    ensures handed { DaysHandOn }
+{
+    day_after_day();
+    first_is_legal();
+    first_law();
+    signed_law();
 }
 
 /// Runs that hand their state on are legal together: of the calls of all runs that pass with one ticket one is valid, and each other is a replay of it.

@@ -18,7 +18,7 @@
 //! SHA-256 the outcomes of the whole log are legal (`replay_law`). The reads of files are bounded. `specs/Batches`, `Judged` and `Reads` have the
 //! words, and `docs/PROVED.md`, "A log", the clauses. [`status_law`] says what the status of a whole report means, [`runs_law`] that runs which hand
 //! their state on are legal together, and [`output_law`] that the whole output of such a run is the file for the next. [`day_law`] says that a log may be
-//! judged call by call, on any number of machines, and settled by its tickets afterwards.
+//! judged call by call, on any number of machines, and settled by its tickets afterwards, and [`days_law`] the same of a day after others.
 //!
 //! Cases: `tests/cli/verify.rows`, and `crates/vectors_runs/stdin` for reads and writes that fail.
 #![tactic(auto)]
@@ -32,7 +32,7 @@ mod verifier;
 mod workers;
 
 pub use handing::{HandingVerifier, judge_log_on};
-pub use laws::{day_law, output_law, runs_law, status_law};
+pub use laws::{day_law, days_law, output_law, runs_law, status_law};
 pub use run::judge_log;
 pub use verifier::LogVerifier;
 /// Memory ran out.
