@@ -31,7 +31,7 @@ extern "C" {
 
 /* What `kind` may be. */
 enum {
-    STIR_PASSES = 0,    /* the call breaks none of rules 1 to 17 and 19 (stir_x5u: 1 to 9); or what was wanted is there */
+    STIR_PASSES = 0,    /* the call breaks none of rules 1 to 17 and 19 (stir_x5u, stir_claims: 1 to 9); or what was wanted is there */
     STIR_REFUSED = 1,   /* it breaks one; or the message may not be signed */
     STIR_BAD_INPUT = 2, /* an input is outside its grammar or its limits */
     STIR_NO_MEMORY = 3, /* memory ran out, and nothing is said */
@@ -84,7 +84,8 @@ uint64_t stir_abi(void);
  * listed         lines `X5U FILE` of a chain map (docs/FORMATS.md). FILE is a digit: 1 for the first of the chains, 9 for the ninth
  * chains, sizes  the chains one after another, each certificate in DER from the leaf's on; the bytes of each, and how many chains there are
  * anchors        the trust anchors one after another, in DER
- * table          lines of a code table (docs/FORMATS.md); those on the codes in the chains are enough
+ * table          lines of a code table (docs/FORMATS.md); those on the codes in the chains and in the trust anchors are enough (an anchor with codes
+ *                is an issuer whose numbers a certificate below it can't go beyond: rule 14)
  * room           where the lines go
  */
 stir_said stir_ask(uint64_t past, uint64_t future, const uint8_t *country, size_t country_size, uint8_t national, uint64_t moment,
@@ -121,6 +122,26 @@ stir_said stir_explain(uint64_t past, uint64_t future, const uint8_t *country, s
  */
 stir_said stir_x5u(uint64_t past, uint64_t future, const uint8_t *country, size_t country_size, uint8_t national, uint64_t moment,
                    const uint8_t *message, size_t message_size, uint8_t *room, size_t room_size);
+
+/*
+ * Says what the PASSporTs of a call say, for a host that shows it or routes by it. Into `room` comes a line for each PASSporT that is judged, at most
+ * nine, in the order in which the call went, the originating one first:
+ *
+ *     FIELD PAYLOAD
+ *
+ * FIELD is the number of its Identity header field, counted from 1 in message order, in decimal digits. PAYLOAD is the payload that was signed, as
+ * deterministic JSON (RFC 8225, section 9): a JSON object without white space, whose members stand in byte order of their names, on all levels. All
+ * claims that were signed are there, also those that no rule looks at; of a PASSporT in its compact form (RFC 8225, section 7) they are those that the
+ * message gave. No LF stands in it; the line ends with one. A payload has no such form if a number in it has a point or an exponent, is -0, or an
+ * integer past 64 bits: then PAYLOAD is a hyphen.
+ *
+ * The inputs are those of stir_ask, with its units and limits. STIR_PASSES says here, as of stir_x5u, that none of rules 1 to 9 is broken, and has
+ * the ticket and its last second; STIR_REFUSED says which of them is broken, and then nothing is written. Rules 10 to 17 and 19 aren't tried and no
+ * signature is: what is written was claimed by whoever sent the call, and is worth what stir_ask or stir_judge says of it. STIR_SETTINGS is the only
+ * bad input. STIR_NO_ROOM: `size` is how many bytes the lines have.
+ */
+stir_said stir_claims(uint64_t past, uint64_t future, const uint8_t *country, size_t country_size, uint8_t national, uint64_t moment,
+                      const uint8_t *message, size_t message_size, uint8_t *room, size_t room_size);
 
 /*
  * Shows what certificates say. Into `room` come the lines of the command `show` (docs/FORMATS.md) for a chain: at most six certificates one after

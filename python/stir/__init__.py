@@ -7,8 +7,8 @@
     print(stir.verify(call, world.materials(call), stir.confirm))
 
 `verify` asks what signatures a call stands on, has each confirmed, and gives the verdict: `Passes` or `Refused`. `ask` and `judge` are the two
-halves. `explain` says which rules hold, `sign` writes a message with an Identity field, and `show` tells what certificates say. `stir.logs` reads call
-logs and cuts them into parts, `stir.days` judges a log part by part, and `stir.jobs` hands that to other machines.
+halves. `explain` says which rules hold, `claims` what the PASSporTs say, `sign` writes a message with an Identity field, and `show` tells what
+certificates say. `stir.logs` reads call logs and cuts them into parts, `stir.days` judges a log part by part, and `stir.jobs` hands that to other machines.
 
 What the library says is proved (docs/PROVED.md). What this package hands it, the verifier of signatures and the count of tickets aren't. Any
 number of threads may call at once; a thread needs a stack of 256 kilobytes and what Python takes.
@@ -17,7 +17,7 @@ from .answers import Answers
 from .calls import Asked, Call, Materials, Passes, Refused, Settings, Verdict, ask, judge, verify
 from .errors import BadFile, BadInput, Input, LibraryError, OutOfMemory, StirError
 from .es256 import Question, confirm
-from .explaining import Explained, explain, x5us
+from .explaining import Explained, claims, explain, x5us
 from .showing import Authority, Certificate, show
 from .signing import Form, Order, Why, Withheld, sign, signed, signer_by, to_sign
 from .world import World
@@ -47,6 +47,7 @@ __all__ = [
     "Withheld",
     "World",
     "ask",
+    "claims",
     "confirm",
     "explain",
     "judge",

@@ -1,6 +1,7 @@
-"""Which rules a call meets, and of which certificates it asks."""
+"""Which rules a call meets, of which certificates it asks, and what its PASSporTs say."""
+import json
 from dataclasses import dataclass
-from typing import Iterable, Tuple
+from typing import Any, Dict, Iterable, List, Optional, Tuple
 
 from . import library
 from .calls import Call, Materials, Settings, Verdict, answers_of, given, given_call, verdict_of
@@ -30,3 +31,18 @@ def x5us(call: Call, settings: Settings = Settings()) -> Tuple[str, ...]:
     rules 1 to 9: then no certificates are looked at. Raises OutOfMemory."""
     _, lines = library.x5u(*given_call(call, settings))
     return tuple(lines.decode("ascii").splitlines())
+
+
+def claims(call: Call, settings: Settings = Settings()) -> List[Dict[str, Any]]:
+    """What the PASSporTs of a call say: a dict for each that is judged, at most nine, in the order in which the call went. `field` is the number of its
+    Identity header field, counted from 1, and `payload` the claims that were signed (RFC 8225, section 5), or None if a number in them is no integer of
+    64 bits. Empty if the call breaks one of rules 1 to 9. No certificate and no signature is looked at: what is said is worth what `verify` says of the
+    call. Raises OutOfMemory."""
+    _, lines = library.claims(*given_call(call, settings))
+    return [said_by(line) for line in lines.decode().split("\n")[:-1]]
+
+
+def said_by(line: str) -> Dict[str, Any]:
+    number, payload = line.split(" ", 1)
+    said: Optional[Dict[str, Any]] = None if payload == "-" else json.loads(payload)
+    return {"field": int(number), "payload": said}

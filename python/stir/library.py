@@ -63,6 +63,7 @@ DECLARED = {
     "stir_judge": (*JUDGED, *TEXT),
     "stir_explain": (*JUDGED, *TEXT, ctypes.c_uint32, *ROOM_WORDS),
     "stir_x5u": (*CALL, *ROOM_WORDS),
+    "stir_claims": (*CALL, *ROOM_WORDS),
     "stir_show": (*TEXT, *ROOM_WORDS),
     "stir_to_sign": TO_SIGN,
     "stir_signed": (*TO_SIGN, *TEXT, *ROOM_WORDS),
@@ -156,6 +157,11 @@ def explain(setting: Setting, moment: int, message: bytes, texts: Texts, answers
 def x5u(setting: Setting, moment: int, message: bytes) -> Tuple[Said, bytes]:
     """What stir_x5u says, and the lines that it writes."""
     return written("stir_x5u", *setting.words(), moment, *text(message))
+
+
+def claims(setting: Setting, moment: int, message: bytes) -> Tuple[Said, bytes]:
+    """What stir_claims says, and the lines that it writes."""
+    return written("stir_claims", *setting.words(), moment, *text(message))
 
 
 def show(chain: bytes) -> Tuple[Said, bytes]:

@@ -48,6 +48,10 @@ extern "C" {
         anchors: *const u8, anchors_size: usize, table: *const u8, table_size: usize,
         answers: *const u8, answers_size: usize,
     ) -> Said;
+    fn stir_x5u(
+        past: u64, future: u64, country: *const u8, country_size: usize, national: u8, moment: u64,
+        message: *const u8, message_size: usize, out: *mut u8, room: usize,
+    ) -> Said;
     fn stir_to_sign(
         country: *const u8, country_size: usize, national: u8, iat: u64, form: u8, origid: *const u8, origid_size: usize,
         x5u: *const u8, x5u_size: usize, message: *const u8, message_size: usize,
@@ -119,6 +123,16 @@ pub fn judge(rules: &Rules, moment: u64, message: &[u8], by: &Materials, anchors
             anchors.as_ptr(), anchors.len(), by.table.as_ptr(), by.table.len(), answers.as_ptr(), answers.len(),
         )
     }
+}
+
+/// The x5us of the PASSporTs of a call that are judged, at most nine, each with an LF; none if it breaks one of rules 1 to 9.
+pub fn x5us(rules: &Rules, moment: u64, message: &[u8], out: &mut Vec<u8>) -> Said {
+    with_room(out, |at, room| unsafe {
+        stir_x5u(
+            rules.past, rules.future, rules.country.as_ptr(), rules.country.len(), rules.national, moment,
+            message.as_ptr(), message.len(), at, room,
+        )
+    })
 }
 
 /// The digest that is to be signed, as the ticket of what is said; or why nothing may be.

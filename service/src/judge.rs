@@ -1,6 +1,7 @@
 //! A call judged: its chains are picked, its questions asked of OpenSSL, what comes of it taken from the proved library, and its ticket claimed.
-use crate::door::{self, Said};
+use crate::door::{self, Materials, Said};
 use crate::es256::{self, Verifier};
+use crate::identity::x5us_of;
 use crate::lines::lines_of;
 use crate::metrics::{Metrics, Part};
 use crate::past::{Claim, Passed, Past};
@@ -118,10 +119,19 @@ impl Judge {
         Judged { call, outcome }
     }
 
+    /// What a call is judged by: the chains of the x5us in its Identity fields; and if more than nine of these are listed, of those that are judged.
+    fn materials(&self, world: &World, message: &[u8], moment: u64, room: &mut Vec<u8>) -> Materials {
+        let found = x5us_of(message);
+        world.materials(found.iter().map(Vec::as_slice)).unwrap_or_else(|| {
+            door::x5us(&self.rules, moment, message, room);
+            world.materials(lines_of(room)).unwrap_or_default()
+        })
+    }
+
     /// What the rules say: asked with each answer taken for good; and if an answer isn't, judged by those that are.
     fn said(&self, world: &World, message: &[u8], moment: u64) -> Said {
-        let by = world.materials(x5us_in(message));
         let mut room = Vec::with_capacity(8192);
+        let by = self.materials(world, message, moment, &mut room);
         let start = Instant::now();
         let if_all = door::ask(&self.rules, moment, message, &by, &world.anchors, &mut room);
         let asked = Instant::now();
@@ -150,32 +160,9 @@ impl Judge {
     }
 }
 
-/// The texts that stand in `<` and `>` behind `info` in a message. The x5us of its PASSporTs are among them; others do no harm, as long as no
-/// more than nine are listed.
-fn x5us_in(message: &[u8]) -> impl Iterator<Item = &[u8]> {
-    let mut left = message;
-    std::iter::from_fn(move || loop {
-        let at = left.windows(4).position(|word| word.eq_ignore_ascii_case(b"info"))?;
-        left = &left[at + 4..];
-        let Some(open) = left.iter().take(8).position(|byte| *byte == b'<') else { continue };
-        let text = &left[open + 1..];
-        let Some(close) = text.iter().position(|byte| matches!(byte, b'>' | b'\n')) else { return None };
-        left = &text[close..];
-        return Some(&text[..close]);
-    })
-}
-
 #[cfg(test)]
 mod tests {
     use super::*;
-
-    #[test]
-    fn the_quick_look_finds_what_stands_in_brackets_behind_info() {
-        let message = b"Identity: a..b;info=<https://a.example/1>;alg=ES256\r\nidentity: c;INFO = <https://b.example/2>\r\nX: info <never\r\n";
-        let found: Vec<&[u8]> = x5us_in(message).collect();
-        assert_eq!(found, [b"https://a.example/1".as_slice(), b"https://b.example/2", b"never\r"]);
-        assert_eq!(x5us_in(b"no such thing").count(), 0);
-    }
 
     #[test]
     fn a_call_that_isnt_valid_has_a_reason() {

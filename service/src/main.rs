@@ -4,6 +4,7 @@ mod atis;
 mod door;
 mod es256;
 mod http;
+mod identity;
 mod journal;
 mod judge;
 mod lines;

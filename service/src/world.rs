@@ -1,7 +1,7 @@
 //! What calls are judged by: the chain map with its chains, the trust anchors and the code table, read from files and read again if one changes.
 use crate::door::{self, Materials, Rules};
 use crate::lines::lines_of;
-use std::collections::HashMap;
+use std::collections::{BTreeSet, HashMap};
 use std::path::{Path, PathBuf};
 use std::time::SystemTime;
 
@@ -9,16 +9,19 @@ use std::time::SystemTime;
 const MOST_CHAIN: usize = 49_152;
 const MOST_CHAINS: usize = 9;
 
-/// A chain of certificates, and the lines of the code table on the codes in it. Rules 14 and 17 ask the table for these codes alone, so a call
-/// is judged by them as by the whole table.
+/// A chain of certificates, and the codes of the code table that may be in it.
 struct Chain {
     der: Vec<u8>,
-    table: Vec<u8>,
+    codes: Vec<Vec<u8>>,
 }
 
 /// What calls are judged by.
 pub struct World {
     chains: HashMap<Vec<u8>, Chain>,
+    /// The lines of the code table by their code. Rules 14 and 17 ask for the codes in a call's chains and in the trust anchors alone, so a call is
+    /// judged by the lines on these as by the whole table.
+    table: HashMap<Vec<u8>, Vec<u8>>,
+    anchors_codes: Vec<Vec<u8>>,
     pub anchors: Vec<u8>,
     stamps: Vec<(PathBuf, Stamp)>,
 }
@@ -60,11 +63,12 @@ impl World {
             let path = PathBuf::from(name);
             stamps.push((path.clone(), stamp(&path)));
             if let Some(der) = read_chain(&path)? {
-                let table = codes_in(&der, &table).iter().filter_map(|code| table.get(*code)).flatten().copied().collect();
-                chains.insert(x5u.to_vec(), Chain { der, table });
+                let codes = codes_in(&der, &table);
+                chains.insert(x5u.to_vec(), Chain { der, codes });
             }
         }
-        Ok(World { chains, anchors, stamps })
+        let anchors_codes = codes_in(&anchors, &table);
+        Ok(World { chains, table, anchors_codes, anchors, stamps })
     }
 
     /// Whether a file isn't what it was when it was read.
@@ -77,21 +81,26 @@ impl World {
         self.chains.len()
     }
 
-    /// What a call with these x5us is judged by; those that aren't listed are passed over, and so is what comes after the ninth.
-    pub fn materials<'a>(&self, x5us: impl Iterator<Item = &'a [u8]>) -> Materials {
+    /// What a call with these x5us is judged by: those that aren't listed are passed over. None if more than nine are.
+    pub fn materials<'a>(&self, x5us: impl Iterator<Item = &'a [u8]>) -> Option<Materials> {
         let mut by = Materials::default();
+        let mut codes: BTreeSet<&[u8]> = self.anchors_codes.iter().map(Vec::as_slice).collect();
         for x5u in x5us {
             let Some(chain) = self.chains.get(x5u) else { continue };
-            if by.sizes.len() == MOST_CHAINS || is_listed(&by.listed, x5u) {
+            if is_listed(&by.listed, x5u) {
                 continue;
+            }
+            if by.sizes.len() == MOST_CHAINS {
+                return None;
             }
             by.listed.extend_from_slice(x5u);
             by.listed.extend_from_slice(&[b' ', b'1' + by.sizes.len() as u8, b'\n']);
             by.chains.extend_from_slice(&chain.der);
             by.sizes.push(chain.der.len());
-            by.table.extend_from_slice(&chain.table);
+            codes.extend(chain.codes.iter().map(Vec::as_slice));
         }
-        by
+        by.table = codes.iter().filter_map(|code| self.table.get(*code)).flatten().copied().collect();
+        Some(by)
     }
 }
 
@@ -115,21 +124,19 @@ fn read_chain(path: &Path) -> Result<Option<Vec<u8>>, String> {
 
 /// The codes of the table that may be in the certificates: each text of an IA5String (X.690, section 8.23) in the bytes that is one. So those of
 /// an authority list (RFC 8226, section 9) are among them, and others do no harm.
-fn codes_in<'a>(der: &[u8], table: &'a HashMap<Vec<u8>, Vec<u8>>) -> Vec<&'a [u8]> {
-    let mut codes: Vec<&[u8]> = (0..der.len().saturating_sub(2))
+fn codes_in(der: &[u8], table: &HashMap<Vec<u8>, Vec<u8>>) -> Vec<Vec<u8>> {
+    let codes: BTreeSet<&[u8]> = (0..der.len().saturating_sub(2))
         .filter(|at| der[*at] == 0x16)
-        .filter_map(|at| table.get_key_value(der.get(at + 2..at + 2 + usize::from(der[at + 1]))?))
-        .map(|(code, _)| code.as_slice())
+        .filter_map(|at| der.get(at + 2..at + 2 + usize::from(der[at + 1])))
+        .filter(|code| table.contains_key(*code))
         .collect();
-    codes.sort_unstable();
-    codes.dedup();
-    codes
+    codes.into_iter().map(<[u8]>::to_vec).collect()
 }
 
 /// The lines of a code table on the codes that may be in a certificate.
 pub fn codes_of(der: &[u8], table: &[u8]) -> Vec<u8> {
     let table = by_code(table);
-    codes_in(der, &table).iter().filter_map(|code| table.get(*code)).flatten().copied().collect()
+    codes_in(der, &table).iter().filter_map(|code| table.get(code)).flatten().copied().collect()
 }
 
 /// The lines of a code table by their code.
@@ -152,7 +159,22 @@ mod tests {
     fn the_codes_of_a_list_are_found_and_their_lines_kept() {
         let table = by_code(b"; the table\n709J 12155550000 10\n42 *\n709J *67\n");
         let der = [&[0x30, 8, 0xA0, 6, 0x16, 4][..], b"709J", &[0x16]].concat();
-        assert_eq!(codes_in(&der, &table), [b"709J".as_slice()]);
+        assert_eq!(codes_in(&der, &table), [b"709J".to_vec()]);
         assert_eq!(table[b"709J".as_slice()], b"709J 12155550000 10\n709J *67\n");
+    }
+
+    #[test]
+    fn a_call_is_judged_by_its_chains_and_by_the_codes_in_them_and_in_the_anchors() {
+        let table = by_code(b"1 11\n2 22\n3 33\n4 44\n");
+        let chain = |code: &[u8]| Chain { der: code.to_vec(), codes: vec![code.to_vec()] };
+        let chains = (0..10).map(|n| (vec![b'a' + n], chain(if n < 2 { b"2" } else { b"4" }))).collect();
+        let world = World { chains, table, anchors_codes: vec![b"1".to_vec()], anchors: Vec::new(), stamps: Vec::new() };
+        let by = world.materials([b"a".as_slice(), b"none", b"b", b"a"].into_iter()).expect("two are listed");
+        assert_eq!((by.listed.as_slice(), by.sizes.as_slice()), (b"a 1\nb 2\n".as_slice(), [1, 1].as_slice()));
+        assert_eq!(by.table, b"1 11\n2 22\n");
+        assert_eq!(world.materials(std::iter::empty()).expect("none is listed").table, b"1 11\n");
+        let names: Vec<Vec<u8>> = (0..10).map(|n| vec![b'a' + n]).collect();
+        assert!(world.materials(names[..9].iter().map(Vec::as_slice)).is_some());
+        assert!(world.materials(names.iter().map(Vec::as_slice)).is_none());
     }
 }

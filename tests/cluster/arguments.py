@@ -67,7 +67,7 @@ def anything():
     values = [None, True, 0, -1, 5, 2**63, 2**64, 2**200, 1.5, "", "1", "\0", "\ud800", b"", b"\0", bytes(70_000), bytearray(3), memoryview(b"xy"), [], {}, CALL, BY]
     values += [{"a": b"\0" * 5}, {"a": None}, stir.Settings(), QUESTION, (QUESTION,), object(), stir.Call]
     makers = [stir.Call, stir.Settings, stir.Materials, stir.Question, stir.Question.of, stir.Answers.of, stir.World, stir.Order]
-    makers += [stir.ask, stir.judge, stir.verify, stir.explain, stir.x5us, stir.show, stir.to_sign, stir.signed, stir.sign, stir.confirm]
+    makers += [stir.ask, stir.judge, stir.verify, stir.explain, stir.x5us, stir.claims, stir.show, stir.to_sign, stir.signed, stir.sign, stir.confirm]
     taken = 0
     for _ in range(4000):
         maker = draw.choice(makers)

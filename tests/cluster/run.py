@@ -49,6 +49,7 @@ def main():
             ("each call by itself has the verdict of the report", lambda: verdicts.each(world, calls, report)),
             ("the rules that hold are those of explain", lambda: verdicts.explained(program, world, calls, folder)),
             ("a call that names many x5us is judged by its own", lambda: verdicts.named(world)),
+            ("claims are those that were signed", lambda: verdicts.claimed(world)),
             ("certificates say what they were made with", lambda: verdicts.shown(world)),
             ("eight threads at once say the same", lambda: verdicts.at_once(world, calls)),
             ("files outside their grammars are named", lambda: verdicts.bad_files(world, folder)),

@@ -1,5 +1,6 @@
 """Verdicts of the package beside the report of the proved program."""
 import datetime
+import json
 import subprocess
 import threading
 
@@ -58,6 +59,22 @@ def named(world):
     call = stir.Call(START, message.replace(b"\r\n", b"\r\n" + others, 1))
     verdict = stir.verify(call, world_of(world).materials(call), stir.confirm)
     assert isinstance(verdict, stir.Passes), f"a call that names twelve other x5us: {verdict}"
+
+
+def claimed(world):
+    """What the PASSporTs of a call say is what was signed, in the order in which it went, whatever the text that was signed looks like."""
+    message, said = world.diverted(world.number(0, 5), ["13105550100", "13105550101", "13105550102"], START, 1)
+    went = [{"field": number, "payload": one} for number, one in zip((3, 2, 1), said)]
+    assert stir.claims(stir.Call(START, message)) == went, "the claims of a diverted call aren't those that were signed, in its order"
+    caller, called = world.number(1, 5), "13105550100"
+    own = {"rcd": {"nam": "A\n\u2028 \"name\"", "list": [True, None, -7, 2**64 - 1, {"b": 1, "a": 2}]}}
+    claims = {"origid": "123e4567-e89b-12d3-a456-426655440000", "orig": {"tn": caller}, **own, "iat": START, "dest": {"tn": [called]}, "attest": "B"}
+    for more, wanted in ({}, claims), ({"score": 0.5}, None), ({"size": 2**64}, None):
+        text = json.dumps({**claims, **more}, indent=2).encode()
+        message = world.invite(caller, called, 1, world.field("shaken", text, world.x5u(1), world.keys[1]))
+        assert stir.claims(stir.Call(START, message)) == [{"field": 1, "payload": wanted}], f"the claims with {more} aren't those that were signed"
+    for call in stir.Call(START + 61, message), stir.Call(START, world.call(0, START, 1, "unsigned")):
+        assert stir.claims(call) == [], "a call that breaks one of rules 1 to 9 says something"
 
 
 def shown(world):

@@ -1,11 +1,13 @@
 """The header, called by a C program and by Python's ctypes."""
+import base64
 import ctypes
+import json
 import os
 import pathlib
 import subprocess
 
 from stird import line_of
-from world import START
+from world import START, compact
 
 import sys
 
@@ -15,6 +17,12 @@ import outside  # noqa: E402
 HERE = pathlib.Path(__file__).resolve().parent
 ORIGID = "123e4567-e89b-12d3-a456-426655440000"
 RATTLE_C = pathlib.Path(os.environ.get("RATTLE_C", "/opt/rattle/c"))
+
+
+def words_of(message):
+    """The claims of the PASSporT in the first Identity field of a message."""
+    payload = message.split(b"\r\nIdentity: ")[1].split(b".")[1]
+    return json.loads(base64.urlsafe_b64decode(payload + b"=="))
 
 
 def parts(world, n):
@@ -47,17 +55,21 @@ def explained(stir, world, message, answers, folder):
 
 
 def by_c(top, stir, library, world, folder):
-    """`judge.c` lists the chains of a call, asks for it, judges it with all lines confirmed and with none, explains it as `explain` does, and shows its chain as
+    """`judge.c` lists the chains of a call, says what its PASSporTs say and those of a diverted one, asks for it, judges it with all lines confirmed and with none, explains it as `explain` does, and shows its chain as
     `show` does."""
     program = built(top, library, "judge", folder)
     for name, content in zip(("listed", "chain", "anchors", "table"), parts(world, 3)):
         (folder / name).write_bytes(content)
     message = world.call(3, START, 1)
     (folder / "message").write_bytes(message)
+    diverted, said = world.diverted(world.number(0, 5), ["13105550100", "13105550101", "13105550102"], START, 2)
+    (folder / "diverted").write_bytes(diverted)
+    claims = f"1 {compact(words_of(message)).decode()}\n"
+    went = "".join(f"{number} {compact(one).decode()}\n" for number, one in zip((3, 2, 1), said))
     said = output(program, [str(START)], folder).decode()
     questions = output(stir, ["ask", *world.words()], folder, world.log([(START, message)]))
     all_lines, no_lines = explained(stir, world, message, questions, folder), explained(stir, world, message, b"", folder)
-    assert (all_lines.count("\n"), no_lines.count("\n")) == (17, 15), (all_lines, no_lines)
+    assert (all_lines.count("\n"), no_lines.count("\n")) == (18, 15), (all_lines, no_lines)
     x5u = world.x5u(3) + "\n"
     shown = output(stir, ["show"], folder, (folder / "chain").read_bytes()).decode()
     wanted = (
@@ -67,6 +79,11 @@ def by_c(top, stir, library, world, folder):
         "judged by none: kind 1 rule 15 code 437 at 1.1\n"
         f"chains: kind 0 rule 0, {len(x5u)} bytes:\n{x5u}"
         "chains of an old call: kind 1 rule 9, 0 bytes:\n"
+        f"claims: kind 0 rule 0, {len(claims)} bytes:\n{claims}and the same ticket\n"
+        f"claims of a diverted call: kind 0 rule 0, {len(went)} bytes:\n{went}"
+        f"no room for claims: kind 4, {len(went)} bytes, untouched\n"
+        "claims of an old call: kind 1 rule 9, 0 bytes:\n"
+        "no settings: kind 2 input 1\n"
         f"explained by all lines: kind 0 rule 0, {len(all_lines)} bytes:\n{all_lines}"
         f"explained by none: kind 1 rule 15, {len(no_lines)} bytes:\n{no_lines}"
         f"shown: kind 0 rule 0, {len(shown)} bytes:\n{shown}"
@@ -104,7 +121,7 @@ def signed_by_c(top, stir, library, world, folder):
     assert mine == output(stir, words, folder, message), mine
     questions = output(stir, ["ask", *world.words()], folder, world.log([(START, mine)]))
     assert all(outside.genuine(*(bytes.fromhex(word) for word in line.split()[1:])) for line in questions.decode().splitlines()), "a signature isn't good"
-    assert explained(stir, world, mine, questions, folder).count(" ok\n") == 17, "the signed call isn't valid"
+    assert explained(stir, world, mine, questions, folder).count(" ok\n") == 18, "the signed call isn't valid"
 
 
 class Said(ctypes.Structure):

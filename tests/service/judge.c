@@ -1,5 +1,5 @@
-/* Calls stir.h: lists the chains of the call in the file `message`, asks for it, judges it with all lines confirmed and with none, and explains it; and
-   shows its chain. */
+/* Calls stir.h: lists the chains of the call in the file `message`, says what its PASSporTs say and those of the call in the file `diverted`, asks for it,
+   judges it with all lines confirmed and with none, and explains it; and shows its chain. */
 #include "stir.h"
 
 #include "files.h"
@@ -31,7 +31,7 @@ int main(int count, char **words) {
     }
     uint64_t moment = strtoull(words[1], NULL, 10);
     bytes message = read_file("message"), listed = read_file("listed"), chain = read_file("chain");
-    bytes anchors = read_file("anchors"), table = read_file("table");
+    bytes anchors = read_file("anchors"), table = read_file("table"), diverted = read_file("diverted");
     static uint8_t room[16384];
     printf("abi %d\n", (int)stir_abi());
 
@@ -46,10 +46,22 @@ int main(int count, char **words) {
     printf("judged by none: kind %u rule %u code %u at %u.%u\n", said.kind, said.rule, said.code, said.field, said.part);
 
     static uint8_t text[4096];
+    uint8_t small[8] = {7, 7, 7, 7, 7, 7, 7, 7};
     said = stir_x5u(60, 5, country, 1, 10, moment, message.at, message.size, text, sizeof text);
     show_text("chains", said, text);
     said = stir_x5u(60, 5, country, 1, 10, moment + 61, message.at, message.size, text, sizeof text);
     show_text("chains of an old call", said, text);
+    said = stir_claims(60, 5, country, 1, 10, moment, message.at, message.size, text, sizeof text);
+    show_text("claims", said, text);
+    printf("and %s\n", memcmp(said.ticket, all.ticket, sizeof all.ticket) || said.last != all.last ? "another ticket" : "the same ticket");
+    said = stir_claims(60, 5, country, 1, 10, moment, diverted.at, diverted.size, text, sizeof text);
+    show_text("claims of a diverted call", said, text);
+    said = stir_claims(60, 5, country, 1, 10, moment, diverted.at, diverted.size, small, sizeof small);
+    printf("no room for claims: kind %u, %zu bytes, %s\n", said.kind, (size_t)said.size, small[0] == 7 && small[7] == 7 ? "untouched" : "touched");
+    said = stir_claims(60, 5, country, 1, 10, moment + 61, message.at, message.size, text, sizeof text);
+    show_text("claims of an old call", said, text);
+    said = stir_claims(86401, 5, country, 1, 10, moment, message.at, message.size, text, sizeof text);
+    printf("no settings: kind %u input %u\n", said.kind, said.input);
     said = explain(moment, message, listed, chain, anchors, table, lines, text, sizeof text);
     show_text("explained by all lines", said, text);
     said = explain(moment, message, listed, chain, anchors, table, none, text, sizeof text);
@@ -61,7 +73,6 @@ int main(int count, char **words) {
     said = explain(moment, message, listed, chain, anchors, table, none, text, 3);
     printf("no room to explain: kind %u\n", said.kind);
 
-    uint8_t small[8] = {7, 7, 7, 7, 7, 7, 7, 7};
     said = ask(moment, message, listed, chain, anchors, table, small, sizeof small);
     int untouched = small[0] == 7 && small[7] == 7;
     printf("no room: kind %u, %s\n", said.kind, said.size == asked.size && untouched ? "the size that is wanted" : "something else");
@@ -73,5 +84,6 @@ int main(int count, char **words) {
     free(chain.at);
     free(anchors.at);
     free(table.at);
+    free(diverted.at);
     return 0;
 }

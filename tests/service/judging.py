@@ -5,7 +5,7 @@ import subprocess
 import threading
 
 from stird import Stird, line_of, wait_until
-from world import START
+from world import START, World
 
 
 def report(stir, top, world, calls, folder):
@@ -37,6 +37,43 @@ def whole_log(stird, world, calls, expected):
     kinds = sorted({" ".join(line.split()[1:4]) for line in expected.splitlines()})
     assert len(kinds) > 6, f"the log has only {kinds}"
     return f"{len(calls)} calls, {len(kinds)} outcomes"
+
+
+def same_lines(stird, stir, top, world, calls, folder):
+    """The service gives the report of `verify` on these calls, which has a valid one."""
+    expected = report(stir, top, world, calls, folder)
+    with Stird(stird, [*world.words(), "--moments", "asked"]) as service:
+        lines = "".join(line_of(number, service.verify(message, moment)) for number, (moment, message) in enumerate(calls, 1))
+    assert lines == expected, first_difference(lines, expected)
+    assert " valid " in expected, expected
+
+
+def anchored(stird, stir, top, folder):
+    """A trust anchor with a code limits what is below it (rule 14): its lines of the table count."""
+    world = World(folder / "anchored", 2, code="ROOT")
+    same_lines(stird, stir, top, world, list(world.calls(40)), folder)
+    table = folder / "anchored" / "table.txt"
+    table.write_text("".join(line for line in table.read_text().splitlines(True) if not line.startswith("ROOT ")) + f"ROOT {world.number(1, 0)} 10000\n")
+    calls = list(world.calls(40))
+    same_lines(stird, stir, top, world, calls, folder)
+    assert " refused 437 14 " in report(stir, top, world, calls, folder), "no call is beyond the anchor's numbers"
+
+
+def spelled(stird, stir, top, world, folder):
+    """Identity fields in other spellings of their grammar, and among others that name listed x5us (RFC 8224, section 4; RFC 3261, section 7.3.1)."""
+    message, calls = world.call(2, START, 1), []
+    for number, (old, new) in enumerate(
+        [
+            (b";info=", b" \t;" + b" " * 50 + b"INFO" + b"\t" * 20 + b"="),
+            (b";info=<", b";\r\n info\r\n\t =\r\n   <"),
+            (b"Identity:", b"y \t:\r\n  "),
+            (b"Identity:", b"".join(b"X-%d: a;info=<%s>\r\n" % (n, world.x5u(n).encode()) for n in range(3, 16)) + b"IDENTITY:"),
+            (b"Identity:", b"".join(b"Identity: a;info=<%s>;ppt=other\r\n" % world.x5u(n).encode() for n in range(3, 16)) + b"Identity:"),
+            (b";info=", b";infos="),
+        ]
+    ):
+        calls.append((START, message.replace(b"Call-ID: 1@", b"Call-ID: s%d@" % number).replace(old, new, 1)))
+    same_lines(stird, stir, top, world, calls, folder)
 
 
 def at_once(stird, world, calls, expected):

@@ -38,6 +38,8 @@ def main():
         report = judging.report(given.stir.resolve(), TOP, world, calls, folder)
         tests = [
             ("the service gives the report of verify", lambda: judging.whole_log(given.stird.resolve(), world, calls, report)),
+            ("Identity fields may be spelled in any way", lambda: judging.spelled(given.stird.resolve(), given.stir.resolve(), TOP, world, folder)),
+            ("the codes of trust anchors count", lambda: judging.anchored(given.stird.resolve(), given.stir.resolve(), TOP, folder)),
             ("four connections at once let each ticket pass once", lambda: judging.at_once(given.stird.resolve(), world, calls, report)),
             ("the requests of ATIS-1000082 and the line for proxies", lambda: judging.other_doors(given.stird.resolve(), world)),
             ("changed files are taken without a restart", lambda: judging.reload(given.stird.resolve(), world, folder)),

@@ -50,18 +50,19 @@ def raw(signature):
 
 
 class World:
-    """Chains of two certificates under one root; each leaf has a code, to which the table gives ten thousand numbers."""
+    """Chains of two certificates under one root; each leaf has a code, to which the table gives ten thousand numbers. If the root has a code too, it
+    issues the leaves itself, and the table gives it the numbers of all of them."""
 
-    def __init__(self, folder, chains, now=START):
+    def __init__(self, folder, chains, now=START, code=None):
         self.folder, self.count = folder, chains
         self.keys = [key(f"leaf {n}") for n in range(chains)]
         self.now = datetime.datetime.fromtimestamp(now, datetime.timezone.utc).replace(tzinfo=None)
         folder.mkdir(parents=True, exist_ok=True)
-        root = self.certificate("root", "root")
-        middle = self.certificate("middle", "root")
-        lines, table = [], []
+        root = self.certificate("root", "root", code and code_list(code), True)
+        middle = b"" if code else self.certificate("middle", "root", None, True)
+        lines, table = [], [f"{code} {self.number(0, 0)} {chains * 10000}\n"] if code else []
         for n in range(chains):
-            leaf = self.certificate(f"leaf {n}", "middle", code_list(self.code(n)))
+            leaf = self.certificate(f"leaf {n}", "root" if code else "middle", code_list(self.code(n)))
             (folder / f"chain-{n}.der").write_bytes(leaf + middle)
             (folder / f"leaf-{n}.der").write_bytes(leaf)
             lines.append(f"{self.x5u(n)} {folder}/chain-{n}.der\n")
@@ -82,9 +83,9 @@ class World:
     def number(self, n, place):
         return str(12000000000 + n * 10000 + place)
 
-    def certificate(self, name, issuer, authority=None):
+    def certificate(self, name, issuer, authority=None, issues=False):
         """A certificate in DER for the key of this name."""
-        own, by, issues = key(name), key(issuer), authority is None
+        own, by = key(name), key(issuer)
         others = dict.fromkeys(("content_commitment", "key_encipherment", "data_encipherment", "key_agreement", "encipher_only", "decipher_only"), False)
         builder = (
             x509.CertificateBuilder()
@@ -112,16 +113,33 @@ class World:
         x5u = x5u or self.x5u(n)
         origid = f"00000000-0000-4000-8000-{call:012x}"
         claims = {"attest": "A", "dest": {"tn": [dest]}, "iat": iat, "orig": {"tn": orig}, "origid": origid}
-        head = {"alg": "ES256", "ppt": "shaken", "typ": "passport", "x5u": x5u}
-        text = base64url(compact(head)) + "." + base64url(compact(claims))
-        signer = key("forger") if forged else self.keys[n]
-        token = text + "." + base64url(raw(signer.sign(text.encode(), ec.ECDSA(hashes.SHA256()))))
-        return f"{token};info=<{x5u}>;alg=ES256;ppt=shaken"
+        return self.field("shaken", compact(claims), x5u, key("forger") if forged else self.keys[n])
 
-    def invite(self, orig, dest, call, field=None):
+    def diversion(self, n, orig, earlier, dest, iat):
+        """The value of an Identity field with a PASSporT of a call that goes on from one number to another (RFC 8946)."""
+        claims = {"dest": {"tn": [dest]}, "div": {"tn": earlier}, "iat": iat, "orig": {"tn": orig}}
+        return self.field("div", compact(claims), self.x5u(n), self.keys[n])
+
+    @staticmethod
+    def field(ppt, claims, x5u, signer):
+        """The value of an Identity field with a PASSporT of these claims, as they stand (RFC 8224, section 4)."""
+        head = {"alg": "ES256", "ppt": ppt, "typ": "passport", "x5u": x5u}
+        text = base64url(compact(head)) + "." + base64url(claims)
+        token = text + "." + base64url(raw(signer.sign(text.encode(), ec.ECDSA(hashes.SHA256()))))
+        return f"{token};info=<{x5u}>;alg=ES256;ppt={ppt}"
+
+    def diverted(self, orig, hops, iat, call):
+        """An INVITE to the first of these numbers, which went on to each of the others, and the claims of its PASSporTs in the order in which it
+        went. Its Identity fields stand in the opposite order."""
+        fields = [self.identity(0, orig, hops[0], iat, call)]
+        fields += [self.diversion(n, orig, *hops[n - 1 : n + 1], iat) for n in range(1, len(hops))]
+        said = [json.loads(base64.urlsafe_b64decode(field.split(".")[1] + "==")) for field in fields]
+        return self.invite(orig, hops[0], call, "\r\nIdentity: ".join(reversed(fields)), hops[-1]), said
+
+    def invite(self, orig, dest, call, field=None, target=None):
         identity = f"Identity: {field}\r\n" if field else ""
         return (
-            f"INVITE sip:+{dest}@example.net SIP/2.0\r\nVia: SIP/2.0/UDP 192.0.2.10:5060;branch=z9hG4bK{call}\r\nMax-Forwards: 70\r\n"
+            f"INVITE sip:+{target or dest}@example.net SIP/2.0\r\nVia: SIP/2.0/UDP 192.0.2.10:5060;branch=z9hG4bK{call}\r\nMax-Forwards: 70\r\n"
             f"From: <sip:+{orig}@example.org>;tag={call}\r\nTo: <sip:+{dest}@example.net>\r\nCall-ID: {call}@192.0.2.10\r\nCSeq: 1 INVITE\r\n"
             f"Contact: <sip:192.0.2.10:5060>\r\n{identity}Content-Length: 0\r\n\r\n"
         ).encode()

@@ -1,5 +1,5 @@
 -- What comes of a call that is handed in, from what its inputs are read as.
-use Rattle.std.proofs.Common.{◌≡◌, ℕ, List, Result, Ok, Err, IfOk}
+use Rattle.std.proofs.Common.{ℕ, List, Result, Ok, Err, IfOk}
 use Rattle.stir_outside.specs.Files.{Files}
 use Rattle.verify_rules.specs.Call.{call_of}
 use Rattle.cert_store.specs.declared.world.World.{World as Materials}

@@ -1,5 +1,5 @@
 -- Why an input isn't read, from what its reader says.
-use Rattle.std.proofs.Common.{◌≡◌, ◌↔◌, ℕ, List, ◌⊎◌, inl, inr, Err, Result, refl, sym, subst}
+use Rattle.std.proofs.Common.{◌≡◌, ◌↔◌, ℕ, List, inl, inr, Err, Result, refl, sym, subst}
 use Rattle.cert_store.specs.ChainMap.{FirstBad as BadMap}
 use Rattle.tn_auth_list.specs.CodeTable.{FirstBad as BadTable}
 use Rattle.stir_outside.specs.AnswersText.{FirstBad as BadAnswers}

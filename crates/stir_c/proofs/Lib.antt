@@ -9,7 +9,9 @@ pub mod AskedLaws
 pub mod HandingLaws
 pub mod ToldLaws
 pub mod ExplainingLaws
-pub mod X5uLaws
+pub mod ClaimsLaws
+pub mod OneLineLaws
+pub mod ListingLaws
 pub mod TextLaws
 pub mod OrderLaws
 pub mod SigningLaws

@@ -1,5 +1,5 @@
 -- What is read of what is handed in to be signed.
-use Rattle.std.proofs.Common.{◌≡◌, ℕ, Bool, true, false, List, ◌⊎◌, inl, inr, Option, Some, None, Result, Ok, Err, is_some, refl, sym, ◌∙◌, ap, subst}
+use Rattle.std.proofs.Common.{◌≡◌, ℕ, Bool, true, false, List, inl, inr, Option, Some, None, Result, Ok, Err, is_some, refl, sym, ◌∙◌, ap, subst}
 use Rattle.std.proofs.lemmas.Option.{same_Some}
 use Rattle.auth_service.specs.Order.{OrderView, is_order}
 use Rattle.der_reader.specs.declared.part.Fault.{Fault as PartFault}

@@ -12,7 +12,7 @@ use Rattle.stir_c.specs.declared.said.Said.{Said}
 use Rattle.stir_c.specs.declared.writing.Text.{Text}
 use Rattle.stir_c.proofs.TextLaws.{high_unwritten, no_middle, text_into, text_kinds, text_more}
 use Rattle.stir_c.proofs.ToldLaws.{faulty_kind, input_kind, numbered}
-use Rattle.stir_c.proofs.X5uLaws.{number_of_one}
+use Rattle.stir_c.proofs.ListingLaws.{number_of_one}
 
 pub no_chain : (bytes : List ℕ) (number place : ℕ)
     → ((certificates : List CertView) → Chain bytes certificates → GivesChain {X = List CertView} (λ x. x) (Err (chains.At number place)) (Ok certificates))

@@ -9,6 +9,8 @@ pub mod Told
 pub mod Telling
 pub mod Explaining
 pub mod X5us
+pub mod Claims
+pub mod Listing
 pub mod WrittenText
 pub mod Order
 pub mod Signing

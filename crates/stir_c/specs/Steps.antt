@@ -6,7 +6,7 @@ use Rattle.single_calls.specs.Asks.{ask_lines}
 use Rattle.single_calls.specs.CallQuestions.{chains_questions, own_questions}
 use Rattle.verify_rules.specs.Call.{Reading}
 use Rattle.verify_rules.specs.States.{State}
-use Rattle.stir_c.specs.X5us.{x5u_lines}
+use Rattle.stir_c.specs.Listing.{lines_by}
 
 -- with the lines of the certificates that are left they are those of all
 pub record ChainUpTo (judged : JudgedView) (before now : List ℕ) (i : ℕ) : Type 0 where
@@ -20,6 +20,6 @@ pub record ChainsUpTo (states : List State) (before now : List ℕ) (i : ℕ) : 
 pub record OwnUpTo (readings : List Reading) (states : List State) (before now : List ℕ) (i : ℕ) : Type 0 where
   pub left : now ++ ask_lines (own_questions (drop i readings) (drop i states)) ≡ before ++ ask_lines (own_questions readings states)
 
--- and of the x5us of PASSporTs
-pub record X5usUpTo (readings : List Reading) (now : List ℕ) (i : ℕ) : Type 0 where
-  pub left : now ++ x5u_lines (drop i readings) ≡ x5u_lines readings
+-- and of what is listed of PASSporTs
+pub record ListedUpTo (line : Reading → List ℕ) (readings : List Reading) (now : List ℕ) (i : ℕ) : Type 0 where
+  pub left : now ++ lines_by line (drop i readings) ≡ lines_by line readings

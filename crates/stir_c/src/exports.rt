@@ -1,17 +1,20 @@
 //! What C calls. `include/stir.h` declares the same.
 ghost use Rattle.std.specs.Prelude.{◌≡◌, ◌≤◌, ℕ, List};
+ghost use Rattle.verify_rules.specs.Call.{Reading, payload_of};
+ghost use Rattle.stir_c.specs.Claims.{IsOneLine, claims_line, said_text};
 ghost use Rattle.stir_c.specs.Explaining.{ExplainedInto, HasNoRoomFor};
 ghost use Rattle.stir_c.specs.Inputs.{AreNoSettings};
+ghost use Rattle.stir_c.specs.Listing.{ListedInto, ListsMore};
 ghost use Rattle.stir_c.specs.Told.{AskedInto, HasFault, HasNoRoom, JudgedBy};
 ghost use Rattle.stir_c.specs.Telling.{ToldFor, ToldOf};
-ghost use Rattle.stir_c.specs.X5us.{ListedInto, ListsMore};
+ghost use Rattle.stir_c.specs.X5us.{x5u_line};
 
 use crate::asking::Asked;
 use crate::calls::{ask, explain, judge};
 use crate::inputs::{Fault, Inputs, Setting};
+use crate::listing::{Listed, list};
 use crate::said::{Said, said_for, told};
 use crate::writing::write;
-use crate::x5us::list;
 use std::alloc::Global;
 
 /// The version of these declarations.
@@ -227,7 +230,7 @@ pub extern "C" fn stir_x5u(
     room: &mut [u8],
 ) -> Said
     ensures kinds { result.kind ≤ 4 }
-    ensures listed { result.kind ≤ 1 → ListedInto (record {
+    ensures listed { result.kind ≤ 1 → ListedInto x5u_line (record {
       past = past;
       future = future;
       country = country.now;
@@ -236,7 +239,7 @@ pub extern "C" fn stir_x5u(
       message = message.now;
     }) room.old room.new result }
     ensures faulty { result.kind ≡ 2 → (result.input ≡ 1) × AreNoSettings past future country.now national }
-    ensures no_room { result.kind ≡ 4 → ListsMore (record {
+    ensures no_room { result.kind ≡ 4 → ListsMore x5u_line (record {
       past = past;
       future = future;
       country = country.now;
@@ -253,7 +256,53 @@ pub extern "C" fn stir_x5u(
         national,
         moment,
     };
-    told_asked(list(alloc, &setting, message), room)
+    told_asked(list(alloc, Listed::X5us, &setting, message), room)
+}
+
+/// Says what the PASSporTs of a call say: writes a line for each, in the order in which the call went. It has the number of the Identity field, counted
+/// from 1 in message order, a space, the payload that was signed in its deterministic form (RFC 8225, section 9), and an LF. A payload has no such form
+/// if a floating-point number stands in it; then a hyphen is written. Kind 0: the call breaks none of rules 1 to 9, and `ticket` and `last` tell how it
+/// is known again; the other rules aren't tried. Kind 1: it breaks `rule` first, and nothing is written. Kind 4: there is no room for the lines.
+#[unsafe(no_mangle)]
+pub extern "C" fn stir_claims(
+    alloc: Global,
+    past: u64,
+    future: u64,
+    country: &[u8],
+    national: u8,
+    moment: u64,
+    message: &[u8],
+    room: &mut [u8],
+) -> Said
+    ensures kinds { result.kind ≤ 4 }
+    ensures listed { result.kind ≤ 1 → ListedInto claims_line (record {
+      past = past;
+      future = future;
+      country = country.now;
+      national = national;
+      moment = moment;
+      message = message.now;
+    }) room.old room.new result }
+    ensures one_line { (one : Reading) → IsOneLine (said_text (payload_of one)) }
+    ensures faulty { result.kind ≡ 2 → (result.input ≡ 1) × AreNoSettings past future country.now national }
+    ensures no_room { result.kind ≡ 4 → ListsMore claims_line (record {
+      past = past;
+      future = future;
+      country = country.now;
+      national = national;
+      moment = moment;
+      message = message.now;
+    }) room.old result }
+    ensures as_was { 2 ≤ result.kind → room.new ≡ room.old }
+{
+    let setting = Setting {
+        past,
+        future,
+        country,
+        national,
+        moment,
+    };
+    told_asked(list(alloc, Listed::Claims, &setting, message), room)
 }
 
 /// What was asked, written into the room and told; or the fault.

@@ -7,6 +7,7 @@
 //!    | stir_ask                the signatures that a verifier is to confirm, and what holds if he confirms all of them
 //!    | stir_judge              what holds by those that he confirms: no rule is broken, or the first that is
 //!    | stir_explain            the same, with a line for each rule up to the first that is broken
+//! a message --stir_claims-->   what its PASSporTs say, for whom shows it or routes by it
 //! a message --stir_to_sign-->  the digest that is to be signed
 //!    | stir_signed             the message with its Identity field, by the signature that was made
 //! certificates --stir_show-->  what they say, in lines
@@ -43,12 +44,14 @@
 mod asking;
 mod calls;
 mod chains;
+mod claims;
 mod exports;
 mod exports_showing;
 mod exports_signing;
 mod found;
 mod inputs;
 mod judging;
+mod listing;
 mod order;
 mod own;
 mod said;
@@ -56,9 +59,8 @@ mod showing;
 mod signer;
 mod signing;
 mod writing;
-mod x5us;
 
-pub use exports::{stir_abi, stir_ask, stir_explain, stir_judge, stir_x5u};
+pub use exports::{stir_abi, stir_ask, stir_claims, stir_explain, stir_judge, stir_x5u};
 pub use exports_showing::stir_show;
 pub use exports_signing::{stir_signed, stir_to_sign};
 pub use said::Said;

@@ -1,7 +1,8 @@
 -- One PASSporT more.
 use Rattle.std.proofs.Common.{◌<◌, length, arith}
-use Rattle.stir_c.proofs.X5uLaws.{one_more}
-use Rattle.stir_c.proofs.x5us.lines_of.Goals as goal
+use Rattle.stir_c.specs.Listing.{line_of}
+use Rattle.stir_c.proofs.ListingLaws.{one_more}
+use Rattle.stir_c.proofs.listing.lines_of.Goals as goal
 
 pub passports-preserved : goal.passports-preserved
 passports-preserved c =
@@ -11,5 +12,5 @@ passports-preserved c =
     let within : c.passports.i < length c.args.screened.now.readings = omega arith in
     record {
       end = i.end;
-      so = one_more c.args.screened.now.readings c.passports.text.items c.add_x5u.new.text.items c.passports.i i.so within c.in_ok-add_x5u.ensures;
+      so = one_more (line_of c.args.listed) c.args.screened.now.readings c.passports.text.items c.add_listed.new.text.items c.passports.i i.so within c.in_ok-add_listed.ensures;
     }

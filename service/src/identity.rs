@@ -1,0 +1,93 @@
+//! The x5us of a message: the quick look by which chains are picked. What comes of a call is decided by the proved library alone.
+
+/// The x5us of the Identity fields in the head of a message, in message order: the URI of each field whose value begins as it has to (RFC 8224,
+/// section 4). So those of all PASSporTs that are judged are among them.
+pub fn x5us_of(message: &[u8]) -> Vec<Vec<u8>> {
+    values_of(message).iter().filter_map(|value| x5u_in(value)).map(<[u8]>::to_vec).collect()
+}
+
+/// The values of the Identity fields (RFC 3261, sections 7.3.1 and 20; RFC 8224, section 4, has the compact name `y`), with their continuations
+/// joined by a space.
+fn values_of(message: &[u8]) -> Vec<Vec<u8>> {
+    let mut values: Vec<Vec<u8>> = Vec::new();
+    let mut is_identity = false;
+    let lines = message.split(|byte| *byte == b'\n').map(|line| line.strip_suffix(b"\r").unwrap_or(line));
+    for line in lines.skip(1).take_while(|line| !line.is_empty()) {
+        if is_blank(&line[0]) {
+            let more = trim(line);
+            if let (true, false, Some(value)) = (is_identity, more.is_empty(), values.last_mut()) {
+                if !value.is_empty() {
+                    value.push(b' ');
+                }
+                value.extend_from_slice(more);
+            }
+            continue;
+        }
+        let colon = line.iter().position(|byte| *byte == b':');
+        let (name, value) = colon.map_or((line, b"".as_slice()), |at| (trim(&line[..at]), trim(&line[at + 1..])));
+        is_identity = colon.is_some() && (name.eq_ignore_ascii_case(b"identity") || name.eq_ignore_ascii_case(b"y"));
+        if is_identity {
+            values.push(value.to_vec());
+        }
+    }
+    values
+}
+
+/// The URI in a value that begins with a digest, `;`, `info`, `=`, and the URI between `<` and `>`. Any blanks may stand around `;` and `=`.
+fn x5u_in(value: &[u8]) -> Option<&[u8]> {
+    let (digest, rest) = value.split_at(value.iter().position(|byte| !is_digest(byte))?);
+    let info = trim_start(trim_start(rest).strip_prefix(b";")?);
+    let (name, rest) = (info.get(..4)?, &info[4..]);
+    let uri = trim_start(trim_start(rest).strip_prefix(b"=")?).strip_prefix(b"<")?;
+    let x5u = &uri[..uri.iter().position(|byte| *byte == b'>')?];
+    (!digest.is_empty() && name.eq_ignore_ascii_case(b"info")).then_some(x5u)
+}
+
+fn is_digest(byte: &u8) -> bool {
+    byte.is_ascii_alphanumeric() || matches!(byte, b'-' | b'_' | b'.')
+}
+
+fn is_blank(byte: &u8) -> bool {
+    matches!(byte, b' ' | b'\t')
+}
+
+fn trim_start(text: &[u8]) -> &[u8] {
+    &text[text.iter().take_while(|byte| is_blank(byte)).count()..]
+}
+
+fn trim(text: &[u8]) -> &[u8] {
+    let text = trim_start(text);
+    &text[..text.len() - text.iter().rev().take_while(|byte| is_blank(byte)).count()]
+}
+
+#[cfg(test)]
+mod tests {
+    use super::*;
+
+    fn found(fields: &str) -> Vec<String> {
+        let message = format!("INVITE sip:a SIP/2.0\r\nTo: b\r\n{fields}From: c\r\n\r\nIdentity: d;info=<body>\r\n\r\n");
+        x5us_of(message.as_bytes()).into_iter().map(|x5u| String::from_utf8(x5u).expect("ASCII")).collect()
+    }
+
+    #[test]
+    fn the_uri_of_each_identity_field_is_found() {
+        let fields = "Identity: a..b;info=<https://a.example/1>;alg=ES256\r\nX: e;info=<other>\r\ny: c;INFO=<https://b.example/2>\r\n";
+        assert_eq!(found(fields), ["https://a.example/1", "https://b.example/2"]);
+        assert!(found("").is_empty());
+    }
+
+    #[test]
+    fn any_blanks_and_folds_stand_around_its_marks() {
+        let blanks = " ".repeat(40);
+        assert_eq!(found(&format!("identity {blanks}: a{blanks};\t{blanks}info{blanks}={blanks}<u>\r\n")), ["u"]);
+        assert_eq!(found("IDENTITY:\r\n a ;\r\n\tInfo =\n \r\n <u>;ppt=div\r\n"), ["u"]);
+        assert_eq!(found("To: x\r\n a;info=<u>\r\n"), [""; 0]);
+    }
+
+    #[test]
+    fn what_is_none_is_passed_over() {
+        for value in ["", ";info=<u>", "a;info=u", "a;info=<u", "a info=<u>", "a;inf=<u>", "a;x=y;info=<u>", "a+;info=<u>", "a;info;=<u>", "a", "a;in"] {
+            assert_eq!(found(&format!("Identity: {value}\r\n")), [""; 0], "{value}");
+        }
+    }
+}
