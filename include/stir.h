@@ -162,7 +162,8 @@ enum {
 enum stir_withheld {
     STIR_FORM = 1,      /* the message is no INVITE, has another Date than a compact PASSporT, or would have more than 65,535 bytes */
     STIR_NO_NUMBER = 2, /* it has no calling number, or To has none */
-    STIR_AUTHORITY = 3  /* the certificate doesn't cover the calling number */
+    STIR_AUTHORITY = 3  /* the certificate doesn't cover the calling number; if the form is STIR_SHAKEN_B or _C and it has a service provider code, any
+                           number may be signed for (rule 17) */
 };
 
 /*
@@ -176,7 +177,7 @@ enum stir_withheld {
  * origid             the identifier of the call, a UUID in 36 characters, if the form is `shaken`; else it isn't looked at
  * x5u                the URI of the certificates of the key
  * message            the INVITE
- * certificate        the certificate of the key, in DER; what it covers is signed, and nothing else
+ * certificate        the certificate of the key, in DER; what it may vouch for by rule 17 is signed, and nothing else
  * table              lines of a code table (docs/FORMATS.md); those on the codes in the certificate are enough
  */
 stir_said stir_to_sign(const uint8_t *country, size_t country_size, uint8_t national, uint64_t iat, uint8_t form,

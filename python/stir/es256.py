@@ -12,6 +12,9 @@ from . import checks
 
 LINE = re.compile(rb"confirm ([0-9A-Fa-f]{130}) ([0-9A-Fa-f]{64}) ([0-9A-Fa-f]{128})")
 
+# The first byte of an uncompressed point (SEC 1, section 2.3.3).
+UNCOMPRESSED = b"\4"
+
 # The questions of certificates come again with each call; so many answers and keys are remembered.
 MOST_ANSWERS = 16_384
 MOST_KEYS = 4_096
@@ -29,6 +32,8 @@ class Question:
     def __post_init__(self) -> None:
         for name, size in (("key", 65), ("digest", 32), ("signature", 64)):
             object.__setattr__(self, name, checks.octets(name, getattr(self, name), size))
+        if self.key[:1] != UNCOMPRESSED:
+            raise ValueError(f"key must begin with the byte 4, as an uncompressed point does, and begins with {self.key[0]}")
 
     @classmethod
     def of(cls, line: bytes) -> "Question":

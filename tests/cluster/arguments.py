@@ -6,7 +6,7 @@ from stir import logs
 
 CALL = stir.Call(1, b"")
 BY = stir.Materials({}, b"")
-QUESTION = stir.Question(bytes(65), bytes(32), bytes(64))
+QUESTION = stir.Question(b"\4" + bytes(64), bytes(32), bytes(64))
 
 # What is tried, the exception, and a word of its sentence.
 REFUSED = [
@@ -32,6 +32,7 @@ REFUSED = [
     (lambda: stir.Materials({"a": "x"}, b""), TypeError, "a chain must be bytes"),
     (lambda: stir.Materials({}, None), TypeError, "anchors must be bytes"),
     (lambda: stir.Question(bytes(64), bytes(32), bytes(64)), ValueError, "key must have 65 bytes, and has 64"),
+    (lambda: stir.Question(bytes(65), bytes(32), bytes(64)), ValueError, "key must begin with the byte 4"),
     (lambda: stir.Question.of(b"confirm 04 00 00"), ValueError, "no line"),
     (lambda: stir.ask(b"", BY), TypeError, "call must be Call"),
     (lambda: stir.ask(CALL, {}), TypeError, "by must be Materials"),

@@ -36,6 +36,11 @@ def code_list(code):
     return element(0x30, element(0xA0, element(0x16, code.encode())))
 
 
+def range_list(start, count):
+    """A TNAuthList of one range of telephone numbers."""
+    return element(0x30, element(0xA1, element(0x30, element(0x16, start.encode()) + element(0x02, count.to_bytes(2, "big")))))
+
+
 def base64url(data):
     return base64.urlsafe_b64encode(data).rstrip(b"=").decode()
 
@@ -50,8 +55,8 @@ def raw(signature):
 
 
 class World:
-    """Chains of two certificates under one root; each leaf has a code, to which the table gives ten thousand numbers. If the root has a code too, it
-    issues the leaves itself, and the table gives it the numbers of all of them."""
+    """Chains of two certificates under one root; each leaf has a code, to which the table gives ten thousand numbers. If the root has a code, it issues
+    the leaves itself; these have the numbers as a range, and the table gives the root's code those of all leaves."""
 
     def __init__(self, folder, chains, now=START, code=None):
         self.folder, self.count = folder, chains
@@ -62,7 +67,8 @@ class World:
         middle = b"" if code else self.certificate("middle", "root", None, True)
         lines, table = [], [f"{code} {self.number(0, 0)} {chains * 10000}\n"] if code else []
         for n in range(chains):
-            leaf = self.certificate(f"leaf {n}", "root" if code else "middle", code_list(self.code(n)))
+            authority = range_list(self.number(n, 0), 10000) if code else code_list(self.code(n))
+            leaf = self.certificate(f"leaf {n}", "root" if code else "middle", authority)
             (folder / f"chain-{n}.der").write_bytes(leaf + middle)
             (folder / f"leaf-{n}.der").write_bytes(leaf)
             lines.append(f"{self.x5u(n)} {folder}/chain-{n}.der\n")
