@@ -1,3 +1,4 @@
 pub mod KnownLaws
 pub mod SeatLaws
+pub mod Shared
 pub mod WorkerLaws

@@ -1,5 +1,6 @@
-//! A prepared round that is lent to judges of a caller's own: `Service::judge` of `verify_service`.
+//! A prepared round that is lent to threads of a caller's own: `Service::judge` of `verify_service`.
 ghost use Rattle.std.specs.Prelude.{◌≡◌, ◌<◌, ◌≤◌, Some, IfOk, length, slice_index_or};
+ghost use Rattle.std.specs.Thread.{IsSync};
 ghost use Rattle.stir_outside.specs.Held.{held_says};
 ghost use Rattle.vector_calls.specs.Workers.{SaySame};
 ghost use Rattle.verify_service.specs.Prepared.{IsNewest};
@@ -8,13 +9,14 @@ ghost use Rattle.verify_service.specs.Service.{HoldsRight, ServiceView};
 use crate::logs::{Line, calls_in, one_worker, put_counts, service_of, shelf_of, winner_of};
 use replay_desk::Seat;
 use std::alloc::Global;
-use std::thread::Threads;
+use std::thread::{Threads, join};
 use stir_outside::{AnswerProvider, Answers, NoGate, ShelfMem};
 use vector_table::{Answer, Unread, answers_of};
+use verify_rules::Screened;
 use verify_service::{Call, Outcome, Prepared, Service, Worker};
 
-/// Of a log that is one round: how many of its calls are valid, and how many are replays of the last valid one, if two judges with a seat each judge
-/// them by one prepared round that is lent to both.
+/// Of a log that is one round: how many of its calls are valid, and how many are replays of the last valid one, if two threads judge them by one
+/// prepared round that is lent to both.
 pub(crate) fn lent<R: Threads + Sync>(
     rt: &R,
     alloc: Global,
@@ -29,7 +31,7 @@ pub(crate) fn lent<R: Threads + Sync>(
     put_counts(Answer::new(alloc), winner, lines.as_slice()).line()
 }
 
-/// What comes of the calls of a log, by a round that is lent to two judges, whose providers say what these answers hold.
+/// What comes of the calls of a log, by a round that is lent to two threads, whose providers say what these answers hold.
 fn judge_lent<R: Threads + Sync>(
     rt: &R,
     alloc: Global,
@@ -40,7 +42,7 @@ fn judge_lent<R: Threads + Sync>(
     let (service, mut prepared) = prepare_log(rt, alloc, answers, log, world)?;
     let seats = two_seats(&mut prepared)?;
     let providers = (answers.provider(&[])?, answers.provider(&[])?);
-    judge_by_two(alloc, &service, &prepared, seats, providers)
+    judge_by_two(rt, alloc, &service, &prepared, seats, providers)
 }
 
 /// A service, and its newest round: the calls of a log, prepared.
@@ -102,8 +104,17 @@ fn two_seats(prepared: &mut Prepared) -> Result<(Seat, Seat), Unread>
     Ok((seat, other))
 }
 
-/// What comes of the calls of a prepared round if one judge takes those at even places and then another those at odd ones.
-fn judge_by_two(
+/// What a thread judges with: the parity of the places whose calls are its own, which is its number too, its seat, and its provider.
+#[derive(Drop)]
+struct Part<'a> {
+    worker: u8,
+    seat: Seat,
+    provider: AnswerProvider<'a>,
+}
+
+/// What comes of the calls of a prepared round if one thread judges those at even places and another those at odd ones.
+fn judge_by_two<R: Threads + Sync>(
+    rt: &R,
     alloc: Global,
     service: &Service,
     prepared: &Prepared,
@@ -114,26 +125,76 @@ fn judge_by_two(
     requires one { seats.0.desk ≡ prepared.now.desk }
     requires two { seats.1.desk ≡ prepared.now.desk }
 {
+    may_be_shared::<Screened>();
     let (seat, other_seat) = seats;
     let (provider, other_provider) = providers;
-    let mut lines = judge_every_second(alloc, service, prepared, 0, seat, provider)?;
-    let others = judge_every_second(alloc, service, prepared, 1, other_seat, other_provider)?;
+    let even = Part {
+        worker: 0,
+        seat,
+        provider,
+    };
+    let odd = Part {
+        worker: 1,
+        seat: other_seat,
+        provider: other_provider,
+    };
+    let (even, odd) = in_two_threads(
+        rt,
+        service,
+        prepared,
+        even,
+        odd,
+        &|service, prepared, part| judge_every_second(alloc, service, prepared, part),
+    );
+    let mut lines = even?;
+    let others = odd?;
     lines.extend_from_slice(others.as_slice())?;
     Ok(lines)
 }
 
-/// What comes of the calls of a prepared round at even places, or at odd ones, as this worker judges them.
+/// A value of the type may be lent to several threads at once. The toolchain finds that of a type which holds itself, as a JSON value in a screened
+/// call does.
+fn may_be_shared<T: Sync>()
+    ensures { IsSync T.row }
+{}
+
+/// What two threads give that share a service and a round, each with a part of its own. The bounds say of types unknown here that they may be shared
+/// and sent, so the threads' closures need no proof of that.
+fn in_two_threads<
+    R: Threads + Sync,
+    S: Sync,
+    P: Sync,
+    J: Send + Drop,
+    X: Send + Drop,
+    F: Fn(&S, &P, J) -> X + Sync,
+>(rt: &R, service: &S, prepared: &P, one: J, two: J, judge: &F) -> (X, X)
+    requires one { F.pre judge.now service prepared one }
+    requires two { F.pre judge.now service prepared two }
+{
+    let first = move || -> X
+        requires { F.pre judge.now service prepared one }
+    { judge(service, prepared, one) };
+    let second = move || -> X
+        requires { F.pre judge.now service prepared two }
+    { judge(service, prepared, two) };
+    join(rt, first, second)
+}
+
+/// What comes of the calls of a prepared round at even places, or at odd ones, as a thread judges them with this part.
 fn judge_every_second(
     alloc: Global,
     service: &Service,
     prepared: &Prepared,
-    worker: u8,
-    mut seat: Seat,
-    mut provider: AnswerProvider<'_>,
+    part: Part<'_>,
 ) -> Result<Vec<Line>, Unread>
     requires newest { IsNewest service.now prepared.now }
-    requires desk { seat.desk ≡ prepared.now.desk }
+    requires desk { part.seat.desk ≡ prepared.now.desk }
 {
+    let Part {
+        worker,
+        mut seat,
+        mut provider,
+    } = part;
     let mut lines = Vec::new(alloc);
     'calls: for index in 0..prepared.count() {
         if index % 2 == usize::from(worker) {

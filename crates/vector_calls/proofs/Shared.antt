@@ -1,0 +1,46 @@
+-- A prepared round among threads: it may be lent to several, if a screened call may be, though it holds seats. A seat that is only lent can do nothing.
+use denote.Param.Send.{IsSync, sendable}
+use denote.Param.SendFields.{as_row_sync, declared_sync}
+use Rattle.std.proofs.Crossing.{crosses}
+use Rattle.std.proofs.MapsCrossing.{HashMap-sync}
+use Rattle.cert_store.specs.contracts.judged.Judged as judged
+use Rattle.replay_desk.proofs.Shared.{among_threads}
+use Rattle.verify_rules.specs.contracts.refusal.Refusal as refusal
+use Rattle.verify_rules.specs.contracts.screened.Screened as screened
+use Rattle.verify_service.specs.contracts.chains.CallChain as chain
+use Rattle.verify_service.specs.contracts.kept.KeptChains as kept
+use Rattle.verify_service.specs.contracts.outcome.Outcome as outcome
+use Rattle.verify_service.specs.contracts.prepared.Prepared as prepared
+use Rattle.verify_service.specs.contracts.ready.Round as round
+use Rattle.verify_service.specs.contracts.screening.ReadyCall as call
+use Rattle.verify_service.specs.contracts.screening.Screening as screening
+
+refusal_sync : IsSync (refusal.the_field).row
+refusal_sync = search among_threads depth 60 fits 50000
+
+screening_sync : IsSync screened.the_row → IsSync (screening.the_field).row
+screening_sync s = search (s, refusal_sync, sendable) depth 60 fits 50000
+
+call_sync : IsSync screened.the_row → IsSync call.the_row
+call_sync s = declared_sync call.the_type (search (screening_sync, s, as_row_sync, among_threads) depth 60 fits 50000)
+
+judged_sync : IsSync judged.the_row
+judged_sync = search (crosses, sendable) depth 60 fits 50000
+
+chain_sync : IsSync chain.the_row
+chain_sync = search (among_threads, judged_sync) depth 60 fits 50000
+
+kept_sync : IsSync kept.the_row
+kept_sync = search (HashMap-sync, chain_sync, crosses, sendable) depth 60 fits 50000
+
+round_by : IsSync call.the_row → IsSync (round.the_field).row
+round_by c = search (among_threads, c, kept_sync) depth 60 fits 50000
+
+round_sync : IsSync screened.the_row → IsSync (round.the_field).row
+round_sync s = round_by (call_sync s)
+
+outcome_sync : IsSync outcome.the_row
+outcome_sync = search among_threads depth 60 fits 50000
+
+pub prepared_sync : IsSync screened.the_row → IsSync prepared.the_row
+prepared_sync s = search ((round_sync s).shared, outcome_sync, among_threads) depth 60 fits 50000

@@ -1,0 +1,6 @@
+-- A prepared round may be lent to another thread, as a screened call may be.
+use Rattle.vector_calls.proofs.Shared.{prepared_sync}
+use Rattle.vector_calls.proofs.lending.judge_by_two.Goals as goal
+
+pub in_two_threads-even-requires-sync-P : goal.in_two_threads-even-requires-sync-P
+in_two_threads-even-requires-sync-P g c κs within = record { shared = (prepared_sync (record { shared = c.may_be_shared.ensures.shared })).shared }
