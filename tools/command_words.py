@@ -20,7 +20,7 @@ FILE = Value('the name of a file', r'.+')
 
 # The options, one a line: what each value is.
 VALUES = {
-    'chains': FILE, 'anchors': FILE, 'table': FILE, 'answers': FILE, 'leaf': FILE,
+    'chains': FILE, 'anchors': FILE, 'table': FILE, 'answers': FILE, 'leaf': FILE, 'state': FILE,
     'workers': Value('how many workers there are, 1 to 8', r'[1-8]'),
     'seed': Value('a number below 2^64', r'0|[1-9][0-9]{0,19}', 2**64 - 1),
     'count': Value('how many calls are made, at most 100000', NUMBER, 100_000),
@@ -32,6 +32,8 @@ VALUES = {
     'key': Value('the name of a key, 1 to 64 visible characters without ; , " < > \\', r'[!#-+\--:=?-\[\]-~]{1,64}'),
     'x5u': Value('a URI, 1 to 2048 visible characters without " < > \\', r'[!#-;=?-\[\]-~]{1,2048}'),
     'iat': Value('a second of Unix time, at most 253402300799', NUMBER, 253_402_300_799),
+    'moment': Value('a second of Unix time, at most 253402300799', NUMBER, 253_402_300_799),
+    'target': Value('the request URI of the message that goes on', r'.+'),
     'form': Value('base, compact or shaken', r'base|compact|shaken'),
     'attest': Value('A, B or C', r'[ABC]'),
     'origid': Value('a UUID in 36 characters', r'[0-9A-Fa-f]{8}(-[0-9A-Fa-f]{4}){3}-[0-9A-Fa-f]{12}'),
@@ -46,11 +48,12 @@ HOLDER = ('leaf', 'table', *NUMBERING)
 
 # The commands, one a line: the options that have to stand, and those that may.
 COMMANDS = {
-    'verify': ((*JUDGED, 'answers'), ('workers', *FRESH, *NUMBERING)),
+    'verify': ((*JUDGED, 'answers'), ('state', 'workers', *FRESH, *NUMBERING)),
     'explain': ((*JUDGED, 'answers'), (*FRESH, *NUMBERING)),
     'ask': (JUDGED, (*FRESH, *NUMBERING)),
     'sign': ((*SIGNED, 'form'), ('attest', 'origid', *HOLDER)),
     'divert': ((*SIGNED, 'earlier'), HOLDER),
+    'retarget': ((*JUDGED, *SIGNED, 'target', 'leaf', 'moment'), (*FRESH, *NUMBERING)),
     'show': ((), ()),
     'drill': (('seed', 'count'), ('workers',)),
     'once': (('size',), ('workers',)),

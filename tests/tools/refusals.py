@@ -14,13 +14,13 @@ import words  # noqa: E402
 
 # Words, and what is said of them; None where they aren't refused.
 SAID = {
-    '': 'no command: the first word is verify, explain, ask, sign, divert, show, drill, once',
-    'Verify': '\'Verify\' is no command: the first word is verify, explain, ask, sign, divert, show, drill, once',
+    '': 'no command: the first word is verify, explain, ask, sign, divert, retarget, show, drill, once',
+    'Verify': '\'Verify\' is no command: the first word is verify, explain, ask, sign, divert, retarget, show, drill, once',
     'show x': '\'x\' is no option: an option is --NAME=VALUE, or --NAME and a value',
     'show': None,
     'ask --chains=c --anchors=a': '--table is missing: it is the name of a file',
     'ask --chain=c --anchors=a --table=t': '--chain is no option of ask; --chains is one',
-    'ask --chains=c --anchors=a --table=t --answers=w': '--answers is no option of ask; it is one of verify, explain, sign, divert',
+    'ask --chains=c --anchors=a --table=t --answers=w': '--answers is no option of ask; it is one of verify, explain, sign, divert, retarget',
     'ask --chains=c --chains d': '--chains stands twice',
     'ask --chains -c --anchors=a --table=t': '--chains has no value: -c begins with -; --chains=-c hands it on',
     'ask --chains=c --anchors=a --table=': '--table has no value: it is the name of a file',

@@ -5,7 +5,7 @@ stir-confirm and stir-signer with openssl, where that is on the path.
     run.py PROGRAM [--keys COUNT]
 
 `cases` tells its lines. The files of a case are those of `files`, those that captures.py and streams.py make, and those that stand below.
-What no line can say stands in debian.py, fetching.py, pages.py, refusals.py, reports.py and terminals.py. COUNT is the number of keys and
+What no line can say stands in days.py, debian.py, fetching.py, pages.py, refusals.py, reports.py and terminals.py. COUNT is the number of keys and
 messages that go through openssl, 10 where it isn't given. Where the Python package cryptography, openssl, tshark, git or dpkg-deb is missing, a
 line says what isn't tried.
 """
@@ -18,6 +18,7 @@ import sys
 import tempfile
 
 import captures
+import days
 import debian
 import fetching
 import pages
@@ -174,6 +175,7 @@ def results(program, keys):
     yield from refusals.results(program)
     yield from pages.results(program, has_library)
     yield from reports.results(tool, HERE / 'files')
+    yield from days.results(program)
     if shutil.which('git') and shutil.which('dpkg-deb'):
         yield from debian.results()
     if has_library:

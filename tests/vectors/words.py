@@ -38,7 +38,7 @@ def matches(pattern):
 
 # Which values each option takes. A number that makes a local numbering is looked at together with the country.
 TAKES = {
-    **dict.fromkeys(("chains", "anchors", "table", "answers", "leaf"), lambda value: True),
+    **dict.fromkeys(("chains", "anchors", "table", "answers", "leaf", "state"), lambda value: True),
     "workers": matches(rb"[1-8]"),
     "seed": number_up_to(LAST_SEED),
     "count": number_up_to(MOST_CALLS),
@@ -49,6 +49,8 @@ TAKES = {
     "key": matches(BARE_BYTES + rb"{1,64}"),
     "x5u": matches(URI_BYTES + rb"{1,2048}"),
     "iat": number_up_to(LAST_SECOND),
+    "moment": number_up_to(LAST_SECOND),
+    "target": lambda value: True,
     "form": matches(rb"base|compact|shaken"),
     "attest": matches(rb"[ABC]"),
     # A UUID in its 36 characters (RFC 9562, section 4).
@@ -62,11 +64,12 @@ SETTINGS = ("past", "future", "country", "national")
 SIGNING = ("key", "x5u", "iat", "answers")
 HOLDER = ("leaf", "table", "country", "national")
 COMMANDS = {
-    "verify": (JUDGING, ("workers", *SETTINGS)),
+    "verify": (JUDGING, ("state", "workers", *SETTINGS)),
     "explain": (JUDGING, SETTINGS),
     "ask": (JUDGING[:3], SETTINGS),
     "sign": ((*SIGNING, "form"), ("attest", "origid", *HOLDER)),
     "divert": ((*SIGNING, "earlier"), HOLDER),
+    "retarget": ((*JUDGING, "key", "x5u", "iat", "target", "leaf", "moment"), SETTINGS),
     "show": ((), ()),
     "drill": (("seed", "count"), ("workers",)),
     "once": (("size",), ("workers",)),
@@ -129,9 +132,10 @@ def answer(words):
     judging = [*(values.get(name) for name in JUDGING), values.get("past", b"60"), values.get("future", b"5"), *local]
     signing = [*(values.get(name) for name in ("key", "x5u", "iat")), *local, values.get("answers"), values.get("leaf", b"-"), values.get("table", b"-")]
     said = {
-        "verify": [*judging, values.get("workers", b"1")],
+        "verify": [*judging, values.get("state", b"-"), values.get("workers", b"1")],
         "sign": [values.get("form"), values.get("attest"), values.get("origid"), *signing],
         "divert": [values.get("earlier"), *signing],
+        "retarget": [*judging, *(values.get(name) for name in ("key", "x5u", "iat", "target", "leaf", "moment"))],
         "show": [],
         "drill": [values.get("seed"), values.get("count"), values.get("workers", b"1")],
         "once": [values.get("size"), values.get("workers", b"1")],
@@ -145,7 +149,7 @@ UUID = b"123e4567-e89b-12d3-a456-426655440000"
 OUTSIDE_URI = (b'"', b"<", b">", b"\\", b" ", b"\x7f", b"\x1f", "\u00e9".encode())
 NO_NUMBERS = (b"00", b"01", b"+1", b"-1", b"1 ", b" 1", b"1\n", b"0x1", b"1e1", b"1_0", b"1.0", b"1,0", "\u0661".encode(), "\uff11".encode(), b"x")
 GOOD = {
-    **dict.fromkeys(("chains", "anchors", "table", "answers", "leaf"), FILES),
+    **dict.fromkeys(("chains", "anchors", "table", "answers", "leaf", "state"), FILES),
     "workers": (b"1", b"2", b"7", b"8"),
     "seed": (b"0", b"7", b"9223372036854775808", b"18446744073709551614", b"18446744073709551615"),
     "count": (b"0", b"1", b"16", b"255", b"256", b"257"),
@@ -157,6 +161,8 @@ GOOD = {
     "key": (b"k", b"-", b"k1", 63 * b"k", 64 * b"k", b"!#$%&'()*+-./", b":=?@[]^_`{|}~", b"0*#"),
     "x5u": (b"u", b"-u", b"https://cert.example.org/a.pem", 2047 * b"u", 2048 * b"u", b"!#$%&'()*+,-./:;", b"=?@[]^_`{|}~", b"U:"),
     "iat": (b"0", b"1", b"1443208345", b"253402300798", b"253402300799"),
+    "moment": (b"0", b"1", b"1443208345", b"253402300798", b"253402300799"),
+    "target": (b"sip:+12125551214@example.net", b"x", b"-", b"=", b"sip:a b", "\u20ac".encode()),
     "form": (b"base", b"compact"),
     "attest": (b"A", b"B", b"C"),
     "origid": (UUID, UUID.upper(), 8 * b"f" + 3 * b"-0000" + b"-" + 12 * b"A", b"00000000-0000-0000-0000-000000000000"),
@@ -173,6 +179,7 @@ BAD = {
     "key": (65 * b"k", 66 * b"k", b"k;", b"k,", *(b"k" + byte for byte in OUTSIDE_URI)),
     "x5u": (2049 * b"u", 2050 * b"u", *(byte + b"u" for byte in OUTSIDE_URI)),
     "iat": (b"253402300800", b"18446744073709551615", b"18446744073709551616", b"1696652042368409561", *NO_NUMBERS),
+    "moment": (b"253402300800", b"18446744073709551615", b"18446744073709551616", *NO_NUMBERS),
     "form": (b"Base", b"BASE", b"compac", b"compact2", b"full", b"div", b"shaken", b"base,compact"),
     "attest": (b"a", b"D", b"AB", b"A ", b" A", b"\n", b"@", "\u0410".encode()),
     "origid": (UUID[:-1], UUID + b"0", UUID.replace(b"-", b""), b"{" + UUID + b"}", b"urn:uuid:" + UUID, UUID[:-1] + b"g", UUID.replace(b"-", b"_"),
@@ -184,13 +191,13 @@ BAD = {
 def plain(command):
     """Values for the options that the command requires."""
     first = {"chains": b"c", "anchors": b"a", "table": b"t", "answers": b"w", "key": b"k1", "x5u": b"u", "iat": b"1443208345", "form": b"base",
-             "earlier": b"911", "seed": b"5", "count": b"3", "size": b"6"}
+             "earlier": b"911", "target": b"sip:+12125551214@example.net", "leaf": b"l", "moment": b"1443208345", "seed": b"5", "count": b"3", "size": b"6"}
     return {name: first[name] for name in COMMANDS[command][0]}
 
 
 def whole(command):
     """Values for all options of the command."""
-    more = {"workers": b"3", "past": b"30", "future": b"7", "country": b"44", "national": b"11", "leaf": b"l", "table": b"t", "attest": b"A", "origid": UUID}
+    more = {"state": b"s", "workers": b"3", "past": b"30", "future": b"7", "country": b"44", "national": b"11", "leaf": b"l", "table": b"t", "attest": b"A", "origid": UUID}
     values = plain(command) | {name: more[name] for name in COMMANDS[command][1]}
     return values | {"form": b"shaken"} if command == "sign" else values
 
@@ -364,7 +371,7 @@ def drawn(seed, count):
 
 SECTIONS = (
     (commands, "`tests/vectors/words.py` prints the lines from here up to `files`. `verify` answers its four files, how many seconds old and ahead a",
-     "PASSporT may be, the country, the length of a national number and the workers; `explain` the same without the workers, and `ask` without the",
+     "PASSporT may be, the country, the length of a national number, the state or `-`, and the workers; `explain` the same without these two, and `ask` without the",
      "answers besides. `sign` answers the form, with the attestation and the identifier after `shaken`, `divert` the earlier number, and both then",
      "the name of the key, the URI, the second, the country and the length of a national number, the file of the answers, and the holder's two",
      "files or `- -`. `drill` answers the seed, the count and the workers, `once` the slots of a level and the workers.",

@@ -19,7 +19,7 @@
 //!
 //! The reader takes the source in blocks of 65,536 bytes and holds one message at a time, so a log may be longer than the memory. It doesn't look
 //! into the messages: that is `sip_message`. `log_run` has the loop of the commands over it. `tools/stir-log` makes logs of captures.
-//! [`LogReader::after`] goes on from the number and the moment of an earlier log's last call; no command calls it yet.
+//! [`LogReader::after`] goes on from the number and the moment of an earlier log's last call.
 //!
 //! Proved of [`LogReader::next`]: however the source cuts the bytes, a call is the next entry of the one log that they are, and exactly its bytes
 //! were taken. A fault is the first one, and is known at the last byte taken and at none before ([`one_log`], [`reads_law`]; `docs/PROVED.md`, "A

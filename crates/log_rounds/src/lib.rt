@@ -3,8 +3,7 @@
 //! - A [`LogVerifier`] is the service, the answers and how many workers there are. It implements `LogCommand` of `log_run`.
 //! - [`judge_log`] reads the calls of a log in rounds of 256, has the verifier judge each round, and writes a line for each call before the next
 //!   round is read. Its answer is the status: 0 if all calls are valid, 1 if some aren't, and 3 to 6 if something stopped it.
-//! - [`judge_log_on`] is the same from the state of an earlier run on, and writes the state that a [`HandingVerifier`] hands on. No command calls it
-//!   yet.
+//! - [`judge_log_on`] is the same from the state of an earlier run on, and writes the state that a [`HandingVerifier`] hands on: `verify --state`.
 //!
 //! ```rust
 //! let mut verifier = LogVerifier { service, answers: &answers, workers: 1 };

@@ -9,11 +9,12 @@ use Rattle.stir_outside.specs.Files.{Files}
 use Rattle.stir_words.specs.Order.{OrderView, VerifyBy, VerifyingView}
 use Rattle.stir_cmd.specs.Causes.{Ran}
 use Rattle.stir_cmd.specs.Calls.{settings_by}
-use Rattle.stir_cmd.specs.FewReads.{FewReads, ReadsFew}
+use Rattle.stir_cmd.specs.FewReads.{FewReads, ReadsFew, ReadsFewFrom}
 use Rattle.stir_cmd.specs.OverFiles.{counted}
 use Rattle.stir_cmd.specs.OverLog.{log_in}
 use Rattle.stir_cmd.specs.Outside.{IfTold, Outside}
-use Rattle.stir_cmd.specs.Verifying.{verify_course, verify_over, verify_words}
+use Rattle.stir_cmd.specs.Verifying.{verify_from, verify_over, verify_words}
+use Rattle.stir_cmd.proofs.GoingLaws.{reads_on}
 use Rattle.stir_cmd.proofs.OverFilesLaws.{behind_files}
 
 told_by : (verifying : VerifyingView) (before mid now : Outside) (status : ℕ) (files : Option Files) (left : Option (List ℕ)) (materials : Materials) → MaterialsOf files verifying.judging materials → mid.counts.reads ≤ before.counts.reads + 4
@@ -29,11 +30,13 @@ told_by verifying before mid now status (Some files) (Some bytes) materials stan
   reads = λ texts named. omega (arith, four, done.closes.few_reads (record { same = refl; below_last = omega arith }) texts named);
 }
 
-verify_reads : (verifying : VerifyingView) (before now : Outside) (status : ℕ) → (verify_course verifying).Came before now status → FewReads (Some (VerifyBy verifying)) before now status
-verify_reads verifying before now status came = λ low.
+reads_from : (verifying : VerifyingView) (state : Option (List ℕ)) (before now : Outside) (status : ℕ) → (verify_from verifying state).Came before now status → status ≤ 1
+    → IfTold before.files before.left (ReadsFewFrom verifying state before now)
+reads_from verifying (Some name) before now status came low = reads_on verifying name before now status came low
+reads_from verifying None before now status came low =
     let b = behind_files (verify_over verifying) before now status came low in
     told_by verifying before (counted before b.counts) now status before.files before.left b.read b.stands b.reads (b.says.done low) (b.says.done low).log
 
 pub few_reads : (order : Option OrderView) (before now : Outside) (status : ℕ) → Ran order before now status → FewReads order before now status
-few_reads (Some (VerifyBy verifying)) before now status came = verify_reads verifying before now status came
+few_reads (Some (VerifyBy verifying)) before now status came = λ low. reads_from verifying verifying.state before now status came low
 few_reads other before now status came = tt

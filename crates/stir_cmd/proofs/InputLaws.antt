@@ -3,7 +3,7 @@ use Rattle.std.proofs.Common.{◌≡◌, ℕ, ◌+◌, ◌<◌, ◌≤◌, ◌�
 use Rattle.std.specs.Io.KnownBytes.{Appends, Consumes, IsAtEnd}
 use Rattle.stir_outside.proofs.CountLaws.{not_rose}
 use Rattle.stir_outside.specs.Ending.{EndsAs, memory_line}
-use Rattle.stir_cmd.specs.Input.{Answered, Answering, CameInput, InputComplete, InputThrough, IsReply, IsSaid, MayGive, MayRefuse, TakesAtMost, input_course}
+use Rattle.stir_cmd.specs.Input.{Answered, Answering, CameInput, InputComplete, InputThrough, IsReply, IsSaid, MayGive, MayRefuse, RanInput, TakesAtMost, input_course, shelf_course}
 use Rattle.stir_cmd.specs.Outside.{Io, IsUntouched, Outside, io_in}
 use Rattle.stir_cmd.specs.Stopping.{Ends, IsQuiet}
 use Rattle.stir_cmd.proofs.Keeps.{CausesIn, Keeps, KeepsAll}
@@ -45,8 +45,8 @@ causes_by : (command : Answering) → Decides command → (before now : Outside)
 causes_by command d before now status said text says (inl ends) = by_said command d before now status said text says ends.0 ends.1
 causes_by command d before now status said text says (inr ends) = at_write status ends.0 (record { rose = ends.1; line = text; says = (said, says); front = ends.2 })
 
-causes : (command : Answering) → Decides command → (before now : Outside) (status : ℕ) → CameInput command before now status → CausesIn (input_course command) before now status
-causes command d before now status came = causes_by command d before now status came.ran.said came.ran.text came.ran.says came.ran.ends
+causes : (command : Answering) → Decides command → (before now : Outside) (status : ℕ) → RanInput command (io_in before) (io_in now) status → CausesIn (input_course command) before now status
+causes command d before now status ran = causes_by command d before now status ran.said ran.text ran.says ran.ends
 
 -- ---- which status comes
 
@@ -90,10 +90,10 @@ gives_long command before now status said text bytes (inr (inl failed)) (inl end
 gives_long command before now status said text bytes (inr (inr memory)) (inl ends) told long q = inr (ends.0 ∙ memory.said)
 gives_long command before now status said text bytes says (inr ends) told long q = absurd (not_rose before.write_faults now.write_faults q.write_faults ends.1)
 
-answers : (command : Answering) (before now : Outside) (status : ℕ) → CameInput command before now status → InputComplete command before now status
-answers command before now status came = record {
-  short = λ bytes told short q. gives_short command before now status came.ran.said came.ran.text bytes came.ran.says came.ran.ends told short q;
-  long = λ bytes told long q. gives_long command before now status came.ran.said came.ran.text bytes came.ran.says came.ran.ends told long q;
+answers : (command : Answering) (before now : Outside) (status : ℕ) → RanInput command (io_in before) (io_in now) status → InputComplete command before now status
+answers command before now status ran = record {
+  short = λ bytes told short q. gives_short command before now status ran.said ran.text bytes ran.says ran.ends told short q;
+  long = λ bytes told long q. gives_long command before now status ran.said ran.text bytes ran.says ran.ends told long q;
 }
 
 -- ---- what was answered, and how much was read
@@ -105,18 +105,32 @@ said_low command before now status said text (inr (inl failed)) (inl ends) low =
 said_low command before now status said text (inr (inr memory)) (inl ends) low = absurd (omega (arith, ends.0, memory.said, low))
 said_low command before now status said text says (inr ends) low = absurd (omega (arith, ends.0, low))
 
-says : (command : Answering) (before now : Outside) (status : ℕ) → CameInput command before now status → status ≤ 1 → Answered command (io_in before) (io_in now) status
-says command before now status came low = said_low command before now status came.ran.said came.ran.text came.ran.says came.ran.ends low
+says : (command : Answering) (before now : Outside) (status : ℕ) → RanInput command (io_in before) (io_in now) status → status ≤ 1 → Answered command (io_in before) (io_in now) status
+says command before now status ran low = said_low command before now status ran.said ran.text ran.says ran.ends low
 
 through_by : (command : Answering) (before now : Io) (text : List ℕ) (status : ℕ) → IsReply command before now text status → InputThrough command before now status
 through_by command before now text status (inl r) = inl r.ended
 through_by command before now text status (inr r) = inr (text, r)
 
-through : (command : Answering) (before now : Outside) (status : ℕ) → CameInput command before now status → status ≤ 1 → InputThrough command (io_in before) (io_in now) status
-through command before now status came low = let a = says command before now status came low in through_by command (io_in before) (io_in now) a.text status a.reply
+through : (command : Answering) (before now : Outside) (status : ℕ) → RanInput command (io_in before) (io_in now) status → status ≤ 1 → InputThrough command (io_in before) (io_in now) status
+through command before now status ran low = let a = says command before now status ran low in through_by command (io_in before) (io_in now) a.text status a.reply
 
 pub keeps_input : (command : Answering) → Decides command → Keeps (input_course command)
-keeps_input command d = record { causes = causes command d; answers = answers command; through = through command; says = says command }
+keeps_input command d = record {
+  causes = λ before now status came. causes command d before now status came.ran;
+  answers = λ before now status came. answers command before now status came.ran;
+  through = λ before now status came low. through command before now status came.ran low;
+  says = λ before now status came low. says command before now status came.ran low;
+}
+
+-- .. and so it is if the answer is said by what stands around
+pub keeps_shelf : (command : Outside → Outside → Answering) → ((before now : Outside) → Decides (command before now)) → Keeps (shelf_course command)
+keeps_shelf command d = record {
+  causes = λ before now status ran. causes (command before now) (d before now) before now status ran;
+  answers = λ before now status ran. answers (command before now) before now status ran;
+  through = λ before now status ran low. through (command before now) before now status ran low;
+  says = λ before now status ran low. says (command before now) before now status ran low;
+}
 
 -- ---- memory was wanting before anything was read
 

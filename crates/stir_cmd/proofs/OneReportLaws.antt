@@ -1,5 +1,5 @@
 -- Two runs of `verify` on one worker over the same files and the same log give one report.
-use Rattle.std.proofs.Common.{◌≡◌, ◌↔◌, ℕ, List, [], Option, Some, None, refl, sym, ◌∙◌, ap, subst}
+use Rattle.std.proofs.Common.{◌≡◌, ℕ, ◌≤◌, List, [], Option, Some, None, refl, sym, ◌∙◌, ap, subst}
 use Rattle.std.specs.Io.KnownBytes.{Appends}
 use Rattle.std.proofs.lemmas.Option.{same_Some}
 use Rattle.call_log.specs.Entry.{Entry}
@@ -25,8 +25,8 @@ use Rattle.verify_rules.specs.declared.settings.Settings.{Settings}
 use Rattle.verify_service.specs.Report.{report}
 use Rattle.verify_service.specs.Judging.{call_in}
 use Rattle.stir_cmd.specs.Calls.{config_by, settings_by, world_by}
-use Rattle.stir_cmd.specs.Headline.{AreJudged, Headline, Verified}
-use Rattle.stir_cmd.specs.OneReport.{AreOneReport, GivesOneReport, IsLogApart, IsOneReport}
+use Rattle.stir_cmd.specs.Headline.{AreJudged, Headline, Verified, VerifiedFrom}
+use Rattle.stir_cmd.specs.OneReport.{AreOneReport, GivesOneFrom, GivesOneReport, IsLogApart, IsOneReport}
 use Rattle.stir_cmd.specs.Outside.{IfTold, Outside}
 use Rattle.stir_cmd.proofs.SameReadings.{one_answers, one_map, one_ok, one_table}
 use Rattle.stir_cmd.proofs.AnswersAlike.{NoneAside, OneAnswerEach, RoundsAlike, all_same, has_each, rounds_alike, rounds_turned, same_cut}
@@ -107,17 +107,25 @@ said_of verifying files bytes told left other other_now status same_files same_l
     subst (λ f. IfTold (Some files) f (λ f b. Verified verifying f b other other_now status)) same_log
     (subst (λ f. IfTold f left (λ f b. Verified verifying f b other other_now status)) same_files said)
 
-gives_by : OneReportLawsOf → (verifying : VerifyingView) → verifying.workers ≡ 1 → (before now : Outside) (status : ℕ) (told : Option Files) (left : Option (List ℕ))
+gives_by : OneReportLawsOf → (verifying : VerifyingView) → verifying.state ≡ None → verifying.workers ≡ 1 → (before now : Outside) (status : ℕ) (told : Option Files) (left : Option (List ℕ))
     → NotRisen before.counts.faults now.counts.faults → IfTold told left (λ files bytes. Verified verifying files bytes before now status)
     → IfTold told left (λ files bytes. IsOneReport verifying files bytes before now status)
-gives_by laws verifying single before now status None left quiet said = tt
-gives_by laws verifying single before now status (Some files) None quiet said = tt
-gives_by laws verifying single before now status (Some files) (Some bytes) quiet said = record {
+gives_by laws verifying alone single before now status None left quiet said = tt
+gives_by laws verifying alone single before now status (Some files) None quiet said = tt
+gives_by laws verifying alone single before now status (Some files) (Some bytes) quiet said = record {
   same = λ apart other other_now other_status ran.
       one_report laws verifying single files bytes before now other other_now status other_status apart said
-      (said_of verifying files bytes other.files other.left other other_now other_status ran.same_files ran.same_log (ran.headline ran.done)) quiet ran.quiet;
+      (said_of verifying files bytes other.files other.left other other_now other_status ran.same_files ran.same_log
+      (subst (λ (x : Option (List ℕ)). IfTold other.files other.left (VerifiedFrom verifying x other other_now other_status)) alone (ran.headline ran.done))) quiet ran.quiet;
 }
 
+-- where no state is named
+without_state : OneReportLawsOf → (verifying : VerifyingView) (state : Option (List ℕ)) → verifying.state ≡ state → (before now : Outside) (status : ℕ)
+    → (status ≤ 1 → IfTold before.files before.left (VerifiedFrom verifying state before now status)) → GivesOneFrom verifying state before now status
+without_state laws verifying (Some name) is before now status said = tt
+without_state laws verifying None is before now status said =
+    λ single done quiet. gives_by laws verifying is single before now status before.files before.left quiet (said done)
+
 pub gives_one_report : OneReportLawsOf → (order : Option OrderView) (before now : Outside) (status : ℕ) → Headline order before now status → GivesOneReport order before now status
-gives_one_report laws (Some (VerifyBy verifying)) before now status said = λ single done quiet. gives_by laws verifying single before now status before.files before.left quiet (said done)
+gives_one_report laws (Some (VerifyBy verifying)) before now status said = without_state laws verifying verifying.state refl before now status said
 gives_one_report laws other before now status said = _

@@ -2,17 +2,19 @@
 use Rattle.std.proofs.Common.{◌≡◌, ℕ, ◌≤◌, inl, inr, List, Option, Some, None, refl, sym, subst, arith}
 use Rattle.std.specs.Io.KnownBytes.{Appends}
 use Rattle.stir_outside.specs.Ending.{EndsAs}
-use Rattle.stir_words.specs.Order.{AskBy, DivertBy, DrillBy, ExplainBy, ClaimingView, DrillingView, OnceBy, OrderView, ShowCertificates, SignBy, VerifyBy}
+use Rattle.stir_words.specs.Order.{AskBy, DivertBy, DrillBy, ExplainBy, ClaimingView, DrillingView, OnceBy, OrderView, RetargetBy, RetargetingView, ShowCertificates, SignBy, VerifyBy}
 use Rattle.stir_cmd.specs.Outside.{Outside}
 use Rattle.stir_cmd.specs.Causes.{HasCauses, IsComplete, IsRefusal, IsSaid, IsThrough, Ran, RanOrShort, course_of, no_course}
 use Rattle.stir_cmd.specs.Claiming.{once_answering}
 use Rattle.stir_cmd.specs.Drilling.{CameDrill}
+use Rattle.stir_cmd.specs.Gateway.{gateway_course}
 use Rattle.stir_cmd.specs.Headline.{Headline}
 use Rattle.stir_cmd.specs.Input.{CameInput}
 use Rattle.stir_cmd.specs.Showing.{show_answering}
 use Rattle.stir_cmd.specs.Signing.{diverting_command, signing_command}
 use Rattle.stir_cmd.proofs.DrillLaws as drilling
 use Rattle.stir_cmd.proofs.ExplainedLaws as explaining
+use Rattle.stir_cmd.proofs.GatewayLaws as sending
 use Rattle.stir_cmd.proofs.Keeps.{KeepsAll}
 use Rattle.stir_cmd.proofs.OnceLaws as claiming
 use Rattle.stir_cmd.proofs.ShowLaws as showing
@@ -38,6 +40,7 @@ keeps_all laws (ExplainBy judging) = explaining.explain_keeps judging
 keeps_all laws (AskBy words) = explaining.ask_keeps laws.texts laws.well words
 keeps_all laws (SignBy words) = signing.keeps_all (signing_command words)
 keeps_all laws (DivertBy words) = signing.keeps_all (diverting_command words)
+keeps_all laws (RetargetBy words) = sending.keeps_all words
 keeps_all laws (DrillBy order) = drilling.keeps_all order
 keeps_all laws (OnceBy order) = claiming.keeps_all order.size
 
@@ -54,6 +57,10 @@ ran_show order before now status is shown = subst (λ (x : Option OrderView). Ra
 -- a drill was made, judged and summed up
 pub ran_drill : (order : Option OrderView) (drill : DrillingView) (before now : Outside) (status : ℕ) → order ≡ Some (DrillBy drill) → CameDrill drill before now status → RanOrShort order before now status
 ran_drill order drill before now status is came = subst (λ (x : Option OrderView). RanOrShort x before now status) (sym is) (inl came)
+
+-- a message was sent on, or why not was said
+pub ran_retarget : (order : Option OrderView) (words : RetargetingView) (before now : Outside) (status : ℕ) → order ≡ Some (RetargetBy words) → (gateway_course words).Came before now status → RanOrShort order before now status
+ran_retarget order words before now status is came = subst (λ (x : Option OrderView). RanOrShort x before now status) (sym is) (inl came)
 
 -- tickets were claimed
 pub ran_once : (order : Option OrderView) (claims : ClaimingView) (before now : Outside) (status : ℕ) → order ≡ Some (OnceBy claims) → CameInput (once_answering claims.size) before now status → RanOrShort order before now status

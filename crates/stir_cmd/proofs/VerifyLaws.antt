@@ -19,10 +19,11 @@ use Rattle.verify_rules.specs.declared.settings.Settings.{Settings}
 use Rattle.verify_service.specs.Report.{report}
 use Rattle.stir_cmd.specs.Outside.{IfTold, Outside}
 use Rattle.stir_cmd.specs.Calls.{basis_of, config_by, settings_by}
-use Rattle.stir_cmd.specs.Headline.{AreJudged, Headline, Verified}
+use Rattle.stir_cmd.specs.Headline.{AreJudged, Headline, Verified, VerifiedFrom}
 use Rattle.stir_cmd.specs.OverFiles.{counted}
 use Rattle.stir_cmd.specs.OverLog.{log_in}
-use Rattle.stir_cmd.specs.Verifying.{verify_course, verify_over, verify_words}
+use Rattle.stir_cmd.specs.Verifying.{verify_course, verify_from, verify_over, verify_words}
+use Rattle.stir_cmd.proofs.GoingLaws.{headline_on, keeps_on}
 use Rattle.stir_cmd.proofs.Keeps.{KeepsAll}
 use Rattle.stir_cmd.proofs.LogCourseLaws.{log_keeps}
 use Rattle.stir_cmd.proofs.OverFilesLaws.{behind_files, over_keeps}
@@ -63,12 +64,21 @@ told_by verifying before mid now status (Some files) (Some bytes) materials stan
       said = done.said ∙ ap report_status known.well;
     }
 
-pub headline : (verifying : VerifyingView) (before now : Outside) (status : ℕ) → (verify_course verifying).Came before now status → Headline (Some (VerifyBy verifying)) before now status
-headline verifying before now status came = λ low.
+headline_from : (verifying : VerifyingView) (state : Option (List ℕ)) (before now : Outside) (status : ℕ) → (verify_from verifying state).Came before now status → status ≤ 1
+    → IfTold before.files before.left (VerifiedFrom verifying state before now status)
+headline_from verifying None before now status came low =
     let b = behind_files (verify_over verifying) before now status came low in
     told_by verifying before (counted before b.counts) now status before.files before.left b.read b.stands b.go_on.faults.never_falls b.stay refl refl (b.says.done low) (b.says.done low).log
+headline_from verifying (Some name) before now status came low = headline_on verifying name before now status came low
+
+pub headline : (verifying : VerifyingView) (before now : Outside) (status : ℕ) → (verify_course verifying).Came before now status → Headline (Some (VerifyBy verifying)) before now status
+headline verifying before now status came = λ low. headline_from verifying verifying.state before now status came low
 
 -- ---- the promises
 
+keeps_from : (verifying : VerifyingView) (state : Option (List ℕ)) → KeepsAll (verify_from verifying state)
+keeps_from verifying (Some name) = keeps_on verifying name
+keeps_from verifying None = over_keeps (verify_over verifying) (λ materials. log_keeps (verify_words (settings_by verifying.judging.settings) verifying.workers materials) (λ before now status. Unit {0}) (λ before now still batches calls text name never. never) (λ before now status ran low. tt))
+
 pub keeps_all : (verifying : VerifyingView) → KeepsAll (verify_course verifying)
-keeps_all verifying = over_keeps (verify_over verifying) (λ materials. log_keeps (verify_words (settings_by verifying.judging.settings) verifying.workers materials) (λ before now status. Unit {0}) (λ before now still batches calls text name never. never) (λ before now status ran low. tt))
+keeps_all verifying = keeps_from verifying verifying.state

@@ -23,8 +23,9 @@ use Rattle.verify_service.specs.Service.{HoldsRight, IsNew, ServiceView, materia
 use Rattle.cert_store.specs.declared.world.World.{World as Told}
 use Rattle.stir_cmd.specs.Outside.{Outside, outside}
 use Rattle.stir_cmd.specs.Calls.{basis_of, settings_by}
+use Rattle.stir_cmd.specs.OverFiles.{over_files}
 use Rattle.stir_cmd.specs.OverLog.{log_in}
-use Rattle.stir_cmd.specs.Verifying.{RanBy, judging_course, verify_course, verify_over}
+use Rattle.stir_cmd.specs.Verifying.{RanBy, judging_course, verify_over}
 use Rattle.stir_cmd.proofs.OverFilesSteps.{goes_on, short_behind}
 
 -- ---- the files were read
@@ -32,7 +33,7 @@ use Rattle.stir_cmd.proofs.OverFilesSteps.{goes_on, short_behind}
 pub from_files : (verifying : VerifyingView) (materials : Materials) (settings : Settings) (files files_now : Option Files) (counts counts_now : Counts) (left : Option (List ℕ)) (reads : ℕ) (written : Option (List ℕ)) (writes : ℕ)
     (now : Outside) (status : ℕ) → MaterialsOf files verifying.judging materials → Truly files (files_of verifying.judging) (Ok materials) → files_now ≡ files → CountsGoOn counts counts_now → counts_now.reads ≤ counts.reads + length (files_of verifying.judging)
     → settings ≡ settings_by verifying.judging.settings → counts_now.faults ≤ now.counts.faults → RanBy settings verifying.workers materials (outside files_now counts_now left reads written writes) now status
-    → (verify_course verifying).Came (outside files counts left reads written writes) now status
+    → (over_files (verify_over verifying)).Came (outside files counts left reads written writes) now status
 from_files verifying materials settings files files_now counts counts_now left reads written writes now status stands truly same goes few given stay (inl by) =
     goes_on (verify_over verifying) materials files files_now counts counts_now left reads written writes now status stands truly same goes few stay
     (subst (λ (x : Settings). (judging_course x verifying.workers materials).Came (outside files_now counts_now left reads written writes) now status) given by)
@@ -51,7 +52,7 @@ pub stands_at_first : (settings : Settings) (told : Told) (service : ServiceView
 stands_at_first settings told service counts new = record { past = same_past service new.past; held = ap names new.held; number = new.number; moment = new.moment }
 
 -- what it holds of chains, which is nothing, is right
-none_right : (told : Option Files) (says : Says) (materials : Told) → AreRightHeld told materials says [] []
+pub none_right : (told : Option Files) (says : Says) (materials : Told) → AreRightHeld told materials says [] []
 none_right told says materials = record { cached = λ x5u judged e. absurd (none-some judged e); others = λ x5u state e. absurd (none-some state e) }
 
 pub trusts_at_first : (settings : Settings) (told : Told) (service : ServiceView) (files : Option Files) (says : Says) → IsNew settings told service → HoldsRight files says service

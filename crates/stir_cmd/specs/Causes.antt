@@ -3,12 +3,13 @@ use Rattle.std.specs.Prelude.{◌≡◌, ◌⊎◌, ℕ, ◌≤◌, List, codes,
 use Rattle.std.specs.Io.KnownBytes.{Appends}
 use Rattle.stir_outside.specs.Ending.{EndsAs, memory_line}
 use Rattle.stir_outside.specs.Count.{NotRisen}
-use Rattle.stir_words.specs.Order.{AskBy, DivertBy, DrillBy, ExplainBy, OnceBy, OrderView, ShowCertificates, SignBy, VerifyBy}
+use Rattle.stir_words.specs.Order.{AskBy, DivertBy, DrillBy, ExplainBy, OnceBy, OrderView, RetargetBy, ShowCertificates, SignBy, VerifyBy}
 use Rattle.stir_cmd.specs.Outside.{IsUntouched, Outside}
 use Rattle.stir_cmd.specs.Course.{Course}
 use Rattle.stir_cmd.specs.Claiming.{once_course}
 use Rattle.stir_cmd.specs.Drilling.{drill_course}
 use Rattle.stir_cmd.specs.Explained.{ask_course, explain_course}
+use Rattle.stir_cmd.specs.Gateway.{gateway_course}
 use Rattle.stir_cmd.specs.Showing.{show_course}
 use Rattle.stir_cmd.specs.Signing.{diverting_command, sign_course, signing_command}
 use Rattle.stir_cmd.specs.Stopping.{Front}
@@ -51,6 +52,7 @@ course_of (ExplainBy judging) = explain_course judging
 course_of (AskBy words) = ask_course words
 course_of (SignBy words) = sign_course (signing_command words)
 course_of (DivertBy words) = sign_course (diverting_command words)
+course_of (RetargetBy words) = gateway_course words
 course_of (DrillBy drilling) = drill_course drilling
 course_of (OnceBy claiming) = once_course claiming.size
 

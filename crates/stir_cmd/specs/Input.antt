@@ -1,5 +1,5 @@
 -- Commands over a whole input: it is read to its end, or as far as to show that it is too long, and then one answer comes, a text and a status.
--- `show` is such a command, and `sign` and `divert` are after their files (this project's own rule).
+-- `show` is such a command, and `sign`, `divert` and `retarget` are after their files (this project's own rule).
 use Rattle.std.specs.Prelude.{◌≡◌, ℕ, ◌+◌, ◌≤◌, ◌<◌, ◌⊎◌, List, length, Option, Some}
 use Rattle.std.specs.Io.KnownBytes.{Appends, Consumes, IsAtEnd}
 use Rattle.log_run.specs.Ending.{failed_line}
@@ -118,4 +118,18 @@ input_course command = record {
   Answers = InputComplete command;
   Through = λ before now status. InputThrough command (io_in before) (io_in now) status;
   Says = λ before now status. Answered command (io_in before) (io_in now) status;
+}
+
+-- The same of a command that reads files for its answer: what it may answer is said by what stands around before it and after it.
+abbrev pub shelf_course : (Outside → Outside → Answering) → Course
+shelf_course command = record {
+  Came = λ before now status. RanInput (command before now) (io_in before) (io_in now) status;
+  Done = λ before now status. Answered (command before now) (io_in before) (io_in now) status;
+  Unread = λ before now. FailedInput (io_in before) (io_in now);
+  Unwritten = λ before now. Front before now (IsText (command before now) (io_in before) (io_in now));
+  Refused = λ before now. Answered (command before now) (io_in before) (io_in now) 5;
+  Short = λ before now. Appends before.written now.written memory_line;
+  Answers = λ before now status. InputComplete (command before now) before now status;
+  Through = λ before now status. InputThrough (command before now) (io_in before) (io_in now) status;
+  Says = λ before now status. Answered (command before now) (io_in before) (io_in now) status;
 }

@@ -1,5 +1,5 @@
 -- What any two runs of `verify` on one worker have in common that judge one log by the same files: the report is one function of both.
-use Rattle.std.specs.Prelude.{◌≡◌, ℕ, ◌≤◌, List, [], Option, Some}
+use Rattle.std.specs.Prelude.{◌≡◌, ℕ, ◌≤◌, List, [], Option, Some, None}
 use Rattle.std.specs.Io.KnownBytes.{Appends}
 use Rattle.call_log.specs.Entry.{Entry}
 use Rattle.call_log.specs.Log.{LogText, start}
@@ -35,7 +35,12 @@ pub record IsOneReport (verifying : VerifyingView) (files : Files) (bytes : List
   pub same : IsLogApart verifying bytes → (other other_now : Outside) (other_status : ℕ)
       → JudgedTheSame (Some (VerifyBy verifying)) files bytes other other_now other_status → AreOneReport before now status other other_now other_status
 
-abbrev pub GivesOneReport : Option OrderView → Outside → Outside → ℕ → Type 0
-GivesOneReport (Some (VerifyBy verifying)) before now status = verifying.workers ≡ 1 → status ≤ 1 → NotRisen before.counts.faults now.counts.faults
+-- of words without a state
+abbrev pub GivesOneFrom : VerifyingView → Option (List ℕ) → Outside → Outside → ℕ → Type 0
+GivesOneFrom verifying None before now status = verifying.workers ≡ 1 → status ≤ 1 → NotRisen before.counts.faults now.counts.faults
     → IfTold before.files before.left (λ files bytes. IsOneReport verifying files bytes before now status)
+GivesOneFrom verifying (Some name) before now status = Unit {0}
+
+abbrev pub GivesOneReport : Option OrderView → Outside → Outside → ℕ → Type 0
+GivesOneReport (Some (VerifyBy verifying)) before now status = GivesOneFrom verifying verifying.state before now status
 GivesOneReport other before now status = Unit {0}

@@ -94,7 +94,7 @@ fn reply_to<R: Threads + Sync, C: InputCommand, O: Sink>(
 }
 
 /// Writes an answer and gives its status, or says that memory ran out.
-fn write_answer<O: Sink>(sink: &mut O, answer: Result<Answer, AllocError>) -> u8
+pub(crate) fn write_answer<O: Sink>(sink: &mut O, answer: Result<Answer, AllocError>) -> u8
     ensures { EndsReply (O.written sink.old) (O.written sink.new) (O.faults sink.old) (O.faults sink.new) result answer }
 {
     match answer {

@@ -17,6 +17,7 @@ ghost use Rattle.verify_rules.specs.World.{World};
 ghost use Rattle.verify_rules.specs.declared.settings.Settings.{Settings};
 
 use crate::explain::{ask, explain};
+use crate::gateway::send_message;
 use crate::once::once;
 use crate::show::show;
 use crate::sign::{SignerCommand, sign_message};
@@ -150,6 +151,7 @@ fn carry_out<R: Threads + Sync, S: Shelf, I: Source, O: Sink>(
             input,
             sink,
         ),
+        Ok(Order::Retarget(retargeting)) => send_message(alloc, &retargeting, shelf, input, sink),
         Ok(Order::Show) => show(rt, alloc, input, sink),
         Ok(Order::Drill(drilling)) => run_drill(
             rt,

@@ -220,7 +220,7 @@ fn sign_for(
 }
 
 /// The list of a certificate that has one.
-fn list_of(certificate: &Certificate) -> &AuthList
+pub(crate) fn list_of(certificate: &Certificate) -> &AuthList
     requires { is_some certificate.now.list ≡ true }
     ensures { result.now ≡ unwrap_or certificate.now.list [] }
 {
@@ -247,7 +247,11 @@ fn refusal(alloc: Global, key: &str, fault: SignFault) -> Result<Answer, AllocEr
 }
 
 /// The line that names the key and the digest, in lower-case hex digits.
-fn unsigned_line(alloc: Global, key: &str, digest: &[u8; 32]) -> Result<String, AllocError>
+pub(crate) fn unsigned_line(
+    alloc: Global,
+    key: &str,
+    digest: &[u8; 32],
+) -> Result<String, AllocError>
     ensures { IfOk result (λ line. string_bytes line ≡ unsigned_line key.now digest.now) }
 {
     let digest = hex::encode(alloc, digest.as_slice())?;

@@ -1,23 +1,28 @@
 //! The command `verify`: the judgement of the calls of a log.
-ghost use Rattle.std.specs.Prelude.{◌≡◌, ◌≤◌};
+ghost use Rattle.std.specs.Prelude.{◌≡◌, ◌≤◌, IfOk};
 ghost use Rattle.stir_cmd.specs.Outside.{outside_of};
 ghost use Rattle.stir_cmd.specs.Stopping.{EndsAtStop};
-ghost use Rattle.stir_cmd.specs.Verifying.{RanBy, verify_course};
+ghost use Rattle.stir_cmd.specs.OverFiles.{over_files};
+ghost use Rattle.stir_cmd.specs.Verifying.{RanBy, WentOn, going_over, verify_course, verify_over};
 ghost use Rattle.stir_files.specs.Stop.{stop_of};
 ghost use Rattle.stir_words.specs.Seen.{verifying_view};
 ghost use Rattle.stir_outside.specs.Stays.{ShelfStays};
+ghost use Rattle.verify_service.specs.Handing.{IsRestored};
 
 use crate::settings::settings_of;
-use log_rounds::{LogVerifier, judge_log};
-use std::alloc::Global;
+use log_rounds::{HandingVerifier, LogVerifier, judge_log, judge_log_on};
+use state_text::State;
+use std::alloc::{AllocError, Global};
 use std::thread::Threads;
-use stir_files::{FileError, Materials, read_materials};
+use stir_files::{FileError, GoingMaterials, Materials, read_going, read_materials};
 use stir_outside::{Shelf, Sink, Source, Status, end_with, memory_line};
 use stir_words::Verifying;
 use verify_rules::Settings;
 use verify_service::{Service, World};
 
-/// Reads the named files, and judges the calls of the log by what they say; where a file can't be had, it says so.
+/// Reads the named files, and judges the calls of the log by what they say; where a file can't be had, it says so. A log that goes on from a state
+/// ends with the state that it hands on.
+#[tactic(auto, using(crate::proofs::GoingSteps::ran_alone, crate::proofs::GoingSteps::ran_on))]
 pub(crate) fn verify<R: Threads + Sync, S: Shelf, I: Source, O: Sink>(
     rt: &R,
     alloc: Global,
@@ -27,6 +32,26 @@ pub(crate) fn verify<R: Threads + Sync, S: Shelf, I: Source, O: Sink>(
     sink: &mut O,
 ) -> u8
     ensures ran { (verify_course (verifying_view verifying.now)).Came
+        (outside_of S.Shelf I.Source O.Sink shelf.old input.old sink.old)
+        (outside_of S.Shelf I.Source O.Sink shelf.new input.new sink.new) result }
+    ensures same_files { S.files shelf.new ≡ S.files shelf.old }
+{
+    match verifying.state {
+        Some(name) => verify_on(rt, alloc, verifying, name, shelf, input, sink),
+        None => verify_alone(rt, alloc, verifying, shelf, input, sink),
+    }
+}
+
+/// Judges a log by itself.
+fn verify_alone<R: Threads + Sync, S: Shelf, I: Source, O: Sink>(
+    rt: &R,
+    alloc: Global,
+    verifying: &Verifying<'_>,
+    shelf: &mut S,
+    input: &mut I,
+    sink: &mut O,
+) -> u8
+    ensures ran { (over_files (verify_over (verifying_view verifying.now))).Came
         (outside_of S.Shelf I.Source O.Sink shelf.old input.old sink.old)
         (outside_of S.Shelf I.Source O.Sink shelf.new input.new sink.new) result }
     ensures same_files { S.files shelf.new ≡ S.files shelf.old }
@@ -85,6 +110,97 @@ fn judge_by<R: Threads + Sync, S: Shelf, I: Source, O: Sink>(
         workers,
     };
     judge_log(rt, alloc, &mut verifier, shelf, input, sink)
+}
+
+/// Judges a log that goes on from the state in the file of this name.
+fn verify_on<R: Threads + Sync, S: Shelf, I: Source, O: Sink>(
+    rt: &R,
+    alloc: Global,
+    verifying: &Verifying<'_>,
+    name: &str,
+    shelf: &mut S,
+    input: &mut I,
+    sink: &mut O,
+) -> u8
+    ensures ran { (over_files (going_over (verifying_view verifying.now) name.now)).Came
+        (outside_of S.Shelf I.Source O.Sink shelf.old input.old sink.old)
+        (outside_of S.Shelf I.Source O.Sink shelf.new input.new sink.new) result }
+    ensures same_files { S.files shelf.new ≡ S.files shelf.old }
+{
+    match read_going(alloc, shelf, &verifying.judging, name) {
+        Ok(materials) => go_on_by(
+            rt,
+            alloc,
+            materials,
+            settings_of(&verifying.judging.settings),
+            verifying.workers,
+            shelf,
+            input,
+            sink,
+        ),
+        Err(stop) => end_at(alloc, &stop, sink),
+    }
+}
+
+/// Judges the calls of a log that goes on from a state by what the files say, on so many workers.
+fn go_on_by<R: Threads + Sync, S: Shelf, I: Source, O: Sink>(
+    rt: &R,
+    alloc: Global,
+    materials: GoingMaterials,
+    settings: Settings,
+    workers: u64,
+    shelf: &mut S,
+    input: &mut I,
+    sink: &mut O,
+) -> u8
+    requires some { 1 ≤ workers }
+    requires few { workers ≤ 8 }
+    requires window { materials.state.window ≡ settings.past }
+    requires call { materials.state.call ≤ 4000000000 }
+    ensures ran { WentOn settings workers materials
+        (outside_of S.Shelf I.Source O.Sink shelf.old input.old sink.old)
+        (outside_of S.Shelf I.Source O.Sink shelf.new input.new sink.new) result }
+    ensures shelf { ShelfStays S.Shelf shelf.old shelf.new }
+{
+    let GoingMaterials { judging, state } = materials;
+    let Materials {
+        chains,
+        anchors,
+        table,
+        answers,
+    } = judging;
+    let world = World {
+        chains,
+        anchors,
+        table,
+    };
+    let call = state.call();
+    let moment = state.moment();
+    let service = match restored(alloc, settings, world, state) {
+        Ok(service) => service,
+        Err(_) => return end_with(sink, memory_line(), Status::Memory),
+    };
+    let mut handing = HandingVerifier {
+        verifier: LogVerifier {
+            service,
+            answers: &answers,
+            workers,
+        },
+    };
+    judge_log_on(rt, alloc, &mut handing, call, moment, shelf, input, sink)
+}
+
+/// A service that goes on from the state, which isn't needed after it.
+fn restored(
+    alloc: Global,
+    settings: Settings,
+    world: World,
+    state: State,
+) -> Result<Service, AllocError>
+    requires window { state.window ≡ settings.past }
+    ensures { IfOk result (IsRestored settings world state) }
+{
+    Service::restore(alloc, settings, world, &state)
 }
 
 /// Writes the line that says why a named file can't be had.

@@ -1,4 +1,6 @@
 pub mod FileSteps
 pub mod FirstFault
 pub mod LeafSteps
+pub mod StateSteps
+pub mod LineLaws
 pub mod ListSteps

@@ -10,9 +10,10 @@ use Rattle.stir_files.specs.Inputs.{Adds, Holds, HoldsContent, HoldsFile, IsOfTh
 use Rattle.stir_files.specs.Named.{FaultSays, Passes, Stop, StopsAt, refusal_of}
 use Rattle.stir_files.specs.declared.fault.FileFault.{FileFault}
 use Rattle.stir_files.specs.declared.input_file.InputFile.{InputFile}
-use Rattle.stir_files.specs.declared.input_file.InputFile.TheVariants.{Chains, Anchors, Table, Answers, Leaf}
+use Rattle.stir_files.specs.declared.input_file.InputFile.TheVariants.{Chains, Anchors, Table, Answers, Leaf, State}
 use Rattle.stir_files.specs.declared.inputs.Inputs.{Inputs}
 use Rattle.stir_files.proofs.LeafSteps.{is_fit}
+use Rattle.stir_files.proofs.StateSteps.{passes_so}
 
 -- ---- a file that was read has no fault
 
@@ -26,6 +27,7 @@ fits inputs (Anchors name) content h = read_and inputs.anchors _ _ (λ anchors a
 fits inputs (Table name) content h = read_and inputs.table _ _ (λ table t. ap refusal_of t.read) h
 fits inputs (Answers name) content h = read_and inputs.answers _ _ (λ answers a. ap refusal_of a.read) h
 fits inputs (Leaf name) content h = read_and inputs.leaf _ _ (λ leaf l. is_fit content leaf l) h
+fits inputs (State file) content h = read_and inputs.state _ _ (λ state s. passes_so file.past content state s) h
 
 pub passes : (files : Option Files) (inputs : Inputs) (file : InputFile) → HoldsFile files inputs file → Passes files (file_of file)
 passes files inputs file read = record { content = read.content; short = read.short; told = read.told; holds = fits inputs file read.content read.holds }
@@ -66,6 +68,17 @@ refused_at files all index d before name fault within reads same says =
     let here = subst P (drop-cons all index d within) reads in
     here.stops (record { name = name; fault = fault }) (inl (same, says))
 
+-- the same of the file that the code takes
+pub read_item : (files : Option Files) (all : List InputFile) (index : ℕ) (one : InputFile) (before now : Inputs) → index < length all → one ≡ get_or all index one
+    → ReadsOn files (drop index all) all before → Adds files one before now → ReadsOn files (drop (index + 1) all) all now
+read_item files all index one before now within is reads adds =
+    read_at files all index one before now within reads (subst (λ (x : InputFile). Adds files x before now) is adds)
+
+pub refused_item : (files : Option Files) (all : List InputFile) (index : ℕ) (one : InputFile) (before : Inputs) (name : List ℕ) (fault : FileFault) → index < length all → one ≡ get_or all index one
+    → ReadsOn files (drop index all) all before → name ≡ (file_of one).name → FaultSays files (file_of one) fault → StopsAt files (files_named all) (record { name = name; fault = fault })
+refused_item files all index one before name fault within is reads same says =
+    refused_at files all index one before name fault within reads (subst (λ (x : InputFile). name ≡ (file_of x).name) is same) (subst (λ (x : InputFile). FaultSays files (file_of x) fault) is says)
+
 -- ---- all were read
 
 -- what was read from a file stays if one of another kind is read
@@ -76,6 +89,7 @@ keeps files (Anchors a) (Anchors b) before now differ kept h = absurd (false≢t
 keeps files (Table a) (Table b) before now differ kept h = absurd (false≢true (sym differ))
 keeps files (Answers a) (Answers b) before now differ kept h = absurd (false≢true (sym differ))
 keeps files (Leaf a) (Leaf b) before now differ kept h = absurd (false≢true (sym differ))
+keeps files (State a) (State b) before now differ kept h = absurd (false≢true (sym differ))
 keeps files file other before now differ kept h = subst (λ (x : Inputs). HoldsFile files x file) (sym kept) h
 
 either : (a b : Bool) → (a || b) ≡ false → (a ≡ false) × (b ≡ false)
@@ -120,6 +134,7 @@ one_more files (Anchors a) (Anchors b) before now adds = is_there now.anchors _ 
 one_more files (Table a) (Table b) before now adds = is_there now.table _ adds.holds.holds
 one_more files (Answers a) (Answers b) before now adds = is_there now.answers _ adds.holds.holds
 one_more files (Leaf a) (Leaf b) before now adds = is_there now.leaf _ adds.holds.holds
+one_more files (State a) (State b) before now adds = is_there now.state _ adds.holds.holds
 one_more files file other before now adds = ap (λ (x : Inputs). has_part x file) adds.others
 
 one_before : (a b c : Bool) → (a || (b || c)) ≡ ((b || a) || c)
@@ -143,6 +158,7 @@ none_at_first (Anchors name) false = refl
 none_at_first (Table name) false = refl
 none_at_first (Answers name) false = refl
 none_at_first (Leaf name) false = refl
+none_at_first (State file) false = refl
 
 pub of_these : (files : Option Files) (named : List InputFile) (inputs : Inputs) → AddsAll files named no_inputs inputs → IsOfThese named inputs
 of_these files named inputs adds = λ file. nothing_else files file named no_inputs inputs adds ∙ none_at_first file (list_any (same_kind file) named)

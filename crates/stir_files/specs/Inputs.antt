@@ -8,8 +8,9 @@ use Rattle.tn_auth_list.specs.Grant.{TableOf}
 use Rattle.cert_store.specs.ChainMap.{MapOf}
 use Rattle.stir_files.specs.Leaf.{LeafOf, leaf_file}
 use Rattle.stir_files.specs.Named.{AnchorsOf, NamedFile, ReadOf, anchor_file, answers_file, chain_map, code_table}
+use Rattle.stir_files.specs.StateFile.{StateOf, state_file}
 use Rattle.stir_files.specs.declared.input_file.InputFile.{InputFile}
-use Rattle.stir_files.specs.declared.input_file.InputFile.TheVariants.{Chains, Anchors, Table, Answers, Leaf}
+use Rattle.stir_files.specs.declared.input_file.InputFile.TheVariants.{Chains, Anchors, Table, Answers, Leaf, State}
 use Rattle.stir_files.specs.declared.inputs.Inputs.{Inputs}
 
 -- the file's name, limit and grammar
@@ -19,6 +20,7 @@ file_of (Anchors name) = anchor_file name.now
 file_of (Table name) = code_table name.now
 file_of (Answers name) = answers_file name.now
 file_of (Leaf name) = leaf_file name.now
+file_of (State file) = state_file file.past file.name.now
 
 abbrev pub files_named : List InputFile → List NamedFile
 files_named named = map file_of named
@@ -30,6 +32,7 @@ same_kind (Anchors a) (Anchors b) = true
 same_kind (Table a) (Table b) = true
 same_kind (Answers a) (Answers b) = true
 same_kind (Leaf a) (Leaf b) = true
+same_kind (State a) (State b) = true
 same_kind a b = false
 
 -- no two of the files are to hold the same
@@ -46,6 +49,7 @@ HoldsContent inputs (Anchors name) content = IsSomeAnd inputs.anchors (AnchorsOf
 HoldsContent inputs (Table name) content = IsSomeAnd inputs.table (TableOf content)
 HoldsContent inputs (Answers name) content = IsSomeAnd inputs.answers (AnswersOf content)
 HoldsContent inputs (Leaf name) content = IsSomeAnd inputs.leaf (LeafOf content)
+HoldsContent inputs (State file) content = IsSomeAnd inputs.state (StateOf file.past content)
 
 -- what was read from a file is what it says
 abbrev pub HoldsFile : Option Files → Inputs → InputFile → Type 0
@@ -63,6 +67,7 @@ has_part inputs (Anchors name) = is_some inputs.anchors
 has_part inputs (Table name) = is_some inputs.table
 has_part inputs (Answers name) = is_some inputs.answers
 has_part inputs (Leaf name) = is_some inputs.leaf
+has_part inputs (State file) = is_some inputs.state
 
 -- something was read from a kind exactly if a file of it is named
 abbrev pub IsOfThese : List InputFile → Inputs → Type 0
@@ -71,7 +76,7 @@ IsOfThese named inputs = (file : InputFile) → has_part inputs file ≡ list_an
 -- ---- one file more
 
 abbrev pub no_inputs : Inputs
-no_inputs = record { chains = None; anchors = None; table = None; answers = None; leaf = None }
+no_inputs = record { chains = None; anchors = None; table = None; answers = None; leaf = None; state = None }
 
 -- what was read from other files is as it was
 abbrev pub KeepsOthers : InputFile → Inputs → Inputs → Type 0
@@ -80,6 +85,7 @@ KeepsOthers (Anchors name) before now = now ≡ record before { anchors = now.an
 KeepsOthers (Table name) before now = now ≡ record before { table = now.table }
 KeepsOthers (Answers name) before now = now ≡ record before { answers = now.answers }
 KeepsOthers (Leaf name) before now = now ≡ record before { leaf = now.leaf }
+KeepsOthers (State file) before now = now ≡ record before { state = now.state }
 
 -- what this content of the file says was read besides
 pub record TakesIn (file : InputFile) (content : List ℕ) (before now : Inputs) : Type 0 where

@@ -3,6 +3,9 @@ pub mod Named
 pub mod World
 pub mod Stop
 pub mod Materials
+pub mod Going
 pub mod Leaf
+pub mod StateFile
 pub mod Inputs
 pub mod Signing
+pub mod Retargeting

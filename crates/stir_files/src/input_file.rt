@@ -2,7 +2,8 @@
 ghost use Rattle.std.specs.Prelude.{◌≡◌};
 ghost use Rattle.stir_files.specs.Inputs.{file_of};
 
-use crate::{anchors, answers, chains, leaf, table};
+use crate::state_file::StateFile;
+use crate::{anchors, answers, chains, leaf, state, table};
 
 /// A file that a command names, and what it is to hold.
 #[derive(Clone, Copy, Debug)]
@@ -17,6 +18,8 @@ pub enum InputFile<'a> {
     Answers(&'a str),
     /// One certificate with an authority list, of at most 8,192 bytes.
     Leaf(&'a str),
+    /// The state of an earlier run, of at most 536,870,912 bytes.
+    State(StateFile<'a>),
 }
 
 impl<'a> InputFile<'a> {
@@ -30,6 +33,7 @@ impl<'a> InputFile<'a> {
             | InputFile::Table(name)
             | InputFile::Answers(name)
             | InputFile::Leaf(name) => name,
+            InputFile::State(file) => file.name,
         }
     }
 
@@ -43,6 +47,7 @@ impl<'a> InputFile<'a> {
             InputFile::Table(_) => table::MOST_BYTES,
             InputFile::Answers(_) => answers::MOST_BYTES,
             InputFile::Leaf(_) => leaf::MOST_BYTES,
+            InputFile::State(_) => state::MOST_BYTES,
         }
     }
 }

@@ -12,10 +12,12 @@ use crate::fault::FileFault;
 use crate::input_file::InputFile;
 use crate::leaf::read_leaf;
 use crate::shelf::read_file;
+use crate::state::read_state;
 use crate::stop::FileError;
 use crate::table::read_table;
 use cert_store::ChainMap;
 use delegation::Anchors;
+use state_text::State;
 use std::alloc::Global;
 use stir_outside::{Answers, Shelf};
 use tn_auth_list::CodeTable;
@@ -34,6 +36,8 @@ pub struct Inputs {
     pub answers: Option<Answers>,
     /// The certificate of the holder of a key, which has an authority list.
     pub leaf: Option<Certificate>,
+    /// The state of an earlier run.
+    pub state: Option<State>,
 }
 
 impl Inputs {
@@ -47,6 +51,7 @@ impl Inputs {
             table: None,
             answers: None,
             leaf: None,
+            state: None,
         }
     }
 }
@@ -124,6 +129,7 @@ fn take_in(
         InputFile::Table(_) => inputs.table = Some(read_table(alloc, content)?),
         InputFile::Answers(_) => inputs.answers = Some(read_answers(alloc, content)?),
         InputFile::Leaf(_) => inputs.leaf = Some(read_leaf(alloc, content)?),
+        InputFile::State(file) => inputs.state = Some(read_state(alloc, content, file.past)?),
     }
     Ok(())
 }

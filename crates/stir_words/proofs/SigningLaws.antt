@@ -17,10 +17,10 @@ use Rattle.passport_claims.specs.declared.form.Form.{Form}
 use Rattle.passport_claims.specs.declared.form.Form.TheVariants as forms
 use Rattle.passport_claims.specs.declared.kind.Attest.{Attest}
 use Rattle.stir_words.specs.Options.{pairs_of}
-use Rattle.stir_words.specs.Order.{AskBy, CanBeSigned, DivertBy, DivertingView, DrillBy, ExplainBy, HolderNames, IsDiverting, IsSigner, IsSigning, OnceBy, OrderView, ShowCertificates, SignBy, SignerView, SigningView, VerifyBy, asking_of, claiming_of, diverting_by, diverting_from, diverting_of, drilling_of, judging_of, order_by, order_of, order_with, signer_from, signer_of, signing_by, signing_from, signing_of, verifying_of}
+use Rattle.stir_words.specs.Order.{AskBy, CanBeSigned, DivertBy, DivertingView, DrillBy, ExplainBy, HolderNames, IsDiverting, IsRetargeting, IsSigner, IsSigning, JudgingView, OnceBy, OrderView, RetargetBy, RetargetingView, ShowCertificates, SignBy, SignerView, SigningView, VerifyBy, asking_of, claiming_of, diverting_by, diverting_from, diverting_of, drilling_of, judging_of, order_by, order_of, order_with, retargeting_from, retargeting_of, signer_from, signer_of, signing_by, signing_from, signing_of, verifying_of}
 use Rattle.stir_words.specs.Seen.{Orders, order_view}
 use Rattle.stir_words.specs.Table.{Given, accepts, command_named, given_by, options_of}
-use Rattle.stir_words.specs.Values.{earlier_of, form_by, form_of, iat_of, is_key, key_of, shaken_by, text_if, x5u_of}
+use Rattle.stir_words.specs.Values.{earlier_of, form_by, form_of, iat_of, is_key, key_of, moment_of, shaken_by, text_if, x5u_of}
 use Rattle.stir_words.specs.declared.commands.Command.{Command}
 use Rattle.stir_words.specs.declared.commands.Command.TheVariants as commands
 use Rattle.stir_words.specs.declared.fault.WordsFault.{WordsFault}
@@ -110,6 +110,26 @@ diverting_is (Some n) None order h number is = absurd cc
 diverting_is (Some n) (Some s) order h number is =
     let e : diverting_by n s ≡ order = cc in subst IsDiverting e (record { by = is s refl; number = number n refl })
 
+-- ---- a call that goes on
+
+moment_fits : (given : Given) (moment : ℕ) → moment_of given ≡ Some moment → moment ≤ last_second
+moment_fits given moment h = option_and_then_some (number_up_to last_second) (given (codes "moment")) moment h (λ text e found. number_within last_second text moment found)
+
+retargeting_is : (judging : Option JudgingView) (key x5u : Option (List ℕ)) (iat : Option ℕ) (target leaf : Option (List ℕ)) (moment : Option ℕ) (order : RetargetingView)
+    → retargeting_from judging key x5u iat target leaf moment ≡ Some order → ((k : List ℕ) → key ≡ Some k → is_key k ≡ true) → ((u : List ℕ) → x5u ≡ Some u → is_uri u ≡ true)
+    → ((i : ℕ) → iat ≡ Some i → i ≤ last_second) → ((m : ℕ) → moment ≡ Some m → m ≤ last_second) → IsRetargeting order
+retargeting_is None key x5u iat target leaf moment order h name uri second came = absurd cc
+retargeting_is (Some j) None x5u iat target leaf moment order h name uri second came = absurd cc
+retargeting_is (Some j) (Some k) None iat target leaf moment order h name uri second came = absurd cc
+retargeting_is (Some j) (Some k) (Some u) None target leaf moment order h name uri second came = absurd cc
+retargeting_is (Some j) (Some k) (Some u) (Some i) None leaf moment order h name uri second came = absurd cc
+retargeting_is (Some j) (Some k) (Some u) (Some i) (Some t) None moment order h name uri second came = absurd cc
+retargeting_is (Some j) (Some k) (Some u) (Some i) (Some t) (Some l) None order h name uri second came = absurd cc
+retargeting_is (Some j) (Some k) (Some u) (Some i) (Some t) (Some l) (Some m) order h name uri second came =
+    let made : RetargetingView = record { judging = j; key = k; x5u = u; iat = i; target = t; leaf = l; moment = m } in
+    let e : made ≡ order = cc in
+    subst IsRetargeting e (record { by = record { name = name k refl; uri = uri u refl; within = second i refl }; moment = came m refl })
+
 -- ---- the order
 
 ordered_by : {X : Type 0} (made : X → OrderView) (found : Option X) (order : OrderView) → option_map made found ≡ Some order
@@ -126,6 +146,10 @@ ordered_with commands.Sign given order h =
 ordered_with commands.Divert given order h =
     ordered_by DivertBy (diverting_of given) order h
     (λ diverting e. diverting_is (earlier_of given) (signer_of given) diverting e (number_fits given) (is_signer given))
+ordered_with commands.Retarget given order h =
+    ordered_by RetargetBy (retargeting_of given) order h
+    (λ words e. retargeting_is (judging_of given) (key_of given) (x5u_of given) (iat_of given) (given (codes "target")) (given (codes "leaf")) (moment_of given) words e
+    (key_fits given) (uri_fits given) (second_fits given) (moment_fits given))
 ordered_with commands.Show given order h = let e : ShowCertificates ≡ order = cc in subst CanBeSigned e tt
 ordered_with commands.Drill given order h = ordered_by DrillBy (drilling_of given) order h (λ drilling e. tt)
 ordered_with commands.Once given order h = ordered_by OnceBy (claiming_of given) order h (λ claiming e. tt)

@@ -10,7 +10,7 @@ use Rattle.passport_claims.specs.Made.{has_origid}
 use Rattle.passport_claims.specs.declared.form.Form.{Form}
 use Rattle.stir_words.specs.Options.{pairs_of}
 use Rattle.stir_words.specs.Table.{Given, accepts, command_named, given_by, options_of}
-use Rattle.stir_words.specs.Values.{count_of, earlier_of, form_of, future_of, iat_of, is_key, key_of, local_in, past_of, seed_of, size_of, workers_of, x5u_of}
+use Rattle.stir_words.specs.Values.{count_of, earlier_of, form_of, future_of, iat_of, is_key, key_of, local_in, moment_of, past_of, seed_of, size_of, workers_of, x5u_of}
 use Rattle.stir_words.specs.declared.commands.Command.{Command}
 use Rattle.stir_words.specs.declared.commands.Command.TheVariants as commands
 
@@ -28,9 +28,10 @@ pub record JudgingView : Type 0 where
   pub answers : List ℕ
   pub settings : SettingsView
 
--- the same, and how many workers there are
+-- the same, the file with the state of an earlier run, if there is one, and how many workers there are
 pub record VerifyingView : Type 0 where
   pub judging : JudgingView
+  pub state : Option (List ℕ)
   pub workers : ℕ
 
 -- the files that say what is asked of the provider of signatures, and the settings
@@ -74,6 +75,17 @@ pub record DivertingView : Type 0 where
   pub answers : List ℕ
   pub holder : Option HolderNames
 
+-- by what a call is judged, and when it came; where it goes on; and under which key and when its diversion is signed, with the file of the key's
+-- certificate
+pub record RetargetingView : Type 0 where
+  pub judging : JudgingView
+  pub key : List ℕ
+  pub x5u : List ℕ
+  pub iat : ℕ
+  pub target : List ℕ
+  pub leaf : List ℕ
+  pub moment : ℕ
+
 -- the seed of a log that is made, how many calls it has, and how many workers judge it
 pub record DrillingView : Type 0 where
   pub seed : ℕ
@@ -92,6 +104,7 @@ pub data OrderView : Type 0 where
   AskBy : AskingView → OrderView
   SignBy : SigningView → OrderView
   DivertBy : DivertingView → OrderView
+  RetargetBy : RetargetingView → OrderView
   ShowCertificates : OrderView
   DrillBy : DrillingView → OrderView
   OnceBy : ClaimingView → OrderView
@@ -110,7 +123,8 @@ judging_of given =
     (given (codes "answers"))) (given (codes "table"))) (given (codes "anchors"))) (given (codes "chains"))
 
 abbrev pub verifying_of : Given → Option VerifyingView
-verifying_of given = option_and_then (λ judging. option_map (λ workers. record { judging = judging; workers = workers }) (workers_of given)) (judging_of given)
+verifying_of given =
+    option_and_then (λ judging. option_map (λ workers. record { judging = judging; state = given (codes "state"); workers = workers }) (workers_of given)) (judging_of given)
 
 abbrev pub asking_of : Given → Option AskingView
 asking_of given =
@@ -156,6 +170,16 @@ diverting_from earlier by = option_and_then (λ e. option_map (diverting_by e) b
 abbrev pub diverting_of : Given → Option DivertingView
 diverting_of given = diverting_from (earlier_of given) (signer_of given)
 
+-- what `retarget` orders, where each part is there
+abbrev pub retargeting_from : Option JudgingView → Option (List ℕ) → Option (List ℕ) → Option ℕ → Option (List ℕ) → Option (List ℕ) → Option ℕ → Option RetargetingView
+retargeting_from judging key x5u iat target leaf moment =
+    option_and_then (λ j. option_and_then (λ k. option_and_then (λ u. option_and_then (λ i. option_and_then (λ t. option_and_then (λ l.
+    option_map (λ m. record { judging = j; key = k; x5u = u; iat = i; target = t; leaf = l; moment = m }) moment) leaf) target) iat) x5u) key) judging
+
+abbrev pub retargeting_of : Given → Option RetargetingView
+retargeting_of given =
+    retargeting_from (judging_of given) (key_of given) (x5u_of given) (iat_of given) (given (codes "target")) (given (codes "leaf")) (moment_of given)
+
 abbrev pub drilling_of : Given → Option DrillingView
 drilling_of given = option_and_then (λ seed. option_and_then (λ count. option_map (λ workers. record { seed = seed; count = count; workers = workers })
     (workers_of given)) (count_of given)) (seed_of given)
@@ -172,6 +196,7 @@ order_with commands.Explain given = option_map ExplainBy (judging_of given)
 order_with commands.Ask given = option_map AskBy (asking_of given)
 order_with commands.Sign given = option_map SignBy (signing_of given)
 order_with commands.Divert given = option_map DivertBy (diverting_of given)
+order_with commands.Retarget given = option_map RetargetBy (retargeting_of given)
 order_with commands.Show given = Some ShowCertificates
 order_with commands.Drill given = option_map DrillBy (drilling_of given)
 order_with commands.Once given = option_map OnceBy (claiming_of given)
@@ -204,10 +229,16 @@ pub record IsDiverting (order : DivertingView) : Type 0 where
   pub by : IsSigner order.key order.x5u order.iat
   pub number : is_number order.earlier ≡ true
 
+-- the same, and the call came no later than the year 9999
+pub record IsRetargeting (order : RetargetingView) : Type 0 where
+  pub by : IsSigner order.key order.x5u order.iat
+  pub moment : order.moment ≤ last_second
+
 -- what is ordered can be signed, where it is to be
 abbrev pub CanBeSigned : OrderView → Type 0
 CanBeSigned (SignBy order) = IsSigning order
 CanBeSigned (DivertBy order) = IsDiverting order
+CanBeSigned (RetargetBy order) = IsRetargeting order
 CanBeSigned (VerifyBy verifying) = Unit {0}
 CanBeSigned (ExplainBy judging) = Unit {0}
 CanBeSigned (AskBy asking) = Unit {0}

@@ -4,7 +4,7 @@ use Rattle.std.specs.Borrow.{Bor}
 use Rattle.std.specs.Option.{option_copied, option_map}
 use Rattle.stir_words.specs.Options.{Named}
 use Rattle.stir_words.specs.Table.{Known}
-use Rattle.stir_words.specs.Order.{AskingView, ClaimingView, DivertingView, DrillingView, HolderNames, JudgingView, OrderView, SettingsView, SignerView, SigningView, VerifyingView, VerifyBy, ExplainBy, AskBy, SignBy, DivertBy, ShowCertificates, DrillBy, OnceBy}
+use Rattle.stir_words.specs.Order.{AskingView, ClaimingView, DivertingView, DrillingView, HolderNames, JudgingView, OrderView, RetargetingView, SettingsView, SignerView, SigningView, VerifyingView, VerifyBy, ExplainBy, AskBy, SignBy, DivertBy, RetargetBy, ShowCertificates, DrillBy, OnceBy}
 use Rattle.stir_words.specs.declared.commands.Row.{Row}
 use Rattle.stir_words.specs.declared.options.Long.{Long}
 use Rattle.stir_words.specs.declared.fault.WordsFault.{WordsFault}
@@ -16,7 +16,8 @@ use Rattle.stir_words.specs.declared.order.Asking.{Asking}
 use Rattle.stir_words.specs.declared.order.Judging.{Judging}
 use Rattle.stir_words.specs.declared.verifying.Verifying.{Verifying}
 use Rattle.stir_words.specs.declared.order.Order.{Order}
-use Rattle.stir_words.specs.declared.order.Order.TheVariants.{Verify, Explain, Ask, Sign, Divert, Show, Drill, Once}
+use Rattle.stir_words.specs.declared.order.Order.TheVariants.{Verify, Explain, Ask, Sign, Divert, Retarget, Show, Drill, Once}
+use Rattle.stir_words.specs.declared.retargeting.Retargeting.{Retargeting}
 use Rattle.stir_words.specs.declared.signing.Diverting.{Diverting}
 use Rattle.stir_words.specs.declared.signing.HolderFiles.{HolderFiles}
 use Rattle.stir_words.specs.declared.signing.Signer.{Signer}
@@ -45,7 +46,7 @@ judging_view judging = record {
 }
 
 abbrev pub verifying_view : Verifying → VerifyingView
-verifying_view verifying = record { judging = judging_view verifying.judging; workers = verifying.workers }
+verifying_view verifying = record { judging = judging_view verifying.judging; state = option_copied verifying.state; workers = verifying.workers }
 
 abbrev pub asking_view : Asking → AskingView
 asking_view asking = record {
@@ -90,6 +91,17 @@ diverting_view diverting = record {
   holder = option_map holder_view diverting.holder;
 }
 
+abbrev pub retargeting_view : Retargeting → RetargetingView
+retargeting_view words = record {
+  judging = judging_view words.judging;
+  key = words.key.now;
+  x5u = words.x5u.now;
+  iat = words.iat;
+  target = words.target.now;
+  leaf = words.leaf.now;
+  moment = words.moment;
+}
+
 abbrev pub drilling_view : Drilling → DrillingView
 drilling_view drilling = record { seed = drilling.seed; count = drilling.count; workers = drilling.workers }
 
@@ -102,6 +114,7 @@ order_view (Explain judging) = ExplainBy (judging_view judging)
 order_view (Ask asking) = AskBy (asking_view asking)
 order_view (Sign signing) = SignBy (signing_view signing)
 order_view (Divert diverting) = DivertBy (diverting_view diverting)
+order_view (Retarget words) = RetargetBy (retargeting_view words)
 order_view Show = ShowCertificates
 order_view (Drill drilling) = DrillBy (drilling_view drilling)
 order_view (Once claiming) = OnceBy (claiming_view claiming)

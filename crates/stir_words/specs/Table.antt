@@ -4,7 +4,7 @@ use Rattle.std.specs.List.{list_any, list_all}
 use Rattle.std.specs.Str.{bytes_eq}
 use Rattle.stir_words.specs.Options.{Pair}
 use Rattle.stir_words.specs.declared.commands.Command.{Command}
-use Rattle.stir_words.specs.declared.commands.Command.TheVariants.{Verify, Explain, Ask, Sign, Divert, Show, Drill, Once}
+use Rattle.stir_words.specs.declared.commands.Command.TheVariants.{Verify, Explain, Ask, Sign, Divert, Retarget, Show, Drill, Once}
 
 -- an option that a command takes
 pub record Known : Type 0 where
@@ -62,16 +62,22 @@ of_settings = optional (codes "past") ∷ optional (codes "future") ∷ optional
 abbrev pub of_judging : List Known
 of_judging = needed (codes "chains") ∷ needed (codes "anchors") ∷ needed (codes "table") ∷ needed (codes "answers") ∷ of_settings
 
--- the same, and on how many workers
+-- the same, from which state on, and on how many workers
 abbrev pub of_verifying : List Known
 of_verifying =
-    needed (codes "chains") ∷ needed (codes "anchors") ∷ needed (codes "table") ∷ needed (codes "answers") ∷ optional (codes "workers") ∷ of_settings
+    needed (codes "chains") ∷ needed (codes "anchors") ∷ needed (codes "table") ∷ needed (codes "answers") ∷ optional (codes "state") ∷ optional (codes "workers") ∷ of_settings
 
 -- the options that `sign` and `divert` have in common
 abbrev pub of_signer : List Known
 of_signer =
     needed (codes "key") ∷ needed (codes "x5u") ∷ needed (codes "iat") ∷ needed (codes "answers")
     ∷ optional (codes "leaf") ∷ optional (codes "table") ∷ optional (codes "country") ∷ optional (codes "national") ∷ []
+
+-- the options by which a call is judged, and its diversion is signed
+abbrev pub of_retargeting : List Known
+of_retargeting =
+    needed (codes "chains") ∷ needed (codes "anchors") ∷ needed (codes "table") ∷ needed (codes "answers")
+    ∷ needed (codes "key") ∷ needed (codes "x5u") ∷ needed (codes "iat") ∷ needed (codes "target") ∷ needed (codes "leaf") ∷ needed (codes "moment") ∷ of_settings
 
 -- the options of a command
 abbrev pub options_of : Command → List Known
@@ -80,6 +86,7 @@ options_of Explain = of_judging
 options_of Ask = needed (codes "chains") ∷ needed (codes "anchors") ∷ needed (codes "table") ∷ of_settings
 options_of Sign = needed (codes "form") ∷ optional (codes "attest") ∷ optional (codes "origid") ∷ of_signer
 options_of Divert = needed (codes "earlier") ∷ of_signer
+options_of Retarget = of_retargeting
 options_of Show = []
 options_of Drill = needed (codes "seed") ∷ needed (codes "count") ∷ optional (codes "workers") ∷ []
 options_of Once = needed (codes "size") ∷ optional (codes "workers") ∷ []
@@ -92,6 +99,7 @@ command_named name =
     else if bytes_eq name (codes "ask") then Some Ask
     else if bytes_eq name (codes "sign") then Some Sign
     else if bytes_eq name (codes "divert") then Some Divert
+    else if bytes_eq name (codes "retarget") then Some Retarget
     else if bytes_eq name (codes "show") then Some Show
     else if bytes_eq name (codes "drill") then Some Drill
     else if bytes_eq name (codes "once") then Some Once

@@ -89,6 +89,10 @@ x5u_of given = option_and_then (text_if is_uri) (given (codes "x5u"))
 abbrev pub iat_of : Given → Option ℕ
 iat_of given = option_and_then (number_up_to last_second) (given (codes "iat"))
 
+-- `--moment`: when the call came, in Unix seconds, no later than the year 9999
+abbrev pub moment_of : Given → Option ℕ
+moment_of given = option_and_then (number_up_to last_second) (given (codes "moment"))
+
 -- `--earlier`: the number that was called before the diversion (RFC 8946, section 4)
 abbrev pub earlier_of : Given → Option (List ℕ)
 earlier_of given = option_and_then exact (given (codes "earlier"))

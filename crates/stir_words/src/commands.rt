@@ -16,6 +16,8 @@ pub(crate) enum Command {
     Sign,
     /// Signs the diversion of a call.
     Divert,
+    /// Judges a call, and signs its diversion to another number.
+    Retarget,
     /// Shows the certificates of a chain.
     Show,
     /// Makes a log, judges it and sums it up.
@@ -53,6 +55,12 @@ const TABLE: Row = Row {
 const ANSWERS: Row = Row {
     name: "answers",
     required: true,
+};
+
+/// The file with the state of an earlier run.
+const STATE: Row = Row {
+    name: "state",
+    required: false,
 };
 
 /// How many seconds old a PASSporT may be.
@@ -127,10 +135,28 @@ const EARLIER: Row = Row {
     required: true,
 };
 
+/// The request URI of the message that goes on.
+const TARGET: Row = Row {
+    name: "target",
+    required: true,
+};
+
+/// When the call came.
+const MOMENT: Row = Row {
+    name: "moment",
+    required: true,
+};
+
 /// The file with the certificate of the holder of the key.
 const LEAF: Row = Row {
     name: "leaf",
     required: false,
+};
+
+/// The same, where it has to stand.
+const OWN_LEAF: Row = Row {
+    name: "leaf",
+    required: true,
 };
 
 /// The file with the code table of the holder of the key.
@@ -158,8 +184,8 @@ const SIZE: Row = Row {
 };
 
 /// The options of `verify`.
-const VERIFYING: [Row; 9] = [
-    CHAINS, ANCHORS, TABLE, ANSWERS, WORKERS, PAST, FUTURE, COUNTRY, NATIONAL,
+const VERIFYING: [Row; 10] = [
+    CHAINS, ANCHORS, TABLE, ANSWERS, STATE, WORKERS, PAST, FUTURE, COUNTRY, NATIONAL,
 ];
 
 /// The options of `explain`.
@@ -198,6 +224,12 @@ const DIVERTING: [Row; 9] = [
     NATIONAL,
 ];
 
+/// The options of `retarget`.
+const RETARGETING: [Row; 14] = [
+    CHAINS, ANCHORS, TABLE, ANSWERS, KEY, X5U, IAT, TARGET, OWN_LEAF, MOMENT, PAST, FUTURE,
+    COUNTRY, NATIONAL,
+];
+
 /// The options of `drill`.
 const DRILLING: [Row; 3] = [SEED, COUNT, WORKERS];
 
@@ -215,6 +247,7 @@ impl Command {
             "ask" => Some(Command::Ask),
             "sign" => Some(Command::Sign),
             "divert" => Some(Command::Divert),
+            "retarget" => Some(Command::Retarget),
             "show" => Some(Command::Show),
             "drill" => Some(Command::Drill),
             "once" => Some(Command::Once),
@@ -232,6 +265,7 @@ impl Command {
             Command::Ask => &ASKING,
             Command::Sign => &SIGNING,
             Command::Divert => &DIVERTING,
+            Command::Retarget => &RETARGETING,
             Command::Show => &[],
             Command::Drill => &DRILLING,
             Command::Once => &CLAIMING,

@@ -1,7 +1,7 @@
 //! The words of a command line: a command, and options with values of their types (this project's own rule).
 //!
 //! - [`Order::of`] takes the words after the program's name. An [`Order`] has a variant for each command, with the values that it takes:
-//!   [`Verifying`], [`Judging`], [`Asking`], [`Signing`], [`Diverting`] and their kin.
+//!   [`Verifying`], [`Judging`], [`Asking`], [`Signing`], [`Diverting`], [`Retargeting`] and their kin.
 //! - Which options a command takes is in one table. Each option is a word `--name=value`, or a word `--name` and a next word that is the value. No
 //!   other list of words is accepted: a [`WordsFault`] says so, and nothing more.
 //! - [`Settings`] and [`HolderFiles`] are parts that several commands share.
@@ -31,6 +31,7 @@ mod drilling;
 mod fault;
 mod options;
 mod order;
+mod retargeting;
 mod settings;
 mod signing;
 mod values;
@@ -40,6 +41,7 @@ pub use claiming::Claiming;
 pub use drilling::Drilling;
 pub use fault::WordsFault;
 pub use order::{Asking, Judging, Order};
+pub use retargeting::Retargeting;
 pub use settings::Settings;
 pub use signing::{Diverting, HolderFiles, Signing};
 pub use verifying::Verifying;

@@ -13,6 +13,7 @@ use crate::commands::Command;
 use crate::drilling::Drilling;
 use crate::fault::WordsFault;
 use crate::options::are_options;
+use crate::retargeting::{Retargeting, retargeting_of};
 use crate::settings::Settings;
 use crate::signing::{Diverting, Signing, diverting_of, signing_of};
 use crate::values::{count_of, future_of, local_of, past_of, seed_of, size_of, workers_of};
@@ -61,6 +62,8 @@ pub enum Order<'a> {
     Sign(Signing<'a>),
     /// To sign the diversion of a call.
     Divert(Diverting<'a>),
+    /// To judge a call, and to sign its diversion to another number.
+    Retarget(Retargeting<'a>),
     /// To show the certificates of a chain.
     Show,
     /// To make a log, to judge it and to sum it up.
@@ -78,7 +81,8 @@ impl<'a> Order<'a> {
     ///
     /// `verify` and `explain` require `--chains`, `--anchors`, `--table` and `--answers`, each the name of a file, and `ask` the first three;
     /// all take `--past`, a number of at most 86,400 (60), `--future`, the same (5), `--country`, 1 to 3 digits (1), and `--national`, a number
-    /// (10), the last two of which have to make a [`Local`](tn_values::Local). `verify` takes `--workers` as well, a number from 1 to 8 (1).
+    /// (10), the last two of which have to make a [`Local`](tn_values::Local). `verify` takes `--workers` as well, a number from 1 to 8 (1), and
+    /// `--state`, the name of a file.
     /// Numbers are decimal digits without a leading zero. `show` takes none. `drill` requires `--seed`, a number below 2^64, and `--count`, a
     /// number of at most 100,000, and takes `--workers`. `once` requires `--size`, a number from 1 to 1,048,576, and takes `--workers`.
     ///
@@ -86,6 +90,9 @@ impl<'a> Order<'a> {
     /// 253,402,300,799, and `--answers`, the name of a file; they take `--leaf` and `--table`, the names of two files that stand together,
     /// `--country` and `--national`. `sign` requires `--form` as well, which is `base`, `compact` or `shaken`, and exactly with `shaken`
     /// `--attest`, which is `A`, `B` or `C`, and `--origid`, a UUID in 36 characters. `divert` requires `--earlier`, a telephone number.
+    ///
+    /// `retarget` requires the four files of `verify`, `--key`, `--x5u`, `--iat`, `--target`, any text, `--leaf`, and `--moment`, a number of at most
+    /// 253,402,300,799; it takes `--past`, `--future`, `--country` and `--national`.
     #[tactic(auto, using(crate::proofs::OptionLaws::options_are, crate::proofs::AcceptLaws::accepted_are, crate::proofs::SigningLaws::can_be_signed))]
     pub fn of(alloc: Global, words: &'a [&'a str]) -> Result<Order<'a>, WordsFault>
         ensures exact { Orders (order_of (texts words.now)) result }
@@ -165,6 +172,10 @@ impl<'a> Order<'a> {
                 Some(diverting) => Some(Order::Divert(diverting)),
                 None => None,
             },
+            Command::Retarget => match retargeting_of(given) {
+                Some(retargeting) => Some(Order::Retarget(retargeting)),
+                None => None,
+            },
             Command::Show => Some(Order::Show),
             Command::Drill => match drilling_of(given) {
                 Some(drilling) => Some(Order::Drill(drilling)),
@@ -179,7 +190,7 @@ impl<'a> Order<'a> {
 }
 
 /// By what calls are judged: the files, and the settings.
-fn judging_of<'a>(given: &ArgMatches<'a>) -> Option<Judging<'a>>
+pub(crate) fn judging_of<'a>(given: &ArgMatches<'a>) -> Option<Judging<'a>>
     ensures { option_map judging_view result ≡ judging_of (values_in given.now) }
 {
     Some(Judging {
@@ -191,7 +202,7 @@ fn judging_of<'a>(given: &ArgMatches<'a>) -> Option<Judging<'a>>
     })
 }
 
-/// How the calls of a log are judged: by what, and the workers.
+/// How the calls of a log are judged: by what, from which state on, and the workers.
 fn verifying_of<'a>(given: &ArgMatches<'a>) -> Option<Verifying<'a>>
     ensures { option_map verifying_view result ≡ verifying_of (values_in given.now) }
 {
@@ -201,7 +212,11 @@ fn verifying_of<'a>(given: &ArgMatches<'a>) -> Option<Verifying<'a>>
     let Some(workers) = workers_of(given) else {
         return None;
     };
-    Some(Verifying { judging, workers })
+    Some(Verifying {
+        judging,
+        state: given.get_str("state"),
+        workers,
+    })
 }
 
 /// By what the questions are found: the files, and the settings.

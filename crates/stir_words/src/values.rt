@@ -6,7 +6,7 @@ ghost use Rattle.text_grammar.specs.Decimal.{number_up_to};
 ghost use Rattle.text_grammar.specs.Uri.{is_uri};
 ghost use Rattle.passport_claims.specs.Origid.{is_origid};
 ghost use Rattle.stir_words.specs.ClapRules.{values_in};
-ghost use Rattle.stir_words.specs.Values.{count_of, country_of, earlier_of, form_by, form_of, future_of, iat_of, is_key, is_key_byte, key_of, local_in, national_of, past_of, plain_by, seed_of, shaken_by, size_of, text_if, workers_of, x5u_of};
+ghost use Rattle.stir_words.specs.Values.{count_of, country_of, earlier_of, form_by, form_of, future_of, iat_of, is_key, is_key_byte, key_of, local_in, moment_of, national_of, past_of, plain_by, seed_of, shaken_by, size_of, text_if, workers_of, x5u_of};
 
 use clap::ArgMatches;
 use passport_claims::{Attest, Form, is_origid};
@@ -259,6 +259,16 @@ pub(crate) fn iat_of(given: &ArgMatches<'_>) -> Option<u64>
     ensures { result ≡ iat_of (values_in given.now) }
 {
     match given.get_str("iat") {
+        Some(text) => read_number(text.as_bytes(), LAST_SECOND),
+        None => None,
+    }
+}
+
+/// When the call came, in Unix seconds.
+pub(crate) fn moment_of(given: &ArgMatches<'_>) -> Option<u64>
+    ensures { result ≡ moment_of (values_in given.now) }
+{
+    match given.get_str("moment") {
         Some(text) => read_number(text.as_bytes(), LAST_SECOND),
         None => None,
     }

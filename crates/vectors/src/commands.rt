@@ -5,8 +5,8 @@ use std::alloc::Global;
 use stir_files::read_materials;
 use stir_outside::ShelfMem;
 use stir_words::{
-    Asking, Claiming, Diverting, Drilling, HolderFiles, Judging, Order, Settings, Signing,
-    WordsFault,
+    Asking, Claiming, Diverting, Drilling, HolderFiles, Judging, Order, Retargeting, Settings,
+    Signing, Verifying, WordsFault,
 };
 use vector_table::{Answer, Unread, files_of, numbers_of, put_local, text, word};
 
@@ -31,15 +31,14 @@ fn order(alloc: Global, words: &[&[u8]]) -> Result<String, Unread> {
 /// Puts the name of a command and the values of its options behind other words.
 fn put_order(answer: Answer, order: &Order<'_>) -> Answer {
     match order {
-        Order::Verify(verifying) => {
-            put_judging(answer.word("verify"), &verifying.judging).word(verifying.workers)
-        }
+        Order::Verify(verifying) => put_verifying(answer.word("verify"), verifying),
         Order::Explain(judging) => put_judging(answer.word("explain"), judging),
         Order::Ask(asking) => put_asking(answer.word("ask"), asking),
         Order::Sign(signing) => put_signing(answer.word("sign"), signing),
         Order::Divert(diverting) => put_diverting(answer.word("divert"), diverting),
         Order::Show => answer.word("show"),
         Order::Drill(drilling) => put_drilling(answer.word("drill"), drilling),
+        Order::Retarget(words) => put_retargeting(answer.word("retarget"), words),
         Order::Once(claiming) => put_claiming(answer.word("once"), claiming),
     }
 }
@@ -51,6 +50,16 @@ fn texts_of<'a>(alloc: Global, words: &[&'a [u8]]) -> Result<Vec<&'a str>, Unrea
         texts.push(text(word)?)?;
     }
     Ok(texts)
+}
+
+/// Puts the four names, the settings, the name of the state or `-`, and the number of workers behind other words.
+fn put_verifying(answer: Answer, verifying: &Verifying<'_>) -> Answer {
+    let answer = put_judging(answer, &verifying.judging);
+    let answer = match verifying.state {
+        Some(name) => answer.text(name.as_bytes()),
+        None => answer.word("-"),
+    };
+    answer.word(verifying.workers)
 }
 
 /// Puts the four names and the settings behind other words.
@@ -100,6 +109,17 @@ fn put_diverting(answer: Answer, diverting: &Diverting<'_>) -> Answer {
         .word(diverting.iat);
     let answer = put_local(answer, &diverting.local).text(diverting.answers.as_bytes());
     put_holder(answer, &diverting.holder)
+}
+
+/// Puts by what a call is judged behind other words, then how its diversion is signed, where it goes on, the file of the certificate, and the moment.
+fn put_retargeting(answer: Answer, words: &Retargeting<'_>) -> Answer {
+    put_judging(answer, &words.judging)
+        .text(words.key.as_bytes())
+        .text(words.x5u.as_bytes())
+        .word(words.iat)
+        .text(words.target.as_bytes())
+        .text(words.leaf.as_bytes())
+        .word(words.moment)
 }
 
 /// Puts the seed, the count and the number of workers after other words.

@@ -15,7 +15,8 @@
 //! - [`Service::new`] takes the settings and the [`World`] (chain map, anchors, code table). [`Service::round`] is `prepare` and then `carry`.
 //! - A [`Worker`] is a provider of signatures and a gate. Their providers say the same.
 //! - [`Service::judge`] judges a call of a prepared round, for a caller with threads of its own.
-//! - [`judge_call`] judges a call by itself, without the calls around it, and gives a [`Finding`]; [`chain_in`] reads one chain, and [`read_chains`] those of a call.
+//! - [`judge_call`] judges a call by itself, without the calls around it, and gives a [`Finding`]; [`chain_in`] reads one chain, and
+//!   [`read_chains`] those of a call.
 //!
 //! ```rust
 //! let mut service = Service::new(alloc, settings, world)?;
@@ -26,7 +27,7 @@
 //! ```
 //!
 //! The service holds up to 4,096 judged chains, and the past of tickets, from round to round. From run to run [`Service::state`] hands its past on,
-//! and [`Service::restore`] goes on from it; no command calls them yet.
+//! and [`Service::restore`] goes on from it: `verify --state`.
 //!
 //! # What it isn't
 //!

@@ -1,0 +1,16 @@
+-- A restored service judges the log, or memory is wanting for it.
+use Rattle.std.proofs.Common.{inr, refl}
+use Rattle.stir_cmd.proofs.GoingSteps.{goes_on_from, log_on, trusts_restored}
+use Rattle.stir_cmd.proofs.verify.go_on_by.Goals as goal
+
+pub returns-in-Err-clause-ran : goal.returns-in-Err-clause-ran
+returns-in-Err-clause-ran g c = inr (record { stays = record { left = refl; read_faults = refl }; ends = rw c.memory_line.ensures at c.end_with.ensures })
+
+pub judge_log_on-requires-clause-from : goal.judge_log_on-requires-clause-from
+judge_log_on-requires-clause-from g c κs within = goes_on_from _ _ c.args.materials.state _ (g.S.Shelf.counts c.args.shelf.now) _ _ c.in-Ok.ensures c.call-call.ensures c.moment-moment.ensures
+
+pub judge_log_on-requires-clause-trusts : goal.judge_log_on-requires-clause-trusts
+judge_log_on-requires-clause-trusts g c κs within = trusts_restored _ _ c.args.materials.state _ _ _ c.in-Ok.ensures
+
+pub returns-clause-ran : goal.returns-clause-ran
+returns-clause-ran g c = log_on c.args.settings c.args.workers c.args.materials c.in-Ok.service _ _ _ _ _ c.in-Ok.ensures c.call-call.ensures c.moment-moment.ensures c.judge_log_on.ensures.says

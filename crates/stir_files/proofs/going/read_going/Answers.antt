@@ -1,0 +1,6 @@
+-- The state is the fifth of the files that are named.
+use Rattle.stir_files.proofs.ListSteps.{is_there}
+use Rattle.stir_files.proofs.going.read_going.Goals as goal
+
+pub unwrap-requires-5 : goal.unwrap-requires-5
+unwrap-requires-5 g c = is_there _ _ c.in_ok-chains.ensures.read.1.1.1.1.0.holds
