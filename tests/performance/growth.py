@@ -212,7 +212,7 @@ FORMS = (
     ("code table, one code, numbers that fall", "lines", (20_000, 40_000), table(lambda at, size: f"709J {NUMBER - 2 * at}\n")),
     ("code table, one number again and again", "lines", (20_000, 40_000), table(lambda at, size: "709J 12155551212\n")),
     ("code table, ranges that overlap", "lines", (20_000, 40_000), table(lambda at, size: f"709J {NUMBER + at} {size}\n")),
-    ("code table, many codes", "lines", (20_000, 40_000), table(lambda at, size: f"{at:x} {NUMBER + at}\n")),
+    ("code table, many codes", "lines", (10_000, 20_000), table(lambda at, size: f"{at:x} {NUMBER + at}\n")),
     ("code table of comments", "lines", (20_000, 40_000), table(lambda at, size: ";\n")),
     ("chain map, long texts that end alike", "lines", (5_000, 10_000), chain_map(lambda at: f"{at:05d}{'x' * 200} f\n")),
     ("chain map, long texts that begin alike", "lines", (5_000, 10_000), chain_map(lambda at: f"{'x' * 200}{at:05d} f\n")),
