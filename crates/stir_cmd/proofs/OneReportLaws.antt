@@ -1,26 +1,18 @@
 -- Two runs of `verify` on one worker over the same files and the same log give one report.
 use Rattle.std.proofs.Common.{◌≡◌, ℕ, ◌≤◌, List, [], Option, Some, None, refl, sym, ◌∙◌, ap, subst}
 use Rattle.std.specs.Io.KnownBytes.{Appends}
-use Rattle.std.proofs.lemmas.Option.{same_Some}
 use Rattle.call_log.specs.Entry.{Entry}
 use Rattle.call_log.specs.HandsOut.{OneLog}
 use Rattle.call_log.specs.Log.{start}
-use Rattle.cert_store.specs.ChainMap.{MapOf}
 use Rattle.log_rounds.specs.AllValid.{all_valid}
 use Rattle.log_run.specs.Ending.{report_status}
 use Rattle.log_rounds.specs.Rounds.{IsApart, Round, calls_in, outcomes_in, row_rounds}
 use Rattle.replay_law.specs.Law.{OneAnswer}
-use Rattle.verify_rules.specs.SameWorld.{SayTheSame}
-use Rattle.stir_files.specs.Materials.{MaterialsOf}
-use Rattle.stir_files.specs.Named.{AnchorsOf, NamedFile, ReadOf, anchor_file, answers_file, chain_map, code_table}
 use Rattle.stir_files.specs.declared.materials.Materials.{Materials}
 use Rattle.stir_outside.specs.Count.{NotRisen}
 use Rattle.stir_outside.specs.Files.{Files}
-use Rattle.stir_outside.specs.Held.{AnswersOf}
-use Rattle.stir_words.specs.Order.{JudgingView, OrderView, VerifyBy, VerifyingView}
-use Rattle.tn_auth_list.specs.Grant.{TableOf}
-use Rattle.verify_rules.specs.Call.{Call}
-use Rattle.verify_rules.specs.World.{First, World}
+use Rattle.stir_words.specs.Order.{OrderView, VerifyBy, VerifyingView}
+use Rattle.verify_rules.specs.World.{First}
 use Rattle.verify_rules.specs.declared.settings.Settings.{Settings}
 use Rattle.verify_service.specs.Report.{report}
 use Rattle.verify_service.specs.Judging.{call_in}
@@ -28,32 +20,11 @@ use Rattle.stir_cmd.specs.Calls.{config_by, settings_by, world_by}
 use Rattle.stir_cmd.specs.Headline.{AreJudged, Headline, Verified, VerifiedFrom}
 use Rattle.stir_cmd.specs.OneReport.{AreOneReport, GivesOneFrom, GivesOneReport, IsLogApart, IsOneReport}
 use Rattle.stir_cmd.specs.Outside.{IfTold, Outside}
-use Rattle.stir_cmd.proofs.SameReadings.{one_answers, one_map, one_ok, one_table}
+use Rattle.stir_cmd.proofs.SameReadings.{SameWorldLaw, same_says, told_of}
+use Rattle.stir_cmd.proofs.OneReportOnLaws.{with_state}
 use Rattle.stir_cmd.proofs.AnswersAlike.{NoneAside, OneAnswerEach, RoundsAlike, all_same, has_each, rounds_alike, rounds_turned, same_cut}
 
--- ---- what was read of the same files
-
--- one file was read twice
-one_content : (files : Files) (named : NamedFile) (P Q : List ℕ → Type 0) (mine : ReadOf (Some files) named P) (yours : ReadOf (Some files) named Q) → mine.content ≡ yours.content
-one_content files named P Q mine yours = let first = mine.told in let second = yours.told in same_Some mine.content yours.content (sym first ∙ second)
-
-same_says : (files : Files) (judging : JudgingView) (mine yours : Materials) → MaterialsOf (Some files) judging mine → MaterialsOf (Some files) judging yours
-    → SayTheSame (world_by mine files) (world_by yours files)
-same_says files judging mine yours a b = record {
-  chains = one_map b.chains.content mine.chains yours.chains (subst (λ c. MapOf c mine.chains) (one_content files (chain_map judging.chains) _ _ a.chains b.chains) a.chains.holds) b.chains.holds;
-  files = refl;
-  anchors =
-      one_ok mine.anchors yours.anchors _ (subst (λ c. AnchorsOf c mine.anchors) (one_content files (anchor_file judging.anchors) _ _ a.anchors b.anchors) a.anchors.holds).read
-      b.anchors.holds.read;
-  grants = one_table b.table.content mine.table yours.table (subst (λ c. TableOf c mine.table) (one_content files (code_table judging.table) _ _ a.table b.table) a.table.holds) b.table.holds;
-  says = one_answers b.answers.content mine.answers yours.answers
-      (subst (λ c. AnswersOf c mine.answers) (one_content files (answers_file judging.answers) _ _ a.answers b.answers) a.answers.holds) b.answers.holds;
-}
-
 -- ---- the report
-
-abbrev pub SameWorldLaw : Type 0
-SameWorldLaw = (world other : World) → SayTheSame world other → (call : Call) → First world call ≡ First other call
 
 -- the laws of the crates below that are needed
 pub record OneReportLawsOf : Type 0 where
@@ -100,13 +71,6 @@ one_report laws verifying single files bytes before now other other_now status o
       same_status = mine.said ∙ ap (λ outcomes. report_status (all_valid outcomes)) same ∙ sym yours.said;
     }
 
--- what the headline says of a run whose files and log these are
-said_of : (verifying : VerifyingView) (files : Files) (bytes : List ℕ) (told : Option Files) (left : Option (List ℕ)) (other other_now : Outside) (status : ℕ)
-    → told ≡ Some files → left ≡ Some bytes → IfTold told left (λ f b. Verified verifying f b other other_now status) → Verified verifying files bytes other other_now status
-said_of verifying files bytes told left other other_now status same_files same_log said =
-    subst (λ f. IfTold (Some files) f (λ f b. Verified verifying f b other other_now status)) same_log
-    (subst (λ f. IfTold f left (λ f b. Verified verifying f b other other_now status)) same_files said)
-
 gives_by : OneReportLawsOf → (verifying : VerifyingView) → verifying.state ≡ None → verifying.workers ≡ 1 → (before now : Outside) (status : ℕ) (told : Option Files) (left : Option (List ℕ))
     → NotRisen before.counts.faults now.counts.faults → IfTold told left (λ files bytes. Verified verifying files bytes before now status)
     → IfTold told left (λ files bytes. IsOneReport verifying files bytes before now status)
@@ -115,17 +79,17 @@ gives_by laws verifying alone single before now status (Some files) None quiet s
 gives_by laws verifying alone single before now status (Some files) (Some bytes) quiet said = record {
   same = λ apart other other_now other_status ran.
       one_report laws verifying single files bytes before now other other_now status other_status apart said
-      (said_of verifying files bytes other.files other.left other other_now other_status ran.same_files ran.same_log
+      (told_of (Verified verifying) files bytes other other_now other_status ran.same_files ran.same_log
       (subst (λ (x : Option (List ℕ)). IfTold other.files other.left (VerifiedFrom verifying x other other_now other_status)) alone (ran.headline ran.done))) quiet ran.quiet;
 }
 
--- where no state is named
-without_state : OneReportLawsOf → (verifying : VerifyingView) (state : Option (List ℕ)) → verifying.state ≡ state → (before now : Outside) (status : ℕ)
+-- where no state is named, and where one is
+by_state : OneReportLawsOf → (verifying : VerifyingView) (state : Option (List ℕ)) → verifying.state ≡ state → (before now : Outside) (status : ℕ)
     → (status ≤ 1 → IfTold before.files before.left (VerifiedFrom verifying state before now status)) → GivesOneFrom verifying state before now status
-without_state laws verifying (Some name) is before now status said = tt
-without_state laws verifying None is before now status said =
+by_state laws verifying (Some name) is before now status said = with_state laws.one_log laws.same_world verifying name is before now status said
+by_state laws verifying None is before now status said =
     λ single done quiet. gives_by laws verifying is single before now status before.files before.left quiet (said done)
 
 pub gives_one_report : OneReportLawsOf → (order : Option OrderView) (before now : Outside) (status : ℕ) → Headline order before now status → GivesOneReport order before now status
-gives_one_report laws (Some (VerifyBy verifying)) before now status said = without_state laws verifying verifying.state refl before now status said
+gives_one_report laws (Some (VerifyBy verifying)) before now status said = by_state laws verifying verifying.state refl before now status said
 gives_one_report laws other before now status said = _

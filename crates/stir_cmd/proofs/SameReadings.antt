@@ -1,5 +1,6 @@
 -- Two readings of the same text say the same, however a chain map, a code table or answers are kept.
-use Rattle.std.proofs.Common.{◌≡◌, ◌↔◌, ℕ, List, Result, Ok, sym, ◌∙◌, ap, subst}
+use Rattle.std.proofs.Common.{◌≡◌, ◌↔◌, ℕ, List, Some, Result, Ok, refl, sym, ◌∙◌, ap, subst}
+use Rattle.std.proofs.lemmas.Option.{same_Some}
 use Rattle.cert_store.specs.ChainMap.{MapOf, file_in, listed}
 use Rattle.cert_store.specs.Files.{Files as ChainFiles}
 use Rattle.stir_outside.specs.AnswersText.{says as says_in}
@@ -7,6 +8,16 @@ use Rattle.stir_outside.specs.Held.{AnswersOf, Held, held_says}
 use Rattle.tn_auth_list.specs.CodeTable.{Grants}
 use Rattle.tn_auth_list.specs.Grant.{GrantHolds, TableOf, grant_in}
 use Rattle.tn_auth_list.specs.declared.table_groups.Held.{Held as Granted}
+use Rattle.stir_files.specs.Materials.{MaterialsOf}
+use Rattle.stir_files.specs.Named.{AnchorsOf, NamedFile, ReadOf, anchor_file, answers_file, chain_map, code_table}
+use Rattle.stir_files.specs.declared.materials.Materials.{Materials}
+use Rattle.stir_outside.specs.Files.{Files}
+use Rattle.stir_words.specs.Order.{JudgingView}
+use Rattle.verify_rules.specs.Call.{Call}
+use Rattle.verify_rules.specs.SameWorld.{SayTheSame}
+use Rattle.verify_rules.specs.World.{First, World}
+use Rattle.stir_cmd.specs.Calls.{world_by}
+use Rattle.stir_cmd.specs.Outside.{IfTold, Outside}
 
 pub one_ok : {X : Type 0} (a b : X) (r : Result X ℕ) → r ≡ Ok a → r ≡ Ok b → a ≡ b
 one_ok a b r is there = let both : Ok a ≡ Ok b = sym is ∙ there in cc
@@ -24,3 +35,32 @@ one_table content mine yours a b code number =
 
 pub one_answers : (content : List ℕ) (mine yours : Held) → AnswersOf content mine → AnswersOf content yours → held_says mine ≡ held_says yours
 one_answers content mine yours a b = a.says ∙ ap says_in (one_ok a.rows b.rows _ a.read b.read) ∙ sym b.says
+
+-- ---- what was read of the same files
+
+-- one file was read twice
+pub one_content : (files : Files) (named : NamedFile) (P Q : List ℕ → Type 0) (mine : ReadOf (Some files) named P) (yours : ReadOf (Some files) named Q) → mine.content ≡ yours.content
+one_content files named P Q mine yours = let first = mine.told in let second = yours.told in same_Some mine.content yours.content (sym first ∙ second)
+
+pub same_says : (files : Files) (judging : JudgingView) (mine yours : Materials) → MaterialsOf (Some files) judging mine → MaterialsOf (Some files) judging yours
+    → SayTheSame (world_by mine files) (world_by yours files)
+same_says files judging mine yours a b = record {
+  chains = one_map b.chains.content mine.chains yours.chains (subst (λ c. MapOf c mine.chains) (one_content files (chain_map judging.chains) _ _ a.chains b.chains) a.chains.holds) b.chains.holds;
+  files = refl;
+  anchors =
+      one_ok mine.anchors yours.anchors _ (subst (λ c. AnchorsOf c mine.anchors) (one_content files (anchor_file judging.anchors) _ _ a.anchors b.anchors) a.anchors.holds).read
+      b.anchors.holds.read;
+  grants = one_table b.table.content mine.table yours.table (subst (λ c. TableOf c mine.table) (one_content files (code_table judging.table) _ _ a.table b.table) a.table.holds) b.table.holds;
+  says = one_answers b.answers.content mine.answers yours.answers
+      (subst (λ c. AnswersOf c mine.answers) (one_content files (answers_file judging.answers) _ _ a.answers b.answers) a.answers.holds) b.answers.holds;
+}
+
+abbrev pub SameWorldLaw : Type 0
+SameWorldLaw = (world other : World) → SayTheSame world other → (call : Call) → First world call ≡ First other call
+
+-- what is said of a run whose files and log these are
+pub told_of : (Said : Files → List ℕ → Outside → Outside → ℕ → Type 0) (files : Files) (bytes : List ℕ) (before now : Outside) (status : ℕ) → before.files ≡ Some files → before.left ≡ Some bytes
+    → IfTold before.files before.left (λ f b. Said f b before now status) → Said files bytes before now status
+told_of Said files bytes before now status same_files same_log said =
+    subst (λ left. IfTold (Some files) left (λ f b. Said f b before now status)) same_log
+    (subst (λ told. IfTold told before.left (λ f b. Said f b before now status)) same_files said)

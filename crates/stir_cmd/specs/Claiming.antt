@@ -9,7 +9,7 @@ use Rattle.once_tickets.specs.TicketText.{IsBadLine, TicketText}
 use Rattle.stir_cmd.specs.Answer.{long_line, refused_input}
 use Rattle.stir_cmd.specs.Course.{Course}
 use Rattle.stir_cmd.specs.Input.{Answering, answering_by, input_course}
-use Rattle.stir_cmd.specs.Outside.{Io, Outside, io_in}
+use Rattle.stir_cmd.specs.Outside.{Io, io_in}
 
 -- The bytes are a text of tickets, and this is a line for each, of what came of them on a desk with so many slots a level. The status is 0 if
 -- each was won, and else 1

@@ -20,7 +20,6 @@ use Rattle.retarget_run.specs.Sending.{IsOverChains, MayCome, PlaceView, call_at
 use Rattle.stir_cmd.specs.Calls.{settings_by}
 use Rattle.stir_cmd.specs.Course.{Course}
 use Rattle.stir_cmd.specs.Input.{Answering, answering_by, shelf_course}
-use Rattle.stir_cmd.specs.Outside.{Outside}
 use Rattle.stir_cmd.specs.OverFiles.{OverFiles, over_files}
 use Rattle.stir_cmd.specs.Signing.{unsigned_line}
 

@@ -30,16 +30,22 @@ pub record AreOneReport (before now : Outside) (status : ℕ) (other other_now :
   pub other_written : Appends other.written other_now.written text
   pub same_status : status ≡ other_status
 
--- each other run over the same files and log gave the same report
+-- each other run over the same files and log gave the same report, where no two of those texts have one digest
 pub record IsOneReport (verifying : VerifyingView) (files : Files) (bytes : List ℕ) (before now : Outside) (status : ℕ) : Type 0 where
   pub same : IsLogApart verifying bytes → (other other_now : Outside) (other_status : ℕ)
       → JudgedTheSame (Some (VerifyBy verifying)) files bytes other other_now other_status → AreOneReport before now status other other_now other_status
 
--- of words without a state
+-- the same of words with a state, whatever the digests: what passed is told by what the state keeps and by the order of the calls
+pub record IsOneReportOn (verifying : VerifyingView) (files : Files) (bytes : List ℕ) (before now : Outside) (status : ℕ) : Type 0 where
+  pub same : (other other_now : Outside) (other_status : ℕ) → JudgedTheSame (Some (VerifyBy verifying)) files bytes other other_now other_status
+      → AreOneReport before now status other other_now other_status
+
+-- without a state, and with one
 abbrev pub GivesOneFrom : VerifyingView → Option (List ℕ) → Outside → Outside → ℕ → Type 0
 GivesOneFrom verifying None before now status = verifying.workers ≡ 1 → status ≤ 1 → NotRisen before.counts.faults now.counts.faults
     → IfTold before.files before.left (λ files bytes. IsOneReport verifying files bytes before now status)
-GivesOneFrom verifying (Some name) before now status = Unit {0}
+GivesOneFrom verifying (Some name) before now status = verifying.workers ≡ 1 → status ≤ 1 → NotRisen before.counts.faults now.counts.faults
+    → IfTold before.files before.left (λ files bytes. IsOneReportOn verifying files bytes before now status)
 
 abbrev pub GivesOneReport : Option OrderView → Outside → Outside → ℕ → Type 0
 GivesOneReport (Some (VerifyBy verifying)) before now status = GivesOneFrom verifying verifying.state before now status
