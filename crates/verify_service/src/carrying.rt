@@ -78,6 +78,7 @@ impl Service {
         ensures same { self.new.held ≡ self.old.held }
         ensures number { self.new.number ≡ self.old.number }
         ensures moment { self.new.moment ≡ self.old.moment }
+        ensures begun { self.new.begun ≡ self.old.begun }
         ensures workers { length workers.new ≡ length workers.old }
         ensures provider { (w : ℕ) (d : _) → w < length workers.old
             → ProviderStays P.Provider (slice_index_or workers.old w d).provider (slice_index_or workers.new w d).provider }
