@@ -65,7 +65,7 @@ ordered_of laws bytes order message claims orig dest r m d c t s =
 
 -- ---- the faults of the message
 
--- what is given of the message, where a PASSporT is asked of it: a cause, or the parts of that PASSporT
+-- what the message gives when a PASSporT is asked of it: a cause, or the parts of that PASSporT
 data Asked (bytes : List ℕ) (order : OrderView) (r : Result ClaimsView SignFault) : Type 0 where
   is_not : (f : SignFault) → r ≡ Err f → ((holder : Option HolderView) (signs : List ℕ → List ℕ → Option (List ℕ)) → IsCaused bytes order holder signs f) → Asked bytes order r
   is : (message : MessageView) (claims : ClaimsView) → r ≡ Ok claims → IsOrdered bytes order message claims → IsFor order claims → Asked bytes order r

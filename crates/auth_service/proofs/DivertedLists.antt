@@ -1,4 +1,4 @@
--- One Identity field more, that of a diversion: it is numbered, judged and read behind all others, which stay what they were.
+-- One Identity field more, that of a diversion: it is numbered, judged and read after all others, which stay what they were.
 use Rattle.std.proofs.Common.{◌≡◌, ℕ, suc, ◌+◌, ◌≤◌, nat_lt, Bool, false, true, cond, List, [], ◌∷◌, ◌++◌, length, codes, Option, Some, None, Result, Ok, Err, refl, sym, ap, ◌∙◌, arith, append_assoc, option_to_list}
 use Rattle.std.specs.Prelude.{find, if◌then◌else◌}
 use Rattle.std.specs.List.{cons_option}
@@ -23,7 +23,7 @@ use Rattle.verify_rules.specs.Rules.{bad_field, bad_or_later, each, foreign_alg,
 use Rattle.verify_rules.specs.declared.refusal.Place.{Place}
 use Rattle.auth_service.specs.Diverted.{GoOn}
 
--- ---- its value behind the others
+-- ---- its value after the others
 
 abbrev pub field_at : ℕ → Parts → IdentityField
 field_at number parts = record { number = number; parts = parts }

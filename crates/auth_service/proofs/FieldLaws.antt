@@ -1,4 +1,4 @@
--- The field's parts are in their rows, and its value can stand in a line.
+-- The field's parts are in their rows, and its value can be written in a line.
 use Rattle.std.proofs.Common.{◌≡◌, ℕ, ◌≤◌, true, false, not, List, [], ◌∷◌, ◌++◌, length, reverse, codes, Option, Some, Result, Ok, Err, IfOk, IfSome, IsTrue, refl, sym, ap, subst, ◌∙◌, arith, length-append}
 use Rattle.std.specs.Str.{bytes_eq}
 use Rattle.std.proofs.lemmas.List.{reverse-reverse}

@@ -109,7 +109,7 @@ too_long full compact bytes order signing claims f e =
     ∙ ap (λ x. length bytes + line_size order.shape (length (signing_of claims)) (length x)) (sym f.x5u)
     ∙ sym (size_of full compact bytes order.shape claims no_signature f.kind none_signature))
 
--- where it isn't too long, it isn't with any signature
+-- if it isn't too long, it isn't with any signature
 pub has_room : FullSize → CompactSize → (bytes : List ℕ) (shape : Shape) (claims : ClaimsView) (signature : List ℕ) → claims.kind ≡ kind_of shape → IsSignature signature
     → is_too_long bytes shape claims ≡ false → length (with_line bytes field_name (value_of shape claims signature)) ≤ 65535
 has_room full compact bytes shape claims signature k s e =
@@ -118,7 +118,7 @@ has_room full compact bytes shape claims signature k s e =
     let short : length (with_line bytes field_name (value_of shape claims no_signature)) ≤ 65535 = grind (arith, nat_tests, e) in
     omega (arith, zero_size, own_size, short)
 
--- and where it is, it is with each
+-- and if it is, it is with each
 pub has_none : FullSize → CompactSize → (bytes : List ℕ) (shape : Shape) (claims : ClaimsView) (signature : List ℕ) → claims.kind ≡ kind_of shape → IsSignature signature
     → is_too_long bytes shape claims ≡ true → 65535 < length (with_line bytes field_name (value_of shape claims signature))
 has_none full compact bytes shape claims signature k s e =

@@ -57,7 +57,7 @@ pub never_refused : (order : OrderView) (orig dest : List ℕ) (fault : ClaimFau
     → made (kind_of order.shape) order.x5u order.iat orig (dest ∷ []) ≡ Err fault → ⊥
 never_refused order orig dest fault h e = let k = made_again order orig dest h in absurd cc
 
--- so that the one fault that may come is want of memory
+-- so that the one fault that may come is out of memory
 only_memory : (order : OrderView) (orig dest : List ℕ) (fault : ClaimFault) → IsTrue (is_order order)
     → IsFaultOf (fault_seen fault) (made (kind_of order.shape) order.x5u order.iat orig (dest ∷ [])) → fault ≡ claim_faults.Memory
 only_memory order orig dest claim_faults.Kind h e = absurd (never_refused order orig dest claim_faults.Kind h e)

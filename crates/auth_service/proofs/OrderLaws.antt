@@ -1,4 +1,4 @@
--- What is promised of what is wanted is promised of the order that it comes of.
+-- What is promised of what is wanted is promised of the order that it comes from.
 use Rattle.std.proofs.Common.{◌≡◌, refl, ℕ, List, Option, Result, IfOk, IsTrue, sym, subst}
 use Rattle.std.specs.Prelude.{IfErr}
 use Rattle.lists.specs.Given.{Gives}

@@ -1,4 +1,4 @@
--- What the signer answers, where want of memory is free, and so is a failure of the provider, which has its own cause.
+-- What the signer answers. Out of memory is left free, and so is a failure of the provider, which has its own cause.
 use Rattle.std.specs.Prelude.{ℕ, Bool, true, false, Option, Some, None, Result, Ok, Err}
 use Rattle.auth_service.specs.declared.fault.SignFault.{SignFault}
 use Rattle.auth_service.specs.declared.fault.SignFault.TheVariants as faults
@@ -25,7 +25,7 @@ abbrev pub names_provider : {X : Type 0} → Result X SignFault → Bool
 names_provider (Ok x) = false
 names_provider (Err fault) = is_provider fault
 
--- 1 to 5, in the order of the faults' names; want of memory has none
+-- 1 to 5, in the order of the faults' names; out of memory has none
 abbrev pub number_of : SignFault → Option ℕ
 number_of faults.Form = Some 1
 number_of faults.NoNumber = Some 2

@@ -4,7 +4,7 @@ use Rattle.stir_outside.specs.Count.{Rose}
 use Rattle.auth_service.specs.Answer.{names_provider}
 use Rattle.auth_service.specs.declared.fault.SignFault.{SignFault}
 
--- how a provider stands: what it confirms and what it signs, and how many calls and failures it counted
+-- the state of a provider: what it confirms and what it signs, and how many calls and failures it counted
 pub record Stand : Type 0 where
   pub says : List ℕ → List ℕ → List ℕ → Bool
   pub signs : List ℕ → List ℕ → Option (List ℕ)
@@ -14,7 +14,7 @@ pub record Stand : Type 0 where
 abbrev pub stand : (List ℕ → List ℕ → List ℕ → Bool) → (List ℕ → List ℕ → Option (List ℕ)) → ℕ → ℕ → Stand
 stand says signs asks faults = record { says = says; signs = signs; asks = asks; faults = faults }
 
--- it was asked at most once, says and signs the same, and where its failure is answered it has counted one
+-- it was asked at most once, says and signs the same, and if its failure is answered, it has counted one
 pub record IsAskedOnce {X : Type 0} (before now : Stand) (result : Result X SignFault) : Type 0 where
   pub failed : names_provider result ≡ true → Rose before.faults now.faults
   pub faults : before.faults ≤ now.faults

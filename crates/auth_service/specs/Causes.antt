@@ -16,7 +16,7 @@ use Rattle.auth_service.specs.Field.{field_name, value_of}
 use Rattle.auth_service.specs.Order.{HolderView, OrderView}
 use Rattle.auth_service.specs.Signed.{called_number, claims_by}
 
--- the bytes are an INVITE, and where the PASSporT is compact its Date is that of the order
+-- the bytes are an INVITE, and if the PASSporT is compact, its Date is that of the order
 pub record IsInvite (bytes : List ℕ) (order : OrderView) (message : MessageView) : Type 0 where
   pub head : Head bytes message
   pub method : is_invite message ≡ true
@@ -70,7 +70,7 @@ pub data IsWithheld (bytes : List ℕ) (order : OrderView) (holder : Option Hold
   unnumbered : IsUnnumbered bytes order → IsWithheld bytes order holder
   unauthorized : IsUnauthorized bytes order holder → IsWithheld bytes order holder
 
--- the holder, where one is given, may
+-- the holder, if one is given, may
 abbrev pub MaySpeak : Option HolderView → ClaimsView → Type 0
 MaySpeak None claims = ⊤
 MaySpeak (Some holder) claims = CoversKind holder.table holder.entries claims.orig claims.kind
@@ -85,7 +85,7 @@ pub record IsUnsigned (bytes : List ℕ) (order : OrderView) (holder : Option Ho
   pub carried : digest ≡ Ticket (signing_of claims)
   pub none : ◌≡◌ {A = Option (List ℕ)} (signs order.key digest) None
 
--- the cause of each; a failure of the provider has its own clause, and want of memory none
+-- the cause of each; a failure of the provider has its own clause, and out of memory has none
 abbrev pub IsCaused : List ℕ → OrderView → Option HolderView → (List ℕ → List ℕ → Option (List ℕ)) → SignFault → Type 0
 IsCaused bytes order holder signs faults.Form = IsMisformed bytes order
 IsCaused bytes order holder signs faults.NoNumber = IsUnnumbered bytes order

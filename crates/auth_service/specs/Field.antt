@@ -17,7 +17,7 @@ abbrev pub token_by : Shape → List ℕ → List ℕ → List ℕ
 token_by (shapes.Full kind) signing signature = full_text signing signature
 token_by shapes.Compact signing signature = compact_text signature
 
--- the token, the URI of the certificates, the algorithm ES256, and the PASSporT's type, where it has one
+-- the token, the URI of the certificates, the algorithm ES256, and the PASSporT's type, if it has one
 abbrev pub field_of : Shape → ClaimsView → List ℕ → Parts
 field_of shape claims signature = parts (token_by shape (signing_of claims) signature) claims.x5u (Some (codes "ES256")) (ppt_of claims.kind)
 

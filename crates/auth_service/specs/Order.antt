@@ -38,7 +38,7 @@ shape_of forms.Base = shapes.Full kinds.Base
 shape_of forms.Compact = shapes.Compact
 shape_of (forms.Shaken level origid) = shapes.Full (kinds.Shaken level origid)
 
--- What is signed is in this form: of the form's type, and compact just where the form is (RFC 8225, section 7).
+-- What is signed is in this form: of the form's type, and compact exactly if the form is (RFC 8225, section 7).
 pub record IsInForm (form : Form) (shape : Shape) : Type 0 where
   pub kind : kind_of shape ≡ form_kind form
   pub compact : (shape ≡ shapes.Compact) ↔ (form ≡ forms.Compact)
@@ -64,8 +64,8 @@ divert_order_of order = record {
 abbrev pub wanted_of : Wanted → OrderView
 wanted_of order = record { shape = order.shape; key = order.key.now; x5u = order.x5u.now; iat = order.iat; local = order.local }
 
--- what can be signed: the URI is one of a certificate, the second is none past the year 9999, and the identifier of the call, where the type
--- has one, is a UUID in 36 characters
+-- what can be signed: the URI is one of a certificate, the second is none past the year 9999, and the identifier of the call, if the type has one, is a
+-- UUID in 36 characters
 abbrev pub is_order : OrderView → Bool
 is_order order = is_uri order.x5u && nat_le order.iat last_second && has_origid (kind_of order.shape)
 

@@ -32,7 +32,7 @@ pub record IsSigned (bytes : List ℕ) (order : OrderView) (holder : Option Hold
   -- the holder may speak for what the PASSporT vouches for, and the key signed the digest of what is signed of the PASSporT
   pub authority : MaySpeak holder (claims_by order orig dest)
   pub made : signs order.key (Ticket (signing_of (claims_by order orig dest))) ≡ Some signature
-  -- the outcome is the message with the field's line before its empty one, which is the message with this field behind all others
+  -- the outcome is the message with the field's line before its empty one, which is the message with this field after all others
   pub placed : out ≡ with_line_at head.empty.place bytes field_name (value_of order.shape (claims_by order orig dest) signature)
   pub added : Head out (with_last message field_name (value_of order.shape (claims_by order orig dest) signature))
   -- the field is read as its parts, and the token in it, with what the message says, as this PASSporT with this signature

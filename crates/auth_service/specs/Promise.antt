@@ -1,4 +1,4 @@
--- What is promised of what is answered to an order, whichever of the two it comes of.
+-- What is promised of the answer to an order, whichever of the two orders it comes from.
 use Rattle.std.specs.Prelude.{ℕ, List, Option, Result, IfErr, IfOk}
 use Rattle.lists.specs.Given.{Gives}
 use Rattle.auth_service.specs.Answer.{decided}

@@ -23,7 +23,7 @@ use Rattle.auth_service.specs.Order.{HolderView, OrderView, kind_of}
 
 -- ---- the message
 
--- the message, where it is an INVITE
+-- the message, if it is an INVITE
 abbrev pub invite_in : Result MessageView FormFault → Result MessageView SignFault
 invite_in (Err fault) = Err faults.Form
 invite_in (Ok message) = if is_invite message then Ok message else Err faults.Form
@@ -60,7 +60,7 @@ claims_or_fault order (Some orig) (Some dest) = Ok (claims_by order orig dest)
 claims_or_fault order (Some orig) None = Err faults.NoNumber
 claims_or_fault order None dest = Err faults.NoNumber
 
--- where the compact form is dated: the number that calls, and the one that is called
+-- if the compact form is dated: the number that calls, and the one that is called
 unfoldable pub claims_of : OrderView → MessageView → Result ClaimsView SignFault
 claims_of order message = if is_dated order message then claims_or_fault order (calling_number message order.local) (called_number order message) else Err faults.Form
 
@@ -78,7 +78,7 @@ no_signature = replicate 64 0
 abbrev pub is_too_long : List ℕ → Shape → ClaimsView → Bool
 is_too_long bytes shape claims = nat_lt 65535 (length (with_line bytes field_name (value_of shape claims no_signature)))
 
--- the holder, where one is given, may speak for what the PASSporT vouches for: what rule 17 asks of a leaf
+-- the holder, if one is given, may speak for what the PASSporT vouches for: what rule 17 asks of a leaf
 abbrev pub is_allowed : Option HolderView → ClaimsView → Bool
 is_allowed None claims = true
 is_allowed (Some holder) claims = covers_kind holder.table holder.entries claims.orig claims.kind

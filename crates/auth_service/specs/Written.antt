@@ -31,7 +31,7 @@ abbrev pub line_size : Shape → ℕ → ℕ → ℕ
 line_size (shapes.Full kind) signing x5u = signing + x5u + 117 + type_size kind
 line_size shapes.Compact signing x5u = x5u + 118
 
--- the text is an Identity value with these parts, is read as these, and can stand in a line
+-- the text is an Identity value with these parts, is read as these, and can be written in a line
 pub record IsWrittenField (text : List ℕ) (field : Parts) : Type 0 where
   pub grammar : FieldText field text
   pub read_as : read_field text ≡ Ok field

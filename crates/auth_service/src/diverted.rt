@@ -13,9 +13,9 @@ use crate::laws::added_laws;
 use passport_claims::one_link_more_law;
 use sip_message::head_law;
 
-/// What [`divert`](crate::divert) writes into a call that breaks none of rules 1 to 7 breaks none of rules 1 to 8 at a hop that numbers as the
-/// order did, where the call's links led it to the number that was called before, and it hasn't been at the one to which it goes on. There the
-/// PASSporT that was signed is judged behind those that were judged before, and its link stands behind theirs in the order of the call.
+/// If a call breaks none of rules 1 to 7, what [`divert`](crate::divert) writes into it breaks none of rules 1 to 8 at a hop that numbers as the order did.
+/// This asks that the call's links led it to the number that was called before, and that it hasn't been at the one to which it goes on. At that hop the
+/// PASSporT that was signed is judged after those that were judged before, and its link comes after theirs in the order of the call.
 pub fn diverted_rules_law()
     ensures rules { (bytes : List ℕ) (order : DivertOrder) (holder : Option HolderView) (signs : List ℕ → List ℕ → Option (List ℕ)) (out : List ℕ) (settings : Settings) (moment later : ℕ)
         → (s : IsSigned bytes (divert_order_of order) holder signs out) → IsDivertible (call_of settings moment bytes) order.local (claims_by (divert_order_of order) s.orig s.dest)

@@ -24,13 +24,13 @@ pub enum SignFault {
     /// The provider failed, and counted it.
     #[error("the provider failed")]
     Provider,
-    /// Memory was wanting, and nothing is said of the message.
+    /// Memory ran out, and nothing is said of the message.
     #[error("out of memory")]
     Memory,
 }
 
 impl SignFault {
-    /// The fault's number in this project's reports: 1 to 5 in the order of the names; `None` for want of memory.
+    /// The fault's number in this project's reports: 1 to 5 in the order of the names; `None` if memory ran out.
     pub fn number(&self) -> Option<u8>
         ensures { result ≡ number_of self.now }
     {

@@ -40,8 +40,8 @@ fn type_size(kind: &Kind) -> usize
     }
 }
 
-/// How many bytes the line of the field has, by those of what is signed and of the certificates' URI: with them stand the field's name, the
-/// 86 bytes of the signature, and what parts these.
+/// How many bytes the line of the field has, by those of what is signed and of the certificates' URI. With these come the field's name, the 86 bytes of the
+/// signature, and what parts them.
 fn line_size(shape: &Shape, signing: usize, x5u: usize) -> usize
     requires signing { signing ≤ 8192 }
     requires x5u { x5u ≤ 2048 }
@@ -100,7 +100,7 @@ fn field<'a>(token: &'a [u8], passport: &'a Passport) -> Field<'a>
     }
 }
 
-/// The value of the field of a PASSporT and its signature. Reading it gives the field again, and it can stand in a line of a message.
+/// The value of the field of a PASSporT and its signature. Reading it gives the field again, and it can be written in a line of a message.
 pub(crate) fn field_value(
     alloc: Global,
     order: &Wanted<'_>,

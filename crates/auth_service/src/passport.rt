@@ -75,7 +75,7 @@ fn passport_for(alloc: Global, bytes: &[u8], order: &Wanted<'_>) -> Result<Passp
     passport_between(alloc, order, orig, dest)
 }
 
-/// The message, where it is an INVITE.
+/// The message, if it is an INVITE.
 fn read_invite<'a>(alloc: Global, bytes: &'a [u8]) -> Result<Message<'a>, SignFault>
     ensures exact { Gives decided (λ message. message) result (invite_in (read bytes.now)) }
     ensures apart { names_provider result ≡ false }
@@ -93,7 +93,7 @@ fn read_invite<'a>(alloc: Global, bytes: &'a [u8]) -> Result<Message<'a>, SignFa
     }
 }
 
-/// Whether the message's Date is the order's second, where the compact form leaves it to the message.
+/// Whether the message's Date is the order's second, if the compact form leaves it to the message.
 fn is_dated(order: &Wanted<'_>, message: &Message<'_>) -> bool
     ensures { result ≡ is_dated (wanted_of order.now) message.now }
 {
@@ -148,7 +148,7 @@ fn passport_between(
     }
 }
 
-/// Want of memory, for which alone a PASSporT of a valid order isn't made.
+/// Out of memory, the one fault for which a PASSporT of a valid order isn't made.
 fn out_of_memory(fault: ClaimFault) -> SignFault
     requires { fault ≡ ClaimFault.Memory }
     ensures { result ≡ SignFault.Memory }
@@ -157,7 +157,7 @@ fn out_of_memory(fault: ClaimFault) -> SignFault
     SignFault::Memory
 }
 
-/// Whether the holder, where one is given, may speak for what the PASSporT vouches for.
+/// Whether the holder, if one is given, may speak for what the PASSporT vouches for.
 fn is_allowed(holder: Option<&Holder<'_>>, passport: &Passport) -> bool
     ensures { result ≡ is_allowed (holder_seen holder.entry) passport.now }
 {

@@ -27,8 +27,8 @@ use verify_rules::covers_kind_law;
 /// PASSporT from the calling number to the number of To, in the order's form, signed by the order's key. The order is one that
 /// [`is_valid`](SignOrder::is_valid) takes.
 ///
-/// The faults are tried in the order of [`SignFault`]; the provider is asked at most once, and only where `Form`, `NoNumber` and
-/// `Authority` don't come. `Provider` comes only where its count of faults rose, and `Memory` for want of memory alone.
+/// The faults are tried in the order of [`SignFault`]. The provider is asked at most once, and only if `Form`, `NoNumber` and `Authority` don't come.
+/// `Provider` comes only if its count of faults rose, and `Memory` only if memory ran out.
 #[tactic(auto, using(crate::proofs::OrderLaws::valid_as, crate::proofs::OrderLaws::exact_as, crate::proofs::OrderLaws::signed_as, crate::proofs::OrderLaws::caused_as, crate::proofs::OrderLaws::in_form))]
 pub fn sign<P: Provider>(
     alloc: Global,
@@ -45,7 +45,7 @@ pub fn sign<P: Provider>(
     // What was signed: the message with one more field, which is read as the PASSporT of the message's numbers and the key's signature.
     ensures signed { IfOk result (λ out. IsSigned bytes.now (order_of order.now) (holder_seen holder.entry) (P.signs provider.old) out.items) }
 
-    // It is of the form's type, and compact just where the form is.
+    // It is of the form's type, and compact exactly if the form is.
     ensures form { IsInForm order.now.form (order_of order.now).shape }
 
     // Each of these faults in the words of what shows it.
@@ -54,7 +54,7 @@ pub fn sign<P: Provider>(
     // The provider's failure has its count.
     ensures failed { names_provider result ≡ true → Rose (P.faults provider.old) (P.faults provider.new) }
 
-    // Where one of the first three faults is there, the provider isn't asked, and isn't named.
+    // If one of the first three faults is there, the provider isn't asked, and isn't named.
     ensures unasked { IsWithheld bytes.now (order_of order.now) (holder_seen holder.entry) → P.asks provider.new ≡ P.asks provider.old }
     ensures unnamed { IsWithheld bytes.now (order_of order.now) (holder_seen holder.entry) → names_provider result ≡ false }
 

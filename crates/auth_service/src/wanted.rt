@@ -1,4 +1,4 @@
-//! What is wanted of a message, whichever order it comes of.
+//! What is wanted of a message, whichever order it comes from.
 ghost use Rattle.std.specs.Prelude.{◌≡◌};
 ghost use Rattle.auth_service.specs.Order.{is_order, kind_of, shape_of, wanted_of};
 

@@ -55,7 +55,7 @@ taken_off ended bytes piece rest left left_now mid consumed is split =
     off None = tt
     off (Some xs) = ap (λ b. b ++ xs) split ∙ append_assoc piece rest xs
 
--- some of the bytes of the block, and those behind them
+-- some of the bytes of the block, and those after them
 pub cut_off : (block : List ℕ) (start end count : ℕ) → start + count ≤ end → between block start end ≡ between block start (start + count) ++ between block (start + count) end
 cut_off block start end count room =
     let size : end - start ≡ count + (end - (start + count)) = omega arith in
@@ -93,7 +93,7 @@ piece_size block start count room =
     let rest : length (drop start block) ≡ length block - start = length-drop start block in
     length-take-le ((start + count) - start) (drop start block) (omega (arith, one, rest, room)) ∙ one
 
--- nothing was taken out where nothing is ahead
+-- nothing was taken out if nothing is ahead
 pub none_off : (ahead : AheadState) (ended : Bool) (block : List ℕ) (start end count : ℕ) (left : Option (List ℕ)) → record { bytes = between block start end; ended = ended } ≡ ahead
     → (ahead.bytes ≡ [] → IsAtEnd (available ahead left)) → count ≡ 0 → end ≤ start → IsAtEnd (available (record { bytes = between block (start + count) end; ended = ended }) left)
 none_off ahead ended block start end count left is ends none used =
@@ -101,7 +101,7 @@ none_off ahead ended block start end count left is ends none used =
     let same : start ≡ start + count = omega (arith, none) in
     subst (λ s. IsAtEnd (available (record { bytes = between block s end; ended = ended }) left)) same (subst (λ a. IsAtEnd (available a left)) (sym is) here)
 
--- where nothing is ahead, what is left to take is what the source has left
+-- if nothing is ahead, what is left to take is what the source has left
 pub all_left : (ended : Bool) (block : List ℕ) (left : Option (List ℕ)) → (ended ≡ true → ⊥) → available (record { bytes = between block 0 0; ended = ended }) left ≡ left
 all_left true block left going = absurd (going refl)
 all_left false block None going = refl

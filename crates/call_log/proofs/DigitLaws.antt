@@ -14,7 +14,7 @@ use Rattle.call_log.specs.Number.{AreDigits, NoNumber}
 use Rattle.call_log.specs.declared.digits.Digits.{Digits}
 use Rattle.text_grammar.proofs.DecimalLaws.{IsDigits, digit_numerals}
 
--- ---- digits and what stands behind them
+-- ---- digits and what comes after them
 
 pub decimal_digits : (n : ℕ) → n < 2 ^ 64 → IsDigits (decimal n)
 decimal_digits n h = digits_decimal digit_numerals n h

@@ -64,7 +64,7 @@ not_at passed place left now byte at c room other = record {
 pub first_failed : (passed : Passed) (left now : Option (List ℕ)) → Consumes left now [] → FindsFault passed [] left now Source
 first_failed passed left now c = record { taken = []; consumed = c; known = no_entry passed [] no_head_nil }
 
--- ---- a number of the header, behind what was taken before
+-- ---- a number of the header, after what was taken before
 
 record Piece (most last : ℕ) (front : List ℕ) : Type 0 where
   low : most < 2 ^ 40

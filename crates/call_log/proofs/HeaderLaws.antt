@@ -17,7 +17,7 @@ use Rattle.text_grammar.specs.Moment.{last_second}
 abbrev pub NoHead : List ℕ → Type 0
 NoHead bytes = (moment said : ℕ) (behind : List ℕ) → moment ≤ last_second → said ≤ most_message_length → bytes ≡ headed moment said behind → ⊥
 
--- a header and what is behind it, in one piece
+-- a header and what comes after it, in one piece
 pub headed_append : (moment said : ℕ) (behind more : List ℕ) → headed moment said behind ++ more ≡ headed moment said (behind ++ more)
 unfolding headed
 headed_append moment said behind more =
@@ -58,7 +58,7 @@ no_head_length moment bytes within none = λ moment' said behind m s e.
     let rest = seam (decimal moment) (decimal moment') bytes (decimal said ++ 10 ∷ behind) 32 32 (decimal_digits moment (omega (arith, within))) (decimal_digits moment' (omega (arith, m))) refl refl (sym (append_assoc (decimal moment) (32 ∷ []) bytes) ∙ tail) in
     none said behind s rest.2
 
--- what goes on to a number has no byte behind one
+-- what goes on to a number has no byte after one
 pub no_number : (most last : ℕ) (bytes : List ℕ) → most < 2 ^ 40 → is_ascii_digit last ≡ false → BeginsNumber most bytes → NoNumber most last bytes
 no_number most last bytes low m b = λ number behind within e.
     no_other (decimal b.number) (decimal number) (behind ++ b.more) last (decimal_digits b.number (omega (arith, b.within))) m (sym b.whole ∙ ap (λ x. x ++ b.more) e ∙ append_assoc (decimal number) (last ∷ behind) b.more)

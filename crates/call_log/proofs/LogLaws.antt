@@ -1,4 +1,4 @@
--- Bytes are one log, and a log is made of its first call and the log behind it.
+-- Bytes are one log, and a log is made of its first call and the log after it.
 use Rattle.std.proofs.Common.{◌≡◌, ℕ, ◌+◌, ◌*◌, ◌≤◌, List, [], ◌∷◌, ◌++◌, length, Option, Some, None, IfNone, Result, Ok, Err, refl, sym, ◌∙◌, ap, subst, arith, inl, inr, append-nil, append_assoc}
 use Rattle.std.specs.Io.KnownBytes.{Consumes, IsAtEnd}
 use Rattle.call_log.proofs.HeaderLaws.{headed_append, headed_size, headed_some, one_head}
@@ -27,7 +27,7 @@ same_front (c ∷ a) (d ∷ b) x y l e =
 same_call : (c d : Entry) → c.number ≡ d.number → c.moment ≡ d.moment → c.message ≡ d.message → c ≡ d
 same_call c d number moment message = λ i. record { number = number i; moment = moment i; message = message i }
 
--- the next call and what is behind it are found again
+-- the next call and what comes after it are found again
 one_call : (passed : Passed) (c d : Entry) (x y : List ℕ) → IsNext passed c → IsNext passed d → entry_text c ++ x ≡ entry_text d ++ y → (c ≡ d) × (x ≡ y)
 one_call passed c d x y nc nd e =
     let whole : headed c.moment (length c.message) (c.message ++ x) ≡ headed d.moment (length d.message) (d.message ++ y) = sym (headed_append c.moment (length c.message) c.message x) ∙ e ∙ headed_append d.moment (length d.message) d.message y in
@@ -123,7 +123,7 @@ pub hands_out : (stopped : Option LogFault) (passed : Passed) (left now : Option
 hands_out None passed left now result r = hands_by passed left now result r
 hands_out (Some fault) passed left now result r = tt
 
--- what is found behind nothing is what is read
+-- what is found after nothing is what is read
 pub reads : (passed : Passed) (left now : Option (List ℕ)) (result : Result (Option Entry) LogFault) → Finds passed [] left now result → Reads passed left now result
 reads passed left now (Ok (Some call)) f = record { next = f.next; taken = subst (Consumes left now) f.whole f.consumed }
 reads passed left now (Ok None) f = record { none_taken = f.none_taken; ended = f.ended }
@@ -149,7 +149,7 @@ bounds passed now call found e next same number place =
     let short = size_short passed call found (length (entry_text call)) next same refl in
     (omega (arith, count, next.room), omega (arith, count, numbered, number), omega (arith, count, at, short, place))
 
--- what holds in any case holds where there is no fault
+-- what holds in any case holds if there is no fault
 pub where_none : {P : Type 0} (stopped : Option LogFault) → P → IfNone stopped P
 where_none None p = p
 where_none (Some fault) p = tt

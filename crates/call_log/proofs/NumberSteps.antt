@@ -45,7 +45,7 @@ begun most digits bytes are =
       | inr some ↦ record { number = digits.value; more = []; within = are.within; whole = append-nil bytes ∙ some }
     ]
 
--- the byte behind the number came
+-- the byte after the number came
 pub number_taken : (most last : ℕ) (left mid now : Option (List ℕ)) (digits : Digits) → Took most left mid digits → Consumes mid now (last ∷ []) → digits.count ≢ 0 → TakesNumber most last left now digits
 number_taken most last left mid now digits t c some =
     let text : t.bytes ≡ decimal digits.value = elim t.are.written [ inl none ↦ absurd (some (t.are.size ∙ ap length none.0)) | inr here ↦ here ] in

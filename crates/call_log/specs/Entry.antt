@@ -14,7 +14,7 @@ pub record Entry : Type 0 where
   pub moment : ℕ
   pub message : List ℕ
 
--- the header `@MOMENT LENGTH` with its LF, and what stands behind it
+-- the header `@MOMENT LENGTH` with its LF, and what comes after it
 unfoldable pub headed : ℕ → ℕ → List ℕ → List ℕ
 headed moment said behind = 64 ∷ (decimal moment ++ 32 ∷ (decimal said ++ 10 ∷ behind))
 

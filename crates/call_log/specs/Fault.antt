@@ -1,5 +1,4 @@
--- What is wrong with a log that isn't whole, said of the bytes behind its entries. An entry too many comes first, then one whose
--- moment falls, then any other.
+-- What is wrong with a log that isn't whole, said of the bytes after its entries. An entry too many comes first, then one whose moment falls, then any other.
 use Rattle.std.specs.Prelude.{◌≡◌, ◌≢◌, ℕ, ◌<◌, ◌≤◌, List, [], ◌∷◌, ◌++◌, ⊤, ◌⊎◌, Option}
 use Rattle.std.specs.Io.KnownBytes.{IsAtEnd}
 use Rattle.call_log.specs.Entry.{headed, most_entries, most_message_length}
@@ -18,7 +17,7 @@ pub record BeginsBackward (passed : Passed) (bytes : List ℕ) : Type 0 where
   pub length_within : said ≤ most_message_length
   pub below : moment < passed.moment
 
--- something stands behind the last entry that a log may have
+-- something comes after the last entry that a log may have
 pub record IsMany (passed : Passed) (place : ℕ) (bytes : List ℕ) : Type 0 where
   pub at : place ≡ passed.place
   pub full : passed.count ≡ most_entries
@@ -30,7 +29,7 @@ pub record IsBackward (passed : Passed) (place : ℕ) (bytes : List ℕ) : Type 
   pub room : passed.count < most_entries
   pub backward : BeginsBackward passed bytes
 
--- what stands next is no entry
+-- what comes next is no entry
 pub record IsGrammar (passed : Passed) (place : ℕ) (bytes : List ℕ) : Type 0 where
   pub at : place ≡ passed.place
   pub room : passed.count < most_entries
@@ -55,8 +54,7 @@ pub record ShowsAtEnd (P : List ℕ → Type 0) (bytes : List ℕ) (left_now : O
 abbrev pub Shows : (List ℕ → Type 0) → List ℕ → Option (List ℕ) → Type 0
 Shows P taken left_now = ShowsAtByte P taken ⊎ ShowsAtEnd P taken left_now
 
--- why the bytes taken behind the entries stopped the reader. Where the source failed they hold no further entry; want of
--- memory is free
+-- why the bytes taken after the entries stopped the reader. If the source failed, they hold no further entry; memory may run out at any time
 abbrev pub Knows : Passed → List ℕ → Option (List ℕ) → LogFault → Type 0
 Knows passed taken left_now (Grammar place) = Shows (IsGrammar passed place) taken left_now
 Knows passed taken left_now (Backward place) = Shows (IsBackward passed place) taken left_now

@@ -29,7 +29,7 @@ HandsOut passed bytes left_now (Ok (Some call)) = HandsCall passed bytes left_no
 HandsOut passed bytes left_now (Ok None) = LogText passed bytes [] []
 HandsOut passed bytes left_now (Err fault) = HandsNone passed bytes fault
 
--- the same where it is known what was left
+-- the same if it is known what was left
 abbrev pub HandsOutOf : Passed → Option (List ℕ) → Option (List ℕ) → Result (Option Entry) LogFault → Type 0
 HandsOutOf passed None left_now result = ⊤
 HandsOutOf passed (Some bytes) left_now result = HandsOut passed bytes left_now result

@@ -1,4 +1,4 @@
--- What the reader of a number takes: decimal digits without a leading zero except in `0` itself, and one byte behind them.
+-- What the reader of a number takes: decimal digits without a leading zero except in `0` itself, and one byte after them.
 use Rattle.std.specs.Prelude.{◌≡◌, ◌≢◌, ℕ, ◌≤◌, false, List, [], ◌∷◌, ◌++◌, length, Option, Some, None, Result, Ok, Err, ◌⊎◌}
 use Rattle.std.specs.Char.{is_ascii_digit}
 use Rattle.std.specs.Fmt.{decimal}
@@ -33,7 +33,7 @@ abbrev pub GoesOn : ℕ → Digits → ℕ → Option Digits → Type 0
 GoesOn most digits byte (Some more) = (bytes : List ℕ) → AreDigits most digits bytes → AreDigits most more (bytes ++ byte ∷ [])
 GoesOn most digits byte None = (bytes more : List ℕ) (last : ℕ) → AreDigits most digits bytes → is_ascii_digit last ≡ false → byte ≢ last → NoNumber most last (bytes ++ byte ∷ more)
 
--- the number and the byte behind it were taken
+-- the number and the byte after it were taken
 pub record TakesNumber (most last : ℕ) (left left_now : Option (List ℕ)) (digits : Digits) : Type 0 where
   pub number : IsNumber most digits
   pub taken : Consumes left left_now (decimal digits.value ++ last ∷ [])

@@ -37,7 +37,7 @@ supply_of source ended input = record {
   faults = source.faults input;
 }
 
--- the source has nothing left where it has said so
+-- the source has nothing left if it has said so
 abbrev pub EndsRight : Supply → Type 0
 EndsRight supply = supply.ended ≡ true → IsAtEnd supply.left
 
@@ -57,7 +57,7 @@ PacedBy before now None left_now = ⊤
 PacedBy before now (Some left) None = ⊥
 PacedBy before now (Some left) (Some left_now) = due now.reads now.ended left_now ≤ due before.reads before.ended left
 
--- What a call asks of the source: nothing where the source has said that it has ended, and of one whose reads are whole no more than is due.
+-- What a call asks of the source: nothing if the source has said that it has ended, and of one whose reads are whole no more than is due.
 pub record Draws (before now : Supply) : Type 0 where
   pub silent : before.ended ≡ true → now ≡ before
   pub keeps : EndsRight before → EndsRight now

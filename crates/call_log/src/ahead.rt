@@ -66,7 +66,7 @@ impl Ahead {
         Ok(())
     }
 
-    /// The next byte, of those ahead or else of the source; `None` where the source has ended.
+    /// The next byte, of those ahead or else of the source; `None` if the source has ended.
     pub(crate) fn next_byte<I: Source>(&mut self, source: &mut I) -> Result<Option<u8>, Failed>
         ensures byte { ByteFrom
             (available self.old (I.left source.old)) (available self.new (I.left source.new)) result }
@@ -83,8 +83,7 @@ impl Ahead {
         Ok(Some(byte))
     }
 
-    /// Puts at most so many of the next bytes behind what `bytes` holds, as many as are ahead, and says how many; 0 only where the source has
-    /// ended.
+    /// Puts at most so many of the next bytes after what `bytes` holds, as many as are ahead, and says how many; 0 only if the source has ended.
     pub(crate) fn copy_to<I: Source>(
         &mut self,
         source: &mut I,

@@ -15,14 +15,14 @@ pub(crate) struct Digits {
 }
 
 impl Digits {
-    /// The digits are `0`, behind which no further digit may stand.
+    /// Whether the digits are `0`, after which no further digit may come.
     fn is_zero(self) -> bool
         ensures { result ≡ (self.count == 1 && self.value == 0) }
     {
         self.count == 1 && self.value == 0
     }
 
-    /// These digits and one more; `None` where no number of at most `most` begins so.
+    /// These digits and one more; `None` if no number of at most `most` begins so.
     fn with(self, byte: u8, most: u64) -> Option<Digits>
         requires most { most < 2 ^ 40 }
         requires value { self.value ≤ most }
@@ -46,8 +46,8 @@ impl Digits {
     }
 }
 
-/// Reads a number of at most `most` in decimal digits, without a leading zero except in `0` itself, and the byte
-/// `last` behind it. `None` at the first byte with which no such number goes on, or where the source ends.
+/// Reads a number of at most `most` in decimal digits, without a leading zero except in `0` itself, and the byte `last`
+/// after it. `None` at the first byte with which no such number goes on, or if the source ends.
 #[tactic(auto, using(crate::proofs::NumberSteps::took_none, crate::proofs::NumberSteps::took_more, crate::proofs::NumberSteps::value_within, crate::proofs::NumberSteps::few_digits, crate::proofs::NumberSteps::number_taken, crate::proofs::NumberSteps::no_digit, crate::proofs::NumberSteps::breaks_off, crate::proofs::NumberSteps::number_ended, crate::proofs::NumberSteps::number_failed, crate::proofs::SupplyLaws::draws_none, crate::proofs::SupplyLaws::draws_on))]
 pub(crate) fn next_number<I: Source>(
     ahead: &mut Ahead,

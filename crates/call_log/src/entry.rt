@@ -42,7 +42,7 @@ impl Model for Found {
     ghost invariant = { λ f. f.size ≡ length (entry_text f.call) };
 }
 
-/// Reads the next entry; `None` where the log has ended before it.
+/// Reads the next entry; `None` if the log has ended before it.
 #[tactic(auto, using(crate::proofs::SupplyLaws::draws_on))]
 pub(crate) fn next_entry<I: Source>(
     alloc: Global,
@@ -71,7 +71,7 @@ pub(crate) fn next_entry<I: Source>(
     after_at(alloc, ahead, source, passed)
 }
 
-/// Reads on behind the `@`.
+/// Reads on after the `@`.
 #[tactic(auto, using(crate::proofs::SupplyLaws::draws_on))]
 fn after_at<I: Source>(
     alloc: Global,
@@ -95,7 +95,7 @@ fn after_at<I: Source>(
     after_moment(alloc, ahead, source, passed, moment)
 }
 
-/// Reads on behind the moment and its space.
+/// Reads on after the moment and its space.
 #[tactic(auto, using(crate::proofs::SupplyLaws::draws_on))]
 fn after_moment<I: Source>(
     alloc: Global,
@@ -123,7 +123,7 @@ fn after_moment<I: Source>(
     after_header(alloc, ahead, source, passed, moment, length)
 }
 
-/// Reads on behind the header.
+/// Reads on after the header.
 #[tactic(auto, using(crate::proofs::SupplyLaws::draws_on))]
 fn after_header<I: Source>(
     alloc: Global,

@@ -3,11 +3,11 @@ use stir_outside::{Failed, ReadFault};
 /// Why a log can't be read on. A place is the offset of the first byte of the entry at fault.
 #[derive(Clone, Copy, Debug, PartialEq, Eq)]
 pub enum LogFault {
-    /// What stands there is no entry.
+    /// What comes there is no entry.
     Grammar { place: u64 },
     /// The moment of the entry is below that of the entry before.
     Backward { place: u64 },
-    /// An entry, or anything else, behind the last that a log may have.
+    /// An entry, or anything else, after the last that a log may have.
     Many { place: u64 },
     /// A read of the source failed.
     Source,

@@ -3,12 +3,12 @@ ghost use Rattle.std.specs.Prelude.{◌≡◌, ℕ, ◌+◌, ◌-◌, ◌/◌, �
 ghost use Rattle.call_log.specs.HandsOut.{OneLog};
 ghost use Rattle.call_log.specs.Supply.{DrawsEach, Supply};
 
-/// Bytes are one log: its calls, and what stands behind them, are found in one way.
+/// Bytes are one log: its calls, and what comes after them, are found in one way.
 pub fn one_log()
     ensures { OneLog }
 {}
 
-/// Where the source's reads are whole, those of several calls of one reader rise together by one for each 65,536 bytes that were taken, and two.
+/// If the source's reads are whole, those of several calls of one reader rise together by at most one for each 65,536 bytes that were taken, and two.
 pub fn reads_law()
     ensures few { (before : Supply) (between : List Supply) (now : Supply) (left behind : List ℕ) → DrawsEach before between now → before.whole ≡ true
         → before.left ≡ Some left → now.left ≡ Some behind → now.reads ≤ before.reads + (length left - length behind) / 65536 + 2 }

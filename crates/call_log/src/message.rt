@@ -7,7 +7,7 @@ use crate::ahead::Ahead;
 use std::alloc::Global;
 use stir_outside::{ReadFault, Source};
 
-/// Reads so many bytes; `None` where the source ends before.
+/// Reads so many bytes; `None` if the source ends before.
 #[tactic(auto, using(crate::proofs::MessageSteps::none_taken, crate::proofs::MessageSteps::piece_taken, crate::proofs::MessageSteps::fewer_taken, crate::proofs::MessageSteps::nothing_taken, crate::proofs::MessageSteps::some_taken, crate::proofs::SupplyLaws::draws_none, crate::proofs::SupplyLaws::draws_on))]
 pub(crate) fn next_message<I: Source>(
     alloc: Global,

@@ -5,8 +5,8 @@ ghost use Rattle.call_log.specs.Log.{after};
 use crate::call::Call;
 use std::marker::Model;
 
-/// How far a log was read: the number and the moment of the last entry, how many entries, and the offset of the
-/// byte behind them.
+/// How far a log was read: the number and the moment of the last entry, how many entries, and the offset of the byte
+/// after them.
 #[derive(Clone, Copy)]
 pub(crate) struct Progress {
     pub(crate) number: u32,

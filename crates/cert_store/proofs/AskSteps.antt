@@ -13,7 +13,7 @@ use Rattle.cert_store.specs.Rules.{Says}
 
 -- ---- what is answered
 
--- what the first certificate comes to, where `later` is what those above it give
+-- what the first certificate comes to, if `later` is what those above it give
 abbrev answered : Says → ℕ → CertView → Option (List ℕ) → Option ℕ → Option ℕ
 answered says number c None later = later
 answered says number c (Some key) later = cond (says key c.digest c.signature) later (Some number)
@@ -95,7 +95,7 @@ open_at : (number : ℕ) (first : Option ℕ) → IfSome first (λ first. number
 open_at number None h = tt
 open_at number (Some first) h = h
 
--- where the question of the certificate at an index failed, and all before it were answered Yes
+-- if the question of the certificate at an index failed, and all before it were answered Yes
 pub left_open : (says : Says) (chain : List CertView) (keys : Keys) (index : ℕ)
     → first_refused says (index + 1) (drop index chain) (drop index keys) ≡ first_refused says 1 chain keys → Answers says chain keys (Failed (index + 1))
 left_open says chain keys index left =

@@ -108,7 +108,7 @@ path_is below anchors table says bytes judged j none =
 
 -- ---- of a path
 
--- above a path stands a certificate
+-- above a path is a certificate
 record Top (chain anchors : List CertView) (anchor : Option ℕ) : Type 0 where
   top : CertView
   is : anchor_of chain anchors anchor ≡ Some top
@@ -227,7 +227,7 @@ keys_are below anchors table says bytes judged j anchor path =
           ap (λ x. slice_get x (number - 1)) keys ∙ key_of_number (chain_in bytes) anchors anchor t.top number c issuer t.is some here higher;
     }
 
--- ---- where nothing failed
+-- ---- if nothing failed
 
 told_all : (faults faults_now : ℕ) (truth asked : Asked) → faults_now ≡ faults → faults ≢ last_count → SoFar truth asked → FailedWithCause faults faults_now asked → asked ≡ truth
 told_all faults faults_now truth NotAsked same below s c = sym s

@@ -1,4 +1,4 @@
--- A text is read as a chain map's rows exactly where its lines say these rows, none lists what one before it lists, and they are not
+-- A text is read as a chain map's rows exactly if its lines say these rows, none lists what one before it lists, and they are not
 -- too many.
 use Rattle.std.proofs.Common.{◌≡◌, ℕ, ◌<◌, ◌≤◌, ◌⊎◌, inl, inr, Bool, true, false, nat_le, cond, List, [], length, map, Some, Result, Ok, Err, ◌↔◌, refl, sym, ap, ◌∙◌, subst, arith}
 use Rattle.std.proofs.lemmas.Bool.Decides.{nat_tests}
@@ -9,7 +9,7 @@ use Rattle.text_file.proofs.RowLaws.{rows_found, rows_again}
 
 -- ---- the limit
 
--- so many lines, where there may be at most so many
+-- so many lines, if there may be at most so many
 abbrev limited : ℕ → ℕ → ℕ → Result (List Row) ℕ → Result (List Row) ℕ
 limited count most over (Ok rows) = cond (nat_le count most) (Ok rows) (Err over)
 limited count most over (Err number) = Err number

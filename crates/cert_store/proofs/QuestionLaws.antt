@@ -21,7 +21,7 @@ pub kept_none : (certificate : Option CertView) → kept_question certificate No
 kept_none (Some certificate) = refl
 kept_none None = refl
 
--- behind the keys there is none
+-- after the keys there is none
 pub kept_beyond : (certificates : List CertView) (keys : Keys) (index : ℕ) → length keys ≤ index
     → None ≡ kept_question (slice_get certificates index) (slice_get keys index)
 kept_beyond certificates keys index past =
@@ -84,7 +84,7 @@ unsigned_same says other anchors chain (Ok anchor) agree =
     ∙ sym (by_keys_below says anchors chain (anchor_of chain anchors anchor))
 unsigned_same says other anchors chain (Err fault) agree = refl
 
--- how the signatures were answered for, where nothing is asked unless rules 11, 12 and 14 hold
+-- how the signatures were answered for, if nothing is asked unless rules 11, 12 and 14 hold
 asked_same : (profile shape authority unsigned other : Option ℕ) → (profile ≡ None → shape ≡ None → authority ≡ None → other ≡ unsigned)
     → asked_where profile shape authority other ≡ asked_where profile shape authority unsigned
 asked_same None None None unsigned other same = ap asked_by (same refl refl refl)

@@ -9,7 +9,7 @@ use Rattle.cert_store.specs.Rules.{first_outside, first_unauthorized, key_under,
 use Rattle.cert_store.specs.Asking.{Keys}
 use Rattle.std.proofs.lemmas.Option.{same_Some}
 
--- the certificate at an index lies within its issuer, so those behind it give what it and they give
+-- the certificate at an index lies within its issuer, so those after it give what it and they give
 pub passes_on : (table : Table) (chain : List CertView) (top c issuer : CertView) (index : ℕ) (answer : Bool) (all : Option ℕ)
     → first_outside table (links_from (index + 1) (drop index chain) top) ≡ all → index < length chain → c ≡ get_or chain index c
     → issuer ≡ first_or (drop (suc index) chain) top → answer ≡ is_within c.list issuer.list table → answer ≡ true
@@ -31,7 +31,7 @@ list_by : (table : Table) (c leaf : CertView) (above : List CertView) (top : Cer
 list_by table c leaf above top true t none same = subst (λ (x : CertView). IsSome x.list) same t
 list_by table c leaf above top false t none same = absurd (cc)
 
--- where no certificate lacks authority, the leaf has a list
+-- if no certificate lacks authority, the leaf has a list
 pub leaf_listed : (table : Table) (chain : List CertView) (top leaf : CertView) → first_unauthorized table (links_from 1 chain top) ≡ None
     → slice_get chain 0 ≡ Some leaf → IsSome leaf.list
 leaf_listed table [] top leaf none is = absurd (cc)

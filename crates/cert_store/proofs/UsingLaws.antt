@@ -17,7 +17,7 @@ or_step : (b c d : Bool) → (c ≡ true → d ≡ true) → (b || c) ≡ true �
 or_step true c d law is = refl
 or_step false c d law is = law is
 
--- ---- a chain in front of others
+-- ---- a chain before others
 
 -- it is the one that was used last
 here_by : (used : List (List ℕ)) (x y : List ℕ) (j : JudgedView) (rest : Chains) → bytes_eq x y ≡ true → IsHeldSince used x ((y, j) ∷ rest)
@@ -36,7 +36,7 @@ among_more used y xs first others z is = by (bytes_eq z y) refl is
     by true same given = ap (λ t. has t used) (same_text z y same) ∙ first
     by false same given = others z (sym (ap (λ b. b || has z xs) same) ∙ given)
 
--- another is in front of it
+-- another is before it
 behind : (used : List (List ℕ)) (x y : List ℕ) (j : JudgedView) (rest : Chains) → bytes_eq x y ≡ false → has y used ≡ true → IsHeldSince used x rest → IsHeldSince used x ((y, j) ∷ rest)
 behind used x y j rest other first so = record {
   held = ap (λ b. is_some (cond b (Some j) (chain_of x rest))) other ∙ so.held;

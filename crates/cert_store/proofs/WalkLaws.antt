@@ -9,7 +9,7 @@ use Rattle.cert_store.specs.Words.{IsFirstBroken}
 abbrev pub Test : Type 0
 Test = CertView → List CertView → Bool
 
--- the number of the first that fails the test, where the first of all has this number
+-- the number of the first that fails the test, if the first of all has this number
 abbrev pub walk : Test → ℕ → List CertView → Option ℕ
 walk passes number [] = None
 walk passes number (c ∷ above) = cond (passes c above) (walk passes (suc number) above) (Some number)

@@ -13,7 +13,7 @@ Keys = List (Option (List ℕ))
 
 -- ---- what is answered
 
--- the number of the first certificate whose signature isn't good under its key, where the first of all has this number
+-- the number of the first certificate whose signature isn't good under its key, if the first of all has this number
 abbrev pub first_refused : Says → ℕ → List CertView → Keys → Option ℕ
 first_refused says number [] keys = None
 first_refused says number (c ∷ above) [] = None
@@ -21,7 +21,7 @@ first_refused says number (c ∷ above) (None ∷ keys) = first_refused says (su
 first_refused says number (c ∷ above) (Some key ∷ keys) =
     if says key c.digest c.signature then first_refused says (suc number) above keys else Some number
 
--- the answer where no question fails, by the first certificate whose signature isn't good
+-- the answer if no question fails, by the first certificate whose signature isn't good
 abbrev pub asked_by : Option ℕ → Asked
 asked_by None = Yes
 asked_by (Some part) = No part
@@ -65,7 +65,7 @@ questions keys Yes = count_by is_some keys
 questions keys (No part) = count_by is_some (take part keys)
 questions keys (Failed part) = count_by is_some (take part keys)
 
--- a count rose by exactly so many, or stands at its last value
+-- a count rose by exactly so many, or is at its last value
 pub record RoseBy (times before now : ℕ) : Type 0 where
   pub never_falls : before ≤ now
   pub most : now ≤ before + times
@@ -78,7 +78,7 @@ is_failed Yes = false
 is_failed (No part) = false
 is_failed (Failed part) = true
 
--- a question failed only where the provider's count of faults rose
+-- a question failed only if the provider's count of faults rose
 abbrev pub FailedWithCause : ℕ → ℕ → Asked → Type 0
 FailedWithCause faults faults_now NotAsked = faults ≤ faults_now
 FailedWithCause faults faults_now Yes = faults ≤ faults_now

@@ -102,7 +102,7 @@ pub record HasMore (text : List ℕ) : Type 0 where
   pub read : first_rows text ≡ Ok rows
   pub more : 50000 < length (file_lines text)
 
--- the first line of the text that is bad has this number: one that is refused among the first 50,000, or the one behind them
+-- the first line of the text that is bad has this number: one that is refused among the first 50,000, or the one after them
 abbrev pub FirstBad : List ℕ → ℕ → Type 0
 FirstBad text number = Refuses add_row (first_lines text) [] number ⊎ ((number ≡ 50001) × HasMore text)
 
@@ -118,7 +118,7 @@ pub record MapOf (text : List ℕ) (held : Files) : Type 0 where
   pub read : map_rows text ≡ Ok rows
   pub files : (x5u : List ℕ) → listed held x5u ≡ file_in rows x5u
 
--- the line of a fault other than want of memory
+-- the line of a fault other than `Memory`
 abbrev pub line_of : MapFault → Option ℕ
 line_of (Line number) = Some number
 line_of Memory = None

@@ -51,14 +51,14 @@ demanded None = None
 abbrev pub constraints_at : JudgedView → ℕ → Option ConstraintsView
 constraints_at judged i = demanded (slice_get judged.certificates (i - 1))
 
--- signatures are asked for where rules 11, 12 and 14 hold
+-- signatures are asked for if rules 11, 12 and 14 hold
 abbrev pub asked_where : Option ℕ → Option ℕ → Option ℕ → Option ℕ → Asked
 asked_where None None None unsigned = asked_by unsigned
 asked_where None None (Some part) unsigned = NotAsked
 asked_where None (Some part) authority unsigned = NotAsked
 asked_where (Some part) shape authority unsigned = NotAsked
 
--- What the rules say of the chain, where every question is answered.
+-- What the rules say of the chain, if every question is answered.
 unfoldable pub judged_of : List CertView → Table → Says → List ℕ → JudgedView
 judged_of anchors table says bytes = record {
   profile = rule_11 bytes;
@@ -100,7 +100,7 @@ judged_chain anchors table says chain = judged_shape anchors table says chain (s
 
 -- ---- what the code gives
 
--- The chain is judged as this says, save that the provider may have failed at a question, whenever that was.
+-- The chain is judged as this says, except that the provider may have failed at a question, whenever that was.
 pub record JudgedAs (truth judged : JudgedView) : Type 0 where
   pub same : judged ≡ record truth { asked = judged.asked }
   -- the answer is the one that would be given; or a question failed, and nothing was answered otherwise before
@@ -108,7 +108,7 @@ pub record JudgedAs (truth judged : JudgedView) : Type 0 where
   -- what failed is the question of a certificate that isn't an anchor
   pub question : FailedAt judged.keys judged.asked
 
--- it is judged so, and a question failed only where the provider's count of faults rose in this call
+-- it is judged so, and a question failed only if the provider's count of faults rose in this call
 pub record IsJudged (truth : JudgedView) (faults faults_now : ℕ) (judged : JudgedView) : Type 0 where
   pub right : JudgedAs truth judged
   pub cause : FailedWithCause faults faults_now judged.asked
@@ -118,23 +118,23 @@ pub record AllAnswered (truth judged : JudgedView) : Type 0 where
   pub whole : judged ≡ truth
   pub unfailed : (part : ℕ) → judged.asked ≢ Failed part
 
--- A provider whose count of faults stays as it was, below its last value, answered every question: as one that never fails does, whose
+-- A provider whose count of faults stays as it was, below its last value, answered every question. So does one that never fails, whose
 -- count is always 0.
 abbrev pub QuietIs : JudgedView → ℕ → ℕ → JudgedView → Type 0
 QuietIs truth faults faults_now judged = faults_now ≡ faults → faults ≢ last_count → AllAnswered truth judged
 
--- As many questions were asked as certificates stand up to the one at which asking stopped that aren't themselves anchors.
+-- As many questions were asked as there are certificates, up to the one at which asking stopped, that aren't themselves anchors.
 pub record HasAsked (asks asks_now : ℕ) (judged : JudgedView) : Type 0 where
   pub exact : RoseBy (questions judged.keys judged.asked) asks asks_now
   pub most : asks_now ≤ asks + length judged.certificates
   pub none : judged.asked ≡ NotAsked → asks_now ≡ asks
 
--- nothing was asked where memory was wanting
+-- nothing was asked if memory ran out
 abbrev pub Asks : {E : Type 0} → ℕ → ℕ → Result JudgedView E → Type 0
 Asks asks asks_now (Ok judged) = HasAsked asks asks_now judged
 Asks asks asks_now (Err fault) = asks_now ≡ asks
 
--- the provider's count of faults didn't fall, and stands still where memory was wanting
+-- the provider's count of faults didn't fall, and stayed as it was if memory ran out
 abbrev pub HasCount : {E : Type 0} → ℕ → ℕ → Result JudgedView E → Type 0
 HasCount faults faults_now (Ok judged) = faults ≤ faults_now
 HasCount faults faults_now (Err fault) = faults_now ≡ faults
@@ -151,8 +151,8 @@ pub record HasAuthority (judged : JudgedView) : Type 0 where
   pub path : IsPath judged
   pub authority : judged.authority ≡ None
 
--- There are at most six certificates, and none where rule 11 is broken. A path has a leaf, and for each certificate the key of its issuer
--- or none; what is no path has no keys. With authority, the leaf has an authority list. Signatures were asked for only with authority.
+-- There are at most six certificates, and none if rule 11 is broken. A path has a leaf, and for each certificate the key of its issuer or
+-- none; what is no path has no keys. With authority, the leaf has an authority list. Signatures were asked for only with authority.
 pub record IsConsistent (judged : JudgedView) : Type 0 where
   pub few : length judged.certificates ≤ 6
   pub outside : judged.profile ≢ None → judged.certificates ≡ []

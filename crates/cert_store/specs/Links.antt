@@ -14,7 +14,7 @@ pub record Link : Type 0 where
 abbrev pub link : ℕ → CertView → CertView → Link
 link number certificate issuer = record { number = number; certificate = certificate; issuer = issuer }
 
--- the first of the certificates, or `top` where there is none
+-- the first of the certificates, or `top` if there is none
 abbrev pub first_or : List CertView → CertView → CertView
 first_or [] top = top
 first_or (above ∷ others) top = above
@@ -31,17 +31,18 @@ abbrev pub by_number : Result (List CertView) RefusedCertificate → Result (Lis
 by_number (Ok chain) = Ok chain
 by_number (Err refused) = Err refused.number
 
--- A chain file has at most 49,152 bytes, which is six certificates of 8,192 (this project's own rule): the certificates that the bytes
--- are, or 0 where there are more bytes, else the number of the first certificate that is refused or is a seventh one.
+-- A chain file has at most 49,152 bytes, which is six certificates of 8,192 (this project's own rule). What is read are the
+-- certificates that the bytes are; or 0 if there are more bytes, else the number of the first certificate that is refused or is a
+-- seventh one.
 unfoldable pub read_file : List ℕ → Result (List CertView) ℕ
 read_file bytes = if nat_le (length bytes) 49152 then by_number (certificates_in bytes) else Err 0
 
--- what is read, and nothing where a certificate is refused
+-- what is read, and nothing if a certificate is refused
 abbrev pub read_or_nothing : Result (List CertView) ℕ → List CertView
 read_or_nothing (Ok chain) = chain
 read_or_nothing (Err place) = []
 
--- the certificates that the bytes are, and none where they aren't a chain
+-- the certificates that the bytes are, and none if they aren't a chain
 abbrev pub chain_in : List ℕ → List CertView
 chain_in bytes = read_or_nothing (read_file bytes)
 
@@ -61,6 +62,6 @@ abbrev pub links_up_to : List CertView → List CertView → Result (Option ℕ)
 links_up_to chain anchors (Ok anchor) = links_below chain (anchor_of chain anchors anchor)
 links_up_to chain anchors (Err fault) = []
 
--- the same with their issuers; above the last stands the path's anchor, or that certificate itself where it is one
+-- the same with their issuers; above the last is the path's anchor, or that certificate itself if it is one
 abbrev pub links_of : List CertView → List CertView → List Link
 links_of anchors chain = links_up_to chain anchors (shape_of chain anchors)

@@ -44,7 +44,7 @@ questions_of judged = questions_from judged.certificates judged.keys
 abbrev pub question_unless : Bool → CertView → CertView → Option QuestionView
 question_unless listed certificate issuer = if listed then None else Some (question_under certificate issuer)
 
--- Where rule 12 is broken there is none. Of a path there is the one that rule 15 asks for each certificate that isn't itself an anchor.
+-- If rule 12 is broken there is none. Of a path there is the one that rule 15 asks for each certificate that isn't itself an anchor.
 pub record QuestionsAre (anchors : List CertView) (judged : JudgedView) : Type 0 where
   pub none : judged.shape ≢ None → (number : ℕ) → question_at judged number ≡ None
   pub path : (anchor : Option ℕ) (number : ℕ) (c issuer : CertView) → Path judged.certificates anchors anchor → 1 ≤ number

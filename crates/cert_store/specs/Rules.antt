@@ -103,7 +103,7 @@ first_unsigned says anchors (link ∷ links) =
 abbrev pub rule_15 : List CertView → Says → List ℕ → Option ℕ
 rule_15 anchors says bytes = first_unsigned says anchors (links_of anchors (chain_in bytes))
 
--- the key under which the signature of a certificate is asked for, that of its issuer; none where it is itself an anchor
+-- the key under which the signature of a certificate is asked for, that of its issuer; none if it is itself an anchor
 abbrev pub key_under : List CertView → CertView → CertView → Option (List ℕ)
 key_under anchors certificate issuer = if is_listed certificate anchors then None else Some issuer.key
 

@@ -94,7 +94,7 @@ pub record HasKeys (anchors : List CertView) (anchor : Option ℕ) (judged : Jud
 abbrev pub KeysAre : List CertView → JudgedView → Type 0
 KeysAre anchors judged = (anchor : Option ℕ) → Path judged.certificates anchors anchor → HasKeys anchors anchor judged
 
--- no signature was asked for exactly where rule 11, 12 or 14 is broken
+-- no signature was asked for exactly if rule 11, 12 or 14 is broken
 abbrev pub UnaskedIs : JudgedView → Type 0
 UnaskedIs judged = (judged.asked ≡ NotAsked) ↔ ((judged.profile ≡ None) × (judged.shape ≡ None) × (judged.authority ≡ None) → ⊥)
 

@@ -12,7 +12,7 @@ use std::alloc::Global;
 use tn_auth_list::CodeTable;
 use x509_profile::Certificate;
 
-/// The first certificate of a path whose authority doesn't lie within its issuer's, or the leaf where it has no list.
+/// The first certificate of a path whose authority doesn't lie within its issuer's, or the leaf if it has no list.
 pub(crate) fn first_unauthorized(
     alloc: Global,
     chain: &[Certificate],
@@ -63,7 +63,7 @@ fn lies_within(
     within(alloc, &own, &above, table)
 }
 
-/// The authority that a certificate gives: that of its list, or all where it has none.
+/// The authority that a certificate gives: that of its list, or all if it has none.
 fn authority_of(certificate: &Certificate) -> Authority<'_>
     ensures { entries_of result ≡ certificate.now.list }
 {

@@ -75,7 +75,7 @@ impl Cache {
         }
     }
 
-    /// What holds of every cache, for callers: the provider answered every question of the chains, each x5u has one, and there are no more of
+    /// What holds of every cache, for callers. The provider answered every question of the chains, each x5u has one, and there are no more of
     /// them than there may be. It does nothing when it runs.
     pub fn answered(&self)
         ensures answered { AreAnswered self.now.entries }

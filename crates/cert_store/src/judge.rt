@@ -21,11 +21,11 @@ use x509_profile::{CertChainFault, Certificate, MOST_CHAIN_BYTES, read_chain};
 /// What the rules on a chain say of these bytes, which are to be certificates one after another, the leaf's first.
 ///
 /// Rule 11: they are at most 49,152, and at most six certificates of the profile. Rule 12: they are a path up to an anchor (RFC
-/// 5280 section 6.1). Rule 14: the leaf has an authority list, and the authority of each lies within its issuer's (RFC 9060).
-/// Where these hold, the provider is asked for the signatures, once each, from the leaf's on up to the first that it doesn't
-/// confirm, save those of certificates that are themselves anchors, byte for byte (rule 15). Rule 13, on dates, is asked of the
-/// answer. `Memory` comes where there is none for the certificates, for what is kept of them or for comparing their authorities,
-/// and then no signature was asked for.
+/// 5280 section 6.1). Rule 14: the leaf has an authority list, and the authority of each lies within its issuer's (RFC 9060). If
+/// these hold, the provider is asked for the signatures, once each, from the leaf's on up to the first that it doesn't confirm
+/// (rule 15). It isn't asked for those of certificates that are themselves anchors, byte for byte. Rule 13, on dates, is asked
+/// of the answer. `Memory` comes if memory runs out for the certificates, for what is kept of them or for comparing their
+/// authorities. Then no signature was asked for.
 pub fn judge_chain<P: Provider>(
     alloc: Global,
     bytes: &[u8],
@@ -33,7 +33,7 @@ pub fn judge_chain<P: Provider>(
     table: &CodeTable,
     provider: &mut P,
 ) -> Result<Judged, Memory>
-    // What the rules say, as far as the provider answered. A question failed only where its count of faults rose.
+    // What the rules say, as far as the provider answered. A question failed only if its count of faults rose.
     ensures exact { IfOk result (IsJudged (judged_of anchors.now table.now (P.says provider.old) bytes.now) (P.faults provider.old) (P.faults provider.new)) }
 
     // The same in the rules' own words.
@@ -43,10 +43,10 @@ pub fn judge_chain<P: Provider>(
     ensures authority { IfOk result (AuthorityIs anchors.now table.now) }
     ensures signatures { IfOk result (SignaturesAre anchors.now (P.says provider.old)) }
 
-    // Where no fault was counted, the answer is all that the rules say.
+    // If no fault was counted, the answer is all that the rules say.
     ensures quiet { IfOk result (QuietIs (judged_of anchors.now table.now (P.says provider.old) bytes.now) (P.faults provider.old) (P.faults provider.new)) }
 
-    // Where signatures were asked for, of which certificates, how often, and what that changed of the provider.
+    // When signatures were asked for, of which certificates, how often, and what that changed of the provider.
     ensures unasked { IfOk result UnaskedIs }
     ensures keys { IfOk result (KeysAre anchors.now) }
     ensures questions { IfOk result (QuestionsAre anchors.now) }

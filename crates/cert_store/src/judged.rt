@@ -30,8 +30,8 @@ pub enum Asked {
     },
 }
 
-/// A question for the signature of a certificate of a chain: whether it is one over the digest of what was signed, under the key of the
-/// certificate's issuer (RFC 5280, section 6.1.3 (a)(1)).
+/// A question for the signature of a certificate of a chain. It asks whether it is one over the digest of what was signed, under the
+/// key of the certificate's issuer (RFC 5280, section 6.1.3 (a)(1)).
 #[derive(Clone, Copy)]
 pub struct Question<'a> {
     /// The point of the issuer's key: the byte 04, and 32 bytes each of x and y (RFC 5480, section 2.2).
@@ -61,8 +61,8 @@ impl Period {
     }
 }
 
-/// A chain as the rules on it judge it: rules 11 to 15, save for the moment of a call, at which rule 13 is asked by
-/// [`Judged::out_of_date`].
+/// A chain as the rules on it judge it: rules 11 to 15, except for the moment of a call. Rule 13 is asked at that
+/// moment, by [`Judged::out_of_date`].
 ///
 /// Certificates count from 1, the leaf's. A contract sees the certificates, the seconds at which those are valid that aren't
 /// trust anchors, the keys of their issuers, and what the rules gave.
@@ -88,8 +88,8 @@ impl Model for Judged {
 }
 
 impl Judged {
-    /// Where rule 11 is broken: 0 where the bytes are more than 49,152, else the first certificate that isn't one of the profile,
-    /// or the seventh. None where the bytes are at most six certificates of the profile.
+    /// Where rule 11 is broken: 0 if the bytes are more than 49,152, else the first certificate that isn't one of the profile, or
+    /// the seventh. None if the bytes are at most six certificates of the profile.
     pub fn profile(&self) -> Option<u8>
         ensures { result ≡ self.now.profile }
     {
@@ -97,22 +97,22 @@ impl Judged {
     }
 
     /// Where rule 12 is broken: the place at which the certificates are no path up to a trust anchor (RFC 5280, section 6.1), 0
-    /// where there is none. None where they are one, or rule 11 is broken.
+    /// if there are no certificates. None if they are one, or rule 11 is broken.
     pub fn shape(&self) -> Option<u8>
         ensures { result ≡ self.now.shape }
     {
         self.shape
     }
 
-    /// Where rule 14 is broken: the first certificate whose authority doesn't lie within its issuer's (RFC 9060), or the leaf's
-    /// where it has no authority list. None where there is none, or rule 11 or 12 is broken.
+    /// Where rule 14 is broken: the first certificate whose authority doesn't lie within its issuer's (RFC 9060), or the leaf
+    /// if it has no authority list. None if there is none, or rule 11 or 12 is broken.
     pub fn authority(&self) -> Option<u8>
         ensures { result ≡ self.now.authority }
     {
         self.authority
     }
 
-    /// How the signatures were answered for, which is what rule 15 asks: something else than `NotAsked` only where rules 11, 12
+    /// How the signatures were answered for, which is what rule 15 asks: something else than `NotAsked` only if rules 11, 12
     /// and 14 hold.
     pub fn asked(&self) -> Asked
         ensures exact { result ≡ self.now.asked }
@@ -122,14 +122,14 @@ impl Judged {
     }
 
     /// Where rule 13 is broken at this moment, in Unix seconds: the first certificate that isn't a trust anchor and isn't valid
-    /// then (RFC 5280, section 6.1.3). None where there is none, or rule 11 or 12 is broken.
+    /// then (RFC 5280, section 6.1.3). None if there is none, or rule 11 or 12 is broken.
     pub fn out_of_date(&self, moment: u64) -> Option<u8>
         ensures { result ≡ out_of_date self.now moment }
     {
         first_out(&self.periods, moment)
     }
 
-    /// The leaf. None exactly where rule 11 is broken or there are no certificates; where rules 11, 12 and 14 hold, it has an
+    /// The leaf. None exactly if rule 11 is broken or there are no certificates. If rules 11, 12 and 14 hold, it has an
     /// authority list.
     pub fn leaf(&self) -> Option<&Certificate>
         ensures exact { option_copied result ≡ slice_get self.now.certificates 0 }
@@ -138,7 +138,7 @@ impl Judged {
         self.certificates.first()
     }
 
-    /// How many certificates there are, at most six; 0 where rule 11 is broken.
+    /// How many certificates there are, at most six; 0 if rule 11 is broken.
     pub fn length(&self) -> u8
         ensures exact { result ≡ length self.now.certificates }
         ensures outside { self.now.profile ≢ None → result ≡ 0 }
@@ -157,8 +157,8 @@ impl Judged {
         self.certificates[usize::from(i - 1)].constraints()
     }
 
-    /// The question that rule 15 asks for the signature of certificate `i`. None exactly where rule 12 is broken or the certificate is
-    /// itself a trust anchor, byte for byte, which [`crate::judge_chain`] says of the chains that it judges.
+    /// The question that rule 15 asks for the signature of certificate `i`. None exactly if rule 12 is broken or the certificate is
+    /// itself a trust anchor, byte for byte. [`crate::judge_chain`] says this of the chains that it judges.
     pub fn question(&self, i: u8) -> Option<Question<'_>>
         requires some { 1 ≤ i }
         requires within { i ≤ length self.now.certificates }

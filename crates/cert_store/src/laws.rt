@@ -27,8 +27,8 @@ pub(crate) fn below_law()
     within_law();
 }
 
-/// What the rules on a chain say of bytes, where every question for a signature is answered: each in its own words; and a chain has no
-/// more bytes than a chain file may have.
+/// What the rules on a chain say of bytes if every question for a signature is answered, each in its own words. A chain has no more
+/// bytes than a chain file may have.
 pub fn judged_law()
     ensures answered { (anchors : List CertView) (table : Table) (says : Says) (bytes : List ℕ) (part : ℕ) → (judged_of anchors table says bytes).asked ≢ Failed part }
     ensures words { (anchors : List CertView) (table : Table) (says : Says) (bytes : List ℕ) → AllBytes bytes → InWords anchors table says bytes (judged_of anchors table says bytes) }
@@ -37,9 +37,9 @@ pub fn judged_law()
     below_law();
 }
 
-/// What the rules say of a chain's bytes depends on a provider by its answers to the chain's questions alone, and on no answer where rule
-/// 11, 12 or 14 is broken; the questions depend on no provider. By two providers what is said differs in how the signatures were answered for
-/// alone, and where no key is kept there is no question.
+/// What the rules say of a chain's bytes depends on a provider by its answers to the chain's questions alone, and on no answer if rule 11, 12
+/// or 14 is broken. The questions depend on no provider. By two providers, what is said differs only in how the signatures were answered for.
+/// If no key is kept, there is no question.
 pub fn questions_law()
     ensures same { (anchors : List CertView) (table : Table) (says other : Says) (bytes : List ℕ)
         → questions_of (judged_of anchors table other bytes) ≡ questions_of (judged_of anchors table says bytes) }

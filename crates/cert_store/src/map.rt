@@ -67,7 +67,7 @@ impl Model for ChainMap {
 impl ChainMap {
     /// Reads a chain map.
     ///
-    /// Each line is `X5U FILE`, two words parted by exactly one space; empty lines and lines that begin with `;` are passed
+    /// Each line is `X5U FILE`, two words parted by exactly one space. Empty lines and lines that begin with `;` are passed
     /// over and counted. The x5u is 1 or more bytes of visible ASCII without `"`, `<`, `>` and backslash, and the file's
     /// name 1 to 255 bytes of visible ASCII (this project's own rule). Of two lines with one x5u the second is bad, and so
     /// is a 50,001st line, whatever it says. The fault names the first bad line.
@@ -82,7 +82,7 @@ impl ChainMap {
         ChainMap::read_whole(alloc, text)
     }
 
-    /// The name of the file that the map lists for the x5u; None exactly where it doesn't list it.
+    /// The name of the file that the map lists for the x5u; None exactly if it doesn't list it.
     pub fn file(&self, x5u: &[u8]) -> Option<&str>
         ensures exact { option_copied result ≡ listed self.now x5u.now }
         ensures rows { (text : List ℕ) (map : MapOf text self.now) → option_copied result ≡ file_in map.rows x5u.now }
@@ -115,7 +115,7 @@ impl ChainMap {
         Ok(map)
     }
 
-    /// Reads the lines that a map may have; what stands behind them isn't tried.
+    /// Reads the lines that a map may have; what comes after them isn't tried.
     fn read_first(alloc: Global, text: &[u8]) -> Result<ChainMap, MapFault>
         requires { length text.now < 4294967295 }
         ensures { MatchResult result (FirstRead text.now) (FirstFault text.now) }
@@ -142,7 +142,7 @@ impl ChainMap {
         }
     }
 
-    /// Adds what a line says; false where the line is bad.
+    /// Adds what a line says; false if the line is bad.
     fn add_line(&mut self, alloc: Global, line: &[u8]) -> Result<bool, AllocError>
         ensures { IfOk result (AddsLine self.old self.new line.now) }
     {
@@ -152,7 +152,7 @@ impl ChainMap {
         }
     }
 
-    /// Adds an entry; false where its x5u is listed already.
+    /// Adds an entry; false if its x5u is listed already.
     fn add(&mut self, alloc: Global, row: Entry<'_>) -> Result<bool, AllocError>
         ensures { IfOk result (Adds self.old self.new (entry_row row.entry)) }
     {

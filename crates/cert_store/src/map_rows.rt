@@ -20,7 +20,7 @@ pub(crate) struct Entry<'a> {
     pub(crate) file: &'a str,
 }
 
-/// What a line says: `X5U FILE`. None where it says something else.
+/// What a line says: `X5U FILE`. None if it says something else.
 #[tactic(auto, unfolding(crate::specs::ChainMap::row_of))]
 pub(crate) fn row_of(line: &[u8]) -> Option<Entry<'_>>
     ensures { option_map entry_row result ≡ row_of line.now }
@@ -31,7 +31,7 @@ pub(crate) fn row_of(line: &[u8]) -> Option<Entry<'_>>
     }
 }
 
-/// What two words say, where they are an x5u and a file's name.
+/// What two words say, if they are an x5u and a file's name.
 fn row_of_two<'a>(x5u: &'a [u8], file: &'a [u8]) -> Option<Entry<'a>>
     ensures { option_map entry_row result ≡ row_of_two x5u.now file.now }
 {

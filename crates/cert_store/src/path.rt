@@ -13,7 +13,7 @@ use x509_profile::Certificate;
 /// The point of a key on P-256: the byte 04, and 32 bytes each of x and y (RFC 5480, section 2.2).
 pub(crate) type Key = [u8; 65];
 
-/// The issuer of the last certificate of a path: its anchor, or the certificate itself where it is one.
+/// The issuer of the last certificate of a path: its anchor, or the certificate itself if it is one.
 #[tactic(auto, using(crate::proofs::PathFacts::some_certificate, crate::proofs::PathFacts::is_an_anchor))]
 pub(crate) fn issuer_of_last<'a>(
     chain: &'a [Certificate],
@@ -29,7 +29,7 @@ pub(crate) fn issuer_of_last<'a>(
     }
 }
 
-/// The issuer of the certificate at an index: the next one, or `top` where it is the last.
+/// The issuer of the certificate at an index: the next one, or `top` if it is the last.
 pub(crate) fn issuer_at<'a>(
     chain: &'a [Certificate],
     index: usize,
@@ -63,7 +63,7 @@ pub(crate) fn issuer_keys(
     Ok(keys)
 }
 
-/// The key under which a certificate's signature is asked for: its issuer's, and none where it is itself a trust anchor.
+/// The key under which a certificate's signature is asked for: its issuer's, and none if it is itself a trust anchor.
 fn issuer_key(certificate: &Certificate, issuer: &Certificate, anchors: &Anchors) -> Option<Key>
     ensures { result ≡ key_under anchors.now certificate.now issuer.now }
 {

@@ -35,7 +35,7 @@ low_form Value = λ e. omega (arith, e)
 tag_test : (tag : ℕ) (item : ItemView) → (item.tag == tag ≡ true) ↔ IsTagged tag item
 tag_test tag item = (λ e. grind (arith, nat_tests, e), λ e. grind (arith, nat_tests, e))
 
--- both tests, and what is read behind them
+-- both tests, and what is read after them
 text_steps : {A : Type 0} (form : Form) (before : List (List ℕ)) (item : ItemView) (next : List (List ℕ) → Result A Fault)
     → text_with form before item >>= next
     ≡ cond (item.tag == tag_of form) (cond (passes form item.content.left) (next (before ++ item.content.left ∷ [])) (Err (at_kind (kind_of form) item.place)))
@@ -57,7 +57,7 @@ text_steps {A = A} form before item next = by_tag (item.tag == tag_of form)
     by_tag true = by_form (passes form item.content.left)
     by_tag false = refl
 
--- a text, and what is read behind it
+-- a text, and what is read after it
 pub text_then : {A : Type 0} (form : Form) (before : List (List ℕ)) (item : ItemView) (next : List (List ℕ) → Result A Fault) (Good : A → Type 0)
     (After : ItemView → Fault → Type 0)
     → (passes form item.content.left ≡ true → item.tag ≡ tag_of form → Reads (next (before ++ item.content.left ∷ [])) Good (After item))

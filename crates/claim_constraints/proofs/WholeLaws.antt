@@ -1,4 +1,4 @@
--- Constraints are what is read of them, are read as they are, and are refused just where something is wrong.
+-- Constraints are what is read of them, are read as they are, and are refused exactly if something is wrong.
 use Rattle.std.proofs.Common.{◌≡◌, ◌≢◌, ◌↔◌, ◌⊎◌, inl, inr, ℕ, ◌<◌, ◌≤◌, nat_le, Bool, true, false, cond, List, [], ◌∷◌, ◌++◌, length, bit_and, Result, Ok, Err, IfOk, refl, sym, ap, subst, ◌∙◌, append-nil, length-append, arith}
 use Rattle.std.proofs.lemmas.Bool.Decides.{nat_tests}
 use Rattle.std.specs.List.{list_all}
@@ -34,12 +34,12 @@ begins_by tag (first ∷ rest) e = let is : first ≡ tag = grind (arith, nat_te
 begins_not : (tag : ℕ) (bytes : List ℕ) → begins tag bytes ≡ false → BeginsBy tag bytes → ⊥
 begins_not tag bytes e (rest, is) = let k : begins tag bytes ≡ true = ap (begins tag) is ∙ same_byte tag in let m = sym e ∙ k in cc
 
--- what is read of the part's element, and what stands behind it
+-- what is read of the part's element, and what comes after it
 abbrev in_part : {X : Type 0} → (List X → ItemView → Result (List X) Fault) → ItemView → Result (List X × PartView) Fault
 in_part step marked =
     element_at sequence_tag marked.content >>= λ sequence. some_in step [] sequence >>= λ xs. end_at sequence.behind (xs, marked.behind)
 
--- the part and what is read behind it
+-- the part and what is read after it
 pub part_reads : {A X : Type 0} (tag : ℕ) (step : List X → ItemView → Result (List X) Fault) (Text : List ℕ → X → Type 0) (Wrong : ItemView → Fault → Type 0)
     → TakesOne step Text Wrong → (part : PartView) (next : List X × PartView → Result A Fault) (Good : A → Type 0) (Next : PartView → Fault → Type 0) → AllBytes part.left
     → Reads (next ([], part)) Good (Next part)
@@ -73,13 +73,13 @@ part_reads {A = A} tag step Text Wrong takes part next Good Next b absent presen
         (λ fault. (λ w. inr (begins_not tag part.left t, w), λ w. elim w [ inl here ↦ absurd (begins_not tag part.left t here.0) | inr past ↦ past.1 ]))
         absent
 
--- the part's text, where it has something in it
+-- the part's text, if it has something in it
 pub part_some : {X : Type 0} (mark tag : ℕ) (content : X → List ℕ) (xs : List X) → 1 ≤ length xs
     → part_text mark tag content xs ≡ element_text mark (element_text sequence_tag (elements tag content xs))
 part_some mark tag content [] some = absurd (omega (arith, some))
 part_some mark tag content (x ∷ xs) some = refl
 
--- what stands there is the part and what is behind it
+-- what is there is the part and what comes after it
 part_found : {X : Type 0} (mark tag : ℕ) (content : X → List ℕ) (good : X → Bool) (part : PartView) (marked : ItemView) (xs : List X)
     → Begins part marked × (marked.tag ≡ mark) → SomeText (Says tag content good) marked.content.left xs
     → (part.left ≡ part_text mark tag content xs ++ marked.behind.left) × (list_all good xs ≡ true)
@@ -120,7 +120,7 @@ part_again mark tag content good step Wrong takes low_mark low (x ∷ more) rest
 
 -- ---- both parts
 
--- the second part, behind these names
+-- the second part, after these names
 permits_read : (must : List (List ℕ)) (part : PartView) → AllBytes part.left
     → Reads (optional_in permits_tag permit_with part >>= λ permits. end_at permits.1 (record { must = must; permits = permits.0 }))
     (λ (c : ConstraintsView). (c.must ≡ must) × (part.left ≡ permits_part c.permits) × (list_all is_permit c.permits ≡ true))
@@ -171,7 +171,7 @@ parts_again c place is l =
     (after (optional_in permits_tag permit_with (at (permits_part c.permits) must.0)) (c.permits, at [] permits.0) _ _
     (ap (λ left. optional_in permits_tag permit_with (at left must.0)) (sym (append-nil (permits_part c.permits))) ∙ permits.1) refl)
 
--- there is one claim at least, where there is a byte
+-- there is one claim at least, if there is a byte
 some_claim : (c : ConstraintsView) → 1 ≤ length (parts_text c) → (1 ≤ length c.must) ⊎ (1 ≤ length c.permits)
 some_claim c some = of c.must c.permits some
   where

@@ -1,4 +1,4 @@
--- Texts that stand one after another in one.
+-- Texts that come one after another in one.
 use Rattle.std.specs.Prelude.{◌≡◌, ℕ, zero, suc, ◌≤◌, List, [], ◌∷◌, slice_range}
 
 -- the pieces that end at these places, of which the first begins at the given one, and each of the others where that before it ends

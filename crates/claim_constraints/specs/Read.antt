@@ -62,7 +62,7 @@ abbrev pub begins : ℕ → List ℕ → Bool
 begins tag [] = false
 begins tag (first ∷ rest) = first == tag
 
--- the element with this tag around one SEQUENCE of such elements, and what stands behind it
+-- the element with this tag around one SEQUENCE of such elements, and what comes after it
 unfoldable pub marked_in : {X : Type 0} → ℕ → (List X → ItemView → Result (List X) Fault) → PartView → Result (List X × PartView) Fault
 marked_in tag step part = do
   marked ← element_at tag part
@@ -70,7 +70,7 @@ marked_in tag step part = do
   each ← some_in step [] sequence
   end_at sequence.behind (each, marked.behind)
 
--- the same, if it stands there
+-- the same, if it is there
 unfoldable pub optional_in : {X : Type 0} → ℕ → (List X → ItemView → Result (List X) Fault) → PartView → Result (List X × PartView) Fault
 optional_in tag step part = if begins tag part.left then marked_in tag step part else Ok ([], part)
 

@@ -58,7 +58,7 @@ Nothing item fault = ⊥
 abbrev pub WrongText : Form → ItemView → Fault → Type 0
 WrongText form = Unless (IsTagged (tag_of form)) 1 (Unless (IsOfForm form) (kind_of form) Nothing)
 
--- after some that are right more bytes stand, and the first element of them is wrong
+-- after some that are right more bytes follow, and their first element is wrong
 pub record WrongAfter {X : Type 0} (Text : List ℕ → X → Type 0) (Wrong : ItemView → Fault → Type 0) (part : PartView) (fault : Fault) : Type 0 where
   pub before : List X
   pub front : List ℕ
@@ -83,7 +83,7 @@ abbrev pub WrongEntry : ItemView → Fault → Type 0
 WrongEntry = Unless (IsTagged sequence_tag) 1 (Unless IsFilled 2 (λ entry. WrongPermit entry.content))
 
 -- A part that may be absent: the bytes begin with its tag, and its element isn't a SEQUENCE of one or more of these, or it is and this is wrong
--- behind it; or they don't begin so, and this is wrong with them.
+-- after it; or they don't begin so, and this is wrong with them.
 abbrev pub WrongPart : {X : Type 0} → ℕ → (List ℕ → X → Type 0) → (ItemView → Fault → Type 0) → (PartView → Fault → Type 0) → PartView → Fault → Type 0
 WrongPart tag Text Wrong Next part fault =
     (BeginsBy tag part.left × First (Unless (IsTagged tag) 1 (Within (WrongSome Text Wrong) (AreSome Text) (Behind Next))) part fault)
@@ -93,12 +93,12 @@ WrongPart tag Text Wrong Next part fault =
 abbrev pub WrongParts : PartView → Fault → Type 0
 WrongParts = WrongPart must_tag (FormText Name) (WrongText Name) (WrongPart permits_tag PermitText WrongEntry LeftOver)
 
--- the bytes are no constraints, which are one SEQUENCE that isn't empty and nothing behind it, and this is their first fault
+-- the bytes are no constraints, which are one SEQUENCE that isn't empty and nothing after it, and this is their first fault
 abbrev pub Refused : List ℕ → Fault → Type 0
 Refused bytes =
     First (Unless (IsTagged sequence_tag) 1 (Unless IsFilled 2 (Within WrongParts AreParts (Behind LeftOver)))) (whole_text bytes)
 
--- an answer other than constraints and want of memory is the first fault of the bytes
+-- an answer other than constraints and `Memory` is the first fault of the bytes
 abbrev pub IsRefused : {A : Type 0} → List ℕ → Result A ConstraintFault → Type 0
 IsRefused bytes (Ok constraints) = ⊤
 IsRefused bytes (Err (At kind place)) = Refused bytes (at_kind kind place)

@@ -46,10 +46,10 @@ impl Model for Constraints {
 impl Constraints {
     /// The constraints that the bytes are, in DER.
     ///
-    /// They are one SEQUENCE of two parts and nothing behind it, and at least one of the parts is there. `A0` has a SEQUENCE of
-    /// IA5Strings in it, the names of the claims that must be there. `A1` has a SEQUENCE of entries in it, of which each is a SEQUENCE of
+    /// They are one SEQUENCE of two parts and nothing after it, and at least one of the parts is there. `A0` has a SEQUENCE of
+    /// IA5Strings in it, the names of the claims that must be there. `A1` has a SEQUENCE of entries in it. Each entry is a SEQUENCE of
     /// an IA5String, a claim's name, and a SEQUENCE of UTF8Strings, its values. A name is 1 to 64 bytes from 0x21 to 0x7E. Faults are found
-    /// in byte order, and the first is the answer: `ConstraintFault` says which there are, and where each stands.
+    /// in byte order, and the first is the answer: `ConstraintFault` says which there are, and where each is.
     #[tactic(auto, using(crate::proofs::WholeLaws::answer_found, crate::proofs::WholeLaws::answer_only, crate::proofs::WholeLaws::one_text, crate::proofs::WholeLaws::answer_refused, crate::proofs::WholeLaws::answer_is_refused))]
     pub fn read(alloc: Global, bytes: &[u8]) -> Result<Constraints, ConstraintFault>
         // The constraints, or the first fault.
@@ -138,7 +138,7 @@ impl Constraints {
         constraints_size(&self.must, &self.permits) <= 65_535
     }
 
-    /// The one DER text of the constraints, which is at most 65,535 bytes. `Memory` comes where there is no memory for it.
+    /// The one DER text of the constraints, which is at most 65,535 bytes. `Memory` comes if there is no memory for it.
     #[tactic(auto, using(crate::proofs::WholeLaws::read_again, crate::proofs::WholeLaws::written_text, crate::proofs::WholeLaws::only_text), unfolding(crate::specs::ConstraintsText::constraints_text))]
     pub fn write(&self, alloc: Global) -> Result<Vec<u8>, AllocError>
         requires size { length (constraints_text self.now) ≤ 65535 }

@@ -14,7 +14,7 @@ pub enum ConstraintFault {
     At {
         /// `DER`, `EMPTY`, `NAME` or `VALUE`.
         kind: u8,
-        /// The offset, in bytes from the first one that was given, at which the fault stands.
+        /// The offset, in bytes from the first one that was given, at which the fault is.
         place: u32,
     },
     /// Memory ran out.

@@ -9,8 +9,8 @@ ghost use Rattle.claim_constraints.specs.Meets.{Meets, meets};
 ghost use Rattle.claim_constraints.specs.Read.{read_constraints};
 ghost use Rattle.claim_constraints.specs.Refused.{Refused};
 
-/// Constraints are read of bytes just where these are the text of them, and a fault just where it is their first; and the test of a payload
-/// passes just where it meets them.
+/// Constraints are read from bytes exactly if these are the text of them, and a fault exactly if it is their first. The test of a payload
+/// passes exactly if it meets them.
 #[tactic(auto, using(crate::proofs::MeetLaws::meets_law))]
 pub fn constraints_law()
     ensures again { (bytes : List ℕ) (c : ConstraintsView) → ConstraintsText bytes c → read_constraints bytes ≡ Ok c }

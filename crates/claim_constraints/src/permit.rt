@@ -35,7 +35,7 @@ impl Permit {
         Ok(Permit { texts })
     }
 
-    /// Adds a copy of this value after the others. Where there is no memory for it, they stay as they are.
+    /// Adds a copy of this value after the others. If there is no memory for it, they stay as they are.
     pub fn push(&mut self, value: &[u8]) -> Result<(), AllocError>
         ensures added { OnOk result (self.new ≡ record { claim = self.old.claim; values = self.old.values ++ value.now ∷ [] }) }
         ensures kept { OnErr result (self.new ≡ self.old) }

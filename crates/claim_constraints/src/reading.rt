@@ -55,7 +55,7 @@ fn parts_in(alloc: Global, part: &Part) -> Result<Parts, ConstraintFault>
     Ok((must, permits))
 }
 
-/// The claims that must be there, none where their part is absent, and what stands behind it.
+/// The claims that must be there, none if their part is absent, and what comes after it.
 #[tactic(auto, unfolding(crate::specs::Read::optional_in, crate::specs::Read::marked_in))]
 fn must_in<'a>(alloc: Global, part: &Part<'a>) -> Result<(Texts, Part<'a>), ConstraintFault>
     ensures exact { Gives (λ found. (found.0, part_of found.1)) result (optional_in must_tag (text_with Name) (part_of part.now)) }
@@ -71,7 +71,7 @@ fn must_in<'a>(alloc: Global, part: &Part<'a>) -> Result<(Texts, Part<'a>), Cons
     Ok((names, marked.behind))
 }
 
-/// The claims of which some values are permitted, none where their part is absent, and what stands behind it.
+/// The claims of which some values are permitted, none if their part is absent, and what comes after it.
 #[tactic(auto, unfolding(crate::specs::Read::optional_in, crate::specs::Read::marked_in, crate::specs::Read::some_in))]
 fn permits_in<'a>(
     alloc: Global,
@@ -110,7 +110,7 @@ fn filled<'a>(sequence: &Item<'a>) -> Result<Part<'a>, Fault>
     }
 }
 
-/// The claims with their values that stand there, one after another.
+/// The claims of the part, with their values, one after another.
 #[tactic(auto, using(der_reader::proofs::EachLaws::at_first))]
 fn each_permit(alloc: Global, part: &Part) -> Result<Vec<Permit>, ConstraintFault>
     ensures exact { Gives (λ permits. permits.items) result (each_in permit_with [] (part_of part.now)) }
@@ -162,7 +162,7 @@ fn some_texts(before: Texts, sequence: &Item, form: Form) -> Result<Texts, Const
     each_text(before, &content, form)
 }
 
-/// These texts, and after them those that stand there, one after another.
+/// These texts, and after them those of the part, one after another.
 #[tactic(auto, using(der_reader::proofs::EachLaws::at_first))]
 fn each_text(before: Texts, part: &Part, form: Form) -> Result<Texts, ConstraintFault>
     ensures exact { Gives (λ texts. texts) result (each_in (text_with form) before (part_of part.now)) }

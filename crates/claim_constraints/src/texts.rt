@@ -37,7 +37,7 @@ impl Texts {
         }
     }
 
-    /// Adds a copy of this text after the others. Where there is no memory for it, they stay as they are.
+    /// Adds a copy of this text after the others. If there is no memory for it, they stay as they are.
     #[tactic(auto, using(crate::proofs::PieceLaws::one_more, crate::proofs::PieceLaws::rise_more))]
     pub fn push(&mut self, text: &[u8]) -> Result<(), AllocError>
         ensures added { OnOk result (self.new ≡ self.old ++ text.now ∷ []) }

@@ -17,7 +17,7 @@ use Rattle.delegation.specs.declared.fault.AnchorFault.{AnchorFault}
 use Rattle.delegation.specs.Usage.{may_certify}
 use Rattle.delegation.specs.Anchors.{AnchorText, AreAnchors, Gives, anchor_at, anchor_of, anchors_at, anchors_in, as_anchor}
 
--- an anchor that stands there, and what is behind it
+-- an anchor that begins there, and what comes after it
 pub record Standing (bytes : List ℕ) (c : CertView) (behind : List ℕ) : Type 0 where
   pub split : bytes ≡ c.whole ++ behind
   pub cert : Cert c.whole c

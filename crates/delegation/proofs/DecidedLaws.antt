@@ -27,13 +27,13 @@ use Rattle.delegation.proofs.AuthorityLaws.{codes_had, itself, without_code}
 
 -- ---- some entry
 
--- where some entry passes a test, some entry is what the test means
+-- if some entry passes a test, some entry is what the test means
 some_found : {X : Type 0} (P : X → Type 0) (test : X → Bool) → ((x : X) → test x ≡ true → P x) → (xs : List X) → list_any test xs ≡ true → SomeOf P xs
 some_found P test means [] h = absurd cc
 some_found P test means (x ∷ xs) h =
     elim (or_cases (test x) (list_any test xs) h) [ inl here ↦ inl (means x here) | inr more ↦ inr (some_found P test means xs more) ]
 
--- where some entry is what a test means, some entry passes it
+-- if some entry is what a test means, some entry passes it
 some_tested : {X : Type 0} (P : X → Type 0) (test : X → Bool) → ((x : X) → P x → test x ≡ true) → (xs : List X) → SomeOf P xs → list_any test xs ≡ true
 some_tested P test tests [] p = absurd p
 some_tested P test tests (x ∷ xs) (inl p) = or_left (test x) (list_any test xs) (tests x p)
@@ -92,7 +92,7 @@ pub coverage_decided : (entries : List Entry) (table : Table) (number : List ℕ
 coverage_decided entries table number =
     (some_found (In table number) (is_in table number) (in_means table number) entries, some_tested (In table number) (is_in table number) (means_in table number) entries)
 
--- an answer that is true just where some entry holds the number is that of the test
+-- an answer that is true exactly if some entry holds the number is that of the test
 pub same_coverage : (answer : Bool) (entries : List Entry) (table : Table) (number : List ℕ) → IsTrue answer ↔ Covers entries table number
     → answer ≡ covers_number entries table number
 same_coverage answer entries table number h = same_from_decides answer (covers_number entries table number) h (coverage_decided entries table number)
@@ -108,7 +108,7 @@ if_kept : (owned covered : Bool) → (owned ≡ true → covered ≡ true) → c
 if_kept true covered f = f refl
 if_kept false covered f = refl
 
--- the parent covers the number, where the child holds it
+-- the parent covers the number, if the child holds it
 keeps_means : (child parent : List Entry) (table : Table) (number : List ℕ) → keeps_number child parent table number ≡ true
     → SomeOf (Owns number) child → Covers parent table number
 keeps_means child parent table number h owned =
@@ -152,7 +152,7 @@ decides (Some child) (Some parent) table = (list_means child parent table, means
 pub within_itself : (a : Option (List Entry)) (table : Table) → is_within a a table ≡ true
 within_itself a table = (decides a a table).1 (itself a table)
 
--- an answer that is true just where the one lies within the other is that of the test
+-- an answer that is true exactly if the one lies within the other is that of the test
 pub same_answer : {E : Type 0} (r : Result Bool E) (child parent : Option (List Entry)) (table : Table)
     → IfOk r (λ answer. IsTrue answer ↔ Within child parent table) → IfOk r (λ answer. answer ≡ is_within child parent table)
 same_answer (Ok answer) child parent table h = same_from_decides answer (is_within child parent table) h (decides child parent table)

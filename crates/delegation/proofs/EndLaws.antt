@@ -1,4 +1,4 @@
--- Laws of the first bytes that are no anchor: reading names their place, and where they stand is what reading names.
+-- Laws of the first bytes that are no anchor: reading names their place, and their place is what reading names.
 use Rattle.std.proofs.Common.{◌≡◌, ◌≢◌, ℕ, zero, suc, ◌+◌, ◌-◌, ◌<◌, ◌==◌, Bool, true, false, cond, List, [], ◌∷◌, ◌++◌, length, Result, Ok, Err, refl, sym, ap, subst, ◌∙◌, length-append, append_assoc, arith}
 use Rattle.std.proofs.lemmas.Bool.Decides.{nat_tests}
 use Rattle.lists.specs.Steps.{◌>>=◌}
@@ -57,7 +57,7 @@ left_some : (rest : List ℕ) → length rest == 0 ≡ false → rest ≢ []
 left_some [] t = λ empty. absurd cc
 left_some (x ∷ xs) t = λ empty. absurd cc
 
--- ---- what stops the reading, where so many more would be taken
+-- ---- what stops the reading, if so many more would be taken
 
 data Stops (room : ℕ) (rest : List ℕ) : Type 0 where
   full : room ≡ 0 → rest ≢ [] → Stops room rest
@@ -70,7 +70,7 @@ stopped all zero rest b (bad l n x) = absurd (omega (arith, l))
 stopped all (suc room) rest b (full z n) = absurd (omega (arith, z))
 stopped all (suc room) rest b (bad l n x) = rw (some_left rest n, none_refused (length all - length rest) rest b x) refl
 
--- it stops there behind anchors too
+-- it stops there after anchors too
 stopped_behind : (all : List ℕ) (before : List CertView) (room left : ℕ) (front rest : List ℕ) → length before + left ≡ room → AreAnchors before front
     → AllBytes rest → Stops left rest → anchors_at all room (front ++ rest) ≡ Err (length all - length rest)
 unfolding anchors_at
@@ -158,7 +158,7 @@ all_behind : (xs ys : List ℕ) → AllBytes (xs ++ ys) → AllBytes ys
 all_behind [] ys b i = b i
 all_behind (x ∷ xs) ys b i = all_behind xs ys (λ k. b (suc k)) i
 
--- how many more would be taken behind so many
+-- how many more would be taken after so many
 record Room (count : ℕ) (rest : List ℕ) : Type 0 where
   left : ℕ
   all : count + left ≡ 256
@@ -168,7 +168,7 @@ room_of : (count : ℕ) (rest : List ℕ) → IsNoAnchor count rest → Room cou
 room_of count rest (surplus e s) = record { left = 0; all = omega (arith, e); stops = full refl s }
 room_of count rest (unfit l s x) = record { left = 256 - count; all = omega (arith, l); stops = bad (omega (arith, l)) s x }
 
--- what is read is refused where the first bytes stand that are no anchor
+-- what is read is refused at the first bytes that are no anchor
 pub ends_found : (bytes : List ℕ) (place : ℕ) → AllBytes bytes → anchors_in bytes ≡ Err place → EndsAt bytes place
 ends_found bytes place b e =
     let g = ended bytes 256 bytes place b e in
@@ -182,7 +182,7 @@ ends_found bytes place b e =
       why = why_of (length g.before) g.left g.rest g.count g.why;
     }
 
--- and where these stand it is refused
+-- and at these it is refused
 pub ends_again : (bytes : List ℕ) (place : ℕ) → AllBytes bytes → EndsAt bytes place → anchors_in bytes ≡ Err place
 ends_again bytes place b t =
     let room = room_of (length t.before) t.rest t.why in

@@ -35,7 +35,7 @@ order zero (suc n) = is_below (omega arith)
 order (suc i) zero = is_above (omega arith)
 order (suc i) (suc n) = next_order i n (order i n)
 
--- what stands in a list stands within it
+-- the place of what is in a list is within it
 within : (cs : List CertView) (i : ℕ) (c : CertView) → slice_get cs i ≡ Some c → i < length cs
 within [] i c e = absurd cc
 within (x ∷ cs) zero c e = omega arith
@@ -106,9 +106,9 @@ link_refused i c b fault e = of (bytes_eq c.subject b.issuer) (may_certify c) (i
           least = least_name i c b;
         }
 
--- ---- all that stand above the leaf
+-- ---- all that are above the leaf
 
--- up to a place each is the issuer of the one before it, where the second of these is certificate i
+-- up to a place each is the issuer of the one before it; the second of these is certificate i
 abbrev LinkedTo : ℕ → ℕ → List CertView → Type 0
 LinkedTo n i cs = (k : ℕ) → k < n → (c b : CertView) → slice_get cs (suc k) ≡ Some c → slice_get cs k ≡ Some b → Issues (i + k) c b
 
@@ -181,7 +181,7 @@ empty_least anchors k p (leaf_use leaf is n f g) = absurd cc
 empty_least anchors k p (link i c b up low x g) = absurd cc
 empty_least anchors k p (no_anchor below last count is none f g) = absurd cc
 
--- a fault of an anchor comes behind one of the leaf
+-- a fault of an anchor comes after one of the leaf
 leaf_or_anchor : (n k p : ℕ) → k ≡ 5 → p ≡ suc n → Order 1 (suc n) → (1 < p) ⊎ ((1 ≡ p) × (rank 6 ≤ rank k))
 leaf_or_anchor n k p f g (is_below l) = inl (omega (arith, g, l))
 leaf_or_anchor n k p f g (is_same e) = inr (omega (arith, g, e), of_kind 6 5 k f (omega arith))

@@ -21,7 +21,7 @@ clash false e f = absurd cc
 
 -- ---- key usages
 
--- a usage isn't among others just where its bit isn't set in them
+-- a usage isn't among others exactly if its bit isn't set in them
 unset : (usages bit mask : ℕ) → bit_and usages mask ≡ bit_at usages bit * mask → (bit_and usages mask == mask) ≡ false → bit_at usages bit ≡ 0
 unset usages bit mask e f = of (bit_at usages bit) (bit_at-lt usages bit) e
   where
@@ -157,7 +157,7 @@ found_listed last (a ∷ anchors) zero anchor there same =
 found_listed last (a ∷ anchors) (suc i) anchor there same =
     or_right (bytes_eq a.whole last.whole) (is_listed last anchors) (found_listed last anchors i anchor there same)
 
--- where none is the first to pass a test, none passes it
+-- if none is the first to pass a test, none passes it
 none_passes : (test : CertView → Bool) (n : ℕ) (cs : List CertView) → first_from test n cs ≡ None → (i : ℕ) (c : CertView) → slice_get cs i ≡ Some c
     → test c ≡ false
 unfolding first_from
@@ -171,7 +171,7 @@ none_passes test n (x ∷ cs) e i c there = of (none_passes test (suc n) cs) (te
     of again false t e zero c there = ap test (sym (same_Some x c there)) ∙ t
     of again false t e (suc i) c there = again e i c there
 
--- where no anchor is found none is there
+-- if no anchor is found none is there
 pub find_refused : (below : ℕ) (last : CertView) (anchors : List CertView) (fault : PathFault) → find_anchor (suc below) last anchors ≡ Err fault
     → (fault_at 5 (suc below) ≡ fault) × IsUnanchored below last anchors
 unfolding find_anchor

@@ -25,7 +25,7 @@ none_left P [] (suc i) long p = p
 none_left P (y ∷ xs) zero long p = absurd (omega (arith, long))
 none_left P (y ∷ xs) (suc i) long p = none_left P xs i (omega (arith, long)) p
 
--- ---- two lists, one behind the other
+-- ---- two lists, one after the other
 
 pub any_left : {X : Type 0} (P : X → Type 0) (xs ys : List X) → Any P xs → Any P (xs ++ ys)
 any_left P xs ys (k, x, inside, is, p) = let c = Contains-append_left xs ys x (k, inside, is) in (c.0, x, c.1, c.2, p)

@@ -38,9 +38,9 @@ link_again i below c s =
     let names : bytes_eq c.subject below.issuer ≡ true = (bytes_eq-Decides c.subject below.issuer).1 s.names in
     rw (names, s.issuer, s.length) refl
 
--- ---- all that stand above the leaf
+-- ---- all that are above the leaf
 
--- each is the issuer of the one before it, where the second of these is certificate i
+-- each is the issuer of the one before it; the second of these is certificate i
 abbrev pub Linked : ℕ → List CertView → Type 0
 Linked i cs = (k : ℕ) (c b : CertView) → slice_get cs (suc k) ≡ Some c → slice_get cs k ≡ Some b → Issues (i + k) c b
 

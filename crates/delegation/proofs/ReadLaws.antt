@@ -54,7 +54,7 @@ one_more before all (suc room) next rest found e l k =
     joined (Ok more) = found_is _ _ (sym (append_assoc before (found.0 ∷ []) more))
     joined (Err place) = refl
 
--- where the walk stands: what was found and what is left give what all gives
+-- where the walk is: what was found and what is left give what all gives
 pub record Stands (found : List CertView) (all rest : List ℕ) : Type 0 where
   pub most : length found ≤ 256
   pub near : length all ≤ 8192 * length found + length rest
@@ -94,7 +94,7 @@ is_refused found all rest (At place) s e n k =
     sym s.same ∙ refused found all (256 - length found) rest place e (omega (arith, below)) k
 is_refused found all rest Memory s e n k = tt
 
--- the walk goes on behind the next one
+-- the walk goes on after the next one
 pub goes_on : (found after : List CertView) (all rest : List ℕ) (next : CertView × List ℕ) → Stands found all rest → after ≡ found ++ next.0 ∷ []
     → length rest == 0 ≡ false → length found == 256 ≡ false → anchor_at (length all - length rest) rest ≡ Ok next
     → length next.1 < length rest → length rest ≤ 8192 + length next.1

@@ -5,13 +5,13 @@ use Rattle.x509_profile.specs.View.{CertView}
 use Rattle.delegation.specs.declared.fault.PathFault.{PathFault}
 use Rattle.delegation.specs.Path.{first_from, last_of, link_at}
 
--- what is left from a place on begins with what stands there
+-- what is left from a place on begins with what is there
 begins : (cs : List CertView) (k : ℕ) (c : CertView) → k < length cs → c ≡ get_or cs k c → drop k cs ≡ c ∷ drop (k + 1) cs
 begins cs k c l is =
     let next : k + 1 ≡ suc k = omega arith in
     rw next (drop-cons cs k c l ∙ ap (λ x. x ∷ drop (suc k) cs) (sym is))
 
--- behind the last place nothing is left
+-- after the last place nothing is left
 nothing : (cs : List CertView) (k : ℕ) → length cs ≤ k → drop k cs ≡ []
 nothing [] zero l = refl
 nothing [] (suc k) l = refl

@@ -29,12 +29,12 @@ pub record AnchorText (bytes : List ℕ) (anchors : List CertView) : Type 0 wher
 abbrev pub BeginsWithNone : List ℕ → Type 0
 BeginsWithNone bytes = (c : CertView) (behind : List ℕ) → bytes ≡ c.whole ++ behind → Cert c.whole c → may_certify c ≡ true → ⊥
 
--- behind so many anchors bytes are left that are no anchor: one would be the 257th, or none begins there
+-- after so many anchors bytes are left that are no anchor: one would be the 257th, or none begins there
 pub data IsNoAnchor (count : ℕ) (rest : List ℕ) : Type 0 where
   surplus : count ≡ 256 → rest ≢ [] → IsNoAnchor count rest
   unfit : count < 256 → rest ≢ [] → BeginsWithNone rest → IsNoAnchor count rest
 
--- the bytes are these anchors, and behind them, from this place on, what is no anchor
+-- the bytes are these anchors, and after them, from this place on, what is no anchor
 pub record EndsAt (bytes : List ℕ) (place : ℕ) : Type 0 where
   pub before : List CertView
   pub front : List ℕ
@@ -46,7 +46,7 @@ pub record EndsAt (bytes : List ℕ) (place : ℕ) : Type 0 where
 
 -- ---- what reading them gives: the anchors, or the offset of the first that is none
 
--- a certificate that may certify others, and what stands behind it
+-- a certificate that may certify others, and what comes after it
 abbrev pub as_anchor : {E : Type 0} → ℕ → List ℕ → Result CertView E → Result (CertView × List ℕ) ℕ
 as_anchor place behind (Ok c) = if may_certify c then Ok (c, behind) else Err place
 as_anchor place behind (Err fault) = Err place
@@ -56,11 +56,11 @@ abbrev pub anchor_of : ℕ → Result (Element × List ℕ) DerFault → Result 
 anchor_of place (Ok next) = as_anchor place next.1 (read_certificate next.0.whole)
 anchor_of place (Err fault) = Err place
 
--- the anchor with which the bytes at this place begin, and the bytes behind it
+-- the anchor with which the bytes at this place begin, and the bytes after it
 unfoldable pub anchor_at : ℕ → List ℕ → Result (CertView × List ℕ) ℕ
 anchor_at place bytes = anchor_of place (next_at bytes)
 
--- the anchors that the rest of all bytes is, where they are at most so many
+-- the anchors that the rest of all bytes is, if they are at most so many
 unfoldable pub anchors_at : List ℕ → ℕ → List ℕ → Result (List CertView) ℕ
 anchors_at all zero rest = if length rest == 0 then Ok [] else Err (length all - length rest)
 anchors_at all (suc room) rest =
@@ -72,16 +72,16 @@ anchors_at all (suc room) rest =
 abbrev pub anchors_in : List ℕ → Result (List CertView) ℕ
 anchors_in bytes = anchors_at bytes 256 bytes
 
--- a fault other than want of memory
+-- a fault other than `Memory`
 abbrev pub fault_seen : AnchorFault → Option ℕ
 fault_seen (At place) = Some place
 fault_seen Memory = None
 
--- The code gives what is read, or its place; want of memory is free.
+-- The code gives what is read, or its place; `Memory` is free.
 abbrev pub Gives : {X Y : Type 0} → (X → Y) → Result X AnchorFault → Result Y ℕ → Type 0
 Gives seen result read = given.Gives fault_seen seen result read
 
--- a fault's place has this property; want of memory is free
+-- a fault's place has this property; `Memory` is free
 abbrev pub IfAt : {X : Type 0} → Result X AnchorFault → (ℕ → Type 0) → Type 0
 IfAt (Ok x) P = ⊤
 IfAt (Err (At place)) P = P place

@@ -1,5 +1,5 @@
 -- Which telephone numbers an authority covers (RFC 8226, section 9), and which authority lies within another (RFC 9060). What a
--- code stands for, and that a code lies within an authority only where this names the code, is this project's own rule.
+-- code stands for, and that a code lies within an authority only if this names the code, is this project's own rule.
 use Rattle.std.specs.Prelude.{◌≡◌, ℕ, true, List, Option, Some, None}
 use Rattle.tn_values.specs.Number.{is_number}
 use Rattle.tn_values.specs.Span.{SpanHolds}

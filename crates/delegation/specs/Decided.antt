@@ -1,4 +1,4 @@
--- Whether one authority lies within another, as a test: `Within`, where what it says of every number is tested at each of the list of
+-- Whether one authority lies within another, as a test: `Within`, but what it says of every number is tested at each of the list of
 -- all numbers. Nothing computes it.
 use Rattle.std.specs.Prelude.{ℕ, Bool, true, false, ◌&&◌, List, [], ◌∷◌, Option, Some, None, if◌then◌else◌}
 use Rattle.std.specs.List.{list_all, list_any}
@@ -41,7 +41,7 @@ owns_number entries number = list_any (is_owned number) entries
 abbrev pub covers_number : List Entry → Table → List ℕ → Bool
 covers_number entries table number = list_any (is_in table number) entries
 
--- the parent covers the number, where a single or a range of the child holds it
+-- the parent covers the number, if a single or a range of the child holds it
 abbrev pub keeps_number : List Entry → List Entry → Table → List ℕ → Bool
 keeps_number child parent table number = if owns_number child number then covers_number parent table number else true
 

@@ -8,7 +8,7 @@ use Rattle.x509_profile.specs.View.{CertView}
 use Rattle.delegation.specs.declared.fault.PathFault.{PathFault}
 use Rattle.delegation.specs.Usage.{may_certify, may_sign}
 
--- a fault of this kind at this certificate, where the leaf is 1
+-- a fault of this kind at this certificate; the leaf is 1
 abbrev pub fault_at : ℕ → ℕ → PathFault
 fault_at kind place = record { kind = kind; place = place }
 
@@ -17,13 +17,13 @@ abbrev pub is_long_enough : Option ℕ → ℕ → Bool
 is_long_enough None between = true
 is_long_enough (Some most) between = if nat_lt most between then false else true
 
--- two key identifiers are one, where both are given
+-- two key identifiers are one, if both are given
 abbrev pub agree : Option (List ℕ) → Option (List ℕ) → Bool
 agree (Some a) (Some b) = bytes_eq a b
 agree (Some a) None = true
 agree None b = true
 
--- an anchor fits where it may be the issuer of the last of n certificates
+-- an anchor fits if it may be the issuer of the last of n certificates
 abbrev pub fits : ℕ → CertView → CertView → Bool
 fits n last anchor =
     if bytes_eq anchor.subject last.issuer
@@ -36,8 +36,8 @@ fits n last anchor =
 abbrev pub is_listed : CertView → List CertView → Bool
 is_listed c anchors = list_any (λ anchor. bytes_eq anchor.whole c.whole) anchors
 
--- The anchor of the last of n certificates: none where that certificate is itself an anchor, and else the
--- number of the first anchor that fits.
+-- The anchor of the last of n certificates: none if that certificate is itself an anchor, and else the number of the
+-- first anchor that fits.
 abbrev pub IsAnchor : ℕ → CertView → List CertView → Option ℕ → Type 0
 IsAnchor n last anchors None = is_listed last anchors ≡ true
 IsAnchor n last anchors (Some i) =
@@ -45,19 +45,19 @@ IsAnchor n last anchors (Some i) =
     × (anchor : CertView) × (slice_get anchors i ≡ Some anchor) × (fits n last anchor ≡ true)
     × ((j : ℕ) (other : CertView) → j < i → slice_get anchors j ≡ Some other → fits n last other ≡ false)
 
--- Certificate i is the issuer of the one before it, certificate i - 1: its subject is that one's issuer, byte
--- for byte, it may certify others, and so many may stand between it and the leaf.
+-- Certificate i is the issuer of the one before it, certificate i - 1: its subject is that one's issuer, byte for byte,
+-- it may certify others, and so many may be between it and the leaf.
 pub record Issues (i : ℕ) (c below : CertView) : Type 0 where
   pub names : c.subject ≡ below.issuer
   pub issuer : may_certify c ≡ true
   pub length : is_long_enough c.path_length (i - 2) ≡ true
 
--- The chain is a path up to this anchor. Places in the list count from 0, so the first certificate above the
--- leaf is certificate 2 and stands at 1.
+-- The chain is a path up to this anchor. Places in the list count from 0, so the first certificate above the leaf is
+-- certificate 2 and is at place 1.
 pub record Path (chain anchors : List CertView) (anchor : Option ℕ) : Type 0 where
   pub leaf : CertView
   pub last : CertView
-  -- how many certificates stand below the last
+  -- how many certificates are below the last
   pub below : ℕ
   pub is_leaf : slice_get chain 0 ≡ Some leaf
   pub count : length chain ≡ suc below
@@ -66,7 +66,7 @@ pub record Path (chain anchors : List CertView) (anchor : Option ℕ) : Type 0 w
   pub issued : (i : ℕ) (c b : CertView) → slice_get chain (suc i) ≡ Some c → slice_get chain i ≡ Some b → Issues (2 + i) c b
   pub anchored : IsAnchor (suc below) last anchors anchor
 
--- the certificate above a path: its anchor, or the last certificate where that is itself an anchor
+-- the certificate above a path: its anchor, or the last certificate if that is itself an anchor
 abbrev pub anchor_of : List CertView → List CertView → Option ℕ → Option CertView
 anchor_of chain anchors None = slice_get chain (length chain - 1)
 anchor_of chain anchors (Some i) = slice_get anchors i
@@ -78,7 +78,7 @@ issuer_of chain anchors anchor i =
 
 -- ---- the path's anchor, or the first fault
 
--- certificate i, where it is the issuer of the one before it
+-- certificate i, if it is the issuer of the one before it
 unfoldable pub link_at : ℕ → CertView → CertView → Result CertView PathFault
 link_at i below c =
     if bytes_eq c.subject below.issuer
@@ -87,12 +87,12 @@ link_at i below c =
     else Err (fault_at 3 i))
     else Err (fault_at 2 i)
 
--- the last certificate, where those from i on are each the issuer of the one before it
+-- the last certificate, if those from i on are each the issuer of the one before it
 unfoldable pub last_of : ℕ → CertView → List CertView → Result CertView PathFault
 last_of i below [] = Ok below
 last_of i below (c ∷ above) = link_at i below c >>= λ c. last_of (suc i) c above
 
--- the number of the first that fits, where the first of these has number i
+-- the number of the first that fits; the first of these has number i
 unfoldable pub first_from : (CertView → Bool) → ℕ → List CertView → Option ℕ
 first_from test i [] = None
 first_from test i (c ∷ cs) = if test c then Some i else first_from test (suc i) cs

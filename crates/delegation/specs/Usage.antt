@@ -3,16 +3,16 @@ use Rattle.std.specs.Prelude.{◌≡◌, ◌⊎◌, ℕ, ◌==◌, Bool, true, f
 use Rattle.std.specs.Int.{bit_at}
 use Rattle.x509_profile.specs.View.{CertView}
 
--- a usage is among the key usages, where there are any
+-- a usage is among the key usages, if there are any
 abbrev pub allows : Option ℕ → ℕ → Bool
 allows None usage = true
 allows (Some usages) usage = bit_and usages usage == usage
 
--- the key has digitalSignature, bit 0, where it has key usages
+-- the key has digitalSignature, bit 0, if it has key usages
 abbrev pub may_sign : CertView → Bool
 may_sign c = allows c.usage 0x0001
 
--- the key is a certificate authority's, and it has keyCertSign, bit 5, where it has key usages
+-- the key is a certificate authority's, and it has keyCertSign, bit 5, if it has key usages
 abbrev pub may_certify : CertView → Bool
 may_certify c = if c.is_ca then allows c.usage 0x0020 else false
 

@@ -39,12 +39,11 @@ impl Model for Anchors {
 impl Anchors {
     /// The anchors that the bytes are.
     ///
-    /// The bytes are at most 256 certificates of the profile one after another, each of which may certify
-    /// others: it is a certificate authority's, and has keyCertSign where it has key usages (RFC 5280,
-    /// sections 4.2.1.3 and 4.2.1.9). The place of a fault is the offset of the first that isn't such a
-    /// certificate, or of the 257th. No bytes are no anchors.
+    /// The bytes are at most 256 certificates of the profile one after another, each of which may certify others: it is a
+    /// certificate authority's, and has keyCertSign if it has key usages (RFC 5280, sections 4.2.1.3 and 4.2.1.9). The place
+    /// of a fault is the offset of the first that isn't such a certificate, or of the 257th. No bytes are no anchors.
     pub fn read(alloc: Global, bytes: &[u8]) -> Result<Anchors, AnchorFault>
-        // The anchors, or where the first is that is none.
+        // The anchors, or the place of the first that is none.
         ensures exact { Gives (λ anchors. anchors) result (anchors_in bytes.now) }
 
         // An answer is the anchors that the bytes are, and the ones that they are are the answer.
@@ -54,8 +53,8 @@ impl Anchors {
         // The bytes are the anchors of one list at most.
         ensures unique { (a b : List CertView) → AnchorText bytes.now a → AnchorText bytes.now b → a ≡ b }
 
-        // A fault's place is where, behind anchors, the first bytes stand that are none; and where such bytes stand, that is
-        // the fault.
+        // A fault's place is where, after anchors, the first bytes come that are none. If such bytes come at a place, that
+        // is the fault.
         ensures refused { IfAt result (EndsAt bytes.now) }
         ensures only_refused { (place : ℕ) → EndsAt bytes.now place → Gives (λ anchors. anchors) result (Err place) }
 
@@ -122,7 +121,7 @@ fn read_all(alloc: Global, bytes: &[u8]) -> Result<Vec<Certificate>, AnchorFault
     Ok(anchors)
 }
 
-/// The anchor with which the bytes at this place begin, and the bytes behind it.
+/// The anchor with which the bytes at this place begin, and the bytes after it.
 #[tactic(auto, unfolding(crate::specs::Anchors::anchor_at))]
 fn anchor_at<'a>(
     alloc: Global,

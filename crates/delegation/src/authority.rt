@@ -24,9 +24,9 @@ pub enum Authority<'a> {
 
 /// Whether the child lies within the parent (RFC 9060).
 ///
-/// Everything lies within `All`, and `All` within no list. A list lies within another where this names each of its codes
-/// and covers every number that its singles and ranges hold, whichever entries it does so by. That codes are compared by
-/// name, and not by their numbers, is this project's own rule. `Memory` comes where there is none for the sets of numbers.
+/// Everything lies within `All`, and `All` within no list. A list lies within another if this names each of its codes and
+/// covers every number that its singles and ranges hold, whichever entries it does so by. That codes are compared by name,
+/// and not by their numbers, is this project's own rule. `Memory` comes if there is none for the sets of numbers.
 pub fn within(
     alloc: Global,
     child: &Authority<'_>,

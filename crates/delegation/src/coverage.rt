@@ -9,8 +9,8 @@ use tn_values::Number;
 
 /// Whether some entry of the list holds the number (RFC 8226, section 9).
 ///
-/// A single holds the number that equals it, a range those of its start's length that it reaches, and a code those that
-/// the table has for it, or every number where the table says so. A code that the table doesn't name holds none.
+/// A single holds the number that equals it, and a range those of its start's length that it reaches. A code holds
+/// those that the table has for it, every number if the table says so, and none if the table doesn't name it.
 pub fn covers(list: &AuthList, number: &Number, table: &CodeTable) -> bool
     ensures exact { result ≡ covers_number list.now table.now number.now }
     ensures covers { IsTrue result ↔ Covers list.now table.now number.now }

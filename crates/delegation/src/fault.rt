@@ -10,12 +10,12 @@ use std::fmt;
 /// Why bytes aren't read as trust anchors.
 #[derive(Clone, Copy, Debug, PartialEq, Eq)]
 pub enum AnchorFault {
-    /// What stands at this place isn't an anchor, or is one past the 256th.
+    /// What is at this place isn't an anchor, or is one past the 256th.
     At {
         /// The offset, in bytes from the first one that was given, at which it begins.
         place: u32,
     },
-    /// Memory was wanting, and nothing is said of the bytes.
+    /// Memory ran out, and nothing is said of the bytes.
     Memory,
 }
 
@@ -46,7 +46,7 @@ impl Error for AnchorFault {}
 pub struct PathFault {
     /// What is wrong: one of the numbers below.
     pub kind: u8,
-    /// The certificate at which it is, where the leaf is 1; 0 where there is none.
+    /// The certificate at which it is, counted from the leaf, which is 1; 0 if there is none.
     pub place: u8,
 }
 
@@ -57,7 +57,7 @@ impl PathFault {
     pub const NAMES: u8 = 2;
     /// The certificate may not certify others (RFC 5280, section 6.1.4 (k) and (n)).
     pub const NOT_ISSUER: u8 = 3;
-    /// More certificates stand between this one and the leaf than it allows (RFC 5280, section 4.2.1.9).
+    /// More certificates are between this one and the leaf than it allows (RFC 5280, section 4.2.1.9).
     pub const PATH_LENGTH: u8 = 4;
     /// The last certificate isn't a trust anchor, and none has issued it (RFC 5280, section 6.1.1 (d)).
     pub const NO_ANCHOR: u8 = 5;

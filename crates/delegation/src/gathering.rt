@@ -54,7 +54,7 @@ impl Gathered {
         Ok(())
     }
 
-    /// Adds what a code is granted, where that is a set.
+    /// Adds what a code is granted, if that is a set.
     fn add_granted(&mut self, grant: Grant<'_>) -> Result<(), Memory>
         ensures { OnOk result (self.new ≡ with_held self.old (grant_view grant.entry)) }
     {
@@ -88,7 +88,7 @@ pub(crate) fn own_numbers(alloc: Global, entries: &[Entry]) -> Result<NumberSet,
     gathered_own(alloc, entries)?.finish()
 }
 
-/// The numbers that the entries hold, also by a code, where no code of them has every number. Each code is asked for once,
+/// The numbers that the entries hold, also by a code, if no code of them has every number. Each code is asked for once,
 /// however often it is named.
 pub(crate) fn covered_numbers(
     alloc: Global,
@@ -147,7 +147,7 @@ fn codes_in(alloc: Global, entries: &[Entry]) -> Result<Vec<Code>, Memory>
     Ok(codes)
 }
 
-/// Puts the code that an entry is behind others.
+/// Puts an entry's code, if it is one, after the others.
 fn put_code(codes: &mut Vec<Code>, entry: &Entry) -> Result<(), Memory>
     ensures { OnOk result (codes.new.items ≡ codes.old.items ++ cons_option (code_in entry.now) []) }
 {

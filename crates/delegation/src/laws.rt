@@ -18,7 +18,7 @@ pub fn within_law()
     ensures decides { (child parent : Option (List Entry)) (table : Table) → IsTrue (is_within child parent table) ↔ Within child parent table }
 {}
 
-/// The shape of certificates is an anchor where they are a path up to it (RFC 5280, section 6.1), and else what is wrong first.
+/// The shape of certificates is an anchor if they are a path up to it (RFC 5280, section 6.1), and else what is wrong first.
 pub fn path_law()
     ensures again { (chain anchors : List CertView) (anchor : Option ℕ) → Path chain anchors anchor → shape_of chain anchors ≡ Ok anchor }
     ensures found { (chain anchors : List CertView) (anchor : Option ℕ) → shape_of chain anchors ≡ Ok anchor → Path chain anchors anchor }

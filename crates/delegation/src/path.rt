@@ -15,14 +15,13 @@ use x509_profile::Certificate;
 
 /// Whether the certificates, the leaf first, are a path up to an anchor, and up to which.
 ///
-/// Certificates count from 1. Faults are tried in this order: `EMPTY` at 0; `LEAF_USE` at 1, where the
-/// leaf has key usages without digitalSignature; then for the second certificate and each next one
-/// `NAMES`, `NOT_ISSUER` and `PATH_LENGTH`, the last where its path length is below the number of
-/// certificates between it and the leaf; `NO_ANCHOR` at the last certificate, where it isn't an anchor
-/// and no anchor fits. An anchor fits where its subject is the last certificate's issuer, its path length
-/// is at least the number of certificates below the last one, and its key identifier is the one of the
-/// issuer's key, where both are given (RFC 5280, sections 4.2.1.1, 4.2.1.9 and 6.1). The first that fits
-/// is taken.
+/// Certificates count from 1. Faults are tried in this order. `EMPTY` comes at 0. `LEAF_USE` comes at 1, if the leaf
+/// has key usages without digitalSignature. Then the second certificate and each next one are tried for `NAMES`,
+/// `NOT_ISSUER` and `PATH_LENGTH`, the last if its path length is below the number of certificates between it and
+/// the leaf. `NO_ANCHOR` comes at the last certificate, if it isn't an anchor and no anchor fits. An anchor fits if
+/// all of this holds: its subject is the last certificate's issuer; its path length is at least the number of
+/// certificates below the last one; its key identifier is the one of the issuer's key, if both are given (RFC 5280,
+/// sections 4.2.1.1, 4.2.1.9 and 6.1). The first that fits is taken.
 pub fn shape(chain: &[Certificate], anchors: &Anchors) -> Result<Shape, PathFault>
     requires short { length chain.now ≤ 6 }
 
@@ -66,7 +65,7 @@ fn path_shape(chain: &[Certificate], anchors: &Anchors) -> Result<Shape, PathFau
     Ok(Shape { anchor })
 }
 
-/// The last certificate, where each above the leaf is the issuer of the one before it.
+/// The last certificate, if each above the leaf is the issuer of the one before it.
 #[tactic(auto, using(crate::proofs::WalkLaws::at_last, crate::proofs::WalkLaws::is_issuer, crate::proofs::WalkLaws::is_no_issuer))]
 fn last_of<'a>(
     leaf: &'a Certificate,
@@ -86,7 +85,7 @@ fn last_of<'a>(
     Ok(below)
 }
 
-/// Whether a certificate, which stands at this place, is the issuer of the one below it.
+/// Whether the certificate at this place is the issuer of the one below it.
 #[tactic(auto, unfolding(crate::specs::Path::link_at))]
 fn link(place: u8, below: &Certificate, certificate: &Certificate) -> Result<(), PathFault>
     requires above { 2 ≤ place }
@@ -105,7 +104,7 @@ fn link(place: u8, below: &Certificate, certificate: &Certificate) -> Result<(),
     Ok(())
 }
 
-/// Whether so many certificates may stand between this one and the leaf (RFC 5280, section 4.2.1.9).
+/// Whether so many certificates may be between this one and the leaf (RFC 5280, section 4.2.1.9).
 fn is_long_enough(path_length: Option<u64>, between: u8) -> bool
     ensures { result ≡ is_long_enough path_length between }
 {
@@ -115,7 +114,7 @@ fn is_long_enough(path_length: Option<u64>, between: u8) -> bool
     }
 }
 
-/// The number of the anchor of the last of `count` certificates; None where it is itself an anchor.
+/// The number of the anchor of the last of `count` certificates; None if it is itself an anchor.
 #[tactic(auto, unfolding(crate::specs::Path::find_anchor))]
 fn find_anchor(count: u8, last: &Certificate, anchors: &Anchors) -> Result<Option<u16>, PathFault>
     requires some { 1 ≤ count }
@@ -162,7 +161,7 @@ fn fits(count: u8, last: &Certificate, anchor: &Certificate) -> bool
     agree(anchor.subject_key(), last.authority_key())
 }
 
-/// Whether two key identifiers are one, where both are given.
+/// Whether two key identifiers are one, if both are given.
 fn agree(a: Option<&[u8]>, b: Option<&[u8]>) -> bool
     ensures { result ≡ agree (option_copied a.entry) (option_copied b.entry) }
 {

@@ -11,15 +11,15 @@ const DIGITAL_SIGNATURE: u16 = 0x0001;
 /// Bit 5 of the key usages: the key signs certificates.
 const KEY_CERT_SIGN: u16 = 0x0020;
 
-/// Whether the key may sign a call's tokens: it has digitalSignature where it has key usages.
+/// Whether the key may sign a call's tokens: it has digitalSignature if it has key usages.
 pub(crate) fn may_sign(certificate: &Certificate) -> bool
     ensures { result ≡ may_sign certificate.now }
 {
     allows(certificate.usage(), DIGITAL_SIGNATURE)
 }
 
-/// Whether the key may sign certificates: it is a certificate authority's, and it has keyCertSign where
-/// it has key usages.
+/// Whether the key may sign certificates: it is a certificate authority's, and it has keyCertSign if it
+/// has key usages.
 pub(crate) fn may_certify(certificate: &Certificate) -> bool
     ensures { result ≡ may_certify certificate.now }
 {
@@ -30,7 +30,7 @@ pub(crate) fn may_certify(certificate: &Certificate) -> bool
     }
 }
 
-/// Whether the usage is among the key usages, where there are any.
+/// Whether the usage is among the key usages, if there are any.
 fn allows(usages: Option<u16>, usage: u16) -> bool
     ensures { result ≡ allows usages usage }
 {

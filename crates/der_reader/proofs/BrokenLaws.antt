@@ -1,4 +1,4 @@
--- Reading elements in order ends with a fault just where something is wrong with them.
+-- Reading elements in order ends with a fault exactly if something is wrong with them.
 use Rattle.std.proofs.Common.{◌≡◌, ◌↔◌, inl, inr, ℕ, ◌==◌, Bool, true, false, cond, List, length, Option, Some, None, Result, Ok, Err, refl, sym, ap, subst, ◌∙◌, arith}
 use Rattle.std.proofs.lemmas.Bool.Decides.{nat_tests}
 use Rattle.lists.proofs.Bytes.{no_byte}
@@ -13,7 +13,7 @@ use Rattle.der_reader.specs.Part.{ItemView, PartView, at_kind, element_at, end_a
 use Rattle.der_reader.proofs.NextLaws.{next_again, next_found}
 use Rattle.der_reader.proofs.PartLaws.{Begins, begins_with}
 
--- a reading ends with a fault just where this is wrong
+-- a reading ends with a fault exactly if this is wrong
 abbrev pub Tells : {A : Type 0} → Result A Fault → (Fault → Type 0) → Type 0
 Tells r Wrong = (fault : Fault) → (r ≡ Err fault) ↔ Wrong fault
 
@@ -36,7 +36,7 @@ last_tells (Err f) make Wrong tells fault = (
   λ w. ap (λ f. let r : Result _ Fault = Err f in r) (same_fault _ _ ((tells fault).1 w)),
 )
 
--- a test, and what is read behind it
+-- a test, and what is read after it
 pub tested : {A B : Type 0} (t : Bool) (x : B) (next : B → Result A Fault) (fault : Fault) → cond t (Ok x) (Err fault) >>= next ≡ cond t (next x) (Err fault)
 tested true x next fault = refl
 tested false x next fault = refl
@@ -60,7 +60,7 @@ unless_tells false item kind Good Wrong r test next fault = (
   λ w. elim w [ inl bad ↦ ap (λ f. let r : Result _ Fault = Err f in r) (sym bad.1) | inr so ↦ let k = test.1 so.0 in absurd cc ],
 )
 
--- one whose form is read, where any fault in it is this one
+-- one whose form is read; any fault in it becomes this one
 pub broken_tells : {A X E : Type 0} (r : Result X E) (item : ItemView) (kind : ℕ) (next : X → Result A Fault) (Good : ItemView → Type 0)
     (Wrong : ItemView → Fault → Type 0) → ((x : X) → r ≡ Ok x → Good item × Tells (next x) (Wrong item)) → (Good item → (x : X) × (r ≡ Ok x))
     → Tells (or_broken r (at_kind kind item.place) >>= next) (Unless Good kind Wrong item)
@@ -94,7 +94,7 @@ through_tells (Err f) part next Inner Good Wrong inner found again fault = (
   ],
 )
 
--- an end, and what is read elsewhere behind it
+-- an end, and what is read elsewhere after it
 pub at_end_tells : {A B : Type 0} (part : PartView) (v : B) (next : B → Result A Fault) (Wrong : Fault → Type 0) → Tells (next v) Wrong
     → Tells (end_at part v >>= next) (AtEnd Wrong part)
 at_end_tells part v next Wrong tells fault = of (length part.left == 0) refl
@@ -135,7 +135,7 @@ unreadable part fault e = of (next_at part.left) refl e
     of (Ok found) k e = cc
     of (Err broken) k e = record { broken = broken; read = k; is = sym (same_fault _ _ e) }
 
--- the first element, and what is wrong with it or behind it
+-- the first element, and what is wrong with it or after it
 pub first_tells : {A : Type 0} (part : PartView) (next : ItemView → Result A Fault) (Wrong : ItemView → Fault → Type 0) → AllBytes part.left
     → ((item : ItemView) → Begins part item → Tells (next item) (Wrong item)) → Tells (item_at part >>= next) (First Wrong part)
 unfolding item_at

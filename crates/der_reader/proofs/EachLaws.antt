@@ -1,4 +1,4 @@
--- Elements in order are what is read of them, are read as they are, and are refused just where one is wrong.
+-- Elements in order are what is read of them, are read as they are, and are refused exactly if one is wrong.
 use Rattle.std.proofs.Common.{◌≡◌, inl, inr, ℕ, zero, suc, ◌+◌, ◌<◌, ◌≤◌, ◌==◌, Bool, true, false, cond, List, [], ◌∷◌, ◌++◌, length, Option, Some, None, Result, Ok, Err, refl, sym, ap, subst, ◌∙◌, append_assoc, append-nil, length-append, arith}
 use Rattle.std.proofs.lemmas.Bool.Decides.{nat_tests}
 use Rattle.lists.specs.Given.{IsFaultOf}
@@ -52,7 +52,7 @@ here Text Adds Wrong start part fault some wrong =
       wrong = subst (λ n. First (Wrong start) (at part.left n) fault) place wrong;
     }
 
--- the first is taken, and this is so behind it
+-- the first is taken, and this is so after it
 behind_it : {S X : Type 0} (Text : List ℕ → X → Type 0) (Adds : S → X → S → Type 0) (Wrong : S → ItemView → Fault → Type 0) (start next : S) (part : PartView)
     (element : Element) (rest : List ℕ) (x : X) → BeginsWith part.left element rest → Text element.whole x → Adds start x next → (r : Result S Fault)
     → Is Text Adds Wrong next (at rest (part.place + length element.whole)) r → Is Text Adds Wrong start part r
@@ -115,7 +115,7 @@ each_is step Text Adds Wrong takes (suc room) start part l b = of (each_is step 
             (by_step s.element s.rest s.begins _ refl)
         by_item (Err fault) k = here Text Adds Wrong start part fault e (inl (unreadable part fault k))
 
--- what is read behind some that stand there
+-- what is read after some that are there
 each_on : {S X : Type 0} (step : S → ItemView → Result S Fault) (Text : List ℕ → X → Type 0) (Adds : S → X → S → Type 0) (Wrong : S → ItemView → Fault → Type 0)
     → Takes step Text Adds Wrong → (each : List X) (room : ℕ) (start : S) (text rest : List ℕ) (place : ℕ) (end : S) → length (text ++ rest) ≤ room
     → OneAfterAnother Text each text → ComeTo Adds start each end
@@ -156,7 +156,7 @@ unfolding each_up_to
 end_by step zero start part e = rw e refl
 end_by step (suc room) start part e = rw e refl
 
--- those that stand there are read
+-- those that are there are read
 pub each_again : {S X : Type 0} (step : S → ItemView → Result S Fault) (Text : List ℕ → X → Type 0) (Adds : S → X → S → Type 0) (Wrong : S → ItemView → Fault → Type 0)
     → Takes step Text Adds Wrong → (each : List X) (start : S) (part : PartView) (end : S) → OneAfterAnother Text each part.left → ComeTo Adds start each end
     → each_in step start part ≡ Ok end
@@ -166,7 +166,7 @@ each_again step Text Adds Wrong takes each start part end texts come =
     ap (λ (l : List ℕ). each_up_to step (length part.left) start (at l part.place)) (sym alone) ∙ on.2
     ∙ end_by step on.0 end (at [] (part.place + length part.left)) refl
 
--- where the first element is wrong, reading ends
+-- if the first element is wrong, reading ends
 stuck : {S X : Type 0} (step : S → ItemView → Result S Fault) (Text : List ℕ → X → Type 0) (Adds : S → X → S → Type 0) (Wrong : S → ItemView → Fault → Type 0)
     → Takes step Text Adds Wrong → (room : ℕ) (start : S) (part : PartView) (fault : Fault) → 1 ≤ length part.left → length part.left ≤ room → AllBytes part.left
     → First (Wrong start) part fault → each_up_to step room start part ≡ Err fault
@@ -219,7 +219,7 @@ pub record Left {S : Type 0} (step : S → ItemView → Result S Fault) (all : R
 pub at_first : {S : Type 0} (step : S → ItemView → Result S Fault) (start : S) (part : PartView) → Left step (each_in step start part) start part
 at_first step start part = record { room = length part.left; enough = omega arith; gives = refl }
 
--- where nothing is left, all was taken
+-- if nothing is left, all was taken
 pub at_end : {S : Type 0} (step : S → ItemView → Result S Fault) (all : Result S Fault) (now : S) (part : PartView) → Left step all now part
     → length part.left == 0 ≡ true → all ≡ Ok now
 at_end step all now part l e = sym l.gives ∙ end_by step l.room now part e
@@ -231,7 +231,7 @@ unfolding each_up_to
 one_by step zero now part l e = absurd (grind (arith, nat_tests, l, e))
 one_by step (suc room) now part l e = (room, refl, rw e refl)
 
--- what is left behind one more, with it
+-- what is left after one more, with it
 pub one_more : {S : Type 0} (step : S → ItemView → Result S Fault) (all : Result S Fault) (now more : S) (part : PartView) (item : ItemView) → Left step all now part
     → length part.left == 0 ≡ false → item_at part ≡ Ok item → length item.behind.left < length part.left → step now item ≡ Ok more
     → Left step all more item.behind
@@ -243,7 +243,7 @@ one_more step all now more part item l e i less w =
       gives = sym (one.2 ∙ after (item_at part) item _ _ i (ap (λ r. r >>= λ more. each_up_to step one.0 more item.behind) w)) ∙ l.gives;
     }
 
--- an element that can't be read ends all, and so does one that is refused; want of memory is free
+-- an element that can't be read ends all, and so does one that is refused, unless memory runs out
 pub cut_off : {S : Type 0} (step : S → ItemView → Result S Fault) (all : Result S Fault) (now : S) (part : PartView) (fault : Fault) → Left step all now part
     → length part.left == 0 ≡ false → item_at part ≡ Err fault → all ≡ Err fault
 cut_off step all now part fault l e i =

@@ -21,11 +21,11 @@ from_front a i [] l = absurd (omega arith)
 from_front a zero (x ∷ xs) l = omega (arith, from_grows (a * 256 + x) xs)
 from_front a (suc i) (x ∷ xs) l = from_front (a * 256 + x) i xs (omega arith)
 
--- a front is 256 times smaller, at least
+-- a prefix is 256 times smaller, at least
 pub front_below : (i : ℕ) (bytes : List ℕ) → i < length bytes → big_endian (take i bytes) * 256 ≤ big_endian bytes
 front_below i bytes l = from_front 0 i bytes l
 
--- nothing is left of 32 zeros behind the last
+-- nothing is left of 32 zeros after the last
 no_zeros_left : (a : ℕ) → a ≤ 32 → drop {A = ℕ} (32 - a) (drop a (replicate 32 0)) ≡ []
 no_zeros_left a l =
     let zeros : List ℕ = replicate 32 0 in
@@ -35,7 +35,7 @@ no_zeros_left a l =
     let none : replicate {A = ℕ} (32 - (a + (32 - a))) 0 ≡ [] = ap (λ n. replicate n 0) past in
     after ∙ left ∙ none
 
--- what is written behind a zeros, 32 bytes in all
+-- what is written after a zeros, 32 bytes in all
 behind : (a : ℕ) (digits written : List ℕ) → a ≤ 32 → written ≡ digits
     → put_mid a (32 - a) (replicate 32 0) written ≡ replicate a 0 ++ digits
 behind a digits written l e =
@@ -49,7 +49,7 @@ pub behind_zeros : (digits written : List ℕ) → length digits ≤ 32 → writ
     ≡ replicate (32 - length digits) 0 ++ digits
 behind_zeros digits written l e = behind (32 - length digits) digits written (omega arith) e
 
--- bytes behind a number are worth their powers
+-- bytes after a number are worth their powers
 from_power : (a : ℕ) (bytes : List ℕ) → a * 256 ^ length bytes ≤ from a bytes
 from_power a [] = omega arith
 from_power a (x ∷ xs) =
@@ -63,7 +63,7 @@ from_power a (x ∷ xs) =
         let same : a * q ≡ a * (256 * p) = ap (λ n. a * n) e in
         omega (arith, products, same, l)
 
--- more than 32 bytes without zeros in front are 2 ^ 256 at least
+-- more than 32 bytes that don't begin with a zero are 2 ^ 256 at least
 long_digits : (first : ℕ) (rest : List ℕ) → 0 < first → 32 ≤ length rest → 2 ^ 256 ≤ big_endian (first ∷ rest)
 long_digits first rest s l =
     let below : (0 * 256 + first) * 256 ^ length rest ≤ big_endian (first ∷ rest) = from_power (0 * 256 + first) rest in
@@ -131,12 +131,12 @@ pub unsigned_again : (tag : ℕ) (content : List ℕ) (number : ℕ) → tag ≡
 unfolding unsigned_of
 unsigned_again tag content number t text l = grind (arith, nat_tests)
 
--- zeros in front change no number
+-- zeros at the beginning change no number
 zeros_in_front : (k : ℕ) (digits : List ℕ) → big_endian (replicate k 0 ++ digits) ≡ big_endian digits
 zeros_in_front zero digits = refl
 zeros_in_front (suc k) digits = zeros_in_front k digits
 
--- the byte 00 in front changes no number
+-- the byte 00 at the beginning changes no number
 big_endian-magnitude : (content : List ℕ) → big_endian (magnitude content) ≡ big_endian content
 big_endian-magnitude [] = refl
 big_endian-magnitude (x ∷ []) = ap big_endian is

@@ -78,7 +78,7 @@ content_large (suc k) l =
     large_is k (suc k) l
     ∙ ap (λ front. front ++ suc k % 256 ∷ []) (enough k (suc k / 256) (suc k / 256) (omega (arith, l)) (omega arith))
 
--- the last byte behind the others
+-- the last byte after the others
 pub large_written : (old front new : List ℕ) (n : ℕ) → (n < 128 → ⊥) → front ≡ old ++ integer_content (n / 256)
     → new ≡ front ++ n % 256 ∷ [] → new ≡ old ++ integer_content n
 large_written old front new n l f e =

@@ -48,7 +48,7 @@ pub header_again_two : (tag a b : ℕ) (more : List ℕ) → bit_and tag 31 ≢ 
 unfolding header_at
 header_again_two tag a b more t l = grind (arith, nat_tests, common_steps)
 
--- what stands behind a tag that isn't high
+-- what comes after a tag that isn't high
 behind_tag : (t s : ℕ) (rest : List ℕ) (h : Header) → header_at (t ∷ s ∷ rest) ≡ Ok h → bit_and t 31 ≢ 31
 unfolding header_at
 behind_tag t s rest h e = grind (arith, nat_tests, common_steps)
@@ -138,7 +138,7 @@ found_two t (x ∷ y ∷ more) h b e =
       text = ap (λ l. t ∷ l) (sym (two_digits x y l uy));
     })
 
--- what `header_at` gives is tag and length as they stand there
+-- what `header_at` gives is tag and length as they are written there
 pub header_found : (bytes : List ℕ) (h : Header) → AllBytes bytes → header_at bytes ≡ Ok h → HeaderText bytes h
 header_found [] h b e = absurd (no_byte h e)
 header_found (t ∷ []) h b e = absurd (one_byte t h e)
@@ -172,7 +172,7 @@ header_again t n more low small = elim (sizes n) [
 
 -- ---- the element
 
--- what is cut off the front, by tag and length
+-- the element that is cut off, by tag and length
 abbrev cut_element : List ℕ → Header → Element
 cut_element bytes h = record {
   tag = h.tag;
@@ -368,7 +368,7 @@ pub half_wanting : (t a : ℕ) → bit_and t 31 ≢ 31 → next_at (t ∷ 130 �
 unfolding next_at header_at
 half_wanting t a low = grind (arith, nat_tests, common_steps)
 
--- what reading a front of tag, length and content gives, by the bytes of the length
+-- what reading a prefix of tag, length and content gives, by the bytes of the length
 abbrev Short : List ℕ → Type 0
 Short front = next_at front ≡ Err (short_at (length front))
 
@@ -403,7 +403,7 @@ front_three t a b content (c ∷ d ∷ f ∷ rest) more low l size e some =
     subst (λ c. Short (t ∷ c ∷ d ∷ f ∷ rest)) is (subst (λ d. Short (t ∷ 130 ∷ d ∷ f ∷ rest)) then (subst (λ f. Short (t ∷ 130 ∷ a ∷ f ∷ rest)) last
     (too_short (t ∷ 130 ∷ a ∷ b ∷ rest) _ (header_again_two t a b rest low l) (omega (arith, size, some, ap length left, length-append rest more)))))
 
--- a front of an element ends before the element does
+-- a prefix of an element ends before the element does
 pub front_short : (tag : ℕ) (whole content front more : List ℕ) → Elem whole tag content → whole ≡ front ++ more → 1 ≤ length more
     → next_at front ≡ Err (short_at (length front))
 front_short tag whole content [] more elem split some = nothing

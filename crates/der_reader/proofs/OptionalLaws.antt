@@ -16,7 +16,7 @@ use Rattle.der_reader.proofs.PartLaws.{ok_is, some_front}
 
 -- ---- the element
 
--- what was found, and that it and what stands behind it are bytes
+-- what was found, and that it and what comes after it are bytes
 pub record Optional (tag : ℕ) (text : List ℕ) (found : Option Element × List ℕ) : Type 0 where
   pub begins : MayBeginWith tag text found.0 found.1
   pub rest_bytes : AllBytes found.1

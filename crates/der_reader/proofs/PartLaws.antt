@@ -1,4 +1,4 @@
--- Laws of elements one after another: each is what stands there, and what stands there is read.
+-- Laws of elements one after another: each is what is there, and what is there is read.
 use Rattle.std.proofs.Common.{◌≡◌, ◌≢◌, ℕ, ◌+◌, ◌<◌, ◌≤◌, ◌^◌, ◌==◌, ◌&&◌, true, false, List, [], ◌++◌, length, bit_and, Option, Some, None, Result, Ok, Err, refl, sym, ap, subst, ◌∙◌, length-append, append-nil, arith}
 use Rattle.std.proofs.lemmas.Bool.Decides.{nat_tests}
 use Rattle.lists.proofs.Bytes.{no_byte}
@@ -48,7 +48,7 @@ pub unbroken : {A E : Type 0} (r : Result A E) (broken : Fault) (x : A) → or_b
 unbroken (Ok y) broken x e = let k : y ≡ x = cc in ap (λ y. let r : Result _ _ = Ok y in r) k
 unbroken (Err f) broken x e = cc
 
--- what was read, where another fault would be this one
+-- what was read, if another fault would be this one
 pub kept : {A E : Type 0} (r : Result A E) (broken : Fault) (x : A) → r ≡ Ok x → or_broken r broken ≡ Ok x
 kept r broken x e = ap (λ r. or_broken r broken) e
 
@@ -65,7 +65,7 @@ ends part v e = let test : length part.left == 0 ≡ true = ap (λ l. length l =
 
 -- ---- an element
 
--- the part begins with this element, and this is what stands behind it
+-- the part begins with this element, and this is what comes after it
 pub record Begins (part : PartView) (item : ItemView) : Type 0 where
   pub elem : Elem item.whole item.tag item.content.left
   pub split : part.left ≡ item.whole ++ item.behind.left
@@ -115,7 +115,7 @@ pub element_came : {A C : Type 0} (tag : ℕ) (part : PartView) (next : ItemView
     → ((item : ItemView) → Begins part item × (item.tag ≡ tag) → next item ≡ Ok x → C) → C
 element_came tag part next x b e follows = came_by (element_at tag part) next x e (λ item r. follows item (element_found tag part item b r))
 
--- its text, and what stands behind it
+-- its text, and what comes after it
 pub begins_text : (tag : ℕ) (part : PartView) (item : ItemView) → Begins part item × (item.tag ≡ tag)
     → part.left ≡ element_text tag item.content.left ++ item.behind.left
 begins_text tag part item b =
@@ -135,7 +135,7 @@ alone tag part item b none =
     let whole : part.left ≡ item.whole = b.0.split ∙ ap (λ r. item.whole ++ r) none ∙ append-nil item.whole in
     subst (λ w. Elem w tag item.content.left) (sym whole) (subst (λ t. Elem item.whole t item.content.left) b.1 b.0.elem)
 
--- what stands at this place is read
+-- what is at this place is read
 pub item_stands : (tag : ℕ) (text content rest : List ℕ) (place : ℕ) → Elem text tag content
     → item_at (record { left = text ++ rest; place = place })
     ≡ Ok (item_in place (record { tag = tag; whole = text; content = content }) rest)
@@ -152,7 +152,7 @@ element_stands tag text content rest place elem =
     let test : tag == tag ≡ true = grind (arith, nat_tests) in
     after (item_at (record { left = text ++ rest; place = place })) _ _ _ (item_stands tag text content rest place elem) (rw test refl)
 
--- an element that stands alone
+-- an element that is alone
 pub item_alone : (tag : ℕ) (text content : List ℕ) (place : ℕ) → Elem text tag content
     → item_at (record { left = text; place = place }) ≡ Ok (item_in place (record { tag = tag; whole = text; content = content }) [])
 item_alone tag text content place elem =
@@ -177,7 +177,7 @@ some_bytes tag text content elem =
     let some : 0 < length text = omega (arith, ap length elem.text) in
     grind (arith, nat_tests)
 
--- the element of this tag and content that stands there
+-- the element of this tag and content that is there
 abbrev pub standing : ℕ → List ℕ → List ℕ → ℕ → ItemView
 standing tag content rest place = item_in place (record { tag = tag; whole = element_text tag content; content = content }) rest
 

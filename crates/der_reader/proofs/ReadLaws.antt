@@ -1,4 +1,4 @@
--- One pass over a reading: what it gives is so, and it ends with a fault just where something is wrong.
+-- One pass over a reading: what it gives is so, and it ends with a fault exactly if something is wrong.
 use Rattle.std.proofs.Common.{◌≡◌, ◌↔◌, ℕ, Bool, true, cond, List, [], Option, Some, Result, Ok, Err, refl, sym, ap, subst, ◌∙◌}
 use Rattle.lists.specs.Steps.{◌>>=◌}
 use Rattle.lists.proofs.StepLaws.{inside, taken}

@@ -86,7 +86,7 @@ unreadable_again bytes fault (content_cut tag size content is low small few e) =
 abbrev IsHeaded : List ℕ → Type 0
 IsHeaded bytes = ((fault : DerFault) × Unreadable bytes fault) ⊎ ((h : Header) × (header_at bytes ≡ Ok h))
 
--- behind 81
+-- after 81
 one_headed : (tag : ℕ) (behind : List ℕ) → bit_and tag 31 ≢ 31 → IsHeaded (tag ∷ 129 ∷ behind)
 one_headed tag [] low = inl (fault_at 1 2, length_cut tag 129 1 [] refl low (inl (refl, refl)) (omega arith) refl)
 one_headed tag (a ∷ behind) low = elim (sizes a) [
@@ -97,7 +97,7 @@ one_headed tag (a ∷ behind) low = elim (sizes a) [
     sizes : (n : ℕ) → (n < 128) ⊎ (128 ≤ n)
     sizes n = grind arith
 
--- behind 82
+-- after 82
 two_headed : (tag : ℕ) (behind : List ℕ) → AllBytes (tag ∷ 130 ∷ behind) → bit_and tag 31 ≢ 31 → IsHeaded (tag ∷ 130 ∷ behind)
 two_headed tag [] b low = inl (fault_at 1 2, length_cut tag 130 2 [] refl low (inr (refl, refl)) (omega arith) refl)
 two_headed tag (a ∷ []) b low = inl (fault_at 1 3, length_cut tag 130 2 (a ∷ []) refl low (inr (refl, refl)) (omega arith) refl)
@@ -137,7 +137,7 @@ headed (tag ∷ behind) b = elim (highs (bit_and tag 31)) [
     highs : (n : ℕ) → (n ≡ 31) ⊎ (n ≢ 31)
     highs n = grind arith
 
--- where tag and length are there, the content isn't
+-- if tag and length are there, the content isn't
 content_missing : (bytes : List ℕ) (h : Header) (fault : DerFault) → HeaderText bytes h → content_at bytes h ≡ Err fault → Unreadable bytes fault
 content_missing bytes h fault text e = of (nat_lt (length bytes) (h.size + h.content_size)) refl e
   where

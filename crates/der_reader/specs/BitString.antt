@@ -14,7 +14,7 @@ pub record BitText (content : List ℕ) (unused : ℕ) (bytes : List ℕ) : Type
   pub empty : bytes ≡ [] → unused ≡ 0
   pub zeros : slice_index bytes (length bytes - 1) % 2 ^ unused ≡ 0
 
--- bit number i of a string, where bit 0 is the highest of the first byte (X.690, section 8.6.2)
+-- bit number i of a string; bit 0 is the highest of the first byte (X.690, section 8.6.2)
 abbrev pub string_bit : List ℕ → ℕ → ℕ
 string_bit bytes i = bit_at (slice_index bytes (i / 8)) (7 - i % 8)
 

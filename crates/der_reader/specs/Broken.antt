@@ -1,4 +1,4 @@
--- Why elements in order can't be read: the first of them, in the order in which they stand, that is no element or isn't as it has to be. Places
+-- Why elements in order can't be read: the first of them, in the order in which they come, that is no element or isn't as it has to be. Places
 -- count from the whole text's first byte. This is this project's own rule.
 use Rattle.std.specs.Prelude.{◌≡◌, ◌⊎◌, ℕ, ◌+◌, ◌≤◌, List, [], length, Err}
 use Rattle.der_reader.specs.declared.fault.DerFault.{DerFault}
@@ -7,13 +7,13 @@ use Rattle.der_reader.specs.Elem.{BeginsWith, Element}
 use Rattle.der_reader.specs.Next.{next_at}
 use Rattle.der_reader.specs.Part.{ItemView, PartView, at_kind, item_in}
 
--- no element can be read where the part begins; the fault stands as far behind the part's place as in the part
+-- no element can be read where the part begins; the fault is as far after the part's place as in the part
 pub record IsUnreadable (part : PartView) (fault : Fault) : Type 0 where
   pub broken : DerFault
   pub read : next_at part.left ≡ Err broken
   pub is : fault ≡ at_kind 1 (part.place + broken.place)
 
--- an element stands first in the part, and this is wrong with it or with what stands behind it
+-- an element comes first in the part, and this is wrong with it or with what comes after it
 pub record IsWrongFirst (Wrong : ItemView → Fault → Type 0) (part : PartView) (fault : Fault) : Type 0 where
   pub element : Element
   pub rest : List ℕ
@@ -31,11 +31,11 @@ Unless Good kind Wrong item fault = ((Good item → ⊥) × (fault ≡ at_kind k
 abbrev pub IsTagged : ℕ → ItemView → Type 0
 IsTagged tag item = item.tag ≡ tag
 
--- this is wrong with what stands behind the element
+-- this is wrong with what comes after the element
 abbrev pub Behind : (PartView → Fault → Type 0) → ItemView → Fault → Type 0
 Behind Wrong item fault = Wrong item.behind fault
 
--- the first element has to be so, and another is a fault of this kind where it begins; or it is so, and this is wrong behind it
+-- the first element has to be so, and another is a fault of this kind where it begins; or it is so, and this is wrong after it
 abbrev pub Followed : (ItemView → Type 0) → ℕ → (PartView → Fault → Type 0) → PartView → Fault → Type 0
 Followed Good kind Wrong = First (Unless Good kind (Behind Wrong))
 

@@ -48,7 +48,7 @@ pub record BeginsWithOther (tag : ℕ) (bytes : List ℕ) : Type 0 where
   pub begins : BeginsWith bytes element rest
   pub other : element.tag ≢ tag
 
--- an element of this tag that may be absent, and what stands behind it; absent, all bytes stand there: none, or an element of another tag first
+-- an element of this tag that may be absent, and what comes after it; if it is absent, that is all bytes: none, or an element of another tag first
 abbrev pub MayBeginWith : ℕ → List ℕ → Option Element → List ℕ → Type 0
 MayBeginWith tag bytes (Some element) rest = BeginsWith bytes element rest × (element.tag ≡ tag)
 MayBeginWith tag bytes None rest = (rest ≡ bytes) × ((bytes ≡ []) ⊎ BeginsWithOther tag bytes)

@@ -34,7 +34,7 @@ abbrev pub magnitude : List ℕ → List ℕ
 magnitude content =
     if nat_lt 1 (length content) && (slice_index content 0 == 0) then drop 1 content else content
 
--- what `Der::scalar` reads: an INTEGER (tag 02) of at most 32 bytes, behind zeros
+-- what `Der::scalar` reads: an INTEGER (tag 02) of at most 32 bytes, after zeros
 unfoldable pub scalar_of : ℕ → List ℕ → Result (List ℕ) DerFault
 scalar_of tag content =
     if (tag == integer_tag) && is_integer_text content && nat_le (length (magnitude content)) 32

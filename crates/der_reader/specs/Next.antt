@@ -1,4 +1,4 @@
--- What reading one element off the front of some bytes gives, with the ordered table of its faults.
+-- What reading the element that some bytes begin with gives, with the ordered table of its faults.
 use Rattle.std.specs.Prelude.{ℕ, ◌+◌, ◌*◌, ◌&&◌, ◌==◌, List, length, take, drop, nat_lt, slice_index, bit_and, Option, Some, None, Result, Ok, Err, if◌then◌else◌}
 use Rattle.std.specs.Borrow.{Bor}
 use Rattle.std.specs.Option.{option_map}
@@ -15,14 +15,14 @@ abbrev short_header : List ℕ → Result Header DerFault
 short_header bytes =
     Ok (record { tag = slice_index bytes 0; size = 2; content_size = slice_index bytes 1 })
 
--- The length of one byte behind 81: it is the shortest from 0x80 on.
+-- The length of one byte after 81: it is the shortest from 0x80 on.
 abbrev one_byte_header : List ℕ → Result Header DerFault
 one_byte_header bytes =
     if nat_lt (length bytes) 3 then Err (short_at (length bytes))
     else (if nat_lt (slice_index bytes 2) 0x80 then Err (bad_length_at 1)
     else Ok (record { tag = slice_index bytes 0; size = 3; content_size = slice_index bytes 2 }))
 
--- The length of two bytes behind 82: it is the shortest from 0x0100 on.
+-- The length of two bytes after 82: it is the shortest from 0x0100 on.
 abbrev two_byte_header : List ℕ → Result Header DerFault
 two_byte_header bytes =
     if nat_lt (length bytes) 4 then Err (short_at (length bytes))
@@ -45,7 +45,7 @@ header_at bytes =
     else (if slice_index bytes 1 == 0x82 then two_byte_header bytes
     else Err (bad_length_at 1))))))
 
--- the element that the bytes begin with and the rest, where the content is all there
+-- the element that the bytes begin with and the rest, if the content is all there
 abbrev pub content_at : List ℕ → Header → Result (Element × List ℕ) DerFault
 content_at bytes header =
     if nat_lt (length bytes) (header.size + header.content_size) then Err (short_at (length bytes))
@@ -58,7 +58,7 @@ content_at bytes header =
       drop (header.size + header.content_size) bytes,
     )
 
--- what behind tag and length follows, or their fault
+-- what follows tag and length, or their fault
 abbrev pub next_behind : List ℕ → Result Header DerFault → Result (Element × List ℕ) DerFault
 next_behind bytes (Ok header) = content_at bytes header
 next_behind bytes (Err fault) = Err fault
@@ -72,7 +72,7 @@ abbrev pub next_view : Result (Der × Bor (List ℕ)) DerFault → Result (Eleme
 next_view (Ok found) = Ok (element_of found.0, found.1.now)
 next_view (Err fault) = Err fault
 
--- the one element that the bytes are, where it has this tag
+-- the one element that the bytes are, if it has this tag
 unfoldable pub sole_at : ℕ → List ℕ → Result Element DerFault
 sole_at tag bytes = do
   found ← next_at bytes
@@ -83,11 +83,11 @@ abbrev pub sole_view : Result Der DerFault → Result Element DerFault
 sole_view (Ok der) = Ok (element_of der)
 sole_view (Err fault) = Err fault
 
--- the first element, where it has this tag, and what is behind it; else the bytes as they are
+-- the first element, if it has this tag, and what comes after it; else the bytes as they are
 abbrev pub tagged_or : ℕ → List ℕ → Element × List ℕ → Option Element × List ℕ
 tagged_or tag bytes found = if found.0.tag == tag then (Some found.0, found.1) else (None, bytes)
 
--- an element of this tag that may be absent, and what is behind it
+-- an element of this tag that may be absent, and what comes after it
 unfoldable pub optional_at : ℕ → List ℕ → Result (Option Element × List ℕ) DerFault
 optional_at tag bytes = if length bytes == 0 then Ok (None, bytes) else (next_at bytes >>= λ found. Ok (tagged_or tag bytes found))
 

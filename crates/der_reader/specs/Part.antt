@@ -23,7 +23,7 @@ pub record PartView : Type 0 where
 abbrev pub whole_text : List ℕ → PartView
 whole_text bytes = record { left = bytes; place = 0 }
 
--- an element: its tag, all its bytes, its place in the whole text, its content, and what stands behind it in the element
+-- an element: its tag, all its bytes, its place in the whole text, its content, and what comes after it in the element
 -- around it
 pub record ItemView : Type 0 where
   pub tag : ℕ
@@ -32,7 +32,7 @@ pub record ItemView : Type 0 where
   pub content : PartView
   pub behind : PartView
 
--- the element at this place, and what stands behind it
+-- the element at this place, and what comes after it
 abbrev pub item_in : ℕ → Element → List ℕ → ItemView
 item_in place element rest = record {
   tag = element.tag;
@@ -42,7 +42,7 @@ item_in place element rest = record {
   behind = record { left = rest; place = place + length element.whole };
 }
 
--- the element that a part begins with; a fault stands as far behind the part's place as in the part
+-- the element that a part begins with; a fault is as far after the part's place as in the part
 abbrev pub item_from : ℕ → Result (Element × List ℕ) DerFault → Result ItemView Fault
 item_from place (Ok found) = Ok (item_in place found.0 found.1)
 item_from place (Err fault) = Err (at_kind 1 (place + fault.place))
@@ -50,7 +50,7 @@ item_from place (Err fault) = Err (at_kind 1 (place + fault.place))
 unfoldable pub item_at : PartView → Result ItemView Fault
 item_at part = item_from part.place (next_at part.left)
 
--- the same, where it has this tag
+-- the same, if it has this tag
 unfoldable pub element_at : ℕ → PartView → Result ItemView Fault
 element_at tag part = do
   item ← item_at part
@@ -65,7 +65,7 @@ abbrev pub or_fault : {A : Type 0} → Option A → Fault → Result A Fault
 or_fault (Some value) fault = Ok value
 or_fault None fault = Err fault
 
--- what is read, where any fault in it is this one
+-- what is read; any fault in it becomes this one
 abbrev pub or_broken : {A E : Type 0} → Result A E → Fault → Result A Fault
 or_broken (Ok value) broken = Ok value
 or_broken (Err fault) broken = Err broken

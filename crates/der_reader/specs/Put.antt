@@ -1,4 +1,4 @@
--- What writing one element behind others leaves.
+-- What writing one element after others leaves.
 use Rattle.std.specs.Prelude.{◌≡◌, ℕ, List, ◌++◌, length, drop, Ok}
 use Rattle.der_reader.specs.Elem.{Elem}
 use Rattle.der_reader.specs.Next.{next_at}

@@ -42,7 +42,7 @@ pub record TimeText (tag : ℕ) (content : List ℕ) (seconds : ℤ) : Type 0 wh
 abbrev pub is_digit : ℕ → Bool
 is_digit byte = nat_le 48 byte && nat_le byte 57
 
--- the number of the two digits in front, and what follows them
+-- the number of the two digits that the text begins with, and what follows them
 unfoldable pub two_front : List ℕ → Result (ℕ × List ℕ) DerFault
 two_front text =
     if nat_le 2 (length text) && is_digit (slice_index text 0) && is_digit (slice_index text 1)

@@ -9,7 +9,7 @@ use Rattle.der_reader.specs.Fault.{fault_at}
 abbrev pub IsHighTag : ℕ → Type 0
 IsHighTag tag = bit_and tag 0x1F ≡ 0x1F
 
--- a first length byte of the long form, behind which so many bytes say the length (section 8.1.3.5); here one or two
+-- a first length byte of the long form, after which so many bytes say the length (section 8.1.3.5); here one or two
 abbrev pub IsLongForm : ℕ → ℕ → Type 0
 IsLongForm first count = ((first ≡ 0x81) × (count ≡ 1)) ⊎ ((first ≡ 0x82) × (count ≡ 2))
 

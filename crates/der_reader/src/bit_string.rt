@@ -66,7 +66,7 @@ fn flags_in(content: &[u8]) -> Result<u16, DerFault>
     }
 }
 
-/// Whether as many of the last bits are zero, where they are at most 7.
+/// Whether `unused` is at most 7, and so many of the last bits are zero.
 fn ends_in_zeros(byte: u8, unused: u8) -> bool
     ensures { result ≡ (nat_lt unused 8 && (byte % 2 ^ unused == 0)) }
 {

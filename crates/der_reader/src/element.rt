@@ -1,4 +1,4 @@
-//! One DER element off the front of some bytes (X.690, sections 8.1.2, 8.1.3 and 10.1).
+//! The DER element that some bytes begin with (X.690, sections 8.1.2, 8.1.3 and 10.1).
 
 ghost use Rattle.std.specs.Prelude.{◌≡◌, ◌+◌, ◌<◌, ◌≤◌, length, Err, IfOk, IfErr, IsOkAnd, List, ℕ};
 ghost use Rattle.der_reader.specs.Elem.{BeginsWith, Element, element_of};
@@ -18,7 +18,7 @@ pub struct Der<'a> {
     pub tag: u8,
     /// All bytes of the element: tag, length and content.
     pub whole: &'a [u8],
-    /// The bytes behind tag and length.
+    /// The bytes after tag and length.
     pub content: &'a [u8],
 }
 
@@ -33,7 +33,7 @@ struct Header {
 }
 
 impl<'a> Der<'a> {
-    /// The first element of `bytes` and the bytes behind it.
+    /// The first element of `bytes` and the bytes after it.
     ///
     /// Faults are tried in this order: no byte is `SHORT` at 0; a tag whose low five bits are all
     /// set is `TAG` at 0; no length byte is `SHORT` at 1; a first length byte of `80` or above `82`
@@ -95,7 +95,7 @@ impl<'a> Der<'a> {
 }
 
 impl Header {
-    /// Tag and length at the front of `bytes`.
+    /// The tag and length that `bytes` begin with.
     #[tactic(auto, unfolding(crate::specs::Next::header_at))]
     fn read(bytes: &[u8]) -> Result<Header, DerFault>
         ensures exact { result ≡ header_at bytes.now }

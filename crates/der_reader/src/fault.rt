@@ -11,7 +11,7 @@ use std::fmt;
 pub struct DerFault {
     /// `SHORT`, `TAG`, `LENGTH` or `VALUE`.
     pub kind: u8,
-    /// The offset, in bytes from the first one that was given, at which the fault stands.
+    /// The offset, in bytes from the first one that was given, at which the fault is.
     pub place: u32,
 }
 

@@ -78,7 +78,7 @@ fn number(bytes: &[u8]) -> Option<u64>
     Some(number)
 }
 
-/// The bytes of a number, without the byte 00 that stands before a high bit.
+/// The bytes of a number, without the byte 00 that comes before a high bit.
 fn without_sign(content: &[u8]) -> &[u8]
     ensures { result.now ≡ magnitude content.now }
 {
@@ -88,7 +88,7 @@ fn without_sign(content: &[u8]) -> &[u8]
     }
 }
 
-/// The bytes behind as many zeros as make them 32.
+/// The bytes after as many zeros as make them 32.
 fn padded(digits: &[u8]) -> [u8; 32]
     requires { length digits.now ≤ 32 }
     ensures { result ≡ replicate (32 - length digits.now) 0 ++ digits.now }

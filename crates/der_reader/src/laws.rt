@@ -8,14 +8,14 @@ ghost use Rattle.der_reader.specs.Integer.{IntegerText, big_endian, scalar_of, u
 ghost use Rattle.der_reader.specs.Next.{next_at};
 ghost use Rattle.der_reader.specs.Time.{TimeText, time_of};
 
-/// A front of bytes is bytes: the first of two texts that are joined, and the first so many of one.
+/// A prefix of bytes is bytes: the first of two texts that are joined, and the first so many of one.
 pub fn bytes_law()
     ensures front { (xs ys : List ℕ) → AllBytes (xs ++ ys) → AllBytes xs }
     ensures taken { (n : ℕ) (xs : List ℕ) → AllBytes xs → AllBytes (take n xs) }
 {}
 
-/// An element and the rest are read of bytes just where these begin with this element and go on with this rest (X.690, sections 8.1.2, 8.1.3
-/// and 10.1); a front of an element is cut short at its end. The rest is shorter, and it and the content are bytes where all are.
+/// An element and the rest are read from bytes exactly if these begin with this element and go on with this rest (X.690, sections 8.1.2, 8.1.3
+/// and 10.1). A prefix of an element is cut short at its end. The rest is shorter, and it and the content are bytes if all are.
 pub fn element_law()
     ensures again { (bytes : List ℕ) (element : Element) (rest : List ℕ) → BeginsWith bytes element rest → next_at bytes ≡ Ok (element, rest) }
     ensures found { (bytes : List ℕ) (found : Element × List ℕ) → AllBytes bytes → next_at bytes ≡ Ok found → BeginsWith bytes found.0 found.1 }
@@ -26,19 +26,19 @@ pub fn element_law()
         → AllBytes element.content × AllBytes rest }
 {}
 
-/// Bytes are read of a BIT STRING just where it is the string of these bytes without unused bits (X.690, section 8.6).
+/// Bytes are read from a BIT STRING exactly if it is the string of these bytes without unused bits (X.690, section 8.6).
 pub fn bit_string_law()
     ensures again { (tag : ℕ) (content bytes : List ℕ) → tag ≡ 3 → BitText content 0 bytes → bits_of tag content ≡ Ok bytes }
     ensures found { (tag : ℕ) (content bytes : List ℕ) → bits_of tag content ≡ Ok bytes → (tag ≡ 3) × BitText content 0 bytes }
 {}
 
-/// A truth value is read of a BOOLEAN just where the content is the one text of it (X.690, sections 8.2 and 11.1).
+/// A truth value is read from a BOOLEAN exactly if the content is the one text of it (X.690, sections 8.2 and 11.1).
 pub fn boolean_law()
     ensures again { (tag : ℕ) (content : List ℕ) (truth : Bool) → tag ≡ 1 → content ≡ boolean_text truth → boolean_of tag content ≡ Ok truth }
     ensures found { (tag : ℕ) (content : List ℕ) (truth : Bool) → boolean_of tag content ≡ Ok truth → (tag ≡ 1) × (content ≡ boolean_text truth) }
 {}
 
-/// A number below 2^64 is read of an INTEGER just where the content is this number in its fewest bytes, and what is read of one as 32 bytes
+/// A number below 2^64 is read from an INTEGER exactly if the content is this number in its fewest bytes. What is read from one as 32 bytes
 /// is its number (X.690, section 8.3).
 pub fn integer_law()
     ensures unsigned_again { (tag : ℕ) (content : List ℕ) (number : ℕ) → tag ≡ 2 → IntegerText content number → number < 2 ^ 64
@@ -49,7 +49,7 @@ pub fn integer_law()
         → (tag ≡ 2) × (length bytes ≡ 32) × IntegerText content (big_endian bytes) }
 {}
 
-/// Seconds are read of a time just where it says a moment that there is, which is so many seconds from 1970 (X.690, sections 11.7 and 11.8;
+/// Seconds are read from a time exactly if it says a moment that exists, which is so many seconds from 1970 (X.690, sections 11.7 and 11.8;
 /// RFC 5280, section 4.1.2.5).
 pub fn time_law()
     ensures again { (tag : ℕ) (content : List ℕ) (s : ℤ) → TimeText tag content s → time_of tag content ≡ Ok s }

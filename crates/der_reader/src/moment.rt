@@ -20,7 +20,7 @@ pub struct Moment {
 }
 
 impl Moment {
-    /// The seconds since 1970-01-01 00:00:00 UTC, or `VALUE` where there is no such date or time of
+    /// The seconds since 1970-01-01 00:00:00 UTC, or `VALUE` if there is no such date or time of
     /// day.
     #[tactic(auto, unfolding(crate::specs::Moment::seconds_of, crate::specs::Moment::day_of, crate::specs::Moment::unix_seconds))]
     pub fn unix_seconds(self) -> Result<i64, DerFault>
@@ -38,7 +38,7 @@ impl Moment {
     }
 }
 
-/// The day number of a year, month and day, or `VALUE` where there is no such date.
+/// The day number of a year, month and day, or `VALUE` if there is no such date.
 #[tactic(auto, unfolding(crate::specs::Moment::day_of))]
 fn day_number(year: u16, month: u8, day: u8) -> Result<i32, DerFault>
     requires digits { (year ≤ 9999) × (month < 100) × (day < 100) }

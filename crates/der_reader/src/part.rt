@@ -9,7 +9,7 @@ use crate::element::Der;
 pub struct Fault {
     /// What is broken, by the format's own numbers; 1 is `DER`.
     pub kind: u8,
-    /// The offset, in bytes from the whole text's first one, at which it stands.
+    /// The offset, in bytes from the whole text's first one, at which it is.
     pub place: u32,
 }
 
@@ -46,7 +46,7 @@ pub struct Item<'a> {
     pub place: u32,
     /// The place of its content.
     pub inside: u32,
-    /// What stands behind it in the part.
+    /// What comes after it in the part.
     pub behind: Part<'a>,
     ghost small: { place + length der.whole.now < 2 ^ 32 },
     ghost ends: { inside + length der.content.now ≡ place + length der.whole.now },
@@ -55,8 +55,8 @@ pub struct Item<'a> {
 impl<'a> Part<'a> {
     ghost use Rattle.der_reader.specs.Part.{item_at, element_at, end_at, part_of, item_of, item_view, end_of, content_end};
 
-    /// The element that the part begins with. One that can't be read is `DER` at the place of its fault, which is that of
-    /// the part's end where the element is cut short.
+    /// The element that the part begins with. One that can't be read is `DER` at the place of its fault, which is the part's
+    /// end if the element is cut short.
     #[tactic(auto, unfolding(crate::specs::Part::item_at), using(crate::proofs::PartLaws::element_sizes))]
     pub fn item(&self) -> Result<Item<'a>, Fault>
         ensures exact { item_view result ≡ item_at (part_of self.now) }
@@ -80,7 +80,7 @@ impl<'a> Part<'a> {
         }
     }
 
-    /// The element that the part begins with, where it has this tag; another is `DER` where it begins.
+    /// The element that the part begins with, if it has this tag; another is `DER` where it begins.
     #[tactic(auto, unfolding(crate::specs::Part::element_at))]
     pub fn element(&self, tag: u8) -> Result<Item<'a>, Fault>
         ensures exact { item_view result ≡ element_at tag (part_of self.now) }
@@ -97,7 +97,7 @@ impl<'a> Part<'a> {
         }
     }
 
-    /// The value, where nothing is left; bytes left over are `DER` at the first of them.
+    /// The value, if nothing is left; bytes left over are `DER` at the first of them.
     pub fn end<T: Drop>(&self, value: T) -> Result<T, Fault>
         ensures exact { result ≡ end_at (part_of self.now) value }
         ensures place { IfErr result (λ fault. fault.place ≤ end_of self.now) }
@@ -115,7 +115,7 @@ impl<'a> Part<'a> {
 pub struct Outer<'a> {
     /// The element.
     pub der: Der<'a>,
-    /// What stands behind it in the text.
+    /// What comes after it in the text.
     pub behind: &'a [u8],
     ghost small: { length der.whole.now < 2 ^ 17 },
     ghost sizes: { length der.content.now ≤ length der.whole.now },
@@ -154,7 +154,7 @@ impl<'a> Outer<'a> {
         }
     }
 
-    /// The fault of bytes behind the element: `DER` at the first of them.
+    /// The fault of bytes after the element: `DER` at the first of them.
     pub fn left_over(&self) -> Fault
         ensures { result ≡ at_kind 1 (outer_of self.now).behind.place }
     {

@@ -10,8 +10,8 @@ use crate::moment::Moment;
 use crate::tags::{GENERALIZED_TIME, UTC_TIME};
 
 impl<'a> Der<'a> {
-    /// The Unix seconds of a UTCTime `YYMMDDhhmmssZ`, where a year of 50 and above is 19yy and
-    /// otherwise 20yy, or of a GeneralizedTime `YYYYMMDDhhmmssZ`.
+    /// The Unix seconds of a UTCTime `YYMMDDhhmmssZ`, whose years of 50 and above are 19yy and the
+    /// others 20yy, or of a GeneralizedTime `YYYYMMDDhhmmssZ`.
     ///
     /// Anything else is `VALUE` at 0, also a date that the Gregorian calendar doesn't have, an hour
     /// past 23, and a minute or a second past 59.
@@ -73,7 +73,7 @@ fn moment_of_year(year: u16, text: &[u8]) -> Result<Moment, DerFault>
     }
 }
 
-/// The number of the two decimal digits in front, and what follows them.
+/// The number of the two decimal digits that the text begins with, and what follows them.
 #[tactic(auto, unfolding(crate::specs::Time::two_front))]
 fn two_digits(text: &[u8]) -> Result<(u8, &[u8]), DerFault>
     ensures value { two_view result ≡ two_front text.now }

@@ -1,4 +1,4 @@
-//! One DER element behind what was written before (X.690, sections 8.1.2, 8.1.3 and 10.1).
+//! One DER element after what was written before (X.690, sections 8.1.2, 8.1.3 and 10.1).
 
 ghost use Rattle.std.specs.Prelude.{◌≡◌, ◌≢◌, ◌+◌, ◌≤◌, ◌<◌, ◌++◌, ◌∷◌, [], length, vec_len, vec_capacity, bit_and, OnOk, OnErr, IfOk, IsOk};
 ghost use Rattle.std.specs.Vec.{VecUnchanged};
@@ -12,7 +12,7 @@ use std::alloc::Global;
 /// Appends one element to `out`: tag, length and content, in DER's one form.
 ///
 /// The low five bits of the tag byte may not all be set, and the content is at most 65,535 bytes.
-/// `Memory` comes where there is no memory for the element, and then `out` is as it was.
+/// `Memory` comes if there is no memory for the element, and then `out` is as it was.
 pub fn put(out: &mut Vec<u8>, tag: u8, content: &[u8]) -> Result<(), Memory>
     requires low_tag { bit_and tag 0x1F ≢ 0x1F }
     requires size { length content.now ≤ 65535 }

@@ -6,7 +6,7 @@ use Rattle.drill_counts.specs.Counts.{more_if, no_counts, summary_of, with_all, 
 use Rattle.drill_counts.specs.Summary.{as_one, as_refused, as_replay, as_valid, count_as, is_refused, is_replay, is_valid, summary}
 use Rattle.drill_counts.specs.declared.counts.Counts.{Counts}
 
--- more calls behind those that were counted
+-- more calls after those that were counted
 pub all_both : (counts : Counts) (xs ys : List Outcome) → with_all counts (xs ++ ys) ≡ with_all (with_all counts xs) ys
 all_both counts [] ys = refl
 all_both counts (x ∷ xs) ys = all_both (with_one counts x) xs ys

@@ -121,7 +121,7 @@ record Spot (rounds : List Round) (at : ℕ) (row : Row) : Type 0 where
   stands : StandsIn rounds round place row
   is : at ≡ offset rounds round + place
 
--- it stands in the first rows or behind them
+-- it is in the first rows or after them
 record Behind (front rows : List Row) (at : ℕ) (row : Row) : Type 0 where
   place : ℕ
   stands : Stands rows place row

@@ -1,4 +1,4 @@
--- The counts of the summary, as they are kept call by call. A count stands still at its last value.
+-- The counts of the summary, as they are kept call by call. A count stays at its last value.
 use Rattle.std.specs.Prelude.{ℕ, Bool, true, false, List, [], ◌∷◌, ◌++◌, codes}
 use Rattle.stir_outside.specs.Count.{one_more}
 use Rattle.verify_service.specs.declared.outcome.Outcome.{Outcome}

@@ -8,7 +8,7 @@ use std::alloc::{AllocError, Global};
 use verify_rules::code;
 use verify_service::Outcome;
 
-/// How many calls there were, and what came of them. A count stands still at its last value.
+/// How many calls there were, and what came of them. A count stays at its last value.
 #[derive(Clone, Copy, Debug)]
 pub struct Counts {
     calls: u64,

@@ -62,7 +62,7 @@ judged_whole world config rounds whole = record {
 abbrev pub SameWorldLaw : Type 0
 SameWorldLaw = (world other : World) → SayTheSame world other → (call : Call) → First world call ≡ First other call
 
--- what was answered to a call that isn't set aside stands there too
+-- what was answered to a call that isn't set aside is its answer in the other world too
 carried : (world other : World) (call : Call) (outcome : Outcome) → First world call ≡ First other call → is_unread outcome ≡ false → is_unasked outcome ≡ false → IsJudged other call outcome
     → IsJudged world call outcome
 carried world other call Valid same read asked judged = same ∙ judged

@@ -1,4 +1,4 @@
--- The verifier of the drill, as it stands first.
+-- The verifier of the drill, as it is at first.
 use Rattle.std.proofs.Common.{◌≡◌, ℕ, List, [], Option, None, refl, sym, ap, subst}
 use Rattle.std.proofs.lemmas.Option.{none-some}
 use Rattle.cert_store.specs.Holding.{Chains}

@@ -28,7 +28,7 @@ use Rattle.stir_outside.specs.Ending.{EndsAs, memory_line}
 use Rattle.stir_outside.specs.Told.{AppendsFront}
 use Rattle.verify_service.specs.declared.outcome.Outcome.{Outcome}
 
--- ---- counts of faults that stand at 0
+-- ---- counts of faults that are 0
 
 none_risen : NotRisen 0 0
 none_risen = record { same = refl; below_last = λ e. absurd (omega (arith, e)) }
@@ -226,7 +226,7 @@ module _ (one : OneLog) (no_longer : NoLongerLog) (summed : (outcomes : List Out
       short = λ e. wrote_short (says.short e);
     }
 
--- memory was wanting before the log was begun
+-- memory ran out before the log was begun
 pub ended_short : (seed count workers : ℕ) (written written_now : Option (List ℕ)) (faults faults_now status : ℕ) → EndsAs written written_now faults faults_now status memory_line 6
     → DrillRan seed count workers written written_now faults faults_now status
 ended_short seed count workers written written_now faults faults_now status (inl e) = record {

@@ -75,7 +75,7 @@ pub record WroteFront (seed count workers : ℕ) (written written_now : Option (
   pub may_end : (end ≡ []) ⊎ (end ≡ memory_line)
   pub front : AppendsFront written written_now (text ++ end)
 
--- 6: memory was wanting, and a line says so
+-- 6: memory ran out, and a line says so
 pub record WroteShort (seed count workers : ℕ) (written written_now : Option (List ℕ)) : Type 0 where
   pub text : List ℕ
   pub may : MaySumUp seed count workers text

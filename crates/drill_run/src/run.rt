@@ -37,7 +37,7 @@ struct Ready {
 
 /// Makes the log of the seed with so many calls, judges it on so many workers by the files that are made with it, and writes the summary.
 ///
-/// The status is 0 if the summary was written, 4 if a write failed, and 6 if memory was wanting. It is none other, whatever came of the calls.
+/// The status is 0 if the summary was written, 4 if a write failed, and 6 if memory ran out. There is no other, whatever came of the calls.
 pub fn run_drill<R: Threads + Sync, O: Sink>(
     rt: &R,
     alloc: Global,

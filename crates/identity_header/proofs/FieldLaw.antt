@@ -45,7 +45,7 @@ uri_law n token = law_run Parts n is_uri_byte 2048 97 (λ uri t. byte_at 62 t >>
     (omega arith) refl (λ a f x u m. ap is_uri_byte (byte_head 62 x _ u m))
     (λ a h. law_mark Parts n 62 (params_at (start token a)) (Params token a) (params_law n token a))
 
--- blanks, a byte that isn't blank, and what stands behind it
+-- blanks, a byte that isn't blank, and what comes after it
 mark_law : (n c : ℕ) (r : List ℕ → Read Parts) (N : Parts → List ℕ → Type 0) → is_blank c ≡ false → Law Parts n r N
     → Law Parts n (λ t. byte_at c (skip is_blank t) >>= r) (λ f. Blanks ▹ Byte c ▹ N f)
 mark_law n c r N h l = law_blanks Parts n (λ t. byte_at c t >>= r) (λ f. Byte c ▹ N f)
@@ -77,7 +77,7 @@ token_law n = law_run Parts n is_digest_byte 8192 97 behind_token (λ digest f. 
     (λ a f x u m. not_of is_digest_byte 59 x refl refl refl (blanks_head 59 x _ u m))
     (λ a h. mark_law n 59 (λ u. word_at (codes "info") (skip is_blank u) >>= behind_word a) _ refl (word_law n a))
 
--- the steps of the reader of what stands before the parameters
+-- the steps of the reader of what comes before the parameters
 abbrev made : List ℕ → List ℕ → List ℕ → Read (Parts × List ℕ)
 made token info rest = Ok (start token info, rest)
 
@@ -135,7 +135,7 @@ field_found value f e = (law_field (length value)).found value f (omega arith) e
 pub field_again : (value : List ℕ) (f : Parts) → FieldText f value → field_at value ≡ Ok f
 field_again value f m = (law_field (length value)).again value f (omega arith) m
 
--- where the reader can't go on the longest front ends that some value begins with
+-- the longest prefix that some value begins with ends where the reader can't go on
 pub field_stops : (value left : List ℕ) → field_at value ≡ Err left → FieldPlace value (length value - length left)
 field_stops value left e = place_of_stops Parts FieldText value left ((law_field (length value)).stops value left (omega arith) e)
 

@@ -1,4 +1,4 @@
--- The spelling of parts that are in their rows stands in one line, without blanks at its ends.
+-- The spelling of parts that are in their rows is in one line, without blanks at its ends.
 use Rattle.std.proofs.Common.{◌≡◌, ℕ, ◌<◌, ◌≤◌, Bool, true, false, not, ◌==◌, cond, List, [], ◌∷◌, ◌++◌, length, reverse, Option, Some, None, IfSome, refl, sym, ap, subst, ◌∙◌, append_assoc, arith, codes}
 use Rattle.std.specs.List.{list_all}
 use Rattle.std.proofs.lemmas.Bool.{and_parts}
@@ -42,7 +42,7 @@ spelling_passes p f passes r =
     all_append p (f.token ++ codes ";info=<" ++ f.info ++ codes ">" ++ param_text (codes ";alg=") f.alg) (param_text (codes ";ppt=") f.ppt) four
     (param_passes p (codes ";ppt=") f.ppt passes passes.ppt r.ppt)
 
--- no control byte stands in it
+-- no control byte is in it
 no_control : (byte : ℕ) → byte < 32 → Passes (λ b. not (b == byte))
 no_control byte low =
     let quoted : (b : ℕ) → is_quoted_byte b ≡ true → not (b == byte) ≡ true = λ b h. grind (arith, nat_tests) in

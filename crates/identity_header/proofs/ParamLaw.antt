@@ -47,7 +47,7 @@ params_semi k s b t =
 not_blank_59 : (s f : Parts) (x : ℕ) (u : List ℕ) → Semi s f (x ∷ u) → is_blank x ≡ false
 not_blank_59 s f x u m = ap is_blank (byte_head 59 x _ u m)
 
--- behind a parameter
+-- after a parameter
 rest_law : (n : ℕ) (s : Parts) → Law Parts n (semi_at n s) (Semi s) → Law Parts n (params_up_to n s) (Rest s)
 rest_law n s l = law_same Parts n (params_up_to n s) (λ f t. (Blanks ▹ Semi s f) t ⊎ End Parts s f t) (Rest s)
     (λ f t m. rest_from s f t m) (λ f t m. rest_to s f t m)
@@ -93,7 +93,7 @@ given_law : (k : ℕ) (o : List ℕ → Parts) → ((s : Parts) → Law Parts k 
 given_law k o l = law_blanks Parts k (equals_reader k o) (λ f. Byte 61 ▹ Blanks ▹ ValueThen Parts (λ v. Rest (o v)) f)
     (λ f x u m. ap is_blank (byte_head 61 x _ u m)) (equals_law k o l)
 
--- the code's way to read what stands behind such a name
+-- the code's way to read what comes after such a name
 given_same : (k : ℕ) (o : List ℕ → Parts) (g : List ℕ × List ℕ → Read (Parts × List ℕ)) (t : List ℕ)
     → ((x : List ℕ × List ℕ) → g x ≡ Ok (o x.0, x.1))
     → ((equals_at t >>= g) >>= go_on k) ≡ equals_reader k o (skip is_blank t)
@@ -103,7 +103,7 @@ given_same k o g t h =
     ∙ assoc (byte_at 61 (skip is_blank t)) (λ u. value_at (skip is_blank u)) (λ x. g x >>= go_on k)
     ∙ bind_same (byte_at 61 (skip is_blank t)) _ _ (λ u. bind_same (value_at (skip is_blank u)) _ _ (λ x. ap (λ (r : Read (Parts × List ℕ)). r >>= go_on k) (h x)))
 
--- behind the name of another parameter
+-- after the name of another parameter
 abbrev optional_reader : ℕ → Parts → List ℕ → Read Parts
 optional_reader k s t = either_at (λ b. b == 61) (equals_reader k (λ v. s)) (semi_at k s) t
 
@@ -135,7 +135,7 @@ optional_law k s l =
 skip_none : (c : ℕ) (v : List ℕ) → is_blank c ≡ false → skip is_blank (c ∷ v) ≡ c ∷ v
 skip_none c v h = rw h refl
 
--- the code's way to read what stands behind such a name
+-- the code's way to read what comes after such a name
 optional_same : (k : ℕ) (s : Parts) (g : List ℕ → Read (Parts × List ℕ)) (t : List ℕ) → length t ≤ k
     → ((r : List ℕ) → g r ≡ Ok (s, r))
     → ((other_at t >>= g) >>= go_on k) ≡ either_at (λ b. true) (λ t. optional_reader k s (skip is_blank t)) (end_at s) t
@@ -170,7 +170,7 @@ has_none : (o : Option (List ℕ)) → is_some o ≡ true → o ≡ None → ⊥
 has_none None h e = cc
 has_none (Some x) h e = cc
 
--- the reader behind a name
+-- the reader after a name
 abbrev after_at : ℕ → Parts → List ℕ → List ℕ → Read Parts
 after_at k s name t = named_at s name t >>= go_on k
 
@@ -237,7 +237,7 @@ other_law k s name l o =
     same : (t : List ℕ) → length t ≤ k → after_at k s name t ≡ either_at (λ b. true) (λ t. optional_reader k s (skip is_blank t)) (end_at s) t
     same t h = rw (o.info, o.alg, o.ppt) (optional_same k s _ t h (λ r. refl))
 
--- what may stand behind a name
+-- what may come after a name
 status : (k : ℕ) (s : Parts) (name : List ℕ) → ((s : Parts) → Law Parts k (semi_at k s) (Semi s))
     → Law Parts k (after_at k s name) (After s name) ⊎ Dead Parts (after_at k s name) (After s name)
 status k s name l = elim (cases_Bool (is_word (codes "info") name)) [

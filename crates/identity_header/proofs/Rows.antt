@@ -9,7 +9,7 @@ use Rattle.text_grammar.specs.Bytes.{is_uri_byte}
 use Rattle.identity_header.specs.Parts.{Parts, InRows, is_digest_byte, is_bare_byte, is_quoted_byte}
 use Rattle.identity_header.specs.FieldText.{Param, ValueText, Valued, IsName, ParamsText, values_of, at_most_one, FieldText}
 
--- A bare byte may stand between quotes.
+-- A bare byte may be between quotes.
 bare_quoted : (b : ℕ) → is_bare_byte b ≡ true → is_quoted_byte b ≡ true
 bare_quoted b h =
     let visible : (nat_le 33 b && nat_le b 126) ≡ true = (and_parts (nat_le 33 b && nat_le b 126) _ h).0 in
@@ -31,7 +31,7 @@ all_bare_quoted (x ∷ a) h =
 value_quoted : (v t : List ℕ) → ValueText v t → Any is_quoted_byte v
 value_quoted v t m = elim m [ inl h ↦ all_bare_quoted v h.1.each | inr h ↦ h.1 ]
 
--- each value of such a list may stand between quotes
+-- each value of such a list may be between quotes
 abbrev AllQuoted : List (Option (List ℕ)) → Type 0
 AllQuoted [] = Unit {0}
 AllQuoted (v ∷ vs) = IfSome v (Any is_quoted_byte) × AllQuoted vs

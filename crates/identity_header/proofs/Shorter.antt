@@ -1,4 +1,4 @@
--- What a reader leaves is no longer than what it was given, and shorter behind a parameter.
+-- What a reader leaves is no longer than what it was given, and shorter after a parameter.
 use Rattle.std.proofs.Common.{◌≡◌, ℕ, suc, ◌≤◌, ◌<◌, Bool, true, false, cond, eqb, ◌⊎◌, inl, inr, List, [], ◌∷◌, length, take, drop, Some, Ok, Err, refl, sym, ◌∙◌, ap, arith, length-drop, codes}
 use Rattle.std.specs.Prelude.{◌==◌}
 use Rattle.std.specs.List.{prefix_len}

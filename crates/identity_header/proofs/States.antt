@@ -1,4 +1,4 @@
--- The parameters that stand behind a state, which is what was seen so far: the grammar of what may follow, by what stands next.
+-- The parameters that come after a state, which is what was seen so far: the grammar of what may follow, by what comes next.
 use Rattle.std.proofs.Common.{◌≡◌, ℕ, true, false, ◌⊎◌, inl, inr, List, [], ◌∷◌, ◌++◌, map, Option, Some, None, refl, sym, ◌∙◌, ap, subst, arith, codes}
 use Rattle.std.proofs.lemmas.Bool.{false_from_ne_true}
 use Rattle.std.proofs.lemmas.List.{append-nil, map-append, same_from_push}
@@ -10,7 +10,7 @@ use Rattle.identity_header.specs.Parts.{Parts}
 use Rattle.identity_header.specs.FieldText.{Param, ValueText, Valued, IsName, ParamsText, values_of, at_most_one}
 use Rattle.identity_header.proofs.ValueLaw.{ValueThen, value_to, value_from}
 
--- what stands behind a piece, in other words
+-- what comes after a piece, in other words
 pub on_rest : (A : List ℕ → Type 0) (N M : List ℕ → List ℕ → Type 0) (t : List ℕ)
     → ((a u : List ℕ) → N a u → M a u) → Taking A N t → Taking A M t
 on_rest A N M t go m = record { piece = m.piece; rest = m.rest; split = m.split; is_piece = m.is_piece; goes_on = go m.piece m.rest m.goes_on }
@@ -30,13 +30,13 @@ pub record Adds (s : Parts) (params : List Param) (f : Parts) : Type 0 where
 abbrev pub param : List ℕ → Option (List ℕ) → Param
 param name value = record { name = name; value = value }
 
--- behind a parameter, or behind the uri
+-- after a parameter, or after the uri
 pub record Rest (s f : Parts) (text : List ℕ) : Type 0 where
   pub params : List Param
   pub is_text : ParamsText params text
   pub adds : Adds s params f
 
--- behind a name
+-- after a name
 pub record After (s : Parts) (name : List ℕ) (f : Parts) (text : List ℕ) : Type 0 where
   pub value : Option (List ℕ)
   pub params : List Param
@@ -47,11 +47,11 @@ pub record After (s : Parts) (name : List ℕ) (f : Parts) (text : List ℕ) : T
 abbrev pub Semi : Parts → Parts → List ℕ → Type 0
 Semi s f = Byte 59 ▹ Blanks ▹ Taking (Many is_name_byte) (λ name. After s name f)
 
--- behind a name that has to have a value, from which the next state is made
+-- after a name that has to have a value, from which the next state is made
 abbrev pub Given : (List ℕ → Parts) → Parts → List ℕ → Type 0
 Given o f = Blanks ▹ Byte 61 ▹ Blanks ▹ ValueThen Parts (λ v. Rest (o v)) f
 
--- behind a name that may have one
+-- after a name that may have one
 abbrev pub Equals : Parts → Parts → List ℕ → Type 0
 Equals s f = Byte 61 ▹ Blanks ▹ ValueThen Parts (λ v. Rest s) f
 
@@ -129,7 +129,7 @@ rest_from s f t m = elim m [
           adds = a.adds;
         }
 
--- Behind the name of another parameter nothing is added.
+-- After the name of another parameter nothing is added.
 pub record IsOther (name : List ℕ) : Type 0 where
   pub alg : is_word (codes "alg") name ≡ false
   pub ppt : is_word (codes "ppt") name ≡ false
@@ -188,7 +188,7 @@ optional_from s f name t o m = elim m [
           adds = other_from s f name (Some w.0) w.1.goes_on.params o w.1.goes_on.adds;
         }
 
--- behind a name that has to have a value
+-- after a name that has to have a value
 pub given_to : (s f : Parts) (name t : List ℕ) (o : List ℕ → Parts)
     → ((v : Option (List ℕ)) (ps : List Param) → Adds s (param name v ∷ ps) f → (w : List ℕ) × (v ≡ Some w) × Adds (o w) ps f)
     → After s name f t → Given o f t

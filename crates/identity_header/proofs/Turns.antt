@@ -28,7 +28,7 @@ one_turn s (b ∷ t) h = step (param_at s (b ∷ t)) refl
     step (Ok x) e = let lt : length x.1 < length (b ∷ t) = param-shorter s (b ∷ t) x e in same_bound (length t) (length x.1) x.0 x.1 (omega arith) (omega arith)
     step (Err left) e = refl
 
--- the same, where the turn is known
+-- the same, if the turn is known
 pub turn_ok : (s : Parts) (text : List ℕ) (x : Parts × List ℕ) → 1 ≤ length text → param_at s text ≡ Ok x → params_at s text ≡ params_at x.0 x.1
 turn_ok s text x h e = rw (one_turn s text h, e) refl
 

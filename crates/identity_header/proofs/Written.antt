@@ -26,7 +26,7 @@ value_is v h = elim (cases_Bool (is_bare v)) [
         let w : (not (eqb (length v) 0) ≡ true) × (list_all is_bare_byte v ≡ true) = and_parts (not (eqb (length v) 0)) (list_all is_bare_byte v) k in
         record { each = w.1; some = let e : length v ≡ 0 → ⊥ = eqb-false (length v) 0 (not-true _ w.0) in omega (arith, e) }
 
--- a parameter, where there is one
+-- a parameter, if there is one
 abbrev param_of : List ℕ → Option (List ℕ) → List Param
 param_of name None = []
 param_of name (Some v) = record { name = name; value = Some v } ∷ []

@@ -2,8 +2,8 @@
 -- and its four parts:
 --     value = digest W ";" W "info" W "=" W "<" uri ">" *( W ";" W param )
 --     param = name [ W "=" W ( bare / quoted ) ]
--- where W is any spaces and tabs. Names are compared without case. A parameter alg or ppt has a value and stands at most
--- once, info doesn't stand again, and other parameters are passed over.
+-- W is any spaces and tabs. Names are compared without case. A parameter alg or ppt has a value and comes at most once,
+-- info doesn't come again, and other parameters are passed over.
 use Rattle.std.specs.Prelude.{◌≡◌, ℕ, ◌⊎◌, List, [], ◌∷◌, ◌++◌, Option, Some, None, if◌then◌else◌, codes}
 use Rattle.text_grammar.specs.Bytes.{is_name_byte, is_word}
 use Rattle.text_grammar.specs.Grammar.{Taking, ◌▹◌, Byte, Word, Blanks, Any, Many, Run}
@@ -11,7 +11,7 @@ use Rattle.text_grammar.specs.Place.{IsPlace}
 use Rattle.text_grammar.specs.Bytes.{is_uri_byte}
 use Rattle.identity_header.specs.Parts.{Parts, is_digest_byte, is_bare_byte, is_quoted_byte}
 
--- a parameter: its name as it stands, and its value where it has one
+-- a parameter: its name as it is written, and its value if it has one
 pub record Param : Type 0 where
   pub name : List ℕ
   pub value : Option (List ℕ)
@@ -20,7 +20,7 @@ pub record Param : Type 0 where
 abbrev pub ValueText : List ℕ → List ℕ → Type 0
 ValueText value text = ((text ≡ value) × Many is_bare_byte value) ⊎ ((text ≡ 34 ∷ (value ++ 34 ∷ [])) × Any is_quoted_byte value)
 
--- the value of a parameter, where it has one, and then a text of N
+-- the value of a parameter, if it has one, and then a text of N
 abbrev pub Valued : Option (List ℕ) → (List ℕ → Type 0) → List ℕ → Type 0
 Valued None N = N
 Valued (Some value) N = Blanks ▹ Byte 61 ▹ Blanks ▹ ValueText value ▹ N
@@ -30,7 +30,7 @@ pub record IsName (name text : List ℕ) : Type 0 where
   pub same : text ≡ name
   pub bytes : Many is_name_byte text
 
--- the text of these parameters, each behind its semicolon
+-- the text of these parameters, each after its semicolon
 abbrev pub ParamsText : List Param → List ℕ → Type 0
 ParamsText [] text = text ≡ []
 ParamsText (p ∷ ps) text = (Blanks ▹ Byte 59 ▹ Blanks ▹ IsName p.name ▹ Valued p.value (ParamsText ps)) text
@@ -55,7 +55,7 @@ pub record Params (digest uri : List ℕ) (f : Parts) (text : List ℕ) : Type 0
   pub ppt : values_of (codes "ppt") params ≡ at_most_one f.ppt
   pub no_more : values_of (codes "info") params ≡ []
 
--- behind the digest: W ";" W "info" W "=" W "<" uri ">", and the parameters
+-- after the digest: W ";" W "info" W "=" W "<" uri ">", and the parameters
 abbrev pub InfoText : List ℕ → Parts → List ℕ → Type 0
 InfoText digest f =
     Blanks ▹ Byte 59 ▹ Blanks ▹ Word (codes "info") ▹ Blanks ▹ Byte 61 ▹ Blanks ▹ Byte 60
@@ -65,6 +65,6 @@ InfoText digest f =
 unfoldable pub FieldText : Parts → List ℕ → Type 0
 FieldText f = Taking (Run is_digest_byte 8192) (λ digest. InfoText digest f)
 
--- The place is the length of the longest front of the value with which some value of the grammar begins.
+-- The place is the length of the longest prefix of the value with which some value of the grammar begins.
 abbrev pub FieldPlace : List ℕ → ℕ → Type 0
 FieldPlace value place = IsPlace Parts FieldText value place

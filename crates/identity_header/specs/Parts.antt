@@ -27,7 +27,7 @@ abbrev pub is_quoted_byte : ℕ → Bool
 is_quoted_byte b = nat_le 32 b && nat_le b 255 && not (b == 34 || b == 92 || b == 127)
 
 -- Each part has its bytes and its length: the token 1 to 8192 digest bytes, the uri 1 to 2048 uri bytes, and a value of
--- alg or ppt what may stand between quotes, also nothing.
+-- alg or ppt any number of bytes that may be between quotes, also none.
 pub record InRows (f : Parts) : Type 0 where
   pub token : Run is_digest_byte 8192 f.token
   pub info : Run is_uri_byte 2048 f.info

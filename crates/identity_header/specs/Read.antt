@@ -6,7 +6,7 @@ use Rattle.identity_header.specs.Parts.{Parts}
 use Rattle.identity_header.specs.Reading.{field_at}
 use Rattle.text_grammar.specs.Reading.{Read}
 
--- the place of a fault is what stands before what is left
+-- the place of a fault is the number of bytes before what is left
 abbrev pub placed : ℕ → Read Parts → Result Parts FieldFault
 placed size (Ok parts) = Ok parts
 placed size (Err left) = Err (record { place = size - length left })

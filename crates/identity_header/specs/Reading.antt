@@ -6,7 +6,7 @@ use Rattle.text_grammar.specs.Reading.{Read, byte_at, word_at, skip, many_at, ru
 use Rattle.lists.specs.Steps.{◌>>=◌}
 use Rattle.identity_header.specs.Parts.{Parts, is_digest_byte, is_bare_byte, is_quoted_byte}
 
--- behind an opening quote: what stands before the closing one
+-- after an opening quote: what comes before the closing one
 unfoldable pub quoted_at : List ℕ → Read (List ℕ × List ℕ)
 quoted_at text = do
   rest ← byte_at 34 (skip is_quoted_byte text)
@@ -28,17 +28,17 @@ alg_at s text = if is_some s.alg then Err text else (equals_at text >>= λ x. Ok
 unfoldable pub ppt_at : Parts → List ℕ → Read (Parts × List ℕ)
 ppt_at s text = if is_some s.ppt then Err text else (equals_at text >>= λ x. Ok (record s { ppt = Some x.0 }, x.1))
 
--- behind the name of another parameter and blanks, where the value hasn't ended before the blanks
+-- after the name of another parameter and blanks, if the value hasn't ended before the blanks
 unfoldable pub optional_at : List ℕ → Read (List ℕ)
 optional_at [] = Err []
 optional_at (b ∷ rest) = if b == 61 then (value_at (skip is_blank rest) >>= λ x. Ok x.1) else Ok (b ∷ rest)
 
--- behind the name of another parameter: what stands behind its value, where it has one
+-- after the name of another parameter: what comes after its value, if it has one
 unfoldable pub other_at : List ℕ → Read (List ℕ)
 other_at [] = Ok []
 other_at (b ∷ rest) = optional_at (skip is_blank (b ∷ rest))
 
--- behind this name
+-- after this name
 unfoldable pub named_at : Parts → List ℕ → List ℕ → Read (Parts × List ℕ)
 named_at s name text =
     if is_word (codes "info") name then Err text
@@ -46,7 +46,7 @@ named_at s name text =
     else if is_word (codes "ppt") name then ppt_at s text
     else (other_at text >>= λ rest. Ok (s, rest))
 
--- one parameter, and what stands behind it
+-- one parameter, and what comes after it
 unfoldable pub param_at : Parts → List ℕ → Read (Parts × List ℕ)
 param_at s text = do
   rest ← byte_at 59 (skip is_blank text)
@@ -63,7 +63,7 @@ params_up_to (suc n) s (b ∷ rest) = param_at s (b ∷ rest) >>= λ x. params_u
 unfoldable pub params_at : Parts → List ℕ → Read Parts
 params_at s text = params_up_to (length text) s text
 
--- what stands before the parameters
+-- what comes before the parameters
 unfoldable pub head_at : List ℕ → Read (Parts × List ℕ)
 head_at value = do
   token ← run_at is_digest_byte 8192 value

@@ -11,7 +11,7 @@ is_bare value = not (length value == 0) && list_all is_bare_byte value
 abbrev pub value_text : List ℕ → List ℕ
 value_text value = if is_bare value then value else 34 ∷ (value ++ 34 ∷ [])
 
--- a parameter, where there is one: the name comes with its semicolon and its equals sign
+-- a parameter, if there is one: the name comes with its semicolon and its equals sign
 abbrev pub param_text : List ℕ → Option (List ℕ) → List ℕ
 param_text name None = []
 param_text name (Some value) = name ++ value_text value

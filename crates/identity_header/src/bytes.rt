@@ -21,7 +21,7 @@ pub(crate) fn is_digest_byte(byte: u8) -> bool
     byte.is_ascii_alphanumeric() || matches!(byte, b'-' | b'_' | b'.')
 }
 
-/// A byte of a value that stands without quotes.
+/// A byte of a value without quotes.
 pub(crate) fn is_bare_byte(byte: u8) -> bool
     ensures { result ≡ parts.is_bare_byte byte }
 {
@@ -42,14 +42,14 @@ fn all_digest(text: &[u8]) -> bool
     text.iter().all(|byte| is_digest_byte(*byte))
 }
 
-/// Whether all bytes may stand without quotes.
+/// Whether all bytes may be in a value without quotes.
 fn all_bare(text: &[u8]) -> bool
     ensures { result ≡ list_all parts.is_bare_byte text.now }
 {
     text.iter().all(|byte| is_bare_byte(*byte))
 }
 
-/// Whether all bytes may stand between quotes.
+/// Whether all bytes may be between quotes.
 fn all_quoted(text: &[u8]) -> bool
     ensures { result ≡ list_all parts.is_quoted_byte text.now }
 {
@@ -66,7 +66,7 @@ pub(crate) fn is_digest(text: &[u8]) -> bool
     }
 }
 
-/// Whether a value, where there is one, may stand between quotes.
+/// Whether a value, if there is one, may be between quotes.
 pub(crate) fn may_be_quoted(value: Option<&[u8]>) -> bool
     ensures { IsTrue result ↔ IfSome (option_copied value.entry) (Any parts.is_quoted_byte) }
 {
@@ -76,7 +76,7 @@ pub(crate) fn may_be_quoted(value: Option<&[u8]>) -> bool
     }
 }
 
-/// Whether a value may stand without quotes: one or more bare bytes.
+/// Whether a value may be written without quotes: one or more bare bytes.
 pub(crate) fn is_bare(text: &[u8]) -> bool
     ensures { result ≡ spelling.is_bare text.now }
 {
@@ -109,7 +109,7 @@ pub(crate) fn bare_len(text: &[u8]) -> usize
     text.iter().take_while(|byte| is_bare_byte(**byte)).count()
 }
 
-/// How many bytes a text begins with that may stand between quotes.
+/// How many bytes a text begins with that may be between quotes.
 pub(crate) fn quoted_len(text: &[u8]) -> usize
     ensures count { result ≡ prefix_len parts.is_quoted_byte text.now }
     ensures within { result ≤ length text.now }

@@ -46,8 +46,8 @@ impl<'a> Field<'a> {
 
     /// Reads the value of an Identity header field, in one pass. The value is shorter than 4,294,967,295 bytes.
     ///
-    /// A value outside the grammar is refused, and the fault tells the length of the longest front of the value with which
-    /// a value of the grammar begins.
+    /// A value outside the grammar is refused, and the fault tells the length of the longest prefix of the value with which a
+    /// value of the grammar begins.
     pub fn read(value: &'a [u8]) -> Result<Field<'a>, FieldFault>
         requires { length value.now < 4294967295 }
         ensures exact { result ≡ read value.now }
@@ -74,8 +74,8 @@ impl<'a> Field<'a> {
         }
     }
 
-    /// A field of these parts; None where a part is outside its row: the token 1 to 8192 digest bytes, the uri 1 to 2048 uri
-    /// bytes, and a value of `alg` or `ppt` what may stand between quotes, also nothing.
+    /// A field of these parts; None if a part is outside its row: the token 1 to 8192 digest bytes, the uri 1 to 2048 uri
+    /// bytes, and a value of `alg` or `ppt` any number of bytes that may be between quotes, also none.
     pub fn new(
         token: &'a [u8],
         info: &'a [u8],
@@ -105,8 +105,8 @@ impl<'a> Field<'a> {
         })
     }
 
-    /// The text of the field: `token;info=<info>`, then `;alg=` and `;ppt=` where they are given, each bare where it is one or
-    /// more bare bytes and else between quotes. Reading it gives the same four parts. It fails only for want of memory.
+    /// The text of the field: `token;info=<info>`, then `;alg=` and `;ppt=` if they are given, each bare if it is one or more
+    /// bare bytes and else between quotes. Reading it gives the same four parts. It fails only if memory runs out.
     pub fn write(&self, alloc: Global) -> Result<Vec<u8>, Memory>
 
         // It is the one spelling of the parts.
@@ -118,7 +118,7 @@ impl<'a> Field<'a> {
         // So what reads it again finds this field.
         ensures read_again { IfOk result (λ text. read text.items ≡ Ok self.now) }
 
-        // It can stand in a line of a message, whose blanks at both ends are no part of a value.
+        // It can be in a line of a message, whose blanks at both ends are no part of a value.
         ensures one_line { IfOk result (λ text. IsOneLine text.items) }
     {
         spell(alloc, self.token, self.info, self.alg, self.ppt)
@@ -179,7 +179,7 @@ fn spell(
     Ok(text)
 }
 
-/// Appends a parameter, where there is one.
+/// Appends a parameter, if there is one.
 fn write_param(text: &mut Vec<u8>, name: &[u8], value: Option<&[u8]>) -> Result<(), Memory>
     ensures { OnOk result (text.new.items ≡ text.old.items ++ param_text name.now (option_copied value.entry)) }
 {

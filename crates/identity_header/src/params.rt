@@ -18,21 +18,21 @@ pub(crate) struct Seen<'a> {
     pub(crate) ppt: Option<&'a [u8]>,
 }
 
-/// The token, and what stands behind it.
+/// The token, and what comes after it.
 fn digest_at(text: &[u8]) -> Result<(&[u8], &[u8]), Stop<'_>>
     ensures { Gives split_view result (run_at parts.is_digest_byte 8192 text.now) }
 {
     some_at(digest_len(front(text, DIGEST_MOST)), text)
 }
 
-/// The uri, and what stands behind it.
+/// The uri, and what comes after it.
 fn uri_at(text: &[u8]) -> Result<(&[u8], &[u8]), Stop<'_>>
     ensures { Gives split_view result (run_at bytes.is_uri_byte 2048 text.now) }
 {
     some_at(uri_len(front(text, URI_MOST)), text)
 }
 
-/// Behind an opening quote: the text up to the closing one, and what stands behind that.
+/// After an opening quote: the text up to the closing one, and what comes after that.
 #[tactic(auto, unfolding(crate::specs::Reading::quoted_at))]
 fn quoted_at(text: &[u8]) -> Result<(&[u8], &[u8]), Stop<'_>>
     ensures { Gives split_view result (reading.quoted_at text.now) }
@@ -42,7 +42,7 @@ fn quoted_at(text: &[u8]) -> Result<(&[u8], &[u8]), Stop<'_>>
     Ok((value, rest))
 }
 
-/// A value, bare or between quotes, and what stands behind it.
+/// A value, bare or between quotes, and what comes after it.
 #[tactic(auto, unfolding(crate::specs::Reading::value_at))]
 fn value_at(text: &[u8]) -> Result<(&[u8], &[u8]), Stop<'_>>
     ensures { Gives split_view result (reading.value_at text.now) }
@@ -53,7 +53,7 @@ fn value_at(text: &[u8]) -> Result<(&[u8], &[u8]), Stop<'_>>
     }
 }
 
-/// The equals sign and a value, and what stands behind it.
+/// The equals sign and a value, and what comes after it.
 #[tactic(auto, unfolding(crate::specs::Reading::equals_at))]
 fn equals_at(text: &[u8]) -> Result<(&[u8], &[u8]), Stop<'_>>
     ensures { Gives split_view result (reading.equals_at text.now) }
@@ -62,7 +62,7 @@ fn equals_at(text: &[u8]) -> Result<(&[u8], &[u8]), Stop<'_>>
     value_at(skip_blanks(rest))
 }
 
-/// Behind the name `alg`.
+/// After the name `alg`.
 #[tactic(auto, unfolding(crate::specs::Reading::alg_at))]
 fn alg_at<'a>(seen: Seen<'a>, text: &'a [u8]) -> Result<(Seen<'a>, &'a [u8]), Stop<'a>>
     ensures { Gives state_view result (reading.alg_at (parts_of seen.entry) text.now) }
@@ -80,7 +80,7 @@ fn alg_at<'a>(seen: Seen<'a>, text: &'a [u8]) -> Result<(Seen<'a>, &'a [u8]), St
     ))
 }
 
-/// Behind the name `ppt`.
+/// After the name `ppt`.
 #[tactic(auto, unfolding(crate::specs::Reading::ppt_at))]
 fn ppt_at<'a>(seen: Seen<'a>, text: &'a [u8]) -> Result<(Seen<'a>, &'a [u8]), Stop<'a>>
     ensures { Gives state_view result (reading.ppt_at (parts_of seen.entry) text.now) }
@@ -98,7 +98,7 @@ fn ppt_at<'a>(seen: Seen<'a>, text: &'a [u8]) -> Result<(Seen<'a>, &'a [u8]), St
     ))
 }
 
-/// Behind the name of another parameter and the blanks there: what stands behind its value, where it has one.
+/// After the name of another parameter and the blanks there: what comes after its value, if it has one.
 #[tactic(auto, unfolding(crate::specs::Reading::optional_at))]
 fn optional_at(text: &[u8]) -> Result<&[u8], Stop<'_>>
     ensures { Gives slice_view result (reading.optional_at text.now) }
@@ -113,7 +113,7 @@ fn optional_at(text: &[u8]) -> Result<&[u8], Stop<'_>>
     }
 }
 
-/// Behind the name of another parameter, where the value may end.
+/// After the name of another parameter, where the value may end.
 #[tactic(auto, unfolding(crate::specs::Reading::other_at))]
 fn other_at(text: &[u8]) -> Result<&[u8], Stop<'_>>
     ensures { Gives slice_view result (reading.other_at text.now) }
@@ -124,7 +124,7 @@ fn other_at(text: &[u8]) -> Result<&[u8], Stop<'_>>
     optional_at(skip_blanks(text))
 }
 
-/// Behind the name of a parameter.
+/// After the name of a parameter.
 #[tactic(auto, unfolding(crate::specs::Reading::named_at))]
 fn named_at<'a>(
     seen: Seen<'a>,
@@ -146,14 +146,14 @@ fn named_at<'a>(
     Ok((seen, rest))
 }
 
-/// A name, and what stands behind it.
+/// A name, and what comes after it.
 fn name_at(text: &[u8]) -> Result<(&[u8], &[u8]), Stop<'_>>
     ensures { Gives split_view result (many_at bytes.is_name_byte text.now) }
 {
     some_at(name_len(text), text)
 }
 
-/// One parameter with its semicolon, and what stands behind it.
+/// One parameter with its semicolon, and what comes after it.
 #[tactic(auto, unfolding(crate::specs::Reading::param_at))]
 fn param_at<'a>(seen: Seen<'a>, text: &'a [u8]) -> Result<(Seen<'a>, &'a [u8]), Stop<'a>>
     ensures { Gives state_view result (reading.param_at (parts_of seen.entry) text.now) }
@@ -178,7 +178,7 @@ fn params_at<'a>(seen: Seen<'a>, text: &'a [u8]) -> Result<Seen<'a>, Stop<'a>>
     Ok(seen)
 }
 
-/// What stands before the parameters.
+/// What comes before the parameters.
 #[tactic(auto, unfolding(crate::specs::Reading::head_at))]
 fn head_at(value: &[u8]) -> Result<(Seen<'_>, &[u8]), Stop<'_>>
     ensures { Gives state_view result (reading.head_at value.now) }

@@ -7,7 +7,7 @@ no_fault : {Y F : Type 0} (named : Option F) (read : Result Y F) (y : Y) → IsF
 no_fault None read y gives ok = tt
 no_fault {Y} {F} (Some fault) read y gives ok = let e : ◌≡◌ {A = Result Y F} (Ok y) (Err fault) = sym ok ∙ gives in absurd cc
 
--- where the definition gives a value, the answer is this one
+-- if the definition gives a value, the answer is this one
 pub only_given : {X Y E F : Type 0} (fault_seen : E → Option F) (seen : X → Y) (result : Result X E) (read : Result Y F) (y : Y) → Gives fault_seen seen result read → read ≡ Ok y
     → IsOkUnlessMemory fault_seen result (λ x. seen x ≡ y)
 only_given fault_seen seen (Ok x) read y gives ok = inside (seen x) y (sym gives ∙ ok)

@@ -17,7 +17,7 @@ pub after : {A B E : Type 0} (r : Result A E) (a : A) (f : A → Result B E) (z 
     → r ≡ Ok a → f a ≡ z → r >>= f ≡ z
 after r a f z e k = ap (λ r. r >>= f) e ∙ k
 
--- an answer behind a test
+-- an answer after a test
 pub taken : {A E : Type 0} (t : Bool) (v w : A) (fault : E) → ◌≡◌ {A = Result A E} (cond t (Ok v) (Err fault)) (Ok w)
     → (t ≡ true) × (v ≡ w)
 taken true v w fault e = (refl, cc)

@@ -79,7 +79,7 @@ right_known v two known = record {
   within = omega (arith, known.within);
 }
 
--- a set stands among them under the level and the slot that it has, with the present word
+-- a set is among them under the level and the slot that it has, with the present word
 set_moved : (size : ℕ) (words : List ℕ) (level slot : ℕ) (e : SetWord) (sets : List SetWord) → word_at size words e.level e.slot ≡ e.word → e.level ≡ level → e.slot ≡ slot → In e sets
     → In (set_of level slot (word_at size words level slot) e.ticket) sets
 set_moved size words level slot e sets is levels slots there =
@@ -157,7 +157,7 @@ module _ {S : Type 0} (size : ℕ) where
         ticket = marks.ticket;
       }
 
-      -- what the seat knows of the slot that the code stands under
+      -- what the seat knows of the slot that the code is under
       under : (l : ℕ) → level ≡ suc l → (parent < size) × (word_at size s.words l parent ≢ 0) × (reads size s.words l parent ≡ take (suc l) (pieces ticket))
       under l same = trail_reads size s.words v.sets v.seen (holds.sets id v at) (holds.seen id v at) ticket is l parent (omega arith)
           (subst (λ (n : ℕ). Trail v.sets v.seen (pieces ticket) n parent) same trail)

@@ -40,7 +40,7 @@ pub is_wins : (ticket : List ℕ) (e : SetWord) → e.level ≡ 5 → e.ticket �
 is_wins ticket e level same = ap (λ (b : Bool). if b then bytes_eq ticket e.ticket else false) ((Decides-eqb e.level 5).1 level) ∙ (bytes_eq-Decides ticket e.ticket).1 (sym same)
 
 module _ (size : ℕ) (words : List ℕ) (sound : Sound size words) where
-  -- two sets of one level whose tickets agree up to it stand at one slot
+  -- two sets of one level whose tickets agree up to it are at one slot
   pub one_set : (d e : SetWord) → Marks size words d → Marks size words e → d.level ≡ e.level → first_pieces e.level d.ticket ≡ first_pieces e.level e.ticket → d.slot ≡ e.slot
   one_set d e x y levels same =
       let d_is : word_at size words e.level d.slot ≡ d.word = ap (λ (l : ℕ). word_at size words l d.slot) (sym levels) ∙ x.stands.is in
@@ -49,7 +49,7 @@ module _ (size : ℕ) (words : List ℕ) (sound : Sound size words) where
       one_reading size words sound e.level d.slot e.slot y.stands.below x.stands.within y.stands.within
       (λ nothing. x.stands.some (sym d_is ∙ nothing)) (λ nothing. y.stands.some (sym y.stands.is ∙ nothing)) (d_reads ∙ (same ∙ sym y.reading))
 
-  -- all sets that won a ticket stand at the place of one of them
+  -- all sets that won a ticket are at the place of one of them
   pub wins_at : (ticket : List ℕ) (d e : SetWord) → Marks size words d → Marks size words e → wins ticket d ≡ true → wins ticket e ≡ true → at_place size (5 * size + e.slot) d ≡ true
   wins_at ticket d e x y d_wins e_wins =
       let u = wins_is ticket d d_wins in

@@ -108,7 +108,7 @@ number_append : (n : ℕ) (xs ys : List ℕ) → number_after n (xs ++ ys) ≡ n
 number_append n [] ys = refl
 number_append n (x ∷ xs) ys = number_append (n * 256 + x) xs ys
 
--- what stands before eight bytes counts 2 ^ 64 times
+-- what comes before eight bytes counts 2 ^ 64 times
 number_eight : (n : ℕ) (xs : List ℕ) → length xs ≡ 8 → number_after n xs ≡ n * 18446744073709551616 + number_after 0 xs
 number_eight n (a ∷ b ∷ c ∷ d ∷ e ∷ f ∷ g ∷ h ∷ []) len = omega arith
 number_eight n [] len = absurd (omega arith)

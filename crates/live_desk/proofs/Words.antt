@@ -75,7 +75,7 @@ goes_round size code tries some =
 -- ---- the laws
 
 module _ (size : ℕ) (words : List ℕ) (sound : Sound size words) where
-  -- no code stands at two slots of a level
+  -- no code is at two slots of a level
   pub one_slot : (level a b : ℕ) → level < 6 → a < size → b < size → word_at size words level a ≢ 0 → word_at size words level a ≡ word_at size words level b → a ≡ b
   one_slot level a b below x y some same =
       let code : ℕ = word_at size words level a in
@@ -137,7 +137,7 @@ module _ (size : ℕ) (words : List ℕ) (counts : length words ≡ 6 * size) (l
         ap (λ (n : ℕ). reads size (set words (level * size + slot) code) l (parent_of n) ++ piece_of n ∷ []) (kept (suc l) s within some)
         ∙ ap (λ (xs : List ℕ). xs ++ piece_of (word_at size words (suc l) s) ∷ []) (reads_kept l _ (omega arith) u.0 u.1)
 
-    -- What a set asks: the code stands under the slot of its parent, and each slot on the way has another code
+    -- What a set asks: the code is under the slot of its parent, and each slot on the way has another code
     pub set_sound : (tries : ℕ) → tries < size → slot ≡ turn size code tries
         → ((before : ℕ) → before < tries → (word_at size words level (turn size code before) ≢ 0) × (word_at size words level (turn size code before) ≢ code))
         → (level ≡ 0 → parent_of code ≡ 0)

@@ -6,7 +6,7 @@ use Rattle.live_desk.specs.Views.{AllMark, AllStand, at_place, set_of}
 use Rattle.live_desk.specs.declared.view.SetWord.{SetWord}
 use Rattle.live_desk.specs.declared.view.SeenWord.{SeenWord}
 
--- There are words that meet the rule, in which all that the seat set and saw stands
+-- There are words that meet the rule, and all that the seat set and saw is in them
 pub record Known (size : ℕ) (sets : List SetWord) (seen : List SeenWord) (share : ℕ) : Type 0 where
   pub words : List ℕ
   pub sound : Sound size words

@@ -13,7 +13,7 @@ use Rattle.live_desk.specs.declared.view.View.{View}
 abbrev pub IsWon : List ℕ → List SetWord → Type 0
 IsWon ticket sets = (e : SetWord) × In e sets × (e.level ≡ 5) × (e.ticket ≡ ticket)
 
--- the set won the ticket: it stands at the last level
+-- the set won the ticket: it is at the last level
 abbrev pub wins : List ℕ → SetWord → Bool
 wins ticket e = if e.level == 5 then bytes_eq ticket e.ticket else false
 

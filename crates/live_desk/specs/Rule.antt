@@ -6,7 +6,7 @@ use Rattle.std.specs.Prelude.{◌≡◌, ◌≢◌, ℕ, zero, suc, ◌+◌, ◌
 unfoldable pub code_of : ℕ → ℕ → ℕ
 code_of parent piece = parent * 8796093022208 + piece + 1
 
--- the slot of the level before that a code stands under
+-- the slot of the level before that a code is under
 unfoldable pub parent_of : ℕ → ℕ
 parent_of code = (code - 1) / 8796093022208
 
@@ -22,16 +22,16 @@ word_at size words level slot = slice_index words (level * size + slot)
 abbrev pub turn : ℕ → ℕ → ℕ → ℕ
 turn size code tries = (code % size + tries) % size
 
--- the pieces that the word of a slot stands for: those of the slot that it stands under, and its own
+-- the pieces that the word of a slot stands for: those of the slot that it is under, and its own
 abbrev pub reads : ℕ → List ℕ → ℕ → ℕ → List ℕ
 reads size words zero slot = piece_of (word_at size words 0 slot) ∷ []
 reads size words (suc level) slot = reads size words level (parent_of (word_at size words (suc level) slot)) ++ piece_of (word_at size words (suc level) slot) ∷ []
 
 -- The words meet the rule
 pub record Sound (size : ℕ) (words : List ℕ) : Type 0 where
-  -- a code of the first level stands under no slot
+  -- a code of the first level is under no slot
   pub first : (slot : ℕ) → slot < size → word_at size words 0 slot ≢ 0 → parent_of (word_at size words 0 slot) ≡ 0
-  -- a code of a later level stands under a slot of the level before whose word isn't 0
+  -- a code of a later level is under a slot of the level before whose word isn't 0
   pub parent : (level slot : ℕ) → suc level < 6 → slot < size → word_at size words (suc level) slot ≢ 0
       → (parent_of (word_at size words (suc level) slot) < size) × (word_at size words level (parent_of (word_at size words (suc level) slot)) ≢ 0)
   -- the slots at which the search for a code looks before it comes to the code have other codes

@@ -1,4 +1,4 @@
--- What sets and words that were found say of a ticket: where its codes stand, and that a level is full (this project's own rule). Levels
+-- What sets and words that were found say of a ticket: where its codes are, and that a level is full (this project's own rule). Levels
 -- and slots are counted from 0.
 use Rattle.std.specs.Prelude.{◌≡◌, ◌≢◌, ℕ, zero, suc, ◌<◌, ◌⊎◌, List, [], slice_index}
 use Rattle.live_desk.specs.Lists.{In}

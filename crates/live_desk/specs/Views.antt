@@ -31,17 +31,17 @@ pub record Stands (size : ℕ) (words : List ℕ) (level slot word : ℕ) : Type
   pub is : word_at size words level slot ≡ word
   pub some : word ≢ 0
 
--- the word was set for the ticket: it stands, and its slot stands for the ticket's pieces up to its level
+-- the word was set for the ticket: it is the word of its slot, and the slot stands for the ticket's pieces up to its level
 pub record Marks (size : ℕ) (words : List ℕ) (e : SetWord) : Type 0 where
   pub stands : Stands size words e.level e.slot e.word
   pub reading : reads size words e.level e.slot ≡ take (suc e.level) (pieces e.ticket)
   pub ticket : IsTicket e.ticket
 
--- each of these sets stands, for its ticket
+-- each of these sets has its word at its slot, for its ticket
 abbrev pub AllMark : ℕ → List ℕ → List SetWord → Type 0
 AllMark size words sets = (e : SetWord) → In e sets → Marks size words e
 
--- each of these words that were found stands
+-- each of these words that were found is the word of its slot
 abbrev pub AllStand : ℕ → List ℕ → List SeenWord → Type 0
 AllStand size words seen = (e : SeenWord) → In e seen → Stands size words e.level e.slot e.word
 
@@ -49,7 +49,7 @@ AllStand size words seen = (e : SeenWord) → In e seen → Stands size words e.
 abbrev pub at_place : ℕ → ℕ → SetWord → Bool
 at_place size place e = e.level * size + e.slot == place
 
--- in how many sets a word stands: none if it is 0, and else one
+-- in how many sets a word is: none if it is 0, and else one
 abbrev pub setters : ℕ → ℕ
 setters zero = 0
 setters (suc n) = 1
@@ -64,7 +64,7 @@ pub record Holds {S : Type 0} (size : ℕ) (s : State S View) : Type 0 where
   pub sets : (id : ℕ) (v : View) → get_elem? s.views id ≡ some v → AllMark size s.words v.sets
   -- each word that was found equals the present one
   pub seen : (id : ℕ) (v : View) → get_elem? s.views id ≡ some v → AllStand size s.words v.seen
-  -- a nonzero word stands in the sets of exactly one view, once, and a 0 in none
+  -- a nonzero word is in the sets of exactly one view, once, and a 0 in none
   pub one_setter : (place : ℕ) → total (λ (v : View). count (at_place size place) v.sets) s.views ≡ setters (slice_index s.words place)
   -- shares add up to 1
   pub shares : total (λ (v : View). v.share) s.views ≡ whole

@@ -27,9 +27,9 @@ pub enum Place {
 }
 
 impl Live {
-    /// Claims a ticket. `Won` comes exactly if this claim set the ticket's word at level 6; `Lost` exactly if it found the ticket's
-    /// code there; `Full` exactly if it found each word of that level nonzero and different from the ticket's code. What it sets is for
-    /// its own ticket and, if it is `Full`, stands at levels before the full one.
+    /// Claims a ticket. `Won` comes exactly if this claim set the ticket's word at level 6. `Lost` comes exactly if it found the
+    /// ticket's code there. `Full` comes exactly if it found each word of the level that it names nonzero and different from the
+    /// ticket's code. What it sets is for its own ticket and, if it is `Full`, is at levels before the full one.
     ///
     /// It takes no memory and waits for nobody, and it makes at most six times as many steps as a level has slots. Of several claims of
     /// a ticket any may win.

@@ -53,7 +53,7 @@ impl Model for LiveSeat {
 
 impl Live {
     /// A desk with so many slots a level, 1 to 1,048,576, on which no ticket is claimed, and its first seat, which has the whole share.
-    /// It takes 48 bytes a slot, and as much again while it is made. The only error is want of memory.
+    /// It takes 48 bytes a slot, and as much again while it is made. The only error is that memory runs out.
     pub fn new(alloc: Global, size: u32) -> Result<(Live, LiveSeat), AllocError>
         requires { (1 ≤ size) × (size ≤ 1048576) }
         ensures { IfOk result (λ made. (made.0.size ≡ size) × (made.1 ≡ first_of made.0)) }

@@ -42,7 +42,7 @@ one_aside judged config chains before now calls outcomes round = record {
   quiet_provider = λ n. subst NoneUnasked (sym (append-nil outcomes)) (round.quiet_provider n);
 }
 
--- behind rounds by the same config
+-- after rounds by the same config
 abbrev pub judged_more : MoreRounds → (judged : Entry → Outcome → Type 0) (config : JudgeConfig) (chains : ChainFiles) (a b c : JudgeState) (xs : List Batch) (calls : List Entry) (answer : BatchAnswerView)
     → OneRound judged config chains b c calls answer → JudgedRounds judged config chains a b xs → JudgedRounds judged config chains a c (xs ++ batch_of calls answer ∷ [])
 judged_more more judged config chains a b c xs calls answer o s =

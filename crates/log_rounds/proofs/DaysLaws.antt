@@ -29,7 +29,7 @@ use Rattle.log_rounds.proofs.RunsLaws.{last_alike}
 abbrev pub KnownLaw : Type 0
 KnownLaw = (call : Call) → first early_rules call ≡ None → IsKnownAgain call
 
--- and where none of all rules is broken, none of the first is
+-- and if none of all rules is broken, none of the first is
 abbrev pub FirstLaw : Type 0
 FirstLaw = (xs ys : List Rule) (call : Call) → first (xs ++ ys) call ≡ option_or (first xs call) (first ys call)
 

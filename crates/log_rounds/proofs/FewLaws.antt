@@ -16,7 +16,7 @@ use Rattle.verify_service.specs.Needed.{named, named_in}
 use Rattle.verify_service.specs.Reads.{ReadOnce, ReadsFew, unheld}
 use Rattle.verify_service.specs.declared.outcome.Outcome.{Outcome}
 
--- ---- the texts of calls behind one another
+-- ---- the texts of calls, one after another
 
 has_front : (x : List ℕ) (xs ys : List (List ℕ)) → has x xs ≡ true → has x (xs ++ ys) ≡ true
 has_front x [] ys h = absurd (cc)
@@ -69,7 +69,7 @@ few_both config chains a b c xs ys p q f g quiet =
     (reads_both config.settings chains (calls_in xs) (calls_in ys) a.held b.held c.held a.reads b.reads c.reads
     (f (not_risen_before a.provider b.provider c.provider p q quiet)) (g (not_risen_behind a.provider b.provider c.provider p q quiet)))
 
--- ---- where no chain was held at first
+-- ---- if no chain was held at first
 
 none_held : (texts : List (List ℕ)) → unheld texts [] ≡ length texts
 none_held [] = refl

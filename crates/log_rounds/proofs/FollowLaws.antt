@@ -23,11 +23,11 @@ follow_of passed number moment (x ∷ xs) n m room a =
       follow_of (after passed x) x.number x.moment xs refl refl (omega (arith, next.numbered, room)) a.1,
     )
 
--- the last call is that of those behind the first, if there are any
+-- the last call is that of those after the first, if there are any
 last_behind : (x y : Entry) (ys : List Entry) → last_entry (x ∷ y ∷ ys) ≡ last_entry (y ∷ ys)
 last_behind x y ys = let e : length (x ∷ y ∷ ys) - 1 ≡ suc (length (y ∷ ys) - 1) = omega arith in ap (slice_get (x ∷ y ∷ ys)) e
 
--- The number and the moment of the last call are those that come of taking the calls one by one from the front.
+-- The number and the moment of the last call are those that come of taking the calls one by one, from the first on.
 pub number_front : (number : ℕ) (x : Entry) (xs : List Entry) → last_number number (x ∷ xs) ≡ last_number x.number xs
 number_front number x [] = refl
 number_front number x (y ∷ ys) = ap (number_or number) (last_behind x y ys) ∙ number_front number y ys ∙ sym (number_front x.number y ys)

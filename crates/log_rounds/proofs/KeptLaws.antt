@@ -12,7 +12,7 @@ use Rattle.log_rounds.proofs.DaysLaws.{AreOfDays, FirstLaw, KnownLaw, all_owed, 
 
 -- ---- the first call with a ticket
 
--- it stays the first behind a call that doesn't pass with the ticket,
+-- it stays the first after a call that doesn't pass with the ticket,
 behind_one : (r : Row) (rows : List Row) (ticket : List ℕ) (place : ℕ) (row : Row) → (Uses ticket r → ⊥) → IsFirst rows ticket place row
     → IsFirst (r ∷ rows) ticket (suc place) row
 behind_one r rows ticket place row other is = record { stands = is.stands; uses = is.uses; none_before = none_before } where
@@ -20,7 +20,7 @@ behind_one r rows ticket place row other is = record { stands = is.stands; uses 
   none_before zero same stands uses = absurd (other (subst (Uses ticket) (sym (same_Some r same stands)) uses))
   none_before (suc at) same stands uses = let low = is.none_before at same stands uses in omega arith
 
--- and is the first of those behind it
+-- and is the first of those after it
 without_one : (r : Row) (rows : List Row) (ticket : List ℕ) (place : ℕ) (row : Row) → IsFirst (r ∷ rows) ticket (suc place) row → IsFirst rows ticket place row
 without_one r rows ticket place row is = record {
   stands = is.stands;
@@ -62,7 +62,7 @@ with_more (r ∷ rows) more ticket zero row is = record { stands = is.stands; us
 with_more (r ∷ rows) more ticket (suc place) row is =
     behind_one r (rows ++ more) ticket place row (not_front r rows ticket place row is) (with_more rows more ticket place row (without_one r rows ticket place row is))
 
--- behind calls of which none passes with the ticket
+-- after calls of which none passes with the ticket
 behind_all : (rows more : List Row) (ticket : List ℕ) (place : ℕ) (row : Row) → NoUser ticket rows → IsFirst more ticket place row
     → (at : ℕ) × IsFirst (rows ++ more) ticket at row
 behind_all [] more ticket place row none is = (place, is)

@@ -67,7 +67,7 @@ pub known_last : (settings : Settings) (call : Entry) → (known : IsKnownAgain 
 unfolding call_in last_second
 known_last settings call known = known.last
 
--- ---- calls that pass are fresh, and have one last second where their ticket is one
+-- ---- calls that pass are fresh, and have one last second if their ticket is one
 
 passing : (config : JudgeConfig) (calls : List Entry) (row : Row) → row.passes ≡ true → (f : OfCall config (IsOwed config.settings) calls row) → IsKnownAgain (call_in config.settings f.call)
 passing config calls row p f = f.holds (sym (ap (λ (r : Row). r.passes) f.is) ∙ p)
@@ -100,7 +100,7 @@ not_below passed [] call a i = absurd i
 not_below passed (c ∷ cs) call a (inl e) = omega (arith, a.0.not_backward, ap (λ (x : Entry). x.moment) e)
 not_below passed (c ∷ cs) call a (inr i) = omega (arith, a.0.not_backward, not_below (after passed c) cs call a.1 i)
 
--- of a round and those behind it, no call comes before its first one
+-- of a round and those after it, no call comes before its first one
 first_below : (config : JudgeConfig) (passed : Passed) (calls others : List Entry) (outcomes : List Outcome) (call : Entry) → AreCalls passed (calls ++ others) → IsIn call (calls ++ others) → first_moment (rows_of config.settings calls outcomes) ≤ call.moment
 first_below config passed [] others outcomes call a i = omega arith
 first_below config passed (c ∷ cs) others [] call a i = omega arith

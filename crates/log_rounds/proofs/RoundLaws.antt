@@ -1,4 +1,4 @@
--- Rounds behind one another.
+-- Rounds, one after another.
 use Rattle.std.proofs.Common.{◌≡◌, ◌+◌, ◌≤◌, Bool, true, false, ◌&&◌, ◌||◌, List, [], ◌∷◌, ◌++◌, length, refl, sym, ◌∙◌, ap, arith, append_assoc, length-append, inl, subst}
 use Rattle.std.specs.List.{list_any}
 use Rattle.call_log.specs.Entry.{Entry}
@@ -44,7 +44,7 @@ pub as_many : (P : Entry → Outcome → Type 0) (rounds : List Round) → InEac
 as_many P [] a = refl
 as_many P (r ∷ rs) a = omega (arith, length-append r.outcomes (outcomes_in rs), length-append r.calls (calls_in rs), one_for_each P r.calls r.outcomes a.0, as_many P rs a.1)
 
--- ---- what may stand under one judge may stand under the other
+-- ---- what may be given under one judge may be given under the other
 
 pub point_as : (P Q : Entry → Outcome → Type 0) (calls : List Entry) (outcomes : List Outcome) → ((call : Entry) (outcome : Outcome) → P call outcome → Q call outcome) → EachPair P calls outcomes → EachPair Q calls outcomes
 point_as P Q [] [] f p = tt

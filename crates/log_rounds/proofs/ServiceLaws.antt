@@ -58,7 +58,7 @@ each_told law basis files bytes (call ∷ calls) [] each = absurd each
 each_told law basis files bytes (call ∷ calls) (outcome ∷ outcomes) each =
     (answers law (world_by basis.materials files (held_says basis.answers)) basis.settings bytes call outcome each.0, each_told law basis files bytes calls outcomes each.1)
 
--- each call is answered by what the files say and the answers file says, where the files are told
+-- each call is answered by what the files say and the answers file says, if the files are told
 pub each_answered : WordsLaw → (service : ServiceView) (held_answers : Held) (workers : ℕ) (says : Says) (files : Option Files) (calls : List Entry) (outcomes : List Outcome) → HoldBytesWhere files → says ≡ held_says held_answers
     → EachOwed service.settings calls outcomes → AreJudged files service says calls outcomes → EachPair (AnswersBy (basis_by service held_answers workers) files) calls outcomes
 each_answered law service held_answers workers says None calls outcomes bytes same owed judged = each_untold (basis_by service held_answers workers) _ calls outcomes owed

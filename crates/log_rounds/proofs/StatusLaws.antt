@@ -1,4 +1,4 @@
--- The status of a whole report is 0 just where each call is valid.
+-- The status of a whole report is 0 exactly if each call is valid.
 use Rattle.std.proofs.Common.{◌≡◌, Bool, true, false, ◌&&◌, List, [], ◌∷◌, refl, ap, ◌∙◌, arith}
 use Rattle.log_rounds.specs.AllValid.{AreValid, all_valid, is_valid}
 use Rattle.log_run.specs.Ending.{report_status}

@@ -67,7 +67,7 @@ pub record RoundsClosed (verifier now : LogVerifier) (before counts : Counts) (t
   pub so : JudgedFrom verifier now before counts told batches
   pub none : text ≡ []
 
--- the verifier stands there, and what it holds of chains is right
+-- the verifier is at this place of the log, and what it holds of chains is right
 pub record RoundsStand (verifier : LogVerifier) (told : Option Files) (passed : Passed) : Type 0 where
   pub number : verifier.service.number ≡ passed.number
   pub moment : verifier.service.moment ≡ passed.moment

@@ -63,7 +63,7 @@ AreApart days = (day other_day : Day) (call other : Entry) (input signed : List 
 
 -- ---- what a day hands on
 
--- nothing was kept for the ticket before the day, and this stands for the first call of the day that passed with it
+-- nothing was kept for the ticket before the day, and this is what is kept of the first call of the day that passed with it
 pub record IsWonOn (day : Day) (ticket : List ℕ) (kept : Kept) : Type 0 where
   pub none : day.held ticket ≡ None
   pub place : ℕ

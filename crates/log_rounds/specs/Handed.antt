@@ -33,7 +33,7 @@ pub record GoesOnFrom (number moment : ℕ) (state : JudgeState) : Type 0 where
   pub moment_is : state.moment ≡ moment
 
 -- The batches are these rounds of 256 calls, but the last, and their lines are the report of these, whose numbers go on from those before; each outcome
--- may stand for its call, and each call that passes is known again by what was signed, and fresh. The rounds were settled in turn over what was kept
+-- may be given to its call, and each call that passes is known again by what was signed, and fresh. The rounds were settled in turn over what was kept
 -- before, of which `next` is left; one worker took the calls of a round in their order; and calls were set aside only for faults that were counted.
 pub record JudgedOn (judged : Entry → Outcome → Type 0) (config : JudgeConfig) (past : Held) (passed : Passed) (before now : OutsideCounts) (batches : List Batch) (rounds : List Round)
     (next : Held) : Type 0 where
@@ -86,7 +86,7 @@ words_on basis told past passed before now = record {
       (outside_counts now.faults 0 now.reads);
 }
 
--- The report and the text of a state behind it are a file that holds this state, whatever comes behind them: so the whole output of a run may be handed to
+-- The report, with the text of a state after it, is a file that holds this state, whatever comes after that: so the whole output of a run may be handed to
 -- the next.
 abbrev pub OutputIsState : Type 0
 OutputIsState = (number window : ℕ) (outcomes : List Outcome) (state : StateView) (behind : List ℕ) → IsState state → state.call ≤ 4000000000

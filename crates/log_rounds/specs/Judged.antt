@@ -25,13 +25,13 @@ pub record StandsAtFirst (state : JudgeState) : Type 0 where
   pub moment : state.moment ≡ 0
 
 -- Calls were set aside only for faults that were counted: for certificates, at most as many pairs of a round and a text as the count of
--- failed reads rose by, unless it stands at its last value.
+-- failed reads rose by, unless it is at its last value.
 pub record SetAside (config : JudgeConfig) (before now : OutsideCounts) (rounds : List Round) : Type 0 where
   pub unread : AtMost (unread_pairs config rounds) before.shelf now.shelf
   pub quiet_shelf : NotRisen before.shelf now.shelf → NoneUnread (outcomes_in rounds)
   pub quiet_provider : NotRisen before.provider now.provider → NoneUnasked (outcomes_in rounds)
 
--- Rounds of 256 calls, but the last, and each outcome may stand for its call. Where the log is apart, the outcomes are legal, and on one
+-- Rounds of 256 calls, but the last, and each outcome may be given to its call. If the log is apart, the outcomes are legal, and on one
 -- worker the first call that passes with a ticket is the valid one. Calls were set aside only for faults that were counted.
 pub record AreJudged (judged : Entry → Outcome → Type 0) (config : JudgeConfig) (before now : OutsideCounts) (rounds : List Round) : Type 0 where
   pub cut : IsCut rounds
@@ -50,8 +50,8 @@ pub record AreSettled (config : JudgeConfig) (rounds : List Round) : Type 0 wher
   pub settled : Rounds nothing (row_rounds config rounds) past
   pub in_order : config.workers ≡ 1 → AllInOrder config rounds
 
--- The batches are rounds that were judged; their lines are the report of these, whose numbers go on from those before; and all is well where
--- each call is valid. No count of faults fell.
+-- The batches are rounds that were judged; their lines are the report of these, whose numbers go on from those before; and all is well
+-- exactly if each call is valid. No count of faults fell.
 pub record JudgedBatches (judged : Entry → Outcome → Type 0) (config : JudgeConfig) (passed : Passed) (before now : OutsideCounts) (batches : List Batch) : Type 0 where
   pub rounds : List Round
   pub calls : calls_of batches ≡ calls_in rounds
@@ -66,8 +66,8 @@ pub record JudgedBatches (judged : Entry → Outcome → Type 0) (config : Judge
 abbrev pub NoStop : List Batch → List Entry → List ℕ → List ℕ → Type 0
 NoStop batches calls text name = ⊥
 
--- No text closes the report; and where the provider of signatures never failed, files were read at most as often as there are different x5u texts
--- that the calls name and for which a file is listed, if these are at most 4,096.
+-- No text closes the report. Let the provider of signatures never fail, and let the calls name at most 4,096 different x5u texts for which a file
+-- is listed. Then files were read at most as often as there are such texts.
 pub record ClosesRounds (config : JudgeConfig) (chains : ChainFiles) (before now : OutsideCounts) (batches : List Batch) (text : List ℕ) : Type 0 where
   pub none : text ≡ []
   pub few_reads : NotRisen before.provider now.provider → ReadsNamed config.settings chains (calls_of batches) before.reads now.reads

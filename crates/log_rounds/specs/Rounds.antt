@@ -64,8 +64,8 @@ unread_pairs config (round ∷ others) = length (unread_texts config.settings ro
 
 -- ---- legal rounds
 
--- Each outcome may stand for its call; and of the calls that pass with one ticket, over all rounds, exactly one is valid, and each other
--- is a replay of it.
+-- Each outcome may be given to its call; and of the calls that pass with one ticket, over all rounds, exactly one is valid, and each
+-- other is a replay of it.
 pub record Legal (judged : Entry → Outcome → Type 0) (config : JudgeConfig) (rounds : List Round) : Type 0 where
   pub each : InEach judged rounds
   pub once : RowsLegal (row_rounds config rounds)

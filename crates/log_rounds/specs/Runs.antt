@@ -50,7 +50,8 @@ AreApart runs = (run other_run : Run) (call other : Entry) (input signed : List 
     → IsIn other (calls_in other_run.rounds) → IsSigned (call_in run.config.settings call) input → IsSigned (call_in other_run.config.settings other) signed
     → Ticket input ≡ Ticket signed → input ≡ signed
 
--- Of the calls of all runs that pass with one ticket exactly one is valid, in the first round that has such a call, and each other is a replay of it, if
--- each run is settled over what the one before it handed on, and all logs together are apart. So purging and handing on let no PASSporT pass twice.
+-- Let each run be settled over what the one before it handed on, and let all logs together be apart. Then of the calls of all runs that pass with one
+-- ticket exactly one is valid, in the first round that has such a call, and each other is a replay of it. So purging and handing on let no PASSporT pass
+-- twice.
 abbrev pub RunsLegal : Type 0
 RunsLegal = (past : ℕ) (runs : List Run) (next : Held) → AreRunsAfter past 0 runs → HandOn nothing (row_runs runs) next → AreApart runs → RowsLegal (rounds_in (row_runs runs))

@@ -1,4 +1,4 @@
--- By what a verifier judges the calls of a log, and how it stands from round to round.
+-- By what a verifier judges the calls of a log, and its state from round to round.
 use Rattle.std.specs.Prelude.{⊤, ℕ, Option, Some, None}
 use Rattle.call_log.specs.Entry.{Entry}
 use Rattle.cert_store.specs.declared.world.World.{World as Materials}

@@ -11,16 +11,16 @@ ghost use Rattle.verify_service.specs.declared.outcome.Outcome.{Outcome};
 use replay_law::{day_after_day, first_is_legal, legal_in_runs, legal_is_first, one_by_first};
 use verify_rules::{first_law, signed_law};
 
-/// The status of a whole report is 0 just where each of its calls is valid, and else 1.
+/// The status of a whole report is 0 exactly if each of its calls is valid, and else 1.
 pub fn status_law()
     ensures zero { (outcomes : List Outcome) → AreValid outcomes → report_status (all_valid outcomes) ≡ 0 }
     ensures valid { (outcomes : List Outcome) → report_status (all_valid outcomes) ≡ 0 → AreValid outcomes }
     ensures one { (outcomes : List Outcome) → (AreValid outcomes → ⊥) → report_status (all_valid outcomes) ≡ 1 }
 {}
 
-/// A log may be judged call by call, in any order and on any number of machines. If each call that passes and is the first of the log with its ticket is
-/// then valid, and each later one a replay of it, the outcomes are legal for every cut of the log into rounds; and if none is set aside, they are
-/// the outcomes of a run on one worker.
+/// A log may be judged call by call, in any order and on any number of machines. Afterwards, let each call that passes and is the first of the log
+/// with its ticket be valid, and each later one a replay of it. Then the outcomes are legal for every cut of the log into rounds; and if none is set
+/// aside, they are the outcomes of a run on one worker.
 pub fn day_law()
     ensures legal { DayIsLegal }
     ensures report { DayIsReport }

@@ -8,7 +8,7 @@ use call_log::Call;
 use std::alloc::{AllocError, Global};
 use verify_service::{Outcome, report_line};
 
-/// The number of the first call, and 0 where there is none.
+/// The number of the first call, and 0 if there is none.
 pub(crate) fn first_number(calls: &[Call]) -> u32
     ensures { result ≡ first_number calls.now }
 {

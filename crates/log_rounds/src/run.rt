@@ -19,7 +19,7 @@ use stir_outside::{Shelf, Sink, Source};
 ///
 /// The status is 0 if all calls are valid, else 1. If the log is outside its grammar, or a read of it fails, the whole entries before
 /// are judged and reported, and a line says so: status 5 or 3. If a write fails the status is 4, and what was written is a prefix of the
-/// whole. For want of memory whole lines were written, and a line says so: status 6.
+/// whole. If memory runs out, whole lines were written, and a line says so: status 6.
 pub fn judge_log<R: Threads + Sync, S: Shelf, I: Source, O: Sink>(
     rt: &R,
     alloc: Global,

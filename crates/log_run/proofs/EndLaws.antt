@@ -32,7 +32,7 @@ module _ (Known : Type 0) (Stopped : List Entry → AnswerError → Type 0) (Clo
   abbrev May : List ℕ → Type 0
   May line = MayEnd mid Drained left_now s u line
 
-  -- a line that may stand there wasn't written whole
+  -- a line that may come there wasn't written whole
   front : (line : List ℕ) → MayStand Known Stopped Closed May mid line → status ≡ 4 → Rose t.write_faults u.write_faults → AppendsFront t.written u.written line → Goal
   front line may said rose written = inr (inr (inr (inr (inr (record {
     line = line;
@@ -45,7 +45,7 @@ module _ (Known : Type 0) (Stopped : List Entry → AnswerError → Type 0) (Clo
   short : (text : List ℕ) → MayBeShort Known Stopped Closed mid text → status ≡ 6 → Appends s.written u.written (lines ++ (text ++ memory_line)) → Goal
   short text may said written = inr (inr (inr (inr (inl (record { text = text; may = may; reported = written; said = said })))))
 
-  -- want of memory, which a line says
+  -- memory ran out, which a line says
   memory : MayStand Known Stopped Closed May mid memory_line → MayBeShort Known Stopped Closed mid [] → EndsAs t.written u.written t.write_faults u.write_faults status memory_line 6 → Goal
   memory may be (inl e) = short [] be e.0 (Appends-trans s.written t.written u.written lines memory_line wrote e.1)
   memory may be (inr e) = front memory_line may e.0 e.1 e.2
@@ -114,7 +114,7 @@ module _ (Known : Type 0) (Stopped : List Entry → AnswerError → Type 0) (Clo
   closed_by text good fault closed same behind rose (inr e) =
       front text (inr (inr (record { text = text; end = []; closed = closed; may_end = inl refl; says = sym (append-nil text) }))) e.answered e.rose e.front
 
--- the source failed where no more was read of it
+-- the source failed still, if no more was read of it
 pub rose_still : (s t u : Streams) (Drained : Type 0) (fault : Option LogFault) → u.read_faults ≡ t.read_faults → SourceRose s t Drained fault → SourceRose s u Drained fault
 rose_still s t u Drained None same r = tt
 rose_still s t u Drained (Some (Grammar place)) same r = tt
@@ -125,7 +125,7 @@ rose_still s t u Drained (Some WantOfMemory) same r = tt
 
 -- ---- the whole
 
--- the log ended, and the report was closed, or memory was wanting for that
+-- the log ended, and the report was closed, or memory ran out for that
 pub log_closed : (most : ℕ) (Answered Known : List Batch → Type 0) (Halted Stopped : List Batch → List Entry → AnswerError → Type 0) (Closed : List Batch → List ℕ → Type 0) (Short : Type 0) (Closes : List ℕ → Type 0) (a b : At) (s t u : Streams)
     (good : Bool) (fault : Option LogFault) (status : ℕ) → ((batches : List Batch) (text : List ℕ) → Answered batches → Closes text → Closed batches text)
     → ((batches : List Batch) → Answered batches → Short → Stopped batches [] Memory) → good ≡ b.good → u.read_faults ≡ t.read_faults → RunsOut most Answered Halted a b s t (Ok fault)
@@ -185,7 +185,7 @@ log_halted most Known Stopped Closed a b s t u (error.Stopped stop) status reads
   so = stopped_by (Known r.batches) (Stopped r.batches) (Closed r.batches) r.mid (b.left ≡ b.source) b.left (texts_in r.batches) s t u status r.stay.write_faults r.ends.1 stop r.ends.0 e;
 }
 
--- ---- what the source has left, where the log ended or the source failed, is all that is left to the reader
+-- ---- what the source has left, if the log ended or the source failed, is all that is left to the reader
 
 -- at the end of the log nothing is left to the reader, and so nothing of the source
 abbrev pub IsAllAtEnd : Option (List ℕ) → Option (List ℕ) → Type 0

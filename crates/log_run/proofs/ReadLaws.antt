@@ -90,13 +90,13 @@ few_read most before now left left_now calls (Fault fault) r = omega (arith, r.f
 pub more_read : (most : ℕ) (before now : Passed) (left left_now : Option (List ℕ)) (calls : List Entry) → ReadFull most before left left_now now calls → now.count ≡ before.count + most
 more_read most before now left left_now calls r = ap (λ (p : Passed). p.count) r.read.moves ∙ counted before calls ∙ ap (λ n. before.count + n) r.full
 
--- the command may answer the calls that were read, where it stands there
+-- the command may answer the calls that were read, if it is at the place before them
 pub read_follow : (most : ℕ) (Stands : Passed → Type 0) (before now : Passed) (left left_now : Option (List ℕ)) (calls : List Entry) (next : Next) → Stands before → before.number ≤ 4000000000 + before.count
     → ReadBatch {E = AllocError} most before left left_now now calls (Ok next) → Follow Stands calls
 read_follow most Stands before now left left_now calls next stands room r =
     record { passed = before; stands = stands; follow = (calls_read most before now left left_now calls next r).read.follow; room = room }
 
--- and after a full batch it stands after it
+-- and after a full batch it is at the place after it
 pub stands_read : (most : ℕ) (Stands Stands_now : Passed → Type 0) (before now : Passed) (left left_now : Option (List ℕ)) (calls : List Entry) → Stands before → StandsOn Stands Stands_now calls
     → ReadFull most before left left_now now calls → Stands_now now
 stands_read most Stands Stands_now before now left left_now calls stands on r = subst Stands_now (sym r.read.moves) (on before stands r.read.follow)
@@ -113,7 +113,7 @@ pub read_as : (one other : ℕ) (before now : Passed) (left left_now : Option (L
     → ReadBatch {E = AllocError} other before left left_now now calls (Ok next)
 read_as one other before now left left_now calls next same r = subst (λ (m : ℕ). ReadBatch {E = AllocError} m before left left_now now calls (Ok next)) same r
 
--- ---- a fault of the log stands at its place
+-- ---- a fault of the log is at its place
 
 pub at_grammar : (passed : Passed) (left now : Option (List ℕ)) (place : ℕ) → HandsOutOf passed left now (Err (Grammar place)) → FaultyAt passed left place
 at_grammar passed None now place h = tt

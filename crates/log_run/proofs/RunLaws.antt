@@ -25,7 +25,7 @@ front_behind a b c text more p f = record {
   appended = Appends-trans a b c text f.front p f.appended;
 }
 
--- the source failed only where its count rose
+-- the source failed only if its count rose
 pub source_rose : (s t : Streams) (Drained : Type 0) (fault : LogFault) → (fault ≡ Source → SourceFailed s.read_faults t.read_faults Drained) → SourceRose s t Drained (Some fault)
 source_rose s t Drained (Grammar place) r = tt
 source_rose s t Drained (Backward place) r = tt

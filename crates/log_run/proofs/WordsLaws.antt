@@ -69,7 +69,7 @@ module _ (words : Words) (Known : List Batch → Type 0) (Stopped : List Batch �
   first_by : words.Known batches → FirstBatches words passed left batches
   first_by known = record { cut = cut; first = record { mid = mid.passed; mid_left = mid.left; read = read }; known = known }
 
-  -- how the bytes stand to the calls
+  -- the bytes as a log of the calls
 
   whole_of : (bytes : List ℕ) → left ≡ Some bytes → ReadBehind mid.passed mid.left left_now (Ok None) → LogText passed bytes (calls_in batches) []
   whole_of bytes is behind = whole_log passed mid.passed bytes mid.left left_now (calls_in batches) (subst (λ l. ReadCalls passed l mid.left mid.passed (calls_in batches)) is read) behind.hands_out
@@ -155,7 +155,7 @@ module _ (words : Words) (Known : List Batch → Type 0) (Stopped : List Batch �
     reported = e.reported;
   }
 
-  -- want of memory
+  -- memory ran out
 
   short_known : (text : List ℕ) → MayBeShort (Known batches) (Stopped batches) (Closed batches) mid text → words.Known batches
   short_known text (inl k) = speaks.known batches are k.0

@@ -20,14 +20,14 @@ Stopping X = X → Counts → X → Counts → Option Files → List Batch → L
 abbrev pub Closing : Type 0 → Type 1
 Closing X = X → Counts → X → Counts → Option Files → List Batch → List ℕ → Type 0
 
--- the calls may stand next after a place of the log at which the command stands
+-- the calls may come next after a place of the log that the command is at
 pub record Follow (Stands : Passed → Type 0) (calls : List Entry) : Type 0 where
   pub passed : Passed
   pub stands : Stands passed
   pub follow : AreCalls passed calls
   pub room : passed.number ≤ 4000000000 + passed.count
 
--- and after them it stands after them
+-- and after these calls it is at the place after them
 abbrev pub StandsOn : (Passed → Type 0) → (Passed → Type 0) → List Entry → Type 0
 StandsOn stands stands_now calls = (passed : Passed) → stands passed → AreCalls passed calls → stands_now (after_all passed calls)
 
@@ -46,7 +46,7 @@ abbrev pub Closes : {X : Type 0} → Behind X → Closing X → X → X → List
 Closes {X} behind closed one other text = (first : X) (before counts : Counts) (files : Option Files) (batches : List Batch) → behind first before one counts files batches
     → closed first before other counts files batches text
 
--- memory was wanting for that, and the run stopped at no calls
+-- memory ran out for that, and the run stopped at no calls
 abbrev pub IsShort : {X : Type 0} → Behind X → Stopping X → X → X → Type 0
 IsShort {X} behind stopped one other = (first : X) (before counts : Counts) (files : Option Files) (batches : List Batch) → behind first before one counts files batches
     → stopped first before other counts files batches [] Memory

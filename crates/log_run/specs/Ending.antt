@@ -30,7 +30,7 @@ refused_line place = codes "refused input " ++ (decimal place ++ codes "\n")
 unfoldable pub failed_line : List ℕ
 failed_line = codes "read fault input\n"
 
--- the line of the log's fault, unless memory is wanting for it
+-- the line of the log's fault, unless memory runs out for it
 abbrev pub EndsRefused : Option (List ℕ) → Option (List ℕ) → ℕ → ℕ → ℕ → ℕ → Type 0
 EndsRefused written written_now writes writes_now result place =
     EndsAs written written_now writes writes_now result (refused_line place) 5 ⊎ EndsAs written written_now writes writes_now result memory_line 6
@@ -52,7 +52,7 @@ pub record EndsAlone (written written_now : Option (List ℕ)) (writes writes_no
 unfoldable pub unread_line : List ℕ → List ℕ
 unread_line name = codes "read fault " ++ (name ++ codes "\n")
 
--- these lines of the calls and the line of the file, unless memory is wanting for it
+-- these lines of the calls and the line of the file, unless memory runs out for it
 abbrev pub EndsUnread : Option (List ℕ) → Option (List ℕ) → ℕ → ℕ → ℕ → List ℕ → List ℕ → Type 0
 EndsUnread written written_now writes writes_now result text name =
     EndsAs written written_now writes writes_now result (text ++ unread_line name) 3 ⊎ EndsAs written written_now writes writes_now result memory_line 6
@@ -61,7 +61,7 @@ abbrev pub EndsStopped : Option (List ℕ) → Option (List ℕ) → ℕ → ℕ
 EndsStopped written written_now writes writes_now result (Unread text name) = EndsUnread written written_now writes writes_now result (string_bytes text) (string_bytes name)
 EndsStopped written written_now writes writes_now result Memory = EndsAs written written_now writes writes_now result memory_line 6
 
--- what stands after the closing text
+-- what comes after the closing text
 abbrev pub EndsAt : Option (List ℕ) → Option (List ℕ) → ℕ → ℕ → ℕ → Bool → Option LogFault → Type 0
 EndsAt written written_now writes writes_now result good None = EndsAlone written written_now writes writes_now result (report_status good)
 EndsAt written written_now writes writes_now result good (Some fault) = EndsAtFault written written_now writes writes_now result fault
@@ -86,12 +86,12 @@ pub record ClosedBy (Closed : List ℕ → Type 0) (written written_now : Option
   pub closed : Closed text
   pub wrote : EndsBehind written written_now writes writes_now result text good fault ⊎ FailsIn written written_now writes writes_now result text
 
--- or memory was wanting for that text
+-- or memory ran out for that text
 abbrev pub CloseRan : Type 0 → (List ℕ → Type 0) → Option (List ℕ) → Option (List ℕ) → ℕ → ℕ → ℕ → Bool → Option LogFault → Type 0
 CloseRan Short Closed written written_now writes writes_now result good fault =
     (Short × EndsAs written written_now writes writes_now result memory_line 6) ⊎ ClosedBy Closed written written_now writes writes_now result good fault
 
--- where the run was stopped before the log ended
+-- if the run was stopped before the log ended
 abbrev pub EndsHalted : Option (List ℕ) → Option (List ℕ) → ℕ → ℕ → ℕ → RunError → Type 0
 EndsHalted written written_now writes writes_now result error.Sink = EndsAlone written written_now writes writes_now result 4
 EndsHalted written written_now writes writes_now result error.Memory = EndsAs written written_now writes writes_now result memory_line 6
@@ -99,7 +99,7 @@ EndsHalted written written_now writes writes_now result (error.Stopped stop) = E
 
 -- ---- the whole
 
--- a line that may stand after the report and its closing text, with its cause
+-- a line that may come after the report and its closing text, with its cause
 abbrev pub MayEnd : At → Type 0 → Option (List ℕ) → Streams → Streams → List ℕ → Type 0
 MayEnd mid Drained left_now outside outside_now line = (line ≡ []) ⊎ ((line ≡ memory_line)
     ⊎ (((line ≡ failed_line) × ReadBehind mid.passed mid.left left_now (Err Source) × SourceFailed outside.read_faults outside_now.read_faults Drained)
@@ -124,11 +124,11 @@ pub record CloseSays (Closed : List ℕ → Type 0) (May : List ℕ → Type 0) 
   pub may_end : May end
   pub says : line ≡ text ++ end
 
--- what may stand after the lines of the batches, whole or not, and what is known of the batches then
+-- what may come after the lines of the batches, whole or not, and what is known of the batches then
 abbrev pub MayStand : Type 0 → (List Entry → AnswerError → Type 0) → (List ℕ → Type 0) → (List ℕ → Type 0) → At → List ℕ → Type 0
 MayStand Known Stopped Closed May mid line = (Known × ((line ≡ []) ⊎ (line ≡ memory_line))) ⊎ (StopSays Stopped mid line ⊎ CloseSays Closed May line)
 
--- what may stand between these lines and the line that says that memory ran out
+-- what may come between these lines and the line that says that memory ran out
 abbrev pub MayBeShort : Type 0 → (List Entry → AnswerError → Type 0) → (List ℕ → Type 0) → At → List ℕ → Type 0
 MayBeShort Known Stopped Closed mid text = (Known × (text ≡ [])) ⊎ ((((stop : AnswerError) × StopsNext Stopped mid stop) × (text ≡ [])) ⊎ Closed text)
 

@@ -11,7 +11,7 @@ use Rattle.log_run.specs.declared.ends.Next.{Next}
 use Rattle.log_run.specs.declared.ends.Next.TheVariants.{More, Whole, Fault}
 use Rattle.stir_outside.specs.Count.{Rose}
 
--- the calls stand next in the log, and their entries were taken
+-- the calls come next in the log, and their entries were taken
 pub record ReadCalls (before : Passed) (left left_now : Option (List ℕ)) (now : Passed) (calls : List Entry) : Type 0 where
   pub follow : AreCalls before calls
   pub consumed : Consumes left left_now (entry_texts calls)
@@ -22,7 +22,7 @@ pub record ReadBehind (passed : Passed) (left left_now : Option (List ℕ)) (res
   pub reads : Reads passed left left_now result
   pub hands_out : HandsOutOf passed left left_now result
 
--- the calls that were read, with what is left where that is known
+-- the calls that were read, with what is left if that is known
 pub record CallsRead (passed : Passed) (left : Option (List ℕ)) (calls : List Entry) : Type 0 where
   pub mid : Passed
   pub mid_left : Option (List ℕ)
@@ -41,11 +41,11 @@ pub record ReadsOn (reader : LogState) : Type 0 where
 
 -- ---- a fault
 
--- what stands at this offset after the calls is no entry, one whose moment falls, or one too many
+-- what is at this offset after the calls is no entry, one whose moment falls, or one too many
 abbrev pub IsFaulty : Passed → ℕ → List ℕ → Type 0
 IsFaulty passed place rest = IsGrammar passed place rest ⊎ (IsBackward passed place rest ⊎ IsMany passed place rest)
 
--- what is left after the calls that were read is so, where it is known what is left
+-- what is left after the calls that were read is so, if it is known what is left
 abbrev pub FaultyAt : Passed → Option (List ℕ) → ℕ → Type 0
 FaultyAt passed None place = ⊤
 FaultyAt passed (Some rest) place = LogText passed rest [] rest × IsFaulty passed place rest
@@ -65,7 +65,7 @@ pub record ReadLast (most : ℕ) (before : Passed) (left left_now : Option (List
   pub few : length calls < most
   pub behind : ReadBehind mid mid_left left_now result
 
--- want of memory is free
+-- running out of memory is free
 abbrev pub ReadBatch : {E : Type 0} → ℕ → Passed → Option (List ℕ) → Option (List ℕ) → Passed → List Entry → Result Next E → Type 0
 ReadBatch most before left left_now now calls (Ok More) = ReadFull most before left left_now now calls
 ReadBatch most before left left_now now calls (Ok Whole) = ReadLast most before left left_now calls (Ok None)

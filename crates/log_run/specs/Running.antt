@@ -85,7 +85,7 @@ pub record Answers (May : BatchAnswerView → Type 0) (good good_now : Bool) (Wr
   pub so : good_now ≡ (good && answer.well)
   pub wrote : Wrote answer.text
 
--- the lines were written, or where the sink failed a prefix of them, or the calls weren't answered and nothing was written
+-- the lines were written, or, if the sink failed, a prefix of them, or the calls weren't answered and nothing was written
 abbrev pub AnsweredBatch : (BatchAnswerView → Type 0) → (AnswerError → Type 0) → Bool → Bool → Option (List ℕ) → Option (List ℕ) → ℕ → ℕ → Result (Unit {0}) RunError → Type 0
 AnsweredBatch May MayStop good good_now written written_now writes writes_now (Ok done) = Answers May good good_now (λ lines. Appends written written_now lines)
 AnsweredBatch May MayStop good good_now written written_now writes writes_now (Err error.Sink) = Answers May good good_now (λ lines. AppendsFront written written_now lines) × Rose writes writes_now

@@ -9,7 +9,7 @@ use Rattle.log_run.specs.Words.{Words}
 use Rattle.log_run.specs.declared.stop.AnswerError.{AnswerError}
 use Rattle.log_run.specs.declared.stop.AnswerError.TheVariants.{Unread}
 
--- the batches are cut so, and their calls may stand next in the log
+-- the batches are cut so, and their calls may come next in the log
 pub record AreBatches (most : ℕ) (passed : Passed) (batches : List Batch) : Type 0 where
   pub cut : IsCut most batches
   pub follow : AreCalls passed (calls_in batches)

@@ -25,13 +25,13 @@ pub record StreamsStay (before now : Streams) : Type 0 where
   pub read_faults : before.read_faults ≤ now.read_faults
   pub write_faults : before.write_faults ≤ now.write_faults
 
--- the log was read to its end or to its fault, where that ended the run
+-- the log was read to its end or to its fault, if that ended the run
 abbrev pub BehindBy : {X : Type 0} → Passed → Option (List ℕ) → Option (List ℕ) → Result (Option LogFault) X → Type 0
 BehindBy passed left left_now (Ok None) = ReadBehind passed left left_now (Ok None)
 BehindBy passed left left_now (Ok (Some fault)) = ReadBehind passed left left_now (Err fault)
 BehindBy passed left left_now (Err stopped) = ⊤
 
--- the source failed where that ended the log, and then this holds besides
+-- if a failure of the source ended the log, the source failed, and then this holds besides
 abbrev pub SourceRose : Streams → Streams → Type 0 → Option LogFault → Type 0
 SourceRose before now Drained None = ⊤
 SourceRose before now Drained (Some (Grammar place)) = ⊤

@@ -22,7 +22,7 @@ pub record Words : Type 1 where
   -- or this text closes the report
   pub Closes : List Batch → List ℕ → Type 0
 
--- what stands around a run: what is left of the log, and the streams
+-- what is around a run: what is left of the log, and the streams
 pub record RunState : Type 0 where
   pub left : Option (List ℕ)
   pub streams : Streams
@@ -134,7 +134,7 @@ pub record FrontReport (words : Words) (passed : Passed) (before now : RunState)
   pub may_come : MayComeAfter words passed before now batches line
   pub front : AppendsFront before.streams.written now.streams.written (texts_in batches ++ line)
 
--- Memory was wanting; the first calls of the log were answered; their lines, the closing text if it came so far, and the last line were written.
+-- Memory ran out; the first calls of the log were answered; their lines, the closing text if it came so far, and the last line were written.
 pub record ShortReport (words : Words) (passed : Passed) (before now : RunState) : Type 0 where
   pub batches : List Batch
   pub answered : FirstBatches words passed before.left batches
@@ -148,8 +148,8 @@ pub record ShortReport (words : Words) (passed : Passed) (before now : RunState)
 abbrev pub NeverStops : Words → Type 0
 NeverStops words = (batches : List Batch) (calls : List Entry) (text name : List ℕ) → words.Stops batches calls text name → ⊥
 
--- Where no read of the log and no write failed, and no file stops the run, a whole log has a whole report, and one that isn't whole is refused; or
--- memory was wanting.
+-- If no read of the log and no write failed, and no file stops the run, a whole log has a whole report, and one that isn't whole is refused; or
+-- memory ran out.
 abbrev pub AnswersWhole : Words → Passed → RunState → RunState → ℕ → Type 0
 AnswersWhole words passed before now status = (bytes : List ℕ) (calls : List Entry) → before.left ≡ Some bytes → LogText passed bytes calls []
     → NotRisen before.streams.read_faults now.streams.read_faults → NotRisen before.streams.write_faults now.streams.write_faults → NeverStops words → (status ≤ 1) ⊎ (status ≡ 6)

@@ -2,7 +2,7 @@
 use crate::stop::AnswerError;
 use call_log::LogFault;
 
-/// What stands after a batch of calls.
+/// What comes after a batch of calls.
 #[derive(Clone, Copy)]
 pub(crate) enum Next {
     /// More of the log, or its end: the batch is full.

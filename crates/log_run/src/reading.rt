@@ -26,7 +26,7 @@ fn next_call<I: Source>(reader: &mut LogReader, input: &mut I) -> Result<Option<
     reader.next(input)
 }
 
-/// Reads the calls of the next batch into a list that is empty, and says what stands after them. `AllocError` is the only error.
+/// Reads the calls of the next batch into a list that is empty, and says what comes after them. `AllocError` is the only error.
 #[tactic(auto, using(crate::proofs::ReadLaws::read_none, crate::proofs::ReadLaws::read_more, crate::proofs::ReadLaws::read_full, crate::proofs::ReadLaws::read_last))]
 pub(crate) fn read_batch<I: Source>(
     most: u32,

@@ -18,8 +18,8 @@ use std::alloc::Global;
 use std::thread::Threads;
 use stir_outside::{Shelf, Sink, Source, Status, end_with, memory_line, write_whole};
 
-/// Answers the calls of a log batch by batch, and writes the lines of each before the next is read; then the text that closes the report, and a line
-/// where the log is outside its grammar or can't be read further. The reader may begin at any number and moment, and may have bytes ahead.
+/// Answers the calls of a log batch by batch, and writes the lines of each before the next is read. Then it writes the text that closes the report,
+/// and a line if the log is outside its grammar or can't be read further. The reader may begin at any number and moment, and may have bytes ahead.
 pub fn run_log<R: Threads + Sync, C: LogCommand, S: Shelf, I: Source, O: Sink>(
     rt: &R,
     alloc: Global,
@@ -33,7 +33,7 @@ pub fn run_log<R: Threads + Sync, C: LogCommand, S: Shelf, I: Source, O: Sink>(
     requires ends { EndsRight (supply_of I.Source reader.old.ended input.old) }
     requires stands { C.stands command.old (S.counts shelf.old) (S.files shelf.old) reader.old.passed }
     requires first { C.behind command.old (S.counts shelf.old) command.old (S.counts shelf.old) (S.files shelf.old) [] }
-    // What is known of the batches is known from the command as it stood first on.
+    // What is known of the batches is known from the first state of the command on.
     ensures ran { LogRan (C.most command.old) (C.behind command.old (S.counts shelf.old) command.new (S.counts shelf.new) (S.files shelf.old))
         (C.stopped command.old (S.counts shelf.old) command.new (S.counts shelf.new) (S.files shelf.old))
         (C.closed command.old (S.counts shelf.old) command.new (S.counts shelf.new) (S.files shelf.old))

@@ -30,7 +30,7 @@ pub joined_share : (h : Holder) (ws : List Worker) → (joined h ws).share ≡ h
 joined_share h [] = omega arith
 joined_share h (w ∷ ws) = let one = with_share (joined h ws) w.seat in let more = joined_share h ws in omega arith
 
--- ---- what stands in a joined seat
+-- ---- what is in a joined seat
 
 -- a seat of these has at most what all have
 pub record Within (h all : Holder) : Type 0 where

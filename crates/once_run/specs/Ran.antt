@@ -21,7 +21,7 @@ pub record Reports (size : ℕ) (input : List ℕ) (report : ReportView) : Type 
   pub text_is : report.text ≡ claim_lines claims
   pub won_is : report.all_won ≡ all_won claims
 
--- a report of the tickets, or the bad line of the text; memory may have been wanting
+-- a report of the tickets, or the bad line of the text; memory may have run out
 abbrev pub OnceRan : ℕ → List ℕ → Result ReportView TicketsFault → Type 0
 OnceRan size input (Ok report) = Reports size input report
 OnceRan size input (Err (Line number)) = IsBadLine input number

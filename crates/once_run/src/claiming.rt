@@ -11,7 +11,7 @@ use std::alloc::{AllocError, Global};
 use std::thread::{Threads, for_each_mut};
 
 /// Claims tickets by so many workers, 1 to 8, on a new desk with so many slots a level, 1 to 1,048,576: worker w of W, counted from 0, claims
-/// those at the places w, w + W, and so on. What came of each ticket stands at its place. `AllocError` is the only error.
+/// those at the places w, w + W, and so on. What came of each ticket is at its place. `AllocError` is the only error.
 pub fn claim_tickets<R: Threads + Sync>(
     rt: &R,
     alloc: Global,
@@ -35,7 +35,7 @@ pub fn claim_tickets<R: Threads + Sync>(
     Ok(claims)
 }
 
-/// All workers at work at once, each in a thread of its own where there are threads.
+/// All workers at work at once, each in a thread of its own if there are threads.
 fn work_all<R: Threads + Sync>(rt: &R, desk: &Live, tickets: &[[u8; 32]], workers: &mut Vec<Worker>)
     requires some { 0 < length workers.old.items }
     requires seated { All (Seated desk.now (length tickets.now)) workers.old.items }

@@ -3,7 +3,7 @@ use Rattle.std.specs.Prelude.{ℕ, Option, Some, None}
 use Rattle.once_tickets.specs.declared.fault.TicketsFault.{TicketsFault}
 use Rattle.once_tickets.specs.declared.fault.TicketsFault.TheVariants.{Line, Memory}
 
--- the line that a fault names; want of memory names none
+-- the line that a fault names; out of memory names none
 abbrev pub fault_line : TicketsFault → Option ℕ
 fault_line (Line line) = Some line
 fault_line Memory = None

@@ -24,7 +24,7 @@ pub fn read_tickets(alloc: Global, text: &[u8]) -> Result<Vec<[u8; 32]>, Tickets
     // What is read is what the text has, and a fault names its bad line.
     ensures found { IfOk result (λ tickets. TicketText text.now tickets.items) }
     ensures fault { IfErr result (λ fault. IfLine fault (IsBadLine text.now)) }
-    // Tickets that the text has are read, and a bad line that it has is the fault, unless memory was wanting.
+    // Tickets that the text has are read, and a bad line that it has is the fault, unless memory ran out.
     ensures only { (tickets : List (List ℕ)) → TicketText text.now tickets → Gives fault_line (λ read. read.items) result (Ok tickets) }
     ensures bad { (number : ℕ) → IsBadLine text.now number → Gives fault_line (λ read. read.items) result (Err number) }
 {

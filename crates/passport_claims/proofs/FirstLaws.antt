@@ -173,7 +173,7 @@ only_one test count link is t only = first_is test 1 count link (record {
   before = λ other l k. not_so (test other) (λ u. let same : other ≡ link = only other (record { low = l; high = omega (arith, k, is.high) }) u in omega (arith, same, k));
 })
 
--- and behind it there is none
+-- and after it there is none
 pub none_more : (test : ℕ → Bool) (count link : ℕ) → IsOneOf count link → ((other : ℕ) → IsOneOf count other → test other ≡ true → other ≡ link)
     → first_from test (link + 1) (count - link) ≡ None
 none_more test count link is only = first_isnt test (link + 1) (count - link) (λ other l k. not_so (test other) (λ u.

@@ -1,4 +1,4 @@
--- The links of a call stand in the order that they had, and then one link more, just where the call goes on by this one.
+-- The links of a call are in the order that they had, and then one link more, exactly if the call goes on by this one.
 use Rattle.std.proofs.Common.{◌≡◌, ℕ, zero, suc, ◌+◌, ◌-◌, ◌<◌, ◌≤◌, true, ◌⊎◌, inl, inr, List, [], ◌∷◌, ◌++◌, length, Some, Ok, refl, sym, ap, ◌∙◌, subst, arith}
 use Rattle.std.specs.Prelude.{Contains}
 use Rattle.std.specs.List.{slice_get}

@@ -32,7 +32,7 @@ twin_says links link count = record {
   );
 }
 
--- one was found exactly where there is one
+-- one was found exactly if there is one
 some_says : (Holds : ℕ → Type 0) (test : ℕ → Bool) (count : ℕ) (found : Option ℕ) → Says Holds test count → first_from test 1 count ≡ found
     → Decides (is_some found) ((other : ℕ) × IsOneOf count other × Holds other)
 some_says Holds test count None s e = (λ t. absurd cc, λ h. absurd (none_means Holds test count s e h.0 h.1 h.2))

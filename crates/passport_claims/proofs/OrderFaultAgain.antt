@@ -1,4 +1,4 @@
--- Each fault is the answer where it holds, so that there is one at most.
+-- Each fault is the answer if it holds, so that there is one at most.
 use Rattle.std.proofs.Common.{◌≡◌, ℕ, ◌==◌, ◌+◌, ◌-◌, ◌≤◌, true, false, nat_lt, inl, inr, List, ◌∷◌, length, Option, Some, None, Result, Ok, Err, refl, sym, ap, ◌∙◌, arith}
 use Rattle.std.proofs.lemmas.Bool.{eq-eqb, le-ltb, lt-ltb, ne_eqb}
 use Rattle.passport_claims.specs.Passport.{ClaimsView}

@@ -1,4 +1,4 @@
--- Where no order is found, the first of the five faults is why; and what each order meets.
+-- If no order is found, the first of the five faults is why; and what each order meets.
 use Rattle.std.proofs.Common.{◌≡◌, ℕ, zero, suc, ◌==◌, ◌<◌, ◌≤◌, Bool, true, false, not, cond, nat_lt, inl, inr, List, [], ◌∷◌, length, get_or, Option, Some, None, Result, Ok, Err, refl, sym, ap, ◌∙◌, subst, arith}
 use Rattle.std.specs.Prelude.{IfOk, IfErr}
 use Rattle.std.specs.Result.{IsOkAnd}
@@ -98,7 +98,7 @@ abbrev pub AnswerIs : ClaimsView → List ClaimsView → Option (List ℕ) → R
 AnswerIs origin links called (Ok turn) = IsOrder origin links called turn
 AnswerIs origin links called (Err fault) = IsFault origin links called fault
 
--- what is known where a start was found
+-- what is known if a start was found
 pub record Started (origin : ClaimsView) (links : List ClaimsView) (start : ℕ) : Type 0 where
   pub few : length links ≤ 8
   pub apart : OfNone (Repeats links) (length links)

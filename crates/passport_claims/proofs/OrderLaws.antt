@@ -113,7 +113,7 @@ placed_at links first later link o is = elim (among_cases link first later (o.on
   | inr behind ↦ inr (before links first later link o.once.within o.follow behind)
 ]
 
--- what is behind another has a div other than that of the first
+-- what comes after another has a div other than that of the first
 not_first : (links : List ClaimsView) (first : ℕ) (later : List ℕ) (link : ℕ) → Ordered links first later → Before links first later link
     → div_at links link ≡ div_at links first → ⊥
 not_first links first later link o b e = o.apart.start b.link b.is (sym b.dest ∙ e)

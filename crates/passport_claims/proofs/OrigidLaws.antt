@@ -20,7 +20,7 @@ none_of : {A : Type 0} (found : Option A) → ((x : A) → found ≡ Some x → 
 none_of None none = refl
 none_of (Some y) none = absurd (none y refl)
 
--- a call succeeds exactly where the text is read
+-- a call succeeds exactly if the text is read
 pub uuid_read : {T E : Type 0} (result : Result T E) (text : List ℕ) → IsOk result ↔ ((u : List ℕ) × (parsed text ≡ Some u))
     → is_ok result ≡ is_some (parsed text)
 uuid_read (Ok x) text both = let found = both.0 refl in sym (some_of (parsed text) found.0 found.1)

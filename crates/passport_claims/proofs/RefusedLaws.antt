@@ -102,7 +102,7 @@ kind_refused header payload ppt info fault (inr (inl e)) before h =
 kind_refused header payload ppt info fault (inr (inr e)) before h =
     rw e (div_refused header payload info fault (subst (λ p. HasCalled header payload p info) e before) (subst (λ p. checked_kind p payload ≡ Err fault) e h))
 
--- ---- what is left to read behind each claim, and that its fault is that of header and payload
+-- ---- what is left to read after each claim, and that its fault is that of header and payload
 
 abbrev claims_of : List ℕ → ℕ → List ℕ → List (List ℕ) → Kind → ClaimsView
 claims_of x5u iat orig dest kind = record { kind = kind; x5u = x5u; iat = iat; orig = orig; dest = dest }
@@ -217,7 +217,7 @@ dest_read header payload ppt info before none =
       nothing,
     ) refl
 
--- what is read where all but the type's own claims are right
+-- what is read if all but the type's own claims are right
 type_read : (header payload : Data) (ppt : Option (List ℕ)) (info : List ℕ) (fault : ClaimFault) → HasCalled header payload ppt info
     → checked_kind ppt payload ≡ Err fault → read_claims header payload ppt info ≡ Err fault
 unfolding read_claims

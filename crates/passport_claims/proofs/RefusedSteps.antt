@@ -1,10 +1,10 @@
--- Each claim by itself: where it is refused, and what this says of header and payload.
+-- Each claim by itself: when it is refused, and what this says of header and payload.
 use Rattle.std.proofs.Common.{◌≡◌, ◌⊎◌, inl, inr, Bool, true, false, Option, Some, None, Result, Ok, Err, refl, sym, ap}
 use Rattle.lists.specs.Steps.{◌>>=◌}
 use Rattle.passport_claims.specs.declared.fault.ClaimFault.{ClaimFault}
 use Rattle.passport_claims.specs.Reading.{or_fault}
 
--- a reading that is refused is refused at its first step, or behind what this gave
+-- a reading that is refused is refused at its first step, or after what this gave
 pub stops : {A B E : Type 0} (r : Result A E) (f : A → Result B E) (fault : E) → r >>= f ≡ Err fault
     → (r ≡ Err fault) ⊎ ((a : A) × (r ≡ Ok a) × (f a ≡ Err fault))
 stops (Ok a) f fault e = inr (a, refl, e)
@@ -17,11 +17,11 @@ pub nothing_there : {A : Type 0} (broken fault : ClaimFault) (found : Option A) 
 nothing_there broken fault None h = let same : broken ≡ fault = cc in (refl, sym same)
 nothing_there broken fault (Some value) h = absurd cc
 
--- what is read of nothing holds of nothing, where what holds is read
+-- if nothing is read, nothing holds, provided that what holds is read
 pub none_holds : {A : Type 0} (P : A → Type 0) (found : Option A) → found ≡ None → ((a : A) → P a → found ≡ Some a) → (a : A) → P a → ⊥
 none_holds P found none again a holds = let some = again a holds in absurd cc
 
--- and where nothing holds nothing is read, where what is read holds
+-- and if nothing holds, nothing is read, provided that what is read holds
 pub none_read : {A : Type 0} (P : A → Type 0) (found : Option A) → ((a : A) → found ≡ Some a → P a) → ((a : A) → P a → ⊥) → found ≡ None
 none_read P None found_is none = refl
 none_read P (Some a) found_is none = absurd (none a (found_is a refl))

@@ -56,7 +56,7 @@ uri_byte b h =
     let slash : b ≡ 92 → ⊥ = λ e. (let k : false ≡ true = subst (λ x. is_uri_byte x ≡ true) e h in absurd cc) in
     escape_byte_plain b quote slash high
 
--- a URI stands in a string as it is
+-- a URI is written in a string as it is
 escape_uri : (text : List ℕ) → list_all is_uri_byte text ≡ true → escape text ≡ text
 escape_uri [] h = refl
 escape_uri (b ∷ bs) h =

@@ -115,7 +115,7 @@ has_each count turn within once long link is = elim (cases_Bool (is_among link t
 
 -- ---- what follows what
 
--- the one link stands right before the other in this list, of which the first is given by itself
+-- the one link comes right before the other in this list, of which the first is given by itself
 abbrev pub Next : ℕ → List ℕ → ℕ → ℕ → Type 0
 Next first [] one other = ⊥
 Next first (second ∷ later) one other = ((one ≡ first) × (other ≡ second)) ⊎ Next second later one other

@@ -1,4 +1,4 @@
--- The way from the start, step by step: what is found behind it, and how it lies in an order.
+-- The way from the start, step by step: what is found after it, and how it lies in an order.
 use Rattle.std.proofs.Common.{◌⊎◌, inl, inr, ◌≡◌, ℕ, zero, suc, ◌+◌, ◌-◌, ◌<◌, ◌≤◌, List, [], ◌∷◌, ◌++◌, length, take, drop, replicate, slice_set, Option, Some, None, refl, sym, ap, ◌∙◌, arith, append_assoc, Bool, cond, Ok, Err}
 use Rattle.std.specs.Option.{option_map_or}
 use Rattle.std.proofs.lemmas.List.{append-nil, drop-set-lt, drop-drop, drop-replicate, take_more_set}
@@ -40,20 +40,20 @@ placed links turn all place next number h t e is =
     ∙ append_assoc (take place turn) (next ∷ []) (walk links (length links - (place + 1)) (dest_at links next))
     ∙ ap (λ xs. take place turn ++ xs) (sym on) ∙ is
 
--- the zeros behind it
+-- the zeros after it
 pub emptied : (turn : List ℕ) (place next : ℕ) → place < 8 → drop place turn ≡ replicate (8 - place) 0
     → drop (place + 1) (slice_set turn place next) ≡ replicate (8 - (place + 1)) 0
 emptied turn place next h e =
     drop-set-lt (place + 1) turn place next (omega arith) ∙ sym (drop-drop 1 place turn) ∙ ap (drop 1) e
     ∙ drop-replicate 1 (8 - place) 0 ∙ ap (λ n. replicate n 0) (omega arith)
 
--- where no link goes on
+-- if no link goes on
 pub way_ends : (links : List ClaimsView) (turn all : List ℕ) (place : ℕ) (number : List ℕ) → first_from (leads_from links number) 1 (length links) ≡ None
     → take place turn ++ walk links (length links - place) number ≡ all → take place turn ≡ all
 way_ends links turn all place number e is =
     sym (append-nil (take place turn)) ∙ ap (λ xs. take place turn ++ xs) (sym (walk_ends links (length links - place) number e)) ∙ is
 
--- where all links are placed
+-- if all links are placed
 pub way_full : (links : List ClaimsView) (turn all : List ℕ) (place : ℕ) (number : List ℕ) → length links ≤ place
     → take place turn ++ walk links (length links - place) number ≡ all → take place turn ≡ all
 way_full links turn all place number h is =
@@ -67,7 +67,7 @@ pub starts : (dests : List (List ℕ)) (links : List ClaimsView) (start : ℕ) (
 unfolding start_of
 starts dests links start t first second called = rw (first, second, called) refl
 
--- ---- what is found behind a link
+-- ---- what is found after a link
 
 found_within : (links : List ClaimsView) (number : List ℕ) (link : ℕ) → first_from (leads_from links number) 1 (length links) ≡ Some link → IsOneOf (length links) link
 found_within links number link e =
@@ -80,12 +80,12 @@ found_div links number link e =
     let f = first_some (leads_from links number) 1 (length links) link e in
     bytes_same (div_at links link) number (sym (leads_from_is links number link) ∙ f.here)
 
--- where the first link is given and what stands behind it
+-- the first link is given, and what comes after it
 record IsWalk (links : List ClaimsView) (room : ℕ) (number : List ℕ) (way : List ℕ) : Type 0 where
   within : AreWithin (length links) way
   short : length way ≤ room
   follow : (link : ℕ) → dest_at links link ≡ number → Follow links link way
-  -- it ends where no link goes on, or where there is no room
+  -- it ends when no link goes on, or when there is no room
   end : (link : ℕ) → dest_at links link ≡ number → (length way ≡ room) ⊎ (first_from (leads_from links (dest_at links (last_of link way))) 1 (length links) ≡ None)
 
 is_walk : (links : List ClaimsView) (room : ℕ) (number : List ℕ) → IsWalk links room number (walk links room number)

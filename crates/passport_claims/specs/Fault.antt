@@ -3,7 +3,7 @@ use Rattle.std.specs.Prelude.{ℕ, Option, Some, None}
 use Rattle.passport_claims.specs.declared.fault.ClaimFault.{ClaimFault}
 use Rattle.passport_claims.specs.declared.fault.ClaimFault.TheVariants as faults
 
--- 1 to 10, in the order of the faults' names; want of memory has none
+-- 1 to 10, in the order of the faults' names; out of memory has none
 abbrev pub fault_number : ClaimFault → Option ℕ
 fault_number faults.Kind = Some 1
 fault_number faults.Alg = Some 2

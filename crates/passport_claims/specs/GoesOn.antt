@@ -9,12 +9,12 @@ pub record IsApartFrom (links : List ClaimsView) (first : ℕ) (number : List �
   pub dests : (link : ℕ) → IsOneOf (length links) link → dest_at links link ≡ number → ⊥
   pub start : div_at links first ≡ number → ⊥
 
--- nor has one that wasn't, where it is another number than the called one
+-- nor has one that wasn't, if it is another number than the called one
 abbrev pub IsNewTo : List ClaimsView → List ℕ → List ℕ → List ℕ → Type 0
 IsNewTo links [] called number = number ≡ called → ⊥
 IsNewTo links (first ∷ later) called number = IsApartFrom links first number
 
--- The links, of which there are at most 7, stand in this order up to the link's div; and the call hasn't been at the link's dest.
+-- The links, of which there are at most 7, are in this order up to the link's div; and the call hasn't been at the link's dest.
 pub record GoesOn (origin : ClaimsView) (links : List ClaimsView) (turn : List ℕ) (link : ClaimsView) : Type 0 where
   pub few : length links ≤ 7
   pub order : IsOrder origin links (Some (div_of link)) turn

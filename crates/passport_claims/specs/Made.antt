@@ -14,7 +14,7 @@ use Rattle.passport_claims.specs.declared.kind.Kind.TheVariants as kinds
 abbrev pub is_called_count : Kind → ℕ → Bool
 is_called_count kind count = nat_le 1 count && nat_le count (most_called (ppt_of kind))
 
--- the identifier of the call, where the type has one, is a UUID in 36 characters
+-- the identifier of the call, if the type has one, is a UUID in 36 characters
 abbrev pub has_origid : Kind → Bool
 has_origid kinds.Base = true
 has_origid (kinds.Shaken level origid) = is_origid origid

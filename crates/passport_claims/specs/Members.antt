@@ -45,13 +45,13 @@ abbrev pub items_length : Items → ℕ
 items_length no_items = 0
 items_length (item value others) = suc (items_length others)
 
--- the numbers that the items are, behind those found so far
+-- the numbers that the items are, after those found so far
 abbrev pub numbers_after : List (List ℕ) → Items → Option (List (List ℕ))
 numbers_after found no_items = Some found
 numbers_after found (item value others) =
     option_and_then (λ number. numbers_after (found ++ number ∷ []) others) (number_of value)
 
--- the numbers of an array, where it has some and at most so many
+-- the numbers of an array, if it has some and at most so many
 abbrev pub numbers_of : ℕ → Items → Option (List (List ℕ))
 numbers_of most items = if nat_le 1 (items_length items) && nat_le (items_length items) most then numbers_after [] items else None
 

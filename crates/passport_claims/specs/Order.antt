@@ -51,8 +51,8 @@ abbrev pub Way : List (List ℕ) → List ClaimsView → Option (List ℕ) → L
 Way dests links called [] = IsCalled dests called
 Way dests links called (first ∷ later) = IsWay dests links called first later
 
--- The links, of which there are at most 8 (this project's own limit), stand in this order: each once, as an unbroken way from the
--- originating PASSporT to the called number.
+-- The links, of which there are at most 8 (this project's own limit), are in this order: each once, as an unbroken way from the originating PASSporT to the
+-- called number.
 pub record IsOrder (origin : ClaimsView) (links : List ClaimsView) (called : Option (List ℕ)) (turn : List ℕ) : Type 0 where
   pub few : length links ≤ 8
   pub once : ListsOnce (length links) turn

@@ -1,5 +1,4 @@
--- Why links stand in no order, and which link shows it: the first of five faults, tried one after another (this project's own order;
--- RFC 8946, section 4.2).
+-- Why links are in no order, and which link shows it: the first of five faults, tried one after another (this project's own order; RFC 8946, section 4.2).
 use Rattle.std.specs.Prelude.{◌≡◌, ◌⊎◌, ℕ, suc, zero, ◌-◌, ◌<◌, ◌≤◌, List, length, Option, Some, Contains}
 use Rattle.passport_claims.specs.Passport.{ClaimsView}
 use Rattle.passport_claims.specs.Links.{IsOneOf, dest_at, div_at}
@@ -117,7 +116,7 @@ pub record Called (dests : List (List ℕ)) (links : List ClaimsView) (called : 
   pub kind : fault.kind ≡ 5
   pub ends : EndsAtOnce dests links called fault.link ⊎ EndsLater dests links called fault.link
 
--- the links stand in no order, and this is why
+-- the links are in no order, and this is why
 abbrev pub IsFault : ClaimsView → List ClaimsView → Option (List ℕ) → ChainFault → Type 0
 IsFault origin links called fault = Many links fault
     ⊎ (Repeat links fault ⊎ (Start origin.dest links fault ⊎ (Cut origin.dest links fault ⊎ Called origin.dest links called fault)))

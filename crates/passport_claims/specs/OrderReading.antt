@@ -49,7 +49,7 @@ is_left turn link = not (is_among link turn)
 abbrev pub is_one_of : List (List ℕ) → List ℕ → Bool
 is_one_of numbers number = list_any (λ other. bytes_eq other number) numbers
 
--- the start, where no other may start and its div is one of these dests
+-- the start, if no other may start and its div is one of these dests
 abbrev pub only_start : List (List ℕ) → List ClaimsView → ℕ → Option ℕ → Result ℕ ChainFault
 only_start dests links start (Some second) = Err (fault_at 3 second)
 only_start dests links start None = if is_one_of dests (div_at links start) then Ok start else Err (fault_at 3 start)
@@ -67,7 +67,7 @@ walk links zero number = []
 walk links (suc room) number =
     option_map_or (λ link. link ∷ walk links room (dest_at links link)) (first_from (leads_from links number) 1 (length links)) []
 
--- the links behind the start
+-- the links after the start
 abbrev pub behind : List ClaimsView → ℕ → List ℕ
 behind links start = walk links (length links - 1) (dest_at links start)
 
@@ -81,16 +81,16 @@ abbrev pub calls_one_of : List (List ℕ) → Option (List ℕ) → Bool
 calls_one_of dests None = false
 calls_one_of dests (Some called) = is_one_of dests called
 
--- a call that wasn't diverted: the order of no links, where the called number is one of these
+-- a call that wasn't diverted: the order of no links, if the called number is one of these
 unfoldable pub undiverted : List (List ℕ) → Option (List ℕ) → Result (List ℕ) ChainFault
 undiverted dests called = if calls_one_of dests called then Ok [] else Err (fault_at 5 0)
 
--- the way from the start, where its last dest is called
+-- the way from the start, if its last dest is called
 abbrev pub ended : List ClaimsView → Option (List ℕ) → ℕ → List ℕ → Result (List ℕ) ChainFault
 ended links called start later =
     if calls called (dest_at links (last_of start later)) then Ok (start ∷ later) else Err (fault_at 5 (last_of start later))
 
--- and where it leaves no link
+-- and if it leaves no link
 abbrev pub unless_left : List ClaimsView → Option (List ℕ) → ℕ → List ℕ → Option ℕ → Result (List ℕ) ChainFault
 unless_left links called start later (Some link) = Err (fault_at 4 link)
 unless_left links called start later None = ended links called start later

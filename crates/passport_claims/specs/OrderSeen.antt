@@ -12,14 +12,14 @@ abbrev pub order_seen : Result Order ChainFault → Result (List ℕ) ChainFault
 order_seen (Ok order) = Ok (turn_of order)
 order_seen (Err fault) = Err fault
 
--- the entries behind its links are zeros
+-- the entries after its links are zeros
 pub record IsFilled (order : Order) : Type 0 where
   pub few : order.length ≤ 8
   pub turns : length (turn_of order) ≡ order.length
   pub rest : drop order.length order.turn ≡ replicate (8 - order.length) 0
 
--- An order of so many links has as many entries, and each of these is the number of a link, so that it can be looked up without a test. Behind them
--- are zeros.
+-- An order of so many links has as many entries, and each of these is the number of a link, so that it can be looked up without a test. After them come
+-- zeros.
 pub record IsTurn (links : ℕ) (order : Order) : Type 0 where
   pub all : order.length ≡ links
   pub few : order.length ≤ 8

@@ -57,7 +57,7 @@ is_text text (Some value) = bytes_eq value text
 abbrev pub most_called : Option (List ℕ) → ℕ
 most_called ppt = if is_text (codes "div") ppt then 1 else 32
 
--- the same as a relation: 1 to 32 numbers, and exactly one where the type is `div`
+-- the same as a relation: 1 to 32 numbers, and exactly one if the type is `div`
 pub record IsCalledCount (ppt : Option (List ℕ)) (count : ℕ) : Type 0 where
   pub some : 1 ≤ count
   pub few : count ≤ 32
@@ -65,7 +65,7 @@ pub record IsCalledCount (ppt : Option (List ℕ)) (count : ℕ) : Type 0 where
 
 -- ---- what each PASSporT meets
 
--- the identifier of the call is one, where the type has it
+-- the identifier of the call is one, if the type has it
 abbrev pub IsKind : Kind → Type 0
 IsKind kinds.Base = ⊤
 IsKind (kinds.Shaken level origid) = IsOrigid origid
@@ -76,7 +76,7 @@ pub record IsPassport (claims : ClaimsView) : Type 0 where
   pub called : IsCalledCount (ppt_of claims.kind) (length claims.dest)
   pub kind_ok : IsKind claims.kind
 
--- its numbers are numbers: the calling one, the called ones, and the diverted one, where there is one
+-- its numbers are numbers: the calling one, the called ones, and the diverted one, if there is one
 abbrev pub IsDiverted : Kind → Type 0
 IsDiverted kinds.Base = ⊤
 IsDiverted (kinds.Shaken level origid) = ⊤

@@ -22,12 +22,12 @@ abbrev pub is_absent : Option Data → Bool
 is_absent None = true
 is_absent (Some value) = false
 
--- a member is the text where there is one, and else absent
+-- a member is the text if there is one, and else absent
 abbrev pub has_text_where : List ℕ → Option (List ℕ) → Data → Bool
 has_text_where name None value = is_absent (get name value)
 has_text_where name (Some text) value = has_text name text value
 
--- the certificate's URI, where the header's four members are as they have to be
+-- the certificate's URI, if the header's four members are as they have to be
 abbrev pub checked_header : Data → Option (List ℕ) → List ℕ → Result (List ℕ) ClaimFault
 checked_header header ppt info =
     if not (has_text (codes "typ") (codes "passport") header) then Err faults.Kind

@@ -21,7 +21,7 @@ pub record IsSigned256 (header : Data) : Type 0 where
   pub typ : HasText (codes "typ") (codes "passport") header
   pub alg : HasText (codes "alg") (codes "ES256") header
 
--- and it has the field's type, or none where the field has none
+-- and it has the field's type, or none if the field has none
 pub record IsOfFieldType (header : Data) (ppt : Option (List ℕ)) : Type 0 where
   pub before : IsSigned256 header
   pub same_ppt : get (codes "ppt") header ≡ text_where ppt
@@ -59,7 +59,7 @@ pub data Refused (header payload : Data) (ppt : Option (List ℕ)) (info : List 
   -- Alg: `alg` isn't the text `ES256`
   wrong_alg : HasText (codes "typ") (codes "passport") header → (HasText (codes "alg") (codes "ES256") header → ⊥) → fault ≡ faults.Alg
       → Refused header payload ppt info fault
-  -- Ppt: `ppt` isn't the field's type, or stands where the field has none
+  -- Ppt: `ppt` isn't the field's type, or is there though the field has none
   wrong_ppt : IsSigned256 header → (get (codes "ppt") header ≡ text_where ppt → ⊥) → fault ≡ faults.Ppt → Refused header payload ppt info fault
   -- X5u: `x5u` isn't the field's URI, byte for byte
   wrong_x5u : IsOfFieldType header ppt → (HasText (codes "x5u") info header → ⊥) → fault ≡ faults.X5u → Refused header payload ppt info fault

@@ -39,8 +39,8 @@ pub record IsTokenOf (text : List ℕ) (call : CallView) (claims : ClaimsView) (
   pub says : Claims token.header token.payload (ppt_of claims.kind) claims.x5u claims
   pub said : read_claims token.header token.payload (ppt_of claims.kind) claims.x5u ≡ Ok claims
 
--- What is signed of the PASSporT is with any signature a token of it: in its full form for each call, and in its compact form for a call
--- that gives what the PASSporT says. The full form can stand in an Identity header field where one number is called.
+-- What is signed of the PASSporT is, with any signature, a token of it: in its full form for each call, and in its compact form for a call that gives what
+-- the PASSporT says. The full form can be in an Identity header field if one number is called.
 pub record IsSignable (claims : ClaimsView) : Type 0 where
   pub full : (signature : List ℕ) (call : CallView) → IsSignature signature → IsTokenOf (full_text (signing_of claims) signature) call claims signature
   pub compact : (signature : List ℕ) (call : CallView) → IsSignature signature → base_of call ≡ Some (members_of claims)

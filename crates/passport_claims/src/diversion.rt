@@ -12,13 +12,12 @@ use crate::order::{ChainFault, MOST_LINKS, Order};
 use crate::passport::Passport;
 use tn_values::Number;
 
-/// The order in which a diverted call went (RFC 8946, section 4.2), from its originating PASSporT and its links, the PASSporTs of type
-/// `div` in the order of the message, to the number that is called now.
+/// The order in which a diverted call went (RFC 8946, section 4.2), from its originating PASSporT to the number that is called now. Its links are the
+/// PASSporTs of type `div`, in the order of the message.
 ///
-/// Each link is there once. The div of the first is a number that the originating PASSporT calls, the div of each later one is the dest
-/// of the one before it, and the dest of the last is the called number. These numbers are distinct, and there are at most 8 links.
-/// Without links the originating PASSporT calls that number. There is one such order at most; where there is none, the fault is the
-/// first of those of [`ChainFault`].
+/// Each link is there once. The div of the first is a number that the originating PASSporT calls. The div of each later one is the dest of the one before
+/// it. The dest of the last is the called number. These numbers are distinct, and there are at most 8 links. Without links the originating PASSporT calls
+/// that number. There is one such order at most; if there is none, the fault is the first of those of [`ChainFault`].
 #[tactic(auto, using(crate::proofs::OrderFaultLaws::order_found, crate::proofs::OrderFaultLaws::order_only, crate::proofs::OrderFaultLaws::fault_found, crate::proofs::OrderFaultLaws::turn_found, crate::proofs::OrderLaws::order_unique))]
 pub fn chain(
     origin: &Passport,
@@ -70,7 +69,7 @@ fn chain_exactly(
     way_from(links, called, start)
 }
 
-/// The order of no links, where the called number is one that the originating PASSporT calls.
+/// The order of no links, if the called number is one that the originating PASSporT calls.
 #[tactic(auto, unfolding(crate::specs::OrderReading::undiverted))]
 fn undiverted(origin: &Passport, called: Option<Number>) -> Result<Order, ChainFault>
     ensures exact { order_seen result ≡ undiverted origin.now.dest called }
@@ -88,7 +87,7 @@ fn undiverted(origin: &Passport, called: Option<Number>) -> Result<Order, ChainF
     })
 }
 
-/// The one link with which the order may start, where the originating PASSporT calls its div.
+/// The one link with which the order may start, if the originating PASSporT calls its div.
 #[tactic(auto, unfolding(crate::specs::OrderReading::start_of))]
 fn start_of(origin: &Passport, links: &[Passport]) -> Result<u8, ChainFault>
     requires links { All IsLink links.now }
@@ -108,7 +107,7 @@ fn start_of(origin: &Passport, links: &[Passport]) -> Result<u8, ChainFault>
     Ok(start)
 }
 
-/// The way from the start, where it leaves no link and the last dest is called.
+/// The way from the start, if it leaves no link and the last dest is called.
 #[tactic(auto, unfolding(crate::specs::OrderReading::way_from))]
 fn way_from(links: &[Passport], called: Option<Number>, start: u8) -> Result<Order, ChainFault>
     requires links { All IsLink links.now }

@@ -13,7 +13,7 @@ pub enum ClaimFault {
     /// The header's `alg` is not the text `ES256` (RFC 8225, section 4.2).
     #[error("the header's alg is not ES256")]
     Alg,
-    /// The header's `ppt` is not the field's, or stands where the field has none (RFC 8224, section 4.1).
+    /// The header's `ppt` is not the field's, or is there though the field has none (RFC 8224, section 4.1).
     #[error("the header's ppt is not the field's")]
     Ppt,
     /// The header's `x5u` is not the field's `info`, byte for byte (RFC 8224, section 4.1).
@@ -38,7 +38,7 @@ pub enum ClaimFault {
     /// The payload's `div` is not an object whose `tn` is a number, for `div` (RFC 8946, section 4.1).
     #[error("the payload's div is not a number")]
     Div,
-    /// Memory was wanting, and nothing is said of the claims.
+    /// Memory ran out, and nothing is said of the claims.
     #[error("out of memory")]
     Memory,
 }
@@ -46,8 +46,8 @@ pub enum ClaimFault {
 impl ClaimFault {
     ghost use Rattle.passport_claims.specs.Fault.{fault_number};
 
-    /// The fault's number in this project's reports: 1 to 10 in the order of the names; `None` for want of memory, which is
-    /// no fault of the claims.
+    /// The fault's number in this project's reports: 1 to 10 in the order of the names; `None` if memory ran out, which
+    /// is no fault of the claims.
     pub fn number(self) -> Option<u8>
         ensures { result ≡ fault_number self }
     {

@@ -30,7 +30,7 @@ impl Form {
         }
     }
 
-    /// Whether the identifier of the call, where the form has one, is of its form.
+    /// Whether the identifier of the call, if the form has one, is of its form.
     pub fn has_origid(&self) -> bool
         ensures { result ≡ has_origid (form_kind self.now) }
     {

@@ -66,7 +66,7 @@ impl Kind {
         }
     }
 
-    /// Whether the identifier of the call, where the type has one, is a UUID in 36 characters.
+    /// Whether the identifier of the call, if the type has one, is a UUID in 36 characters.
     pub fn has_origid(&self) -> bool
         ensures { result ≡ has_origid self.now }
     {

@@ -136,7 +136,7 @@ fn may_start(links: &[Passport], link: u8) -> bool
     link_to(links, div(links, link)).is_none()
 }
 
-/// The first link behind this one, or of all behind 0, with which the order may start.
+/// The first link after this one, or of all after 0, with which the order may start.
 #[tactic(auto, using(crate::proofs::FirstLaws::first_here, crate::proofs::FirstLaws::first_passed, crate::proofs::FirstLaws::first_done))]
 pub(crate) fn start_behind(links: &[Passport], before: u8) -> Option<u8>
     requires links { All IsLink links.now }

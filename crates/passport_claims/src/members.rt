@@ -32,7 +32,7 @@ pub(crate) fn has_text(object: &Value, name: &str, text: &[u8]) -> bool
     }
 }
 
-/// Whether a member is the text where there is one, and else absent.
+/// Whether a member is the text if there is one, and else absent.
 pub(crate) fn has_text_where(object: &Value, name: &str, text: Option<&[u8]>) -> bool
     ensures { result ≡ has_text_where name.now (option_copied text.entry) (view object.now) }
 {

@@ -13,16 +13,16 @@ pub(crate) const MOST_LINKS: usize = 8;
 pub struct Order {
     /// How many links there are, at most 8.
     pub length: u8,
-    /// The number of each link, counted from 1 in the order of the message; zeros behind `length`.
+    /// The number of each link, counted from 1 in the order of the message; zeros after `length`.
     pub turn: [u8; MOST_LINKS],
 }
 
-/// Why links stand in no order, and which link shows it.
+/// Why links are in no order, and which link shows it.
 #[derive(Clone, Copy, Debug, PartialEq, Eq)]
 pub struct ChainFault {
     /// What is wrong: one of the numbers below, which are tried in this order.
     pub kind: u8,
-    /// The link, counted from 1 in the order of the message; 0 where there is none.
+    /// The link, counted from 1 in the order of the message; 0 if there is none.
     pub link: u8,
 }
 

@@ -44,8 +44,8 @@ impl Model for Passport {
 
 impl Passport {
     /// Reads the claims of a token (RFC 8225, sections 4 and 5), for the type and the certificate's URI that its Identity header
-    /// field has. The claims are tried in the order of [`ClaimFault`], and the first that is broken is the fault; `Attest` and
-    /// `Origid` are looked at for `shaken` alone, and `Div` for `div` alone. Members that aren't named there are passed over.
+    /// field has. The claims are tried in the order of [`ClaimFault`], and the first that is broken is the fault. `Attest` and
+    /// `Origid` are looked at only for `shaken`, and `Div` only for `div`. Members that aren't named there are passed over.
     ///
     /// The type is none, `shaken` or `div`.
     #[tactic(auto, using(crate::proofs::ClaimsLaws::claims_found, crate::proofs::ClaimsLaws::claims_only_of, crate::proofs::ClaimsLaws::claims_unique, crate::proofs::RefusedLaws::claims_refused))]
@@ -180,7 +180,7 @@ fn claims_of(
     })
 }
 
-/// The URI as text, where it is one: it is ASCII.
+/// The URI as text, if it is one: it is ASCII.
 fn uri_text(uri: &[u8]) -> Option<&str>
     ensures { option_copied result ≡ (if is_uri uri.now then Some uri.now else None) }
 {

@@ -21,7 +21,8 @@ use tn_values::Number;
 
 impl Passport {
     /// The deterministic header and payload (RFC 8225, sections 4, 5 and 9). Both can be written by
-    /// [`deterministic`](passport_json::deterministic), and reading them gives the same PASSporT. An error is want of memory.
+    /// [`deterministic`](passport_json::deterministic), and reading them gives the same PASSporT. An error says that
+    /// memory ran out.
     pub fn to_values(&self, alloc: Global) -> Result<(Value, Value), AllocError>
         ensures header { IfOk result (λ values. view values.0 ≡ Header (members_of self.now)) }
         ensures payload { IfOk result (λ values. view values.1 ≡ Payload (members_of self.now)) }

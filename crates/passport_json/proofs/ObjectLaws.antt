@@ -1,4 +1,4 @@
--- The object that bytes are: by the test exactly where by the definition.
+-- The object that bytes are: by the test exactly if by the definition.
 use Rattle.std.proofs.Common.{◌≡◌, ℕ, Bool, true, false, List, Some, None, Ok, Err, refl}
 use Rattle.std.specs.Prelude.{IsUtf8, option_and_then, is_some}
 use Rattle.std.specs.Str.{is_utf8}

@@ -26,7 +26,7 @@ use Rattle.passport_json.proofs.TokenLaws.{base64_again, signature_again}
 abbrev texts : List ℕ → List ℕ → List ℕ → PartTexts
 texts header payload signature = record { header = header; payload = payload; signature = signature }
 
--- ---- the full form: what is left to read behind each check, and that its fault is the text's
+-- ---- the full form: what is left to read after each check, and that its fault is the text's
 
 abbrev token_of : PartTexts → Data → Data → List ℕ → TokenView
 token_of parts header payload signature = record {

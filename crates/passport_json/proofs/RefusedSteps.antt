@@ -1,4 +1,4 @@
--- Each check of a token by itself: where it refuses, and what it then says of the text.
+-- Each check of a token by itself: when it refuses, and what it then says of the text.
 use Rattle.std.proofs.Common.{◌≡◌, ◌≢◌, ℕ, ◌==◌, ◌⊎◌, inl, inr, Bool, true, false, cond, List, [], ◌∷◌, ◌++◌, length, Option, Some, None, Result, Ok, Err, codes, refl, sym, ap, subst, ◌∙◌, arith}
 use Rattle.std.specs.Bool.{nat_eq}
 use Rattle.std.specs.List.{starts_with}
@@ -25,7 +25,7 @@ use Rattle.passport_json.proofs.ObjectLaws.{json_again}
 use Rattle.passport_json.proofs.PartLaws.{parts_again}
 use Rattle.passport_json.proofs.TokenLaws.{base64_again, checked_again, signature_again}
 
--- a reading that is refused is refused at its first step, or behind what this gave
+-- a reading that is refused is refused at its first step, or after what this gave
 pub stops : {A B E : Type 0} (r : Result A E) (f : A → Result B E) (fault : E) → r >>= f ≡ Err fault
     → (r ≡ Err fault) ⊎ ((a : A) × (r ≡ Ok a) × (f a ≡ Err fault))
 stops (Ok a) f fault e = inr (a, refl, e)
@@ -77,7 +77,7 @@ refused_parts text call fault (Some found) e h = of (one_is_empty found.header f
         one_empty found (parts_found text found e) (one_empty_means found.header found.payload t) (sym is)
     of false t h = absurd cc
 
--- where the parts are refused they aren't there, or one of two is empty
+-- if the parts are refused, they aren't there, or one of two is empty
 pub parts_refused : (text : List ℕ) (call : CallView) (fault : TokenFault) → checked_parts text ≡ Err fault → Refused text call fault
 parts_refused text call fault h = refused_parts text call fault (parts_of text) refl h
 

@@ -1,4 +1,4 @@
--- What was signed has the payload behind its dot, in either form.
+-- What was signed has the payload after its dot, in either form.
 use Rattle.std.proofs.Common.{◌≡◌, ℕ, zero, suc, ◌+◌, ◌*◌, ◌/◌, ◌%◌, ◌==◌, not, true, List, [], ◌∷◌, ◌++◌, Some, refl, ap, ◌∙◌}
 use Rattle.std.specs.Prelude.{IsUtf8, slice_index}
 use Rattle.std.proofs.lemmas.List.{append-nil}
@@ -38,7 +38,7 @@ symbols_lack t (a ∷ b ∷ c ∷ rest) h =
 pub encoded_lacks : (bytes : List ℕ) → lacks dot (encode_of url_safe_no_pad bytes) ≡ true
 encoded_lacks bytes = ap (lacks dot) (append-nil (encode_symbols url_safe_no_pad.encode_table bytes)) ∙ symbols_lack url_safe_no_pad.encode_table bytes refl
 
--- ---- the payload behind the dot
+-- ---- the payload after the dot
 
 behind_dot : (front payload bytes : List ℕ) (value : Data) → lacks dot front ≡ true → IsBase64 payload bytes → IsObjectText bytes value
     → payload_in (front ++ dot ∷ payload) ≡ Some value

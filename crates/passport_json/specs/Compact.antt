@@ -1,5 +1,5 @@
--- A PASSporT in its compact form (RFC 8225, section 7; RFC 8224, section 4.1): two dots and a signature, where header
--- and payload are built again from the message.
+-- A PASSporT in its compact form (RFC 8225, section 7; RFC 8224, section 4.1): two dots and a signature; header and
+-- payload are built again from the message.
 use Rattle.std.specs.Prelude.{◌≡◌, ℕ, true, List, [], ◌∷◌, length, Option, Some, None, Result, Ok, Err}
 use Rattle.passport_json.specs.declared.fault.TokenFault.{TokenFault}
 use Rattle.passport_json.specs.declared.fault.TokenFault.TheVariants.{Compact}
@@ -39,7 +39,7 @@ base_by (Some iat) (Some orig) None info ppt = None
 base_by (Some iat) None dest info ppt = None
 base_by None orig dest info ppt = None
 
--- the base PASSporT of a call, where there are a Date and both numbers, and no PASSporT type
+-- the base PASSporT of a call, if there are a Date and both numbers, and no PASSporT type
 abbrev pub base_of : CallView → Option PassportView
 base_of call = base_by call.iat call.orig call.dest call.info call.ppt
 

@@ -11,12 +11,12 @@ use Rattle.serde_json.specs.Written.{compact_text, has_float}
 abbrev pub Det : Data → List ℕ
 Det value = compact_text value
 
--- the first name of these members, where there are any, stands behind this one byte by byte
+-- the first name of these members, if there are any, comes after this one byte by byte
 abbrev pub IsBefore : List ℕ → Members → Type 0
 IsBefore name no_members = ⊤
 IsBefore name (member next value rest) = slice_cmp nat_cmp name next ≡ Less
 
--- the members of each object stand in byte order of their names, each name once
+-- the members of each object are in byte order of their names, each name once
 abbrev mutual
   pub IsInOrder : Data → Type 0
   IsInOrder null = ⊤
@@ -34,11 +34,11 @@ abbrev mutual
   AreMembersInOrder no_members = ⊤
   AreMembersInOrder (member name value members) = IsBefore name members × (IsInOrder value × AreMembersInOrder members)
 
--- how deep arrays and objects may stand in one another (this project's own limit, and that of the reader)
+-- how deep arrays and objects may be nested in one another (this project's own limit, and that of the reader)
 abbrev pub most_deep : ℕ
 most_deep = 127
 
--- the value has one text: no floating-point number stands in it, and it is not too deep to be read back
+-- the value has one text: no floating-point number is in it, and it is not too deep to be read back
 pub record IsWritable (value : Data) : Type 0 where
   pub no_float : has_float value ≡ false
   pub shallow : depth value ≤ most_deep

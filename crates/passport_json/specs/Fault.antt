@@ -3,7 +3,7 @@ use Rattle.std.specs.Prelude.{ℕ, Option, Some, None}
 use Rattle.passport_json.specs.declared.fault.TokenFault.{TokenFault}
 use Rattle.passport_json.specs.declared.fault.TokenFault.TheVariants.{Parts, Base64, Json, SignatureLength, Compact, Memory}
 
--- 1 to 5, in the order of the faults' names; want of memory has none
+-- 1 to 5, in the order of the faults' names; out of memory has none
 abbrev pub fault_number : TokenFault → Option ℕ
 fault_number Parts = Some 1
 fault_number (Base64 part) = Some 2

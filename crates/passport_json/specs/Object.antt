@@ -16,7 +16,7 @@ pub record IsObjectText (bytes : List ℕ) (value : Data) : Type 0 where
   pub read_as : read bytes ≡ Some value
   pub is_object : value ≡ object members
 
--- the value, where it is an object
+-- the value, if it is an object
 abbrev pub only_object : Data → Option Data
 only_object null = None
 only_object (boolean b) = None

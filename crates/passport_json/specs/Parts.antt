@@ -18,7 +18,7 @@ pub record AreParts (text : List ℕ) (parts : PartTexts) : Type 0 where
   pub payload : lacks dot parts.payload ≡ true
   pub signature : lacks dot parts.signature ≡ true
 
--- the three texts, where the text has exactly two dots
+-- the three texts, if the text has exactly two dots
 abbrev pub parts_of : List ℕ → Option PartTexts
 parts_of text =
     option_and_then (λ first. option_and_then (λ second.
@@ -32,6 +32,6 @@ one_is_empty [] (b ∷ bs) = true
 one_is_empty (a ∷ more) [] = true
 one_is_empty (a ∷ more) (b ∷ bs) = false
 
--- what is signed: the first two texts with their dot, as they stand (JWS Signing Input, RFC 7515, section 2)
+-- what is signed: the first two texts with their dot, as they are (JWS Signing Input, RFC 7515, section 2)
 abbrev pub signing_of : PartTexts → List ℕ
 signing_of parts = parts.header ++ dot ∷ parts.payload

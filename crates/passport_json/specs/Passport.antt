@@ -3,7 +3,7 @@
 use Rattle.std.specs.Prelude.{ℕ, List, [], ◌∷◌, Option, Some, None, codes}
 use Rattle.serde_json.specs.Data.{Data, number, string, array, object, unsigned, Items, no_items, item, Members, no_members, member}
 
--- what a PASSporT claims: its type where it has one, the certificate's URI, the attestation and the call's identifier
+-- what a PASSporT claims: its type if it has one, the certificate's URI, the attestation and the call's identifier
 -- (`shaken`), the called numbers, the number that was diverted (`div`), when it was issued in Unix seconds, and the
 -- calling number
 pub record PassportView : Type 0 where
@@ -28,7 +28,7 @@ with_tn value = object (member (codes "tn") value no_members)
 abbrev pub number_object : List ℕ → Data
 number_object digits = with_tn (string digits)
 
--- a member, where there is a value for it
+-- a member, if there is a value for it
 abbrev pub optional : List ℕ → Option Data → Members → Members
 optional name None rest = rest
 optional name (Some value) rest = member name value rest
@@ -41,7 +41,7 @@ abbrev pub number_where : Option (List ℕ) → Option Data
 number_where None = None
 number_where (Some digits) = Some (number_object digits)
 
--- `alg`, `ppt` where there is one, `typ` and `x5u`
+-- `alg`, `ppt` if there is one, `typ` and `x5u`
 abbrev pub Header : PassportView → Data
 Header passport = object
     (member (codes "alg") (string (codes "ES256"))
@@ -49,7 +49,7 @@ Header passport = object
     (member (codes "typ") (string (codes "passport"))
     (member (codes "x5u") (string passport.x5u) no_members))))
 
--- `attest` where there is one, `dest`, `div` where there is one, `iat`, `orig`, and `origid` where there is one
+-- `attest` if there is one, `dest`, `div` if there is one, `iat`, `orig`, and `origid` if there is one
 abbrev pub Payload : PassportView → Data
 Payload passport = object
     (optional (codes "attest") (text_where passport.attest)

@@ -1,4 +1,4 @@
--- The payload that stands in what was signed (RFC 7515, section 2: behind its dot, in base64url).
+-- The payload that is in what was signed (RFC 7515, section 2: after its dot, in base64url).
 use Rattle.std.specs.Prelude.{◌≡◌, ℕ, ◌^◌, ◌<◌, true, List, Option, option_and_then, IfSome}
 use Rattle.std.specs.Result.{result_ok}
 use Rattle.base64.specs.Engines.{url_safe_no_pad}
@@ -10,7 +10,7 @@ use Rattle.passport_json.specs.Compact.{CallView}
 use Rattle.passport_json.specs.Object.{object_of}
 use Rattle.passport_json.specs.Parts.{dot}
 
--- the JSON object whose base64url stands behind the first dot
+-- the JSON object whose base64url comes after the first dot
 unfoldable pub payload_in : List ℕ → Option Data
 payload_in signing = option_and_then (λ (parts : List ℕ × List ℕ). option_and_then object_of (result_ok (decode_of url_safe_no_pad parts.1))) (cut dot signing)
 

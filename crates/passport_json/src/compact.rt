@@ -23,7 +23,7 @@ pub(crate) struct Base<'a> {
     pub(crate) info: &'a [u8],
 }
 
-/// What a compact token is built from, where the message has it all and the field has no type.
+/// What a compact token is built from, if the message has it all and the field has no type.
 pub(crate) fn checked_base<'a>(view: &View<'a>) -> Result<Base<'a>, TokenFault>
     ensures exact { Gives passport_of result (checked_base (call_of view.now)) }
 {

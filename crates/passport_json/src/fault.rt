@@ -23,7 +23,7 @@ pub enum TokenFault {
     /// Identity header field has a PASSporT type.
     #[error("the message lacks what a token in its compact form leaves out")]
     Compact,
-    /// Memory was wanting, and nothing is said of the text.
+    /// Memory ran out, and nothing is said of the text.
     #[error("out of memory")]
     Memory,
 }
@@ -31,8 +31,8 @@ pub enum TokenFault {
 impl TokenFault {
     ghost use Rattle.passport_json.specs.Fault.{fault_number};
 
-    /// The fault's number in this project's reports: 1 to 5 in the order Parts, Base64, Json,
-    /// SignatureLength, Compact; `None` for want of memory, which is no fault of the text.
+    /// The fault's number in this project's reports: 1 to 5 in the order Parts, Base64, Json, SignatureLength, Compact;
+    /// `None` if memory ran out, which is no fault of the text.
     pub fn number(self) -> Option<u8>
         ensures { result ≡ fault_number self }
     {

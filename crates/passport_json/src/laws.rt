@@ -46,8 +46,8 @@ pub fn base64_law()
     ensures size { (bytes : List ℕ) → length (encode_of url_safe_no_pad bytes) ≡ (4 * length bytes + 2) / 3 }
 {}
 
-/// The text of a token (RFC 7515, section 7.1) is symbols and dots, and has 87 bytes beside what was signed, or 88 in the compact form. It is no
-/// longer than 8,192 bytes where the texts of header and payload together are no longer than 6,000.
+/// The text of a token (RFC 7515, section 7.1) is symbols and dots, and has 87 bytes beside what was signed, or 88 in the compact form. It is no longer
+/// than 8,192 bytes if the texts of header and payload together are no longer than 6,000.
 pub fn token_bytes_law()
     ensures full { (header payload signature : List ℕ) → IsBytes header → IsBytes payload → IsSignature signature → length header + length payload ≤ 6000
         → Run is_token_byte 8192 (full_text (Signing header payload) signature) }
@@ -56,8 +56,8 @@ pub fn token_bytes_law()
     ensures compact_size { (signature : List ℕ) → IsSignature signature → length (compact_text signature) ≡ 88 }
 {}
 
-/// What was signed as a token has the token's payload behind its dot (RFC 7515, section 2): in the full form as it was received, and in the
-/// compact form as it is built of a call that gives numbers.
+/// What was signed as a token has the token's payload after its dot (RFC 7515, section 2): in the full form as it was received, and in the compact form as
+/// it is built of a call that gives numbers.
 pub fn signed_law()
     ensures full { (text : List ℕ) (token : TokenView) → FullText text token → payload_in token.signing ≡ Some token.payload }
     ensures compact { (text : List ℕ) (call : CallView) (token : TokenView) → CompactText text call token → GivesNumbers call

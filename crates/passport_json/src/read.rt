@@ -14,7 +14,7 @@ use base64::engine::general_purpose::URL_SAFE_NO_PAD;
 use serde_json::Value;
 use std::alloc::Global;
 
-/// The three texts around exactly two dots, of which not exactly one of the first two is empty.
+/// The three texts around exactly two dots. Of the first two, both are empty or neither is.
 pub(crate) fn checked_parts(text: &[u8]) -> Result<Parts<'_>, TokenFault>
     ensures exact { Gives texts_of result (checked_parts text.now) }
     ensures parts { IfOk result (λ parts. AreParts text.now (texts_of parts)) }

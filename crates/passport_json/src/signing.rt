@@ -5,8 +5,8 @@ use base64::engine::general_purpose::URL_SAFE_NO_PAD;
 use sha2::{Digest, Sha256};
 use std::alloc::{AllocError, Global};
 
-/// The text that is signed for a header and a payload (RFC 7515, section 2): base64url of the one without
-/// padding, a dot, and base64url of the other. An error is want of memory.
+/// The text that is signed for a header and a payload (RFC 7515, section 2): base64url of the one without padding, a
+/// dot, and base64url of the other. An error says that memory ran out.
 pub fn signing_input(alloc: Global, header: &[u8], payload: &[u8]) -> Result<Vec<u8>, AllocError>
     ensures exact { IfOk result (λ text. text.items ≡ Signing header.now payload.now) }
 {

@@ -59,9 +59,9 @@ impl Model for Token {
 }
 
 impl Token {
-    /// Reads a token in its full form, or in its compact form (RFC 8225, section 7), where the first two of the
-    /// three texts around its dots are empty and header and payload are built again: `view` gives what the message
-    /// and its Identity header field say, and they are those of the PASSporT without a type that says the same.
+    /// Reads a token in its full form, or in its compact form (RFC 8225, section 7). In the compact form the first two
+    /// of the three texts around its dots are empty, and header and payload are built again. `view` gives what the
+    /// message and its Identity header field say, and they are those of the PASSporT without a type that says the same.
     ///
     /// The checks are made in this order, and the first that is broken is the fault: `Parts`, `Base64` of part 1, 2
     /// and 3, `SignatureLength`; then `Compact` in the compact form, and `Json` of part 1 and 2 in the full form.
@@ -130,8 +130,8 @@ impl Token {
         self.compact
     }
 
-    /// When the token was issued, in Unix seconds: the payload's `iat` (RFC 8225, section 5.1.1), where it is a
-    /// number written as an integer that 64 bits hold, and not past the year 9999; else `None`.
+    /// When the token was issued, in Unix seconds: the payload's `iat` (RFC 8225, section 5.1.1), if it is a number
+    /// written as an integer that 64 bits hold, and not past the year 9999; else `None`.
     pub fn issued_at(&self) -> Option<u64>
         ensures exact { result ≡ issued_at self.now.payload }
         ensures found { IfSome result (λ seconds. IsIssuedAt self.now.payload seconds) }
@@ -142,8 +142,8 @@ impl Token {
     }
 }
 
-/// A text in the full form: three texts with a dot between each two, all in base64url, of which the first two are JSON
-/// objects and the third is 64 bytes. Each part is decoded once.
+/// A text in the full form: three texts in base64url, with a dot between each two. The first two are JSON objects, and
+/// the third is 64 bytes. Each part is decoded once.
 #[tactic(auto, unfolding(crate::specs::Token::read_full))]
 fn read_full(alloc: Global, text: &[u8]) -> Result<Token, TokenFault>
     ensures exact { Gives (λ token. token) result (read_full text.now) }

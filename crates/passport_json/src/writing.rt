@@ -7,11 +7,11 @@ ghost use Rattle.passport_json.specs.Deterministic.{Det, IsInOrder, IsWritable, 
 use serde_json::{Map, Value};
 use std::alloc::{AllocError, Global};
 
-/// How deep arrays and objects may stand in one another.
+/// How deep arrays and objects may be nested in one another.
 const MOST_DEEP: u8 = 127;
 
-/// The deterministic form of a JSON value (RFC 8225, section 9): no white space, and the members of each object in
-/// byte order of their names. [`is_writable`] tells whether a value has this form. An error is want of memory.
+/// The deterministic form of a JSON value (RFC 8225, section 9): no white space, and the members of each object in byte
+/// order of their names. [`is_writable`] tells whether a value has this form. An error says that memory ran out.
 #[tactic(auto, using(crate::proofs::OrderLaws::read_in_order))]
 pub fn deterministic(alloc: Global, value: &Value) -> Result<Vec<u8>, AllocError>
     requires { IsWritable (view value.now) }
@@ -26,13 +26,13 @@ pub fn deterministic(alloc: Global, value: &Value) -> Result<Vec<u8>, AllocError
     Ok(text)
 }
 
-/// Does nothing: that what a slice holds are bytes is known of a parameter alone.
+/// Does nothing. That a slice holds bytes is known only of a parameter.
 fn tell_bytes(text: &[u8])
     ensures { IsBytes text.now }
 {}
 
-/// Whether [`deterministic`] takes the value: no floating-point number stands in it, and arrays and objects stand
-/// at most 127 deep in one another.
+/// Whether [`deterministic`] takes the value: no floating-point number is in it, and arrays and objects are nested at
+/// most 127 deep in one another.
 #[tactic(auto, using(crate::proofs::PlainLaws::plain_writable))]
 pub fn is_writable(value: &Value) -> bool
     ensures { IsTrue result ↔ IsWritable (view value.now) }

@@ -58,12 +58,12 @@ module _ {A : Type 0} (f : A → ℕ) where
   total_le (y ∷ xs) zero x at = let same : f y ≡ f x = ap f (some-injective y x at) in omega arith
   total_le (y ∷ xs) (suc i) x at = omega (arith, total_le xs i x at)
 
-  -- where each has nothing, all have nothing
+  -- if each has nothing, all have nothing
   pub total_none : (xs : List A) → ((i : ℕ) (x : A) → get_elem? xs i ≡ some x → f x ≡ 0) → total f xs ≡ 0
   total_none [] none = refl
   total_none (x ∷ xs) none = omega (arith, none 0 x refl, total_none xs (λ i. none (suc i)))
 
--- Where one of the list has all of g, and who has nothing of g has nothing of f, that one has all of f
+-- If one of the list has all of g, and who has nothing of g has nothing of f, that one has all of f
 pub all_mine : {A : Type 0} (f g : A → ℕ) (xs : List A) (i : ℕ) (x : A) → get_elem? xs i ≡ some x → total g xs ≡ g x
     → ((j : ℕ) (y : A) → get_elem? xs j ≡ some y → g y ≡ 0 → f y ≡ 0) → total f xs ≡ f x
 all_mine f g [] i x at mine none = absurd (some-ne-none x (sym at))

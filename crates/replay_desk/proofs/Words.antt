@@ -14,7 +14,7 @@ module _ (words : List ℕ) (class x : ℕ) (within : class < length words) wher
       (λ same. subst (P c) (sym (ap (λ i. get_or (set words class x) i 0) same ∙ get_or-set_same words class x 0 within)) (here c same))
       (λ apart. subst (P c) (sym (get_or-set_other words class c x 0 apart)) (others c apart))
 
--- a word that was 0 belongs to no pair, so writing it leaves all pairs standing
+-- a word that was 0 belongs to no pair, so all pairs still have their words after it is written
 pub stand_set : (words : List ℕ) (class x : ℕ) (pairs : List (ℕ × ℕ)) → get_or words class 0 ≡ 0 → Stand words pairs → Stand (set words class x) pairs
 stand_set words class x pairs free stand p there =
     let word = stand p there in

@@ -44,7 +44,7 @@ lost_to class winner h = record { desk = h.desk; wins = h.wins; losses = (class,
 -- The claim of a class by a call. `found` is the class's word at the claim's step
 pub record Claimed (class call : ℕ) (before after : Holder) (answer : Claim) : Type 0 where
   pub found : ℕ
-  -- won where it was 0, and it is the call's number plus 1 from then on
+  -- won if it was 0, and it is the call's number plus 1 from then on
   pub won : found ≡ 0 → (answer ≡ Won) × (after ≡ gained class call before)
   -- else lost, to the call whose number plus 1 it is
   pub lost : 0 < found → (answer ≡ Lost (found - 1)) × (after ≡ lost_to class (found - 1) before)

@@ -14,7 +14,7 @@ pub record PastView : Type 0 where
 abbrev pub found : PastView → List ℕ → Option Kept
 found past ticket = lookup (bytes_eq ticket) past.entries
 
--- what a purge leaves of a ticket's call: nothing exactly where its last second is below the moment
+-- what a purge leaves of a ticket's call: nothing exactly if its last second is below the moment
 abbrev pub unless_below : ℕ → Option Kept → Option Kept
 unless_below moment None = None
 unless_below moment (Some kept) = if nat_lt kept.last moment then None else Some kept

@@ -11,7 +11,7 @@ use Rattle.replay_desk.specs.declared.view.View.{View}
 abbrev pub Stand : List ℕ → List (ℕ × ℕ) → Type 0
 Stand words pairs = (p : ℕ × ℕ) → In p pairs → slice_index words p.0 ≡ p.1 + 1
 
--- how many wins a word stands in: none where it is 0, else one
+-- in how many wins a word is: in none if it is 0, else in one
 abbrev pub winners : ℕ → ℕ
 winners zero = 0
 winners (suc call) = 1
@@ -26,7 +26,7 @@ pub record Holds {S : Type 0} (classes : ℕ) (s : State S View) : Type 0 where
   pub wins : (id : ℕ) (v : View) → get_elem? s.views id ≡ some v → Stand s.words v.wins
   -- each loss equals the present word
   pub losses : (id : ℕ) (v : View) → get_elem? s.views id ≡ some v → Stand s.words v.losses
-  -- a nonzero word stands in the wins of exactly one view, once
+  -- a nonzero word is in the wins of exactly one view, once
   pub one_winner : (class : ℕ) → total (λ (v : View). times class v.wins) s.views ≡ winners (slice_index s.words class)
   -- shares add up to 1
   pub shares : total (λ (v : View). v.share) s.views ≡ whole

@@ -50,7 +50,7 @@ pub record Looks {S : Type 0} (s : Step S) (before : Me S View) (found : ℕ) (a
   pub same : after ≡ before
   pub known : Known after.0.wins after.0.losses after.0.share
 
--- A claim of the class s.word, which writes s.second where it finds 0. The word found is that of the class at this step
+-- A claim of the class s.word, which writes s.second if it finds 0. The word found is that of the class at this step
 pub record Claims {S : Type 0} (s : Step S) (before : Me S View) (found : ℕ) (after : Me S View) : Type 0 where
   pub number : found < 4294967296
   pub won : found ≡ 0 → after.0 ≡ with_win (s.word, s.second - 1) before.0

@@ -51,7 +51,7 @@ impl Model for Seat {
 
 impl Desk {
     /// A desk with so many classes, none of which is won, and its first seat, which has the whole share. The only error is
-    /// want of memory.
+    /// that memory runs out.
     pub fn new(alloc: Global, classes: u32) -> Result<(Desk, Seat), AllocError>
         requires { 1 ≤ classes }
         ensures { IfOk result (λ made. (made.0.words ≡ classes) × (made.1 ≡ first_of made.0)) }
@@ -95,8 +95,8 @@ impl Desk {
         self.table.shared.load::<Look>(&mut seat.token, 0);
     }
 
-    /// Claims a class for a call. Won exactly where the class's word is 0 at this step; otherwise Lost, to the call that the
-    /// word names. It takes no memory and waits for nobody.
+    /// Claims a class for a call. Won exactly if the class's word is 0 at this step; otherwise Lost, to the call that the word
+    /// names. It takes no memory and waits for nobody.
     pub fn claim(&self, seat: &mut Seat, class: u32, call: u32) -> Claim
         requires desk { seat.old.desk ≡ self.now }
         requires class { class < self.now.words }

@@ -52,7 +52,7 @@ impl Past {
         self.spare
     }
 
-    /// Makes room for so many tickets more. The only error is want of memory, and changes nothing.
+    /// Makes room for so many tickets more. The only error is that memory runs out, and changes nothing.
     pub fn reserve(&mut self, count: usize) -> Result<(), AllocError>
         ensures same { (ticket : List ℕ) → found self.new ticket ≡ found self.old ticket }
         ensures room { OnOk result (count ≤ self.new.spare) }
@@ -77,7 +77,7 @@ impl Past {
         self.spare -= 1;
     }
 
-    /// The call that passed on the ticket; None exactly where the ticket isn't held.
+    /// The call that passed on the ticket; None exactly if the ticket isn't held.
     pub fn find(&self, ticket: &[u8; 32]) -> Option<Kept>
         ensures { result ≡ found self.now ticket.now }
     {
@@ -93,7 +93,7 @@ impl Past {
         self.calls.retain(|_, kept| kept.last >= moment);
     }
 
-    /// All tickets with their calls, in rising order of tickets. The only error is want of memory.
+    /// All tickets with their calls, in rising order of tickets. The only error is that memory runs out.
     pub fn list(&self, alloc: Global) -> Result<Vec<([u8; 32], Kept)>, AllocError>
         ensures same { IfOk result (λ list. (ticket : List ℕ) → lookup (bytes_eq ticket) list.items ≡ found self.now ticket) }
         ensures rises { IfOk result (λ list. Rises None list.items) }

@@ -61,7 +61,7 @@ winner_by rounds by ticket place winner is (round, at, stands, same) = record {
   with_ticket : (row : Row) → Uses ticket row → IsFirst (rows_in rounds) row.ticket place winner
   with_ticket row uses = subst (λ t. IsFirst (rows_in rounds) t place winner) (sym uses.same) is
 
-  -- no call with the ticket stands before it
+  -- no call with the ticket comes before it
   not_before : (other_round other : ℕ) (row : Row) → StandsIn rounds other_round other row → Uses ticket row → IsBefore other_round other round at → ⊥
   not_before other_round other row there uses before =
       let less = before_in_log rounds other_round other round at row winner there stands before in
@@ -114,7 +114,7 @@ first_is_legal rounds by = (legal_by rounds by, first_wins_by rounds by)
 
 -- ---- and legal answers of which the first call wins are such answers
 
--- the first call that passes with a ticket stands where its valid call stands
+-- the first call that passes with a ticket is where its valid call is
 at_winner : (rounds : List Round) (ticket : List ℕ) (w : LogWinner rounds ticket) → FirstOfLogWins rounds → (place : ℕ) (first : Row)
     → IsFirst (rows_in rounds) ticket place first → (round at : ℕ) → StandsIn rounds round at first → place_of rounds round at ≡ place
     → AreOne round at w.round w.place

@@ -1,4 +1,4 @@
--- Rounds and turns behind one another.
+-- Rounds and turns one after another.
 use Rattle.std.proofs.Common.{[], ◌∷◌, refl, sym, subst}
 use Rattle.replay_law.specs.Held.{purged}
 use Rattle.replay_law.specs.Round.{Rounds}

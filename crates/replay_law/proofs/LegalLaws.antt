@@ -26,19 +26,19 @@ LastIs rounds ticket last = (round place : ℕ) (row : Row) → StandsIn rounds 
 abbrev AllReplay : List Round → List ℕ → ℕ → Type 0
 AllReplay rounds ticket call = (round place : ℕ) (row : Row) → StandsIn rounds round place row → Uses ticket row → row.answer ≡ replay call
 
--- moments don't fall behind the first round
+-- moments don't fall after the first round
 falls_behind : (round : Round) (rounds : List Round) → NeverFalls (round ∷ rounds) → NeverFalls rounds
 falls_behind round rounds falls earlier later place r row there order stands = falls (suc earlier) (suc later) place r row there (omega (arith, order)) stands
 
--- in a round, and in those behind it
+-- in a round, and in those after it
 replayed_on : (held middle : Held) (round : Round) (rounds : List Round) (ticket : List ℕ) (kept : Kept) → Settled held round.rows middle
     → held ticket ≡ Some kept → AllReplay rounds ticket kept.call → AllReplay (round ∷ rounds) ticket kept.call
 replayed_on held middle round rounds ticket kept settled is later zero place row stands uses =
     settled.replays place row kept stands uses.passes (ap held uses.same ∙ is)
 replayed_on held middle round rounds ticket kept settled is later (suc r) place row stands uses = later r place row stands uses
 
--- Calls that pass with a ticket that is held are replays of the call that it is kept for: where a purge dropped its
--- entry, none of them would be fresh.
+-- Calls that pass with a ticket that is held are replays of the call that it is kept for: if a purge dropped its entry,
+-- none of them would be fresh.
 replayed : (past next : Held) (rounds : List Round) (ticket : List ℕ) (kept : Kept) → Rounds past rounds next → IsFresh rounds → NeverFalls rounds
     → LastIs rounds ticket kept.last → past ticket ≡ Some kept → AllReplay rounds ticket kept.call
 replayed past next [] ticket kept runs fresh falls lasts held = λ r place row stands uses. absurd (none-some row stands)
@@ -57,7 +57,7 @@ replayed past next (round ∷ rounds) ticket kept (middle, settled, more) fresh 
 
 -- ---- a ticket that isn't held
 
--- the winner of the first round, where all later calls with its ticket are replays of it
+-- the winner of the first round, if all later calls with its ticket are replays of it
 won_here : (round : Round) (rounds : List Round) (ticket : List ℕ) (w : Winner round.rows ticket) → AllReplay rounds ticket w.winner.number
     → LogWinner (round ∷ rounds) ticket
 won_here round rounds ticket w later = record {
@@ -74,7 +74,7 @@ won_here round rounds ticket w later = record {
   others zero place row stands uses elsewhere = w.others place row stands uses (elsewhere refl)
   others (suc r) place row stands uses elsewhere = later r place row stands uses
 
--- the winner of later rounds, where no call of the first passes with its ticket
+-- the winner of later rounds, if no call of the first passes with its ticket
 won_later : (round : Round) (rounds : List Round) (ticket : List ℕ) → NoUser ticket round.rows → LogWinner rounds ticket → LogWinner (round ∷ rounds) ticket
 won_later round rounds ticket none w = record {
   round = suc w.round;
@@ -100,7 +100,7 @@ free_behind : (held middle : Held) (rows : List Row) (ticket : List ℕ) → Set
 free_behind held middle rows ticket settled free none = settled.no_more ticket free
     (λ at other there same wins. none at other there (record { passes = valid_passes other (settled.refused at other there) wins; same = same }))
 
--- a call that passes with the ticket stands behind the first round, where none of its calls does
+-- a call that passes with the ticket comes after the first round, if no call of that round does
 won_behind : (round : Round) (rounds : List Round) (ticket : List ℕ) → NoUser ticket round.rows
     → ((r place : ℕ) (row : Row) → StandsIn rounds r place row → Uses ticket row → LogWinner rounds ticket)
     → (r place : ℕ) (row : Row) → StandsIn (round ∷ rounds) r place row → Uses ticket row → LogWinner (round ∷ rounds) ticket

@@ -28,7 +28,7 @@ places round place other_round other =
       | inr (inr behind) ↦ inr (inr (inl behind))
     ]
 
--- one row stands at one place
+-- one place has one row
 pub one_row : (rounds : List Round) (round place other_round other : ℕ) (row same : Row) → AreOne round place other_round other
     → StandsIn rounds round place row → StandsIn rounds other_round other same → row ≡ same
 one_row rounds round place other_round other row same (rounds_are, places_are) stands there =
@@ -48,7 +48,7 @@ valid_or_replay rounds ticket w round place row stands uses =
 
 -- ---- the first of a log
 
--- a row of a round stands in the round
+-- a row of a round is in the round
 in_round : (rounds : List Round) (round place : ℕ) (r : Round) (row : Row) → slice_get rounds round ≡ Some r → StandsIn rounds round place row
     → Stands r.rows place row
 in_round rounds round place r row there stands = sym (ap (option_and_then (λ (r : Round). slice_get r.rows place)) there) ∙ stands

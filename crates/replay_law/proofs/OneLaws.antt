@@ -20,7 +20,7 @@ not_before rounds others ticket w v each first before =
     let uses : Uses ticket there = uses_too ticket w.winner there same w.uses in
     first v.round v.place w.round w.place v.winner there v.stands v.wins stands (record { passes = uses.passes; same = uses.same ∙ sym v.uses.same }) before
 
--- so both stand at one place
+-- so both are at one place
 one_place : (rounds others : List Round) (ticket : List ℕ) (w : LogWinner rounds ticket) (v : LogWinner others ticket) → HasEach rounds others → HasEach others rounds
     → FirstOfLogWins rounds → FirstOfLogWins others → AreOne w.round w.place v.round v.place
 one_place rounds others ticket w v each each_other first first_other =
@@ -36,7 +36,7 @@ pub valid_at : (rounds : List Round) (ticket : List ℕ) (w : LogWinner rounds t
 valid_at rounds ticket w round place row stands one =
     ap (λ (r : Row). r.answer) (one_row rounds round place w.round w.place row w.winner one stands w.stands) ∙ w.wins
 
--- and what stands at one place of both is one call
+-- and what is at one place of both is one call
 one_number : (rounds others : List Round) (ticket : List ℕ) (w : LogWinner rounds ticket) (v : LogWinner others ticket) → HasEach rounds others
     → AreOne w.round w.place v.round v.place → w.winner.number ≡ v.winner.number
 one_number rounds others ticket w v each one =

@@ -50,7 +50,7 @@ in_log (r ∷ rounds) zero place row stands = in_first r.rows (rows_in rounds) p
 in_log (r ∷ rounds) (suc round) place row stands =
     in_second r.rows (rows_in rounds) (place_of rounds round place) row (in_log rounds round place row stands)
 
--- where a call of the log stands
+-- where a call of the log is
 abbrev pub InRound : List Round → ℕ → Row → Type 0
 InRound rounds place row = (round other : ℕ) × StandsIn rounds round other row × (place_of rounds round other ≡ place)
 

@@ -15,7 +15,7 @@ same_is_one held next same = λ i ticket. same ticket i
 held_free : (o : Option Kept) (kept : Kept) → o ≡ Some kept → o ≡ None → ⊥
 held_free o kept held free = none-some kept (sym free ∙ held)
 
--- ---- the winner of a ticket, with one call more in front of the others
+-- ---- the winner of a ticket, with one call more before the others
 
 behind_another : (row : Row) (rows : List Row) (ticket : List ℕ) → (Uses ticket row → ⊥) → Winner rows ticket → Winner (row ∷ rows) ticket
 behind_another row rows ticket apart w = record {
@@ -127,10 +127,10 @@ module _ (held middle next : Held) (row : Row) (rows : List Row) (s : Settled mi
     no_more = no_more_there;
   }
 
--- ---- a call in front of others
+-- ---- a call before others
 
 module _ (held middle next : Held) (row : Row) (rows : List Row) (turn : Turn held row middle) (s : Settled middle rows next) where
-  -- over what was held, where the call changes nothing
+  -- over what was held, if the call changes nothing
   as_before : Same held middle → Settled held rows next
   as_before same = subst (λ h. Settled h rows next) (sym (same_is_one held middle same)) s
 
@@ -157,7 +157,7 @@ module _ (held middle next : Held) (row : Row) (rows : List Row) (turn : Turn he
       (λ passes _. fails passes)
       (λ wins. let both : valid ≡ neither = sym wins ∙ answer in absurd (cc))
 
-  -- its ticket is held from then on, where it passes
+  -- its ticket is held from then on, if it passes
   held_then : row.passes ≡ true → (o : Option Kept) → held row.ticket ≡ o → (kept : Kept) × (middle row.ticket ≡ Some kept)
   held_then passes (Some kept) is = (kept, sym ((turn.replays kept passes is).1 row.ticket) ∙ is)
   held_then passes None is = (kept_of row, (turn.wins passes is).1.gained)

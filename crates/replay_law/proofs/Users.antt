@@ -25,7 +25,7 @@ uses_or_not ticket row = by_passes row.passes refl where
   by_passes true is = elim (one_ticket row.ticket ticket) [ inl same ↦ inl (record { passes = is; same = same }) | inr other ↦ inr (λ u. other u.same) ]
   by_passes false is = inr (λ u. let p = u.passes in let both : true ≡ false = sym p ∙ is in absurd (cc))
 
--- nobody behind a call that doesn't, if nobody in the rest
+-- nobody, if a first call doesn't and nobody in the rest does
 nobody : (ticket : List ℕ) (row : Row) (rows : List Row) → (Uses ticket row → ⊥) → NoUser ticket rows → NoUser ticket (row ∷ rows)
 nobody ticket row rows apart none zero other stands uses = apart (subst (Uses ticket) (sym (same_Some row other stands)) uses)
 nobody ticket row rows apart none (suc place) other stands uses = none place other stands uses
@@ -42,7 +42,7 @@ user ticket (row ∷ rows) =
       ]
     ]
 
--- a valid call passes, where those that don't pass are answered otherwise
+-- a valid call passes, if those that don't pass are answered otherwise
 pub valid_passes : (row : Row) → (row.passes ≡ false → row.answer ≡ neither) → row.answer ≡ valid → row.passes ≡ true
 valid_passes row refused wins = by_passes row.passes refl where
   by_passes : (t : Bool) → row.passes ≡ t → row.passes ≡ true

@@ -9,7 +9,7 @@ use Rattle.replay_law.specs.Turn.{Turn, Turns, FirstWins, EachFirstWins, FirstOf
 
 -- ---- what is asked of the calls of a log
 
--- a call that passes is fresh: its moment isn't behind its last second (RFC 8224, section 6.2)
+-- a call that passes is fresh: its moment isn't after its last second (RFC 8224, section 6.2)
 abbrev pub IsFresh : List Round → Type 0
 IsFresh rounds = (round place : ℕ) (row : Row) → StandsIn rounds round place row → row.passes ≡ true → row.moment ≤ row.last
 
@@ -18,8 +18,8 @@ abbrev pub NeverFalls : List Round → Type 0
 NeverFalls rounds = (earlier later place : ℕ) (round : Round) (row : Row) → slice_get rounds earlier ≡ Some round → earlier ≤ later
     → StandsIn rounds later place row → round.moment ≤ row.moment
 
--- Calls that pass with one ticket have one last second. It is a function of the signing input, so this holds where no
--- two different signing inputs have the same SHA-256.
+-- Calls that pass with one ticket have one last second. It is a function of the signing input, so this holds if no two different
+-- signing inputs have the same SHA-256.
 abbrev pub IsApart : List Round → Type 0
 IsApart rounds = (round place other_round other : ℕ) (row same : Row) → StandsIn rounds round place row → row.passes ≡ true
     → StandsIn rounds other_round other same → Uses row.ticket same → row.last ≡ same.last
@@ -39,7 +39,7 @@ LegalTogether = (rounds : List Round) (next : Held) → Rounds nothing rounds ne
 abbrev pub OneByOne : Type 0
 OneByOne = (held next : Held) (rows : List Row) → Turns held rows next → Settled held rows next × FirstWins rows
 
--- where this is so in each round, it is so in the whole log
+-- if this is so in each round, it is so in the whole log
 abbrev pub FirstOfAll : Type 0
 FirstOfAll = (rounds : List Round) → RowsLegal rounds → EachFirstWins rounds → FirstOfLogWins rounds
 
@@ -53,7 +53,7 @@ abbrev pub OneRoundMore : Type 0
 OneRoundMore = (past middle next : Held) (rounds : List Round) (round : Round) → Rounds past rounds middle → RoundSettled middle round next
     → Rounds past (rounds ++ round ∷ []) next
 
--- more rounds behind those that are settled, as those of a later run
+-- more rounds after those that are settled, as those of a later run
 abbrev pub MoreRounds : Type 0
 MoreRounds = (past middle next : Held) (rounds more : List Round) → Rounds past rounds middle → Rounds middle more next → Rounds past (rounds ++ more) next
 
@@ -65,7 +65,7 @@ PurgedAlone = (past next : Held) (moment : ℕ) → Same (purged moment past) ne
 abbrev pub OneTurnMore : Type 0
 OneTurnMore = (held middle next : Held) (rows : List Row) (row : Row) → Turns held rows middle → Turn middle row next → Turns held (rows ++ row ∷ []) next
 
--- where the same is kept for each ticket, one stands for the other wherever it is spoken of
+-- if the same is kept for each ticket, the two are one, wherever they are spoken of
 abbrev pub SameIsOne : Type 0
 SameIsOne = (held next : Held) → Same held next → held ≡ next
 
@@ -77,11 +77,11 @@ pub record IsSameCall (row other : Row) : Type 0 where
   pub ticket : row.ticket ≡ other.ticket
   pub passes : row.passes ≡ other.passes
 
--- where a call stands in the one, the same call stands in the other
+-- where the one has a call, the other has the same call
 abbrev pub HasEach : List Round → List Round → Type 0
 HasEach rounds others = (round place : ℕ) (row : Row) → StandsIn rounds round place row → (other : Row) × StandsIn others round place other × IsSameCall row other
 
--- Where the same calls are answered twice, legally, and the first that passes with a ticket is the valid one, each has one answer.
+-- If the same calls are answered twice, legally, and the first that passes with a ticket is the valid one, each has one answer.
 abbrev pub OneAnswer : Type 0
 OneAnswer = (rounds others : List Round) → HasEach rounds others → HasEach others rounds → RowsLegal rounds → FirstOfLogWins rounds → RowsLegal others
     → FirstOfLogWins others → (round place : ℕ) (row other : Row) → StandsIn rounds round place row → StandsIn others round place other → row.answer ≡ other.answer

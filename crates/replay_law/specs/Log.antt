@@ -9,12 +9,12 @@ use Rattle.replay_law.specs.Round.{Round}
 abbrev pub row_at : List Round → ℕ → ℕ → Option Row
 row_at rounds round place = option_and_then (λ r. slice_get r.rows place) (slice_get rounds round)
 
--- the row stands at this place of this round
+-- the row is at this place of this round
 abbrev pub StandsIn : List Round → ℕ → ℕ → Row → Type 0
 StandsIn rounds round place row = row_at rounds round place ≡ Some row
 
--- Of the calls that pass with the ticket, in whatever round, exactly one is valid; it stands in the first round that
--- has such a call; and each other is a replay of it.
+-- Of the calls that pass with the ticket, in whatever round, exactly one is valid. It is in the first round that has
+-- such a call, and each other is a replay of it.
 pub record LogWinner (rounds : List Round) (ticket : List ℕ) : Type 0 where
   pub round : ℕ
   pub place : ℕ

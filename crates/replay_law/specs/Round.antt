@@ -43,8 +43,8 @@ first_moment (row ∷ rows) = row.moment
 abbrev pub round_of : List Row → Round
 round_of rows = record { moment = first_moment rows; rows = rows }
 
--- a round without calls, which only purges: so where memory was wanting for its calls, and where one run hands its past on
--- to the next
+-- a round without calls, which only purges: so if memory ran out for its calls, and when one run hands its past on to the
+-- next
 abbrev pub purge_at : ℕ → Round
 purge_at moment = record { moment = moment; rows = [] }
 

@@ -29,6 +29,6 @@ pub record Uses (ticket : List ℕ) (row : Row) : Type 0 where
   pub passes : row.passes ≡ true
   pub same : row.ticket ≡ ticket
 
--- the row stands at this place of the list, counted from 0
+-- the row is at this place of the list, counted from 0
 abbrev pub Stands : List Row → ℕ → Row → Type 0
 Stands rows place row = slice_get rows place ≡ Some row

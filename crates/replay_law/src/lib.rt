@@ -69,7 +69,7 @@ pub fn purged_alone()
     ensures { PurgedAlone }
 {}
 
-/// If the same is kept for each ticket, one past stands for the other.
+/// If the same is kept for each ticket, the two pasts are one.
 pub fn same_is_one()
     ensures { SameIsOne }
 {}

@@ -77,7 +77,7 @@ is_an_invite message local readings settings moment s = invite_by (is_invite mes
 
 -- ---- its order
 
--- an originating PASSporT, and links that stand in an order up to the number that is called
+-- an originating PASSporT, and links that have an order up to the number that is called
 pub record Ordered (message : MessageView) (local : LocalView) (readings : List Reading) (settings : Settings) (moment : ℕ) : Type 0 where
   pub origin : Reading
   pub others : List Reading

@@ -174,7 +174,7 @@ caused laws bytes message earlier readings hop holder signs fault k (refused one
     subst (IsCaused bytes message earlier readings hop holder signs) (sym e) (refused_by laws bytes message earlier readings hop holder signs one k r)
 caused laws bytes message earlier readings hop holder signs fault k (no_memory e) = subst (IsCaused bytes message earlier readings hop holder signs) (sym e) tt
 
--- ---- where nothing may be signed
+-- ---- if nothing may be signed
 
 -- with the other request URI the bytes are read as the message with it
 again : Below → (bytes : List ℕ) (message : MessageView) (hop : HopView) → read bytes ≡ Ok message → is_target hop.target ≡ true

@@ -79,7 +79,7 @@ orig_is laws bytes hop holder signs out earlier orig message e calls w =
     sym calling ∙ ap (λ (x : MessageView). calling_number x w.order.local) m ∙ ap (calling_number message) (local_is w.order hop earlier w.diverts) ∙ calls in
     cc
 
--- ---- what stands around, as one record
+-- ---- what is known, as one record
 
 -- a call that was screened and goes on, with what is known of it
 pub record Goes (laws : Below) (bytes : List ℕ) (hop : HopView) (holder : HolderView) (signs : Signs) (readings : List Reading) (out : List ℕ) (settings : Settings) (moment : ℕ) : Type 0 where

@@ -1,5 +1,5 @@
--- What the gateway answers, where want of memory is free, and so is a failure of the provider, which has its own cause. A verdict has its own
--- clauses.
+-- What the gateway answers. Out of memory may come in any case, and so may a failure of the provider, which has its own cause. A verdict has
+-- its own clauses.
 use Rattle.std.specs.Prelude.{ℕ, Bool, true, false, Option, Some, None, Result, Ok, Err}
 use Rattle.auth_service.specs.declared.fault.SignFault.{SignFault}
 use Rattle.auth_service.specs.declared.fault.SignFault.TheVariants as signing
@@ -34,7 +34,7 @@ abbrev pub names_provider : {X : Type 0} → Result X HopFault → Bool
 names_provider (Ok x) = false
 names_provider (Err fault) = is_provider fault
 
--- 21 to 27, in the order of the faults' names; a verdict and want of memory have none
+-- 21 to 27, in the order of the faults' names; a verdict and out of memory have none
 abbrev pub number_of : HopFault → Option ℕ
 number_of (faults.Verdict verdict) = None
 number_of faults.Target = Some 21

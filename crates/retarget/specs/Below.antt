@@ -41,7 +41,7 @@ DivertedJudged = (bytes : List ℕ) (order : DivertOrder) (holder : Option Holde
     → (s : IsSigned bytes (divert_order_of order) holder signs out) → settings.local ≡ order.local
     → in_message (call_of settings later out) ≡ in_message (call_of settings moment bytes) ++ judged_last s.message (claims_by (divert_order_of order) s.orig s.dest) s.token.token ∷ []
 
--- they stand in the call's order, and the new one after them
+-- they are in the call's order, and the new one comes after them
 abbrev pub DivertedTurn : Type 0
 DivertedTurn = (bytes : List ℕ) (order : DivertOrder) (holder : Option HolderView) (signs : Signs) (out : List ℕ) (settings : Settings) (moment later : ℕ)
     → (s : IsSigned bytes (divert_order_of order) holder signs out)

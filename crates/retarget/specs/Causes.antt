@@ -19,7 +19,7 @@ use Rattle.retarget.specs.Onward.{GoesOnTo, HasBeenAt, IsFull, LeadsTo, links_of
 use Rattle.retarget.specs.declared.fault.HopFault.{HopFault}
 use Rattle.retarget.specs.declared.fault.HopFault.TheVariants as faults
 
--- 21: the target can't stand in a start line, or gives no number
+-- 21: the target can't be written in a start line, or gives no number
 abbrev pub LeadsNowhere : HopView → Type 0
 LeadsNowhere hop = (number : List ℕ) → LeadsTo hop number → ⊥
 
@@ -83,7 +83,7 @@ pub data IsWithheld (bytes : List ℕ) (message : MessageView) (earlier : List �
   long : IsLong bytes message earlier readings hop → IsWithheld bytes message earlier readings hop holder
   unauthorized : IsUnauthorized bytes message earlier readings hop holder → IsWithheld bytes message earlier readings hop holder
 
--- the cause of each; a verdict and a failure of the provider have their own clauses, and want of memory has none
+-- the cause of each; a verdict and a failure of the provider have their own clauses, and out of memory has none
 abbrev pub IsCaused : List ℕ → MessageView → List ℕ → List Reading → HopView → HolderView → (List ℕ → List ℕ → Option (List ℕ)) → HopFault → Type 0
 IsCaused bytes message earlier readings hop holder signs (faults.Verdict verdict) = ⊤
 IsCaused bytes message earlier readings hop holder signs faults.Target = LeadsNowhere hop

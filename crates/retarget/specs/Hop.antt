@@ -20,11 +20,11 @@ pub record HopView : Type 0 where
 abbrev pub hop_of : Hop → HopView
 hop_of hop = record { target = hop.target.now; key = hop.key.now; x5u = hop.x5u.now; iat = hop.iat; local = hop.local }
 
--- the URI of the certificates is one, and the second is none past the year 9999
+-- the URI of the certificates is one, and the second isn't after the year 9999
 abbrev pub is_hop : HopView → Bool
 is_hop hop = is_uri hop.x5u && nat_le hop.iat last_second
 
--- the number of the target (RFC 3261, section 19.1.6; RFC 3966, section 3), if the target can stand in a start line
+-- the number of the target (RFC 3261, section 19.1.6; RFC 3966, section 3), if the target can be written in a start line
 abbrev pub next_number : HopView → Option (List ℕ)
 next_number hop = if is_target hop.target then uri_number hop.target hop.local else None
 

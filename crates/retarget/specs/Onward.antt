@@ -64,7 +64,7 @@ pub record IsCalledBefore (bytes : List ℕ) (readings : List Reading) (hop : Ho
   pub head : Head bytes message
   pub called : called_by (facts_of hop.local message) (links_of readings) ≡ Some earlier
 
--- the target can stand in a start line, and this is its number
+-- the target can be written in a start line, and this is its number
 pub record LeadsTo (hop : HopView) (number : List ℕ) : Type 0 where
   pub uri : is_target hop.target ≡ true
   pub gives : uri_number hop.target hop.local ≡ Some number

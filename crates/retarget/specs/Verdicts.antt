@@ -1,4 +1,4 @@
--- What rules 10 to 17 and 19 say where the gateway answers: of a call that goes on, or for which one of the faults 21 to 27 comes, that they hold.
+-- What rules 10 to 17 and 19 say when the gateway answers: of a call that goes on, or for which one of the faults 21 to 27 comes, that they hold.
 use Rattle.std.specs.Prelude.{◌≡◌, ⊤, ℕ, List, Result, Ok, Err}
 use Rattle.cert_store.specs.Rules.{Says}
 use Rattle.delegation.specs.Coverage.{Table}

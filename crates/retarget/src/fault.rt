@@ -34,13 +34,13 @@ pub enum HopFault {
     /// The provider failed at the signature, and counted it.
     #[error("the provider failed")]
     Provider,
-    /// Memory was wanting, and nothing is said of the call.
+    /// Memory ran out, and nothing is said of the call.
     #[error("out of memory")]
     Memory,
 }
 
 impl HopFault {
-    /// The fault's number in this project's reports: 21 to 27 in the order of the names; `None` for a verdict and for want of memory.
+    /// The fault's number in this project's reports: 21 to 27 in the order of the names; `None` for a verdict, and if memory ran out.
     pub fn number(&self) -> Option<u8>
         ensures { result ≡ number_of self.now }
     {

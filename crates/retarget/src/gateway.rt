@@ -25,15 +25,15 @@ use std::alloc::Global;
 use stir_outside::Provider;
 use verify_rules::{Chains, Screened, Verdict, finish};
 
-/// Sends a call on (RFC 8946, section 4): tries rules 10 to 17 and 19 on it over the chains of its PASSporTs, and gives the message with the hop's request
-/// URI and one more Identity field, in the last line of the head. That holds a PASSporT of the type `div`, from the calling number to the
-/// target's, whose diverted number is the one that was called before; it is signed by the hop's key.
+/// Sends a call on (RFC 8946, section 4). It tries rules 10 to 17 and 19 on it over the chains of its PASSporTs. It gives the message with the hop's
+/// request URI and one more Identity field, in the last line of the head. That field holds a PASSporT of the type `div`, from the calling number to the
+/// target's. Its diverted number is the one that was called before, and it is signed by the hop's key.
 ///
-/// The call is what [`screen`](verify_rules::screen) gave for these bytes at this moment, by settings that number as the hop does; there is one
-/// chain for each of its PASSporTs; and the hop is one that [`Hop::is_valid`] takes.
+/// The call is what [`screen`](verify_rules::screen) gave for these bytes at this moment, by settings that number as the hop does; there is one chain for
+/// each of its PASSporTs; and the hop is one that [`Hop::is_valid`] takes.
 ///
-/// The faults are tried in the order of [`HopFault`]. The provider signs at most once, and only if none of those up to `Authority` comes.
-/// `Provider` comes only if its count of faults rose, and `Memory` for want of memory alone.
+/// The faults are tried in the order of [`HopFault`]. The provider signs at most once, and only if none of those up to `Authority` comes. `Provider` comes
+/// only if its count of faults rose, and `Memory` only if memory runs out.
 pub fn retarget<C: Chains, P: Provider>(
     alloc: Global,
     bytes: &[u8],

@@ -75,11 +75,11 @@ pub record IsOverChains {X : Type 0} (place : PlaceView) (told : Option Files) (
   pub answered : list_any is_unasked states ≡ false
   pub answer : IsAnswerOf place hop bytes (in_call_order (call_at place bytes)) states seen result
 
--- of bytes of which rules 1 to 9 hold: the answer of the gateway, or want of memory
+-- of bytes of which rules 1 to 9 hold: the answer of the gateway, or out of memory
 abbrev pub IsSentScreened : {X : Type 0} → PlaceView → Option Files → ℕ → ℕ → HopView → List ℕ → (X → List ℕ) → Result X HopFault → Type 0
 IsSentScreened place told faults_before faults_now hop bytes seen result = IsOverChains place told faults_before faults_now hop bytes seen result ⊎ (result ≡ Err faults.Memory)
 
--- the answer of the rules, that of the gateway, or want of memory
+-- the answer of the rules, that of the gateway, or out of memory
 abbrev pub IsSentOn : {X : Type 0} → PlaceView → Option Files → ℕ → ℕ → HopView → List ℕ → (X → List ℕ) → Result X HopFault → Type 0
 IsSentOn place told faults_before faults_now hop bytes seen result =
     IsScreenedOut place bytes result ⊎ IsSentScreened place told faults_before faults_now hop bytes seen result

@@ -1,4 +1,4 @@
--- What is written over the front of zeros leaves the zeros behind it.
+-- What is written over the first of the zeros leaves the zeros after it.
 use Rattle.std.proofs.Common.{◌≡◌, ℕ, List, ◌++◌, length, drop, replicate, ap, ◌∙◌}
 use Rattle.std.proofs.lemmas.List.{drop-replicate}
 use Rattle.short_text.specs.Filled.{filled}

@@ -83,7 +83,7 @@ impl<const N: usize> PartialOrd for ShortText<N> {
     }
 }
 
-/// By the bytes, as slices are ordered: `12` stands before `123`, and `123` before `13`.
+/// By the bytes, as slices are ordered: `12` comes before `123`, and `123` before `13`.
 impl<const N: usize> Ord for ShortText<N> {
     ghost cmp = { slice_cmp nat_cmp };
 
@@ -108,7 +108,7 @@ impl<const N: usize> Hash for ShortText<N> {
     }
 }
 
-/// The bytes with zeros behind them.
+/// The bytes with zeros after them.
 fn filled<const N: usize>(text: &[u8]) -> [u8; N]
     requires { length text.now ≤ N }
     ensures { result ≡ filled N text.now }

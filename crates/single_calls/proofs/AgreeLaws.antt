@@ -63,7 +63,7 @@ agree_again says other [] asked agree was = absurd (cc)
 agree_again says other (one ∷ before) asked agree was =
     agree_by says other one asked (was_asked before asked) (is_same one asked) refl agree.0 was (agree_again says other before asked agree.1)
 
--- the head of what is asked, and what is asked behind it
+-- the head of what is asked, and what is asked after it
 agree_head : (says other : Says) (before : List QuestionView) (asked : QuestionView) (others : List QuestionView) (t : Bool) → was_asked before asked ≡ t → AgreeOn says other before
     → AgreeOn says other (unless_asked t asked others) → (is_good says asked ≡ is_good other asked) × AgreeOn says other others
 agree_head says other before asked others true was agree on = (agree_again says other before asked agree was, on)
@@ -83,7 +83,7 @@ SameJudged = (anchors : List CertView) (table : Table) (says other : Says) (byte
     → (HasAuthority (judged_of anchors table says bytes) → AgreeOn says other (questions_of (judged_of anchors table says bytes)))
     → judged_of anchors table other bytes ≡ judged_of anchors table says bytes
 
--- all that the rules on a chain say, where rules 11, 12 and 14 hold
+-- all that the rules on a chain say, if rules 11, 12 and 14 hold
 authority_by : (judged : JudgedView) (says other : Says) → AgreeOn says other (judged_questions judged) → HasAuthority judged → AgreeOn says other (questions_of judged)
 authority_by judged says other agree has =
     let test : (is_none judged.profile && (is_none judged.shape && is_none judged.authority)) ≡ true = rw (has.path.profile, has.path.shape, has.authority) refl in

@@ -18,7 +18,7 @@ without_keys : (chain : List CertView) → questions_from chain [] ≡ []
 without_keys [] = refl
 without_keys (c ∷ above) = refl
 
--- the question at an index, and those of the certificates behind it
+-- the question at an index, and those of the certificates after it
 step : (chain : List CertView) (keys : Keys) (i : ℕ) → i < length chain
     → questions_from (drop i chain) (drop i keys) ≡ option_to_list (kept_question (slice_get chain i) (slice_get keys i)) ++ questions_from (drop (suc i) chain) (drop (suc i) keys)
 step [] keys i within = absurd (omega arith)

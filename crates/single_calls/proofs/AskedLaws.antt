@@ -1,4 +1,4 @@
--- A question is asked for the calls of a log exactly where one of them asks it, and is then asked once.
+-- A question is asked for the calls of a log exactly if one of them asks it, and is then asked once.
 use Rattle.std.proofs.Common.{◌≡◌, ◌↔◌, ◌⊎◌, ℕ, zero, suc, ◌-◌, Bool, true, false, ◌&&◌, ◌||◌, cond, List, [], ◌∷◌, ◌++◌, is_none, Option, Some, None, option_to_list, inl, inr, refl, sym, ap, subst, ◌∙◌, arith}
 use Rattle.std.specs.List.{slice_get}
 use Rattle.std.specs.Str.{bytes_eq}

@@ -85,7 +85,7 @@ stops_by asker (Some files) entry now name stops before behind = record {
   lines = stops.writes.lines (calls_questions (asking_world asker.materials files) asker.settings before) behind;
 }
 
--- the same of what a call was stopped by, where no line stood before
+-- the same of what a call was stopped by, if no line was there before
 pub stops_so : (asker : AskerView) (told : Option Files) (entry : Entry) (text : List ℕ) (now : Lines) (name : List ℕ) (faults faults_now : ℕ) → text ≡ []
     → StopsCallAt told asker.materials (call_in asker.settings entry) (record { held = asker.written; text = text }) now name × Rose faults faults_now
     → AnswersStop (BehindAsked asker told) (StopsAsking asker told) entry now.text name × Rose faults faults_now

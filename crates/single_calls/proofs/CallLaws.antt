@@ -61,7 +61,7 @@ screened_asks world call readings states own early in_order alike is =
     over ∙ ap (λ (r : List Reading). late_questions world own r) in_order ∙ ap (λ t. late_questions world t (in_call_order call)) is
     ∙ sym (ap (λ (x : Option Refusal). cond (is_none x) (late_questions world (is_none (first (certificate_rules world) call)) (in_call_order call)) []) early)
 
--- the lines of the chains, and where it is so those of the PASSporTs
+-- the lines of the chains, and if it is so, those of the PASSporTs
 over_lines : (held mid now : List Triple) (text text_mid text_now : List ℕ) (readings : List Reading) (states : List State) (own : Bool)
     → Writes held mid text text_mid (chains_questions states) → Writes mid now text_mid text_now (cond own (own_questions readings states) [])
     → Writes held now text text_now (questions_over own readings states)

@@ -40,7 +40,7 @@ pub unread_words : (number : ℕ) (bad : Place) → unread_line number bad ≡ l
 unfolding unread_line
 unread_words number bad = sym (append_assoc (decimal number) (codes " 10 unread " ++ place_text bad) (codes "\n"))
 
--- ---- lines of rules that are met, and what stands behind them
+-- ---- lines of rules that are met, and what comes after them
 
 ok_then : (m r : ℕ) (rest : List ℕ) → ok_line m r ++ rest ≡ decimal m ++ 32 ∷ (decimal r ++ 32 ∷ (codes "ok\n" ++ rest))
 unfolding ok_line
@@ -93,7 +93,7 @@ same_lines m n r (suc k) (suc j) e f low high small room left right same =
     let more = same_lines m n (suc r) k j e f low high (omega arith) (omega arith) left right rest in
     (ap suc more.0, more.1)
 
--- ---- what stands behind
+-- ---- what comes after
 
 abbrev behind_code : Refusal → List ℕ
 behind_code refused = decimal (code_of refused.rule) ++ (codes " " ++ (place_text refused.place ++ codes "\n"))

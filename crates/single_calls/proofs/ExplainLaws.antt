@@ -36,7 +36,7 @@ front_numbered : (world : World) → AreNumbered 1 (front_rules world)
 front_numbered world =
     (refl, (refl, (refl, (refl, (refl, (refl, (refl, (refl, (refl, (refl, (refl, (refl, (refl, (refl, (refl, (refl, (refl, tt)))))))))))))))))
 
--- ---- where none is broken
+-- ---- if none is broken
 
 met_by : (number from named : ℕ) (bad : Option Place) (later : Option Refusal) (others lines : List ℕ) → named ≡ from → or_later named bad later ≡ None
     → (later ≡ None → others ≡ lines) → line_or_more number named bad others ≡ ok_line number from ++ lines
@@ -52,7 +52,7 @@ met_all number from (rule ∷ others) call numbered none =
     met_by number from rule.number (rule.broken call) (first others call) (explain_rules number others call) (ok_lines number (suc from) (length others)) numbered.0 none
     (met_all number (suc from) others call numbered.1)
 
--- ---- where one is
+-- ---- if one is
 
 -- its number isn't below this one, and the lines are those of the rules from this one up to it
 abbrev BrokenFrom : ℕ → ℕ → List ℕ → Refusal → Type 0
@@ -103,14 +103,14 @@ numbered_below from high (rule ∷ others) call refused numbered room is =
     below_by rule.number high (rule.broken call) (first others call) refused (omega (arith, numbered.0, room)) is
     (numbered_below (suc from) high others call refused numbered.1 (omega (arith, room)))
 
--- ---- of some rules and those behind them
+-- ---- of some rules and those after them
 
 behind_by : (number named : ℕ) (bad : Option Place) (later : Option Refusal) (others more lines : List ℕ) → or_later named bad later ≡ None → (later ≡ None → others ≡ more ++ lines)
     → line_or_more number named bad others ≡ line_or_more number named bad more ++ lines
 behind_by number named None later others more lines none below = ap (λ (x : List ℕ). ok_line number named ++ x) (below none) ∙ sym (append_assoc (ok_line number named) more lines)
 behind_by number named (Some bad) later others more lines none below = absurd (not_none (refusal named bad) none)
 
--- where none of the first is broken, the lines of both
+-- if none of the first is broken, the lines of both
 both_explained : (number : ℕ) (rules behind : List Rule) (call : Call) → first rules call ≡ None
     → explain_rules number (rules ++ behind) call ≡ explain_rules number rules call ++ explain_rules number behind call
 both_explained number [] behind call none = refl
@@ -123,7 +123,7 @@ stays_by : (number named : ℕ) (bad : Option Place) (later : Option Refusal) (o
 stays_by number named None later others more refused is below = ap (λ (x : List ℕ). ok_line number named ++ x) (below is)
 stays_by number named (Some bad) later others more refused is below = refl
 
--- where one of them is, those of the first alone
+-- if one of them is, those of the first alone
 first_explained : (number : ℕ) (rules behind : List Rule) (call : Call) (refused : Refusal) → first rules call ≡ Some refused
     → explain_rules number (rules ++ behind) call ≡ explain_rules number rules call
 first_explained number [] behind call refused is = absurd (cc)
@@ -184,7 +184,7 @@ unfolding Explain
 explains_broken world number call refused is =
     broken_parts world number call refused (first (front_rules world) call) refl (sym (first_append (front_rules world) (last_rule world ∷ []) call) ∙ is)
 
--- ---- where a call is set aside
+-- ---- if a call is set aside
 
 early_numbered : AreNumbered 1 early_rules
 early_numbered = (refl, (refl, (refl, (refl, (refl, (refl, (refl, (refl, (refl, tt)))))))))

@@ -19,7 +19,7 @@ use Rattle.single_calls.specs.Singly.{OneAnswer}
 use Rattle.single_calls.proofs.ExplainLaws.{explains_broken, explains_met}
 use Rattle.single_calls.proofs.SinglyLaws.{one_more}
 
--- what is found of a call is explained, where no question failed
+-- what is found of a call is explained, if no question failed
 found_explained : (world : World) (settings : Settings) (entry : Entry) (finding : Finding) → HasCauseIf (found_unasked finding) 0 0 → IsFound world (call_in settings entry) finding
     → IsExplained world settings entry (explanation entry.number finding)
 found_explained world settings entry (found.Refused refused) cause is = inl (record {

@@ -1,4 +1,4 @@
--- What is asked for one list of questions behind another.
+-- What is asked for one list of questions after another.
 use Rattle.std.proofs.Common.{◌≡◌, ℕ, Bool, true, false, List, [], ◌∷◌, ◌++◌, append_assoc, append-nil, refl, sym, ◌∙◌, ap}
 use Rattle.cert_store.specs.Rules.{QuestionView}
 use Rattle.single_calls.specs.Asks.{ask_line, ask_lines, fresh, unless_asked, was_asked}

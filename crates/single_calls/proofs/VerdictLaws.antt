@@ -70,7 +70,7 @@ none_by : (mine yours : Option Refusal) → None ≡ option_or mine yours → mi
 none_by None yours e = refl
 none_by (Some r) yours e = absurd (cc)
 
--- the PASSporTs' own signatures are asked for exactly where rules 1 to 14 hold, unless a chain isn't known
+-- the PASSporTs' own signatures are asked for exactly if rules 1 to 14 hold, unless a chain isn't known
 pub asks_own_where : (world : World) (call : Call) (readings : List Reading) (states : List State) (faults faults_now : ℕ) (verdict : Verdict)
     → first early_rules call ≡ None → VerdictOf world call verdict → IsCaused readings states faults faults_now verdict → list_any is_unread states ≡ false
     → asks_own verdict ≡ is_none (first (certificate_rules world) call)

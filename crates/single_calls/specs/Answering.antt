@@ -18,7 +18,7 @@ Adds behind behind_now call = (before : List Entry) → behind before → behind
 abbrev pub AnswersStop : (List Entry → Type 0) → (List Entry → Entry → List ℕ → List ℕ → Type 0) → Entry → List ℕ → List ℕ → Type 0
 AnswersStop behind stops call text name = (before : List Entry) → behind before → stops before call text name
 
--- a file that may stop the run couldn't be read, and the count of failed reads rose; want of memory is free
+-- a file that may stop the run couldn't be read, and the count of failed reads rose; out of memory is free
 abbrev pub StopsBy : (List Entry → Type 0) → (List Entry → Entry → List ℕ → List ℕ → Type 0) → Entry → ℕ → ℕ → AnswerError → Type 0
 StopsBy behind stops call faults faults_now (Unread text name) = AnswersStop behind stops call (string_bytes text) (string_bytes name) × Rose faults faults_now
 StopsBy behind stops call faults faults_now Memory = ⊤

@@ -26,13 +26,13 @@ pub record AskerView : Type 0 where
   pub materials : Materials
   pub written : List Triple
 
--- what is judged by, with the files of a shelf, where each signature is good
+-- what is judged by, with the files of a shelf, as if each signature were good
 abbrev pub asking_world : Materials → Files → World
 asking_world materials files = world_by materials files always_yes
 
 -- ---- an answer
 
--- The lines of what is asked for this call, but of what was asked for the calls before.
+-- The lines of what is asked for this call, except for what was asked for the calls before.
 pub record AsksOf (world : World) (settings : Settings) (before : List Entry) (entry : Entry) (answer : AnswerView) : Type 0 where
   pub sign : answer.finding ≡ Well
   pub lines : answer.text ≡ ask_lines (fresh (calls_questions world settings before) (call_questions world (call_in settings entry)))

@@ -17,7 +17,7 @@ use Rattle.verify_rules.specs.World.{World, certificate_rules, truths}
 abbrev pub has_authority : JudgedView → Bool
 has_authority judged = is_none judged.profile && (is_none judged.shape && is_none judged.authority)
 
--- from the leaf on, where they do; and of a chain that by itself breaks none of rules 10, 11, 12 and 14
+-- from the leaf on, if they do; and of a chain that by itself breaks none of rules 10, 11, 12 and 14
 abbrev pub judged_questions : JudgedView → List QuestionView
 judged_questions judged = if has_authority judged then questions_of judged else []
 
@@ -51,7 +51,7 @@ own_questions (one ∷ others) (state ∷ states) = own_question one state ++ ow
 
 -- ---- of a call
 
--- those of the chains, and where it is so those of the PASSporTs
+-- those of the chains, and if it is so, those of the PASSporTs
 abbrev pub questions_over : Bool → List Reading → List State → List QuestionView
 questions_over own readings states = chains_questions states ++ (if own then own_questions readings states else [])
 
@@ -59,7 +59,7 @@ questions_over own readings states = chains_questions states ++ (if own then own
 abbrev pub late_questions : World → Bool → List Reading → List QuestionView
 late_questions world own readings = questions_over own readings (truths world readings)
 
--- Of a call that breaks none of rules 1 to 9, those of the chains of its PASSporTs, in call order; and where it breaks none of rules 1 to
+-- Of a call that breaks none of rules 1 to 9, those of the chains of its PASSporTs, in call order; and if it breaks none of rules 1 to
 -- 14, those of the PASSporTs themselves.
 unfoldable pub call_questions : World → Call → List QuestionView
 call_questions world call =

@@ -63,7 +63,7 @@ unread_text number bad = ok_lines number 1 9 ++ unread_line number bad
 abbrev pub met_text : ℕ → List ℕ
 met_text number = ok_lines number 1 17 ++ ok_line number 19
 
--- where a signature is left open, rules 1 to 14 are met
+-- if a signature is left open, rules 1 to 14 are met
 abbrev pub explained : ℕ → Finding → List ℕ
 explained number (found.Refused refused) = broken_text number refused
 explained number (found.Unread bad) = unread_text number bad

@@ -36,7 +36,7 @@ pub record AreAsked (told : Option Files) (materials : Materials) (readings : Li
   pub known : list_any is_unread states ≡ false
   pub writes : Writes before.held now.held before.text now.text (chains_questions states)
 
--- The file that is listed for a PASSporT couldn't be read, and those before it were asked for; want of memory is free.
+-- The file that is listed for a PASSporT couldn't be read, and those before it were asked for; out of memory is free.
 pub record StoppedAt (told : Option Files) (materials : Materials) (readings : List Reading) (before now : Lines) (name : List ℕ) : Type 0 where
   pub states : List State
   pub asked : AreAsked told materials readings before now states

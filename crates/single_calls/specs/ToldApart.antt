@@ -10,7 +10,7 @@ use Rattle.verify_service.specs.declared.finding.Finding.TheVariants.{Refused, U
 
 -- ---- the words of a line
 
--- words with one blank between each two, and LF behind the last
+-- words with one blank between each two, and LF after the last
 abbrev pub line_of : List (List ℕ) → List ℕ
 line_of words = join_with_byte 32 words ++ codes "\n"
 

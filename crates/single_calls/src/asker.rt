@@ -29,8 +29,7 @@ use verify_service::{CallChains, World, call_law};
 const LAST_UNSIGNED: u8 = 14;
 
 /// Says which questions a provider of signatures would be asked for calls, each by itself: over a chain map, trust anchors, a code table and
-/// the files of a shelf. A question that was asked for an earlier call isn't asked again; what is kept of the calls before is these questions
-/// alone.
+/// the files of a shelf. A question that was asked for an earlier call isn't asked again; of the calls before, only these questions are kept.
 ///
 /// A contract sees the settings, what calls are judged by, and the questions that were asked.
 #[derive(Drop)]
@@ -153,7 +152,7 @@ fn ask_call<S: Shelf>(
     }
 }
 
-/// Writes those of a call that was screened: the questions of its chains, and those of its PASSporTs where it breaks none of the rules before
+/// Writes those of a call that was screened: the questions of its chains, and those of its PASSporTs if it breaks none of the rules before
 /// the first that asks.
 fn ask_screened<S: Shelf>(
     alloc: Global,

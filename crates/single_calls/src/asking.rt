@@ -10,7 +10,7 @@ use cert_store::Judged;
 use std::alloc::{AllocError, Global};
 use verify_service::CallChain;
 
-/// Writes the lines of the questions of a chain, from the leaf's on, where rules 10, 11, 12 and 14 hold for it.
+/// Writes the lines of the questions of a chain, from the leaf's on, if rules 10, 11, 12 and 14 hold for it.
 pub(crate) fn add_chain(
     alloc: Global,
     chain: &CallChain,

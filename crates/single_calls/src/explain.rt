@@ -100,7 +100,7 @@ fn broken_line(alloc: Global, number: u32, refusal: &Refusal) -> Result<String, 
     format!(in alloc; "{number} {rule} {code} {place}\n")
 }
 
-/// The line of rule 10 where it isn't decided.
+/// The line of rule 10 if it isn't decided.
 #[tactic(auto, unfolding(crate::specs::Explain::unread_line))]
 fn unread_line(alloc: Global, number: u32, place: &Place) -> Result<String, AllocError>
     ensures { IfOk result (λ text. string_bytes text ≡ unread_line number place.now) }

@@ -27,11 +27,11 @@ use cert_store::questions_law;
 use verify_rules::{code_law, provider_law};
 
 /// What is explained of a call by the first rule that it breaks: the lines of the rules before it and its own, and those of rules 1 to 17
-/// and 19 where it breaks none.
+/// and 19 if it breaks none.
 pub fn explain_law()
     ensures met { (world : World) (number : ℕ) (call : Call) → First world call ≡ None → Explain world number call ≡ met_text number }
     ensures broken { (world : World) (number : ℕ) (call : Call) (refused : Refusal) → First world call ≡ Some refused → Explain world number call ≡ broken_text number refused }
-    // Before an unread file stand the lines of rules 1 to 9; and where a signature is left open, those of rules 1 to 14 stand alone.
+    // Before an unread file come the lines of rules 1 to 9; and if a signature is left open, those of rules 1 to 14 come alone.
     ensures unread { (world : World) (number : ℕ) (call : Call) (bad : Place) → MayBeUnread world call bad
         → explained number (Unread bad) ≡ explain_rules number early_rules call ++ unread_line number bad }
     ensures unasked { (world : World) (number : ℕ) (call : Call) (bad : Place) → MayBeUnasked world call bad
@@ -52,7 +52,7 @@ pub fn asked_law()
     ensures once { (world : World) (settings : Settings) (calls : List Entry) → IsOnce (asked_of world settings calls) }
 {}
 
-/// What is asked depends on no provider. Where two providers agree on all of it, each call breaks the same rule first by both, or none.
+/// What is asked depends on no provider. If two providers agree on all of it, each call breaks the same rule first by both, or none.
 pub fn agreement_law()
     ensures same { (world : World) (other : Says) (settings : Settings) (calls : List Entry) → asked_of (with_says world other) settings calls ≡ asked_of world settings calls }
     ensures alike { (world : World) (settings : Settings) (says other : Says) (calls : List Entry) → AgreeOn says other (asked_of world settings calls)
@@ -62,7 +62,7 @@ pub fn agreement_law()
     provider_law();
 }
 
-/// The lines that explain a call have these words, and can be read back: texts are the same only where the number of the call is and what is
+/// The lines that explain a call have these words, and can be read back: texts are the same only if the number of the call is, and what is
 /// told of what is found.
 pub fn lines_law()
     ensures met { (number rule : ℕ) → ok_line number rule ≡ line_of (decimal number ∷ decimal rule ∷ codes "ok" ∷ []) }

@@ -19,8 +19,8 @@ use stir_outside::{Shelf, Sink, Source};
 /// Explains the calls of a log one by one, and writes the lines of each before the next is read.
 ///
 /// The status is 0 if each call breaks no rule, else 1. If the log is outside its grammar, or a read of it fails, the whole entries before are
-/// explained, and a line says so: status 5 or 3. If a write fails the status is 4, and what was written is a prefix of the whole. For want of
-/// memory whole lines were written, and a line says so: status 6.
+/// explained, and a line says so: status 5 or 3. If a write fails, the status is 4, and what was written is a prefix of the whole. If memory runs
+/// out, whole lines were written, and a line says so: status 6.
 pub fn explain_log<R: Threads + Sync, S: Shelf, I: Source, O: Sink>(
     rt: &R,
     alloc: Global,
@@ -40,8 +40,8 @@ pub fn explain_log<R: Threads + Sync, S: Shelf, I: Source, O: Sink>(
 
 /// Asks for the calls of a log one by one, by what has asked nothing before, and writes the lines of each before the next is read.
 ///
-/// The status is as that of [`explain_log`], but that nothing is wrong with a call; and if a file of certificates can't be read, the lines before
-/// are written, and a line names it: status 3.
+/// The status is that of [`explain_log`], except that nothing is wrong with a call. If a file of certificates can't be read, the lines before are
+/// written, and a line names it: status 3.
 pub fn ask_log<R: Threads + Sync, S: Shelf, I: Source, O: Sink>(
     rt: &R,
     alloc: Global,

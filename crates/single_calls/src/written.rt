@@ -42,7 +42,7 @@ impl Written {
         }
     }
 
-    /// Writes the line of a question behind the text, unless it was written before. `AllocError` is the only error.
+    /// Writes the line of a question after the text, unless it was written before. `AllocError` is the only error.
     pub(crate) fn add(
         &mut self,
         alloc: Global,

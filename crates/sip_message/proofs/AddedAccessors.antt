@@ -1,4 +1,4 @@
--- What is asked of a message with one more field behind its own.
+-- What is asked of a message with one more field after its own.
 use Rattle.std.proofs.Common.{◌≡◌, ℕ, Bool, true, false, List, [], ◌∷◌, ◌++◌, refl, ap, ◌∙◌}
 use Rattle.std.specs.List.{filter_map}
 use Rattle.std.specs.Prelude.{option_and_then}
@@ -19,7 +19,7 @@ more_by : (test : List ℕ → Bool) (field : FieldView) (others : List FieldVie
 more_by test field others name value true e below = rw e (ap (λ (x : List (List ℕ)). field.value ∷ x) below)
 more_by test field others name value false e below = rw e below
 
--- a field of such a name has its value behind those of the others
+-- a field of such a name has its value after those of the others
 pub values_more : (test : List ℕ → Bool) (fields : List FieldView) (name value : List ℕ) → test name ≡ true
     → values test (fields ++ named name value ∷ []) ≡ values test fields ++ value ∷ []
 values_more test [] name value e = rw e refl

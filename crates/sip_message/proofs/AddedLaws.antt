@@ -1,4 +1,4 @@
--- A message with a line more before the empty one is the same message with that line's field behind all others.
+-- A message with one more line before the empty one is the same message with that line's field after all others.
 use Rattle.std.proofs.Common.{◌≡◌, ℕ, ◌+◌, ◌-◌, ◌≤◌, ◌==◌, Bool, true, false, not, ◌||◌, ◌&&◌, nat_le, cond, List, [], ◌∷◌, ◌++◌, length, filter, take, drop, Result, Ok, Err, IfOk, IsTrue, refl, sym, ap, subst, ◌∙◌, arith, append_assoc, length-append}
 use Rattle.std.specs.List.{list_all}
 use Rattle.std.specs.Prelude.{slice_index}
@@ -47,7 +47,7 @@ record InPieces (bytes : List ℕ) : Type 0 where
   split : bytes ≡ whole (pieces bytes) ++ tail
   all_lack : AllLack (pieces bytes)
 
--- a byte that is no LF in front
+-- a byte that is no LF before them
 onto : (b : ℕ) (bs tail : List ℕ) (ps : List (List ℕ)) → (b == 10) ≡ false → bs ≡ whole ps ++ tail → AllLack ps
     → (rest : List ℕ) × (b ∷ bs ≡ whole (onto_first b ps) ++ rest) × AllLack (onto_first b ps)
 onto b bs tail [] e s l = (b ∷ bs, refl, tt)

@@ -1,4 +1,4 @@
--- Lines begin with a continuation just where their bytes begin with a blank.
+-- Lines begin with a continuation exactly if their bytes begin with a blank.
 use Rattle.std.proofs.Common.{◌≡◌, ℕ, Bool, true, false, ◌==◌, cond, List, [], ◌∷◌, refl, ◌∙◌, subst, arith}
 use Rattle.std.proofs.lemmas.Bool.Decides.{nat_tests}
 use Rattle.text_grammar.specs.Line.{pieces, onto_first}
@@ -6,7 +6,7 @@ use Rattle.text_grammar.specs.Bytes.{is_blank}
 use Rattle.sip_message.specs.Lines.{LineView, behind_continuations, continuations, is_continuation, lines_from}
 use Rattle.sip_message.proofs.LineSteps.{stripped_first}
 
--- no line in front continues a field
+-- the first line, if there is one, continues no field
 abbrev Stops : List LineView → Type 0
 Stops lines = (continuations lines ≡ []) × (behind_continuations lines ≡ lines)
 

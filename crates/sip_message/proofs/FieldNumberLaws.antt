@@ -12,7 +12,7 @@ use Rattle.sip_message.specs.Names.{is_asserted, is_from}
 use Rattle.sip_message.proofs.AddressLaws.{address_is, address_only}
 use Rattle.sip_message.proofs.UriLaws.{number_found, number_read}
 
--- what is read has a property where all that this can be has it
+-- what is read has a property if all that this can be has it
 pub if_some : {X : Type 0} (P : X → Type 0) (result read : Option X) → result ≡ read → ((x : X) → read ≡ Some x → P x) → IfSome result P
 if_some P None read e all = tt
 if_some P (Some x) read e all = all x (sym e)

@@ -1,4 +1,4 @@
--- One field more or less: what stands from a place on is the field there and what stands behind it.
+-- One field more or less: from a place on there is the field there, and what comes after it.
 use Rattle.std.proofs.Common.{◌≡◌, ℕ, suc, ◌+◌, ◌<◌, ◌≤◌, Bool, true, false, List, [], ◌∷◌, length, drop, get_or, map, refl, sym, ap, ◌∙◌, drop-cons, if◌then◌else◌, arith}
 use Rattle.std.proofs.Math.ListN.{drop_of_length-le}
 use Rattle.sip_message.specs.declared.field.Field.{Field}

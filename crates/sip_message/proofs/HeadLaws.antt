@@ -28,9 +28,9 @@ continues line = is_continuation line.text
 abbrev pub placed_of : Group → PlacedField
 placed_of group = record { place = group.first.place; field = field_of group }
 
--- ---- what is read behind the start line, given the groups
+-- ---- what is read after the start line, given the groups
 
--- no line in front is a continuation
+-- the first line, if there is one, is no continuation
 abbrev pub NoneInFront : List LineView → Type 0
 NoneInFront [] = Unit {0}
 NoneInFront (line ∷ others) = is_continuation line.text ≡ false
@@ -83,7 +83,7 @@ walk_by all fields group rest g n =
     let some : is_empty group.first.text ≡ false = f.0 in
     rw (some, one) (skipped all (fields ++ placed_of group ∷ []) (group.continued ++ rest) ∙ ap (fields_after all false (fields ++ placed_of group ∷ [])) c.1)
 
--- behind a group no continuation is left
+-- after a group no continuation is left
 abbrev pub Behind : List Group → List LineView → Type 0
 Behind [] left = Unit {0}
 Behind (group ∷ others) left = NoneInFront left

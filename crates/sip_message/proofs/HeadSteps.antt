@@ -1,4 +1,4 @@
--- One field more: what the lines give behind it is what they give with its lines in front.
+-- One field more: what the lines give after it is what they give with its lines before them.
 use Rattle.std.proofs.Common.{◌≡◌, ℕ, ◌≤◌, ◌==◌, map, Bool, true, false, List, [], ◌∷◌, ◌++◌, length, Option, Some, None, Result, Ok, Err, refl, ap, ◌∙◌, sym, arith}
 use Rattle.std.proofs.lemmas.Bool.Decides.{nat_tests}
 use Rattle.std.proofs.lemmas.List.{map-append}
@@ -29,7 +29,7 @@ skip_by : (size : ℕ) (fields : List PlacedField) (line : LineView) (others : L
 skip_by size fields line others true e below = let some = some_text line.text e in rw (e, some) below
 skip_by size fields line others false e below = rw e refl
 
--- behind a field its continuations are passed over
+-- after a field its continuations are passed over
 pub skipped : (size : ℕ) (fields : List PlacedField) (lines : List LineView) → fields_after size true fields lines ≡ fields_after size false fields (behind_continuations lines)
 skipped size fields [] = refl
 skipped size fields (line ∷ others) = skip_by size fields line others (is_continuation line.text) refl (skipped size fields others)

@@ -1,4 +1,4 @@
--- The next line is what stands before the first LF, and it continues a field just where its first byte is blank.
+-- The next line is what comes before the first LF, and it continues a field exactly if its first byte is blank.
 use Rattle.std.proofs.Common.{◌≡◌, ℕ, suc, ◌+◌, ◌-◌, Bool, true, false, ◌==◌, cond, List, [], ◌∷◌, ◌++◌, length, take, get_or, refl, ap, ◌∙◌, arith}
 use Rattle.std.specs.Str.Lines.{strip_carriage_return}
 use Rattle.std.proofs.lemmas.Bool.Decides.{nat_tests}

@@ -1,4 +1,4 @@
--- The scheme of a URI is the one that is found at its front, and a URI has no two that begin differently.
+-- The scheme of a URI is the one that is found at its beginning, and a URI has no two that begin differently.
 use Rattle.std.proofs.Common.{◌≡◌, ℕ, ◌+◌, true, ◌&&◌, ◌==◌, cond, nat_le, List, [], ◌∷◌, ◌++◌, length, take, drop, Option, Some, None, refl, ap, sym, ◌∙◌, subst, arith, length-append, take-append-drop, le-leb, eqb-true}
 use Rattle.std.specs.Char.{to_ascii_lowercase}
 use Rattle.std.specs.Cmp.Derive.{both_true}

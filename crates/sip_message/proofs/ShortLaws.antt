@@ -126,6 +126,6 @@ values_short : (test : List ℕ → Bool) (fields : List FieldView) (i : ℕ) �
 values_short test [] i h = omega arith
 values_short test (field ∷ others) i h = values_by test field others (test field.name) i h.0 (λ k. values_short test others k h.1)
 
--- so no Identity value is longer, nor the empty text that stands for one that is not there
+-- so no Identity value is longer, nor the empty text in place of one that is not there
 pub identity_short : (message : MessageView) (i : ℕ) → AreShort message.fields → length (slice_index_or (identities message) i []) ≤ 65535
 identity_short message i h = values_short is_identity message.fields i h

@@ -186,7 +186,7 @@ one_again test groups more same one = named_length test more ∙ ap (λ (l : Lis
 
 -- ---- the message
 
--- the parts of the first line, and what stands behind it
+-- the parts of the first line, and what comes after it
 record Started (bytes method old : List ℕ) (start : LineView) (others : List LineView) : Type 0 where
   version : List ℕ
   end : List ℕ
@@ -265,7 +265,7 @@ regrouped_head out uri bytes message h start lines short e s r = of r.rest refl
           fields = h.fields ∙ sym r.fields;
         }
 
--- the bytes, with what stands around the first two spaces
+-- the bytes, with what is around the first two spaces
 spread : {bytes method old : List ℕ} {start : LineView} {others : List LineView} (s : Started bytes method old start others) (uri : List ℕ)
     → (method ++ 32 ∷ (uri ++ 32 ∷ s.end)) ++ 10 ∷ s.tail ≡ method ++ 32 ∷ (uri ++ 32 ∷ (s.end ++ 10 ∷ s.tail))
 spread {method = method} s uri =

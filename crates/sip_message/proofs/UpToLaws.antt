@@ -1,4 +1,4 @@
--- The front of a text up to its first byte of a kind is one, and cutting the text finds it.
+-- The prefix of a text up to its first byte of a kind is one, and cutting the text finds it.
 use Rattle.std.proofs.Common.{◌≡◌, ℕ, ◌+◌, Bool, true, false, not, ◌==◌, ◌||◌, List, [], ◌∷◌, ◌++◌, take, drop, position, Option, Some, None, refl, ap, sym, ◌∙◌, if◌then◌else◌}
 use Rattle.std.specs.Option.{option_map, option_map_or}
 use Rattle.std.proofs.lemmas.Bool.{and_parts, not-true}
@@ -55,7 +55,7 @@ before_is byte text = before_by byte text (position (λ b. b == byte) text) refl
 pub before_only : (byte : ℕ) (text front : List ℕ) → UpTo (λ b. b == byte) text front → front ≡ before byte text
 before_only byte text front up = front_only (λ b. b == byte) text front up ∙ sym (front_only (λ b. b == byte) text (before byte text) (before_is byte text))
 
--- ---- by two cuts, one behind the other
+-- ---- by two cuts, one after the other
 
 twice_by : (p q : ℕ → Bool) (b : ℕ) (bs : List ℕ) (s t : Bool) → p b ≡ s → q b ≡ t → front_of q (front_of p bs) ≡ front_of (λ x. p x || q x) bs
     → front_of q (front_of p (b ∷ bs)) ≡ front_of (λ x. p x || q x) (b ∷ bs)
@@ -67,7 +67,7 @@ twice : (p q : ℕ → Bool) (text : List ℕ) → front_of q (front_of p text) 
 twice p q [] = refl
 twice p q (b ∷ bs) = twice_by p q b bs (p b) (q b) refl refl (twice p q bs)
 
--- what stands before the byte in the front up to a byte of the kind stands before both
+-- what is before the byte in the prefix up to a byte of the kind is before both
 pub before_front : (p : ℕ → Bool) (byte : ℕ) (text front : List ℕ) → front ≡ front_of p text → before byte front ≡ front_of (λ x. p x || x == byte) text
 before_front p byte text front same =
     ap (before byte) same
@@ -77,7 +77,7 @@ before_front p byte text front same =
 pub before_first : (byte : ℕ) (text : List ℕ) → before byte text ≡ front_of (λ b. b == byte) text
 before_first byte text = front_only (λ b. b == byte) text (before byte text) (before_is byte text)
 
--- ---- what stands before a cut lacks its byte
+-- ---- what is before a cut lacks its byte
 
 lacks_by : (byte : ℕ) (text : List ℕ) (parts : List ℕ × List ℕ) (k : Option ℕ) → position (λ b. b == byte) text ≡ k
     → option_map (λ place. (take place text, drop (place + 1) text)) k ≡ Some parts → lacks byte parts.0 ≡ true

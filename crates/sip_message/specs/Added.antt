@@ -1,5 +1,5 @@
--- A message with one more header field, which stands in a line of its own directly before the empty line that ends the head
--- (RFC 3261, sections 7.3.1 and 7.5).
+-- A message with one more header field, in a line of its own directly before the empty line that ends the head (RFC 3261,
+-- sections 7.3.1 and 7.5).
 use Rattle.std.specs.Prelude.{ℕ, Bool, not, ◌||◌, ◌&&◌, nat_le, List, [], ◌∷◌, ◌++◌, length, take, drop, Result, Ok, Err, if◌then◌else◌}
 use Rattle.std.specs.Str.{bytes_eq}
 use Rattle.text_grammar.specs.Bytes.{is_empty}
@@ -18,13 +18,13 @@ use Rattle.sip_message.specs.Value.{trimmed}
 abbrev pub is_addable : List ℕ → Bool
 is_addable name = is_name name && not (is_from name || is_to name)
 
--- a value that stands in one line as it is: some bytes, without blanks at either end, without CR and LF
+-- a value that can be in one line as it is: some bytes, without blanks at either end, without CR and LF
 abbrev pub is_field_value : List ℕ → Bool
 is_field_value value = not (is_empty value) && bytes_eq (trimmed value) value && lacks 13 value && lacks 10 value
 
--- ---- where it stands
+-- ---- its place
 
--- the place of the first empty line; 0 where there is none
+-- the place of the first empty line; 0 if there is none
 abbrev pub end_of : List LineView → ℕ
 end_of [] = 0
 end_of (line ∷ others) = if is_empty line.text then line.place else end_of others
@@ -46,7 +46,7 @@ with_line bytes name value = with_line_at (head_end bytes) bytes name value
 
 -- ---- what comes of it
 
--- the message with the field behind all others
+-- the message with the field after all others
 abbrev pub with_last : MessageView → List ℕ → List ℕ → MessageView
 with_last message name value = record {
   method = message.method;
@@ -62,6 +62,6 @@ abbrev pub sized_or_fault : Result MessageView FormFault → List ℕ → Result
 sized_or_fault (Err found) out = Err found
 sized_or_fault (Ok message) out = sized out
 
--- the bytes with the field; the first fault of bytes that are no message; or that of their size where they grow too long
+-- the bytes with the field; the first fault of bytes that are no message; or that of their size if they grow too long
 unfoldable pub added : List ℕ → List ℕ → List ℕ → Result (List ℕ) FormFault
 added bytes name value = sized_or_fault (read bytes) (with_line bytes name value)

@@ -9,7 +9,7 @@ use Rattle.tn_values.specs.Local.{LocalView}
 use Rattle.sip_message.specs.declared.address.Quoting.TheVariants.{Outside}
 use Rattle.sip_message.specs.Quoting.{bracket_from}
 
--- the text up to the first such byte, all of it where it has none
+-- the text up to the first such byte, all of it if it has none
 abbrev pub before : ℕ → List ℕ → List ℕ
 before byte text = option_map_or (λ (parts : List ℕ × List ℕ). parts.0) (cut byte text) text
 
@@ -20,17 +20,17 @@ or_else None other = other
 
 -- ---- the URI of an address
 
--- what stands behind the first `<` outside of quoted strings
+-- what comes after the first `<` outside of quoted strings
 abbrev pub behind_bracket : List ℕ → Option (List ℕ)
 behind_bracket value = bracket_from Outside value
 
--- up to the next `>` behind such a bracket; without one up to the first `;`, `,`, space or tab
+-- up to the next `>` after such a bracket; without one up to the first `;`, `,`, space or tab
 abbrev pub address : List ℕ → List ℕ
 address value = option_map_or (before 62) (behind_bracket value) (before 9 (before 32 (before 44 (before 59 value))))
 
 -- ---- the number of a URI
 
--- what stands behind the scheme, which is compared without case
+-- what comes after the scheme, which is compared without case
 abbrev pub behind_scheme : List ℕ → List ℕ → Option (List ℕ)
 behind_scheme scheme uri =
     if nat_le (length scheme) (length uri) && str_eq_ignore_ascii_case (take (length scheme) uri) scheme then Some (drop (length scheme) uri) else None
@@ -39,11 +39,11 @@ behind_scheme scheme uri =
 abbrev pub user_part_number : LocalView → List ℕ × List ℕ → Option (List ℕ)
 user_part_number local parts = Canon (before 58 (before 59 parts.0)) local
 
--- the number of the text behind `sip:`: that of its part in front of the first `@`; none without one
+-- the number of the text after `sip:`: that of its part before the first `@`; none without one
 abbrev pub user_number : LocalView → List ℕ → Option (List ℕ)
 user_number local text = option_and_then (user_part_number local) (cut 64 text)
 
--- the number of the text behind `tel:`: up to its first `;`
+-- the number of the text after `tel:`: up to its first `;`
 abbrev pub tel_number : LocalView → List ℕ → Option (List ℕ)
 tel_number local text = Canon (before 59 text) local
 

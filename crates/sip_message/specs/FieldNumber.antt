@@ -46,7 +46,7 @@ pub record IsFirstNumber (test : List ℕ → Bool) (fields : List FieldView) (l
   pub named : test own.name ≡ true
   pub gives : AddressGives own.value local number
 
--- the calling number: the asserted one; where none is asserted, From's
+-- the calling number: the asserted one; if none is asserted, From's
 pub data IsCalling (message : MessageView) (local : LocalView) (number : List ℕ) : Type 0 where
   asserted : IsFirstNumber is_asserted message.fields local number → IsCalling message local number
   from : ((other : List ℕ) → IsFirstNumber is_asserted message.fields local other → ⊥) → IsNumberOf is_from message.fields local number

@@ -9,13 +9,13 @@ use Rattle.sip_message.specs.Names.{is_from, is_to}
 use Rattle.sip_message.specs.Reading.{fault}
 use Rattle.sip_message.specs.StartLine.{IsStartLine}
 
--- a line that is neither empty nor a field line nor, behind a group, a continuation
+-- a line that is neither empty nor a field line nor, after a group, a continuation
 pub record IsBadLine (groups : List Group) (text : List ℕ) : Type 0 where
   pub some : text ≡ [] → ⊥
   pub no_field : (name rest : List ℕ) → IsFieldLine text name rest → ⊥
   pub no_continuation : is_continuation text ≡ true → groups ≡ []
 
--- where groups that should be one aren't: at the second, or at the end of the head where there is none
+-- the place at which groups that should be one aren't: at the second, or at the end of the head if there is none
 abbrev pub place_of_surplus : ℕ → List Group → Option ℕ
 place_of_surplus end [] = Some end
 place_of_surplus end (one ∷ []) = None
@@ -31,10 +31,10 @@ pub data FormOf (bytes : List ℕ) (found : FormFault) : Type 0 where
   -- 2: the first line is no start line
   start_line : length bytes ≤ 65535 → (first : LineView) (others : List LineView) → lines_of bytes ≡ first ∷ others
       → ((method uri : List ℕ) → IsStartLine first.text method uri → ⊥) → found ≡ fault 2 0 → FormOf bytes found
-  -- 3: the first line behind the groups is a bad one
+  -- 3: the first line after the groups is a bad one
   header_line : (method uri : List ℕ) (groups : List Group) (bad : LineView) (behind : List LineView) → Begins bytes method uri groups (bad ∷ behind)
       → IsBadLine groups bad.text → found ≡ fault 3 bad.place → FormOf bytes found
-  -- 4: no empty line, in bytes without a line or behind the groups
+  -- 4: no empty line, in bytes without a line or after the groups
   no_line : length bytes ≤ 65535 → lines_of bytes ≡ [] → found ≡ fault 4 (length bytes) → FormOf bytes found
   no_end : (method uri : List ℕ) (groups : List Group) → Begins bytes method uri groups [] → found ≡ fault 4 (length bytes) → FormOf bytes found
   -- 5: not exactly one From

@@ -15,7 +15,7 @@ abbrev pub lines_from : ℕ → List (List ℕ) → List LineView
 lines_from place [] = []
 lines_from place (piece ∷ others) = record { place = place; text = strip_carriage_return piece } ∷ lines_from (place + length piece + 1) others
 
--- the lines that the bytes hold whole; what stands behind the last LF is none
+-- the lines that the bytes hold whole; what comes after the last LF is none
 abbrev pub lines_of : List ℕ → List LineView
 lines_of bytes = lines_from 0 (pieces bytes)
 
@@ -24,12 +24,12 @@ abbrev pub is_continuation : List ℕ → Bool
 is_continuation [] = false
 is_continuation (first ∷ more) = is_blank first
 
--- the texts of the continuations that stand in front
+-- the texts of the continuations at the beginning
 abbrev pub continuations : List LineView → List (List ℕ)
 continuations [] = []
 continuations (line ∷ others) = if is_continuation line.text then line.text ∷ continuations others else []
 
--- what stands behind them
+-- what comes after them
 abbrev pub behind_continuations : List LineView → List LineView
 behind_continuations [] = []
 behind_continuations (line ∷ others) = if is_continuation line.text then behind_continuations others else line ∷ others

@@ -1,10 +1,10 @@
--- A value with quoted strings in pieces (RFC 3261, section 25.1, `quoted-string`; that any byte may stand in one is this project's own
+-- A value with quoted strings in pieces (RFC 3261, section 25.1, `quoted-string`; that any byte may be in one is this project's own
 -- leniency), and the address in it.
 use Rattle.std.specs.Prelude.{◌≡◌, ℕ, Bool, true, not, ◌==◌, ◌||◌, List, [], ◌∷◌, ◌++◌}
 use Rattle.std.specs.List.{list_all}
 use Rattle.sip_message.specs.UpTo.{UpTo}
 
--- what stands in a quoted string: a byte, or a backslash and any byte
+-- what is in a quoted string: a byte, or a backslash and any byte
 pub data Quote : Type 0 where
   bare : ℕ → Quote
   escaped : ℕ → Quote

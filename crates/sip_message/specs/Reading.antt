@@ -35,7 +35,7 @@ abbrev pub field_at : LineView → List (List ℕ) → Option PlacedField
 field_at line continued =
     option_map (λ (parts : List ℕ × List ℕ). record { place = line.place; field = record { name = parts.0; value = value_of parts.1 continued } }) (field_line line.text)
 
--- the fields so far with those of the lines up to the first empty one; `inside` behind a field line or a continuation of it
+-- the fields so far with those of the lines up to the first empty one; `inside` after a field line or a continuation of it
 abbrev pub fields_after : ℕ → Bool → List PlacedField → List LineView → Result HeadView FormFault
 fields_after size inside fields [] = Err (fault 4 size)
 fields_after size inside fields (line ∷ others) =
@@ -45,13 +45,13 @@ fields_after size inside fields (line ∷ others) =
 
 -- ---- From and To
 
--- of the fields that should be one: the place of the second, or the end of the head where there is none
+-- of the fields that should be one: the place of the second, or the end of the head if there is none
 abbrev pub surplus_of : ℕ → List PlacedField → Option ℕ
 surplus_of end [] = Some end
 surplus_of end (one ∷ []) = None
 surplus_of end (one ∷ second ∷ others) = Some second.place
 
--- the same where one was found before, or none
+-- the same if one was found before, or none
 abbrev pub surplus_after : Bool → ℕ → List PlacedField → Option ℕ
 surplus_after false end fields = surplus_of end fields
 surplus_after true end [] = None

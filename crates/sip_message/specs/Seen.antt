@@ -33,9 +33,9 @@ head_seen head = record { fields = map placed_seen head.fields.items; end = head
 abbrev pub parts_seen : Parts → MessageView
 parts_seen parts = record { method = parts.method.now; uri = parts.uri.now; fields = map field_seen parts.fields.items }
 
--- ---- results, in which want of memory is free
+-- ---- results, in which running out of memory is always allowed
 
--- a fault other than want of memory
+-- a fault other than running out of memory
 abbrev pub fault_seen : MessageFault → Option FormFault
 fault_seen (Form fault) = Some fault
 fault_seen Memory = None
@@ -44,11 +44,11 @@ fault_seen Memory = None
 abbrev pub Gives : {X Y : Type 0} → (X → Y) → Result X MessageFault → Result Y FormFault → Type 0
 Gives seen result read = given.Gives fault_seen seen result read
 
--- a value with this property came; or memory was wanting
+-- a value with this property came; or memory ran out
 abbrev pub IsOkUnlessMemory : {X : Type 0} → Result X MessageFault → (X → Type 0) → Type 0
 IsOkUnlessMemory result P = given.IsOkUnlessMemory fault_seen result P
 
--- the code gives what is there, or the fault where it isn't
+-- the code gives what is there, or the fault if it isn't
 abbrev pub GivesOr : {X Y : Type 0} → (X → Y) → FormFault → Result X MessageFault → Option Y → Type 0
 GivesOr seen absent (Ok x) read = read ≡ Some (seen x)
 GivesOr seen absent (Err (Form fault)) read = (read ≡ None) × (fault ≡ absent)

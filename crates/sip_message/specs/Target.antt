@@ -1,4 +1,4 @@
--- A message with another request URI (RFC 3261, section 7.1: the URI stands between the first two spaces of the start line).
+-- A message with another request URI (RFC 3261, section 7.1: the URI is between the first two spaces of the start line).
 use Rattle.std.specs.Prelude.{◌≡◌, ◌≤◌, ℕ, true, length, List, [], ◌∷◌, ◌++◌, Option, Some, None, Result}
 use Rattle.text_grammar.specs.Cut.{cut, lacks}
 use Rattle.sip_message.specs.declared.fault.FormFault.{FormFault}
@@ -8,12 +8,12 @@ use Rattle.sip_message.specs.HeadAlphabet.{is_target}
 use Rattle.sip_message.specs.Message.{MessageView}
 use Rattle.sip_message.specs.Reading.{read}
 
--- what is written where this method stands before the first space: this URI instead of what stands before the second
+-- what is written if this method is before the first space: this URI instead of what is before the second
 abbrev pub behind_method : List ℕ → List ℕ → Option (List ℕ × List ℕ) → List ℕ
 behind_method uri method None = []
 behind_method uri method (Some parts) = method ++ 32 ∷ (uri ++ 32 ∷ parts.1)
 
--- the same, with the method and what stands after it in one
+-- the same, with the method and what comes after it in one
 abbrev pub behind_uri : List ℕ → Option (List ℕ × List ℕ) → List ℕ
 behind_uri uri None = []
 behind_uri uri (Some parts) = behind_method uri parts.0 (cut 32 parts.1)
@@ -26,7 +26,7 @@ with_uri bytes uri = behind_uri uri (cut 32 bytes)
 abbrev pub to_uri : MessageView → List ℕ → MessageView
 to_uri message uri = record { method = message.method; uri = uri; fields = message.fields }
 
--- the bytes with this URI; the first fault of bytes that are no message; or that of their size where they grow too long
+-- the bytes with this URI; the first fault of bytes that are no message; or that of their size if they grow too long
 unfoldable pub targeted : List ℕ → List ℕ → Result (List ℕ) FormFault
 targeted bytes uri = sized_or_fault (read bytes) (with_uri bytes uri)
 

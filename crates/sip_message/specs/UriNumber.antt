@@ -7,7 +7,7 @@ use Rattle.tn_values.specs.Canon.{StandsFor}
 use Rattle.tn_values.specs.Local.{LocalView}
 use Rattle.sip_message.specs.UpTo.{UpTo}
 
--- the URI has this scheme, which is compared without case, and this behind it
+-- the URI has this scheme, which is compared without case, and this after it
 pub record HasScheme (scheme uri rest : List ℕ) : Type 0 where
   pub name : List ℕ
   pub same : str_eq_ignore_ascii_case name scheme ≡ true
@@ -21,7 +21,7 @@ is_semicolon byte = byte == 59
 abbrev pub ends_user : ℕ → Bool
 ends_user byte = byte == 59 || byte == 58
 
--- behind the scheme stand a user part and an `@`, the first; the text is the user part up to its first `;` or `:`
+-- after the scheme come a user part and an `@`, the first; the text is the user part up to its first `;` or `:`
 pub record IsUserText (rest text : List ℕ) : Type 0 where
   pub user : List ℕ
   pub behind : List ℕ

@@ -3,7 +3,7 @@
 use Rattle.std.specs.Prelude.{ℕ, not, List, [], ◌∷◌, ◌++◌, map, reverse, filter, if◌then◌else◌}
 use Rattle.text_grammar.specs.Bytes.{is_blank, is_empty}
 
--- the text without the blanks in front
+-- the text without the blanks at its beginning
 abbrev pub trimmed_front : List ℕ → List ℕ
 trimmed_front [] = []
 trimmed_front (first ∷ more) = if is_blank first then trimmed_front more else first ∷ more

@@ -24,7 +24,7 @@ pub fn is_addable(name: &[u8]) -> bool
     is_name(name) && !(Known::From.is_named(name) || Known::To.is_named(name))
 }
 
-/// Whether a text can be the value of a header field in one line as it stands: it isn't empty, has no space or tab at either end, and
+/// Whether a text can be the value of a header field in one line as it is: it isn't empty, has no space or tab at either end, and
 /// neither CR nor LF in it.
 pub fn is_field_value(value: &[u8]) -> bool
     ensures { result ≡ is_field_value value.now }
@@ -42,11 +42,11 @@ fn lacks(text: &[u8], byte: u8) -> bool
     text.iter().all(|other| *other != byte)
 }
 
-/// The bytes of a message with one more header field: its name, a colon, a space, its value, CR and LF stand directly before the empty
+/// The bytes of a message with one more header field: its name, a colon, a space, its value, CR and LF come directly before the empty
 /// line that ends the head (RFC 3261, section 7.5). Reading them gives the same message with this field as the last.
 ///
-/// The fault is that of the bytes where they are no message, and else 1, the size, where they would be more than 65,535 with the field;
-/// `Memory` comes for want of memory alone. [`is_addable`] tells of the name and [`is_field_value`] of the value.
+/// If the bytes are no message, the fault is theirs. Else it is 1, the size, if they would be more than 65,535 with the field. `Memory`
+/// comes only if memory runs out. [`is_addable`] tells of the name and [`is_field_value`] of the value.
 pub fn with_field(
     alloc: Global,
     bytes: &[u8],
@@ -57,11 +57,11 @@ pub fn with_field(
     requires value { IsTrue (is_field_value value.now) }
     ensures exact { Gives (λ out. out.items) result (added bytes.now name.now value.now) }
 
-    // The line stands at the place of the empty line that ends the head.
+    // The line is at the place of the empty line that ends the head.
     ensures placed { (message : MessageView) (head : Head bytes.now message)
         → IfOk result (λ out. out.items ≡ with_line_at head.empty.place bytes.now name.now value.now) }
 
-    // What comes out is the message with the field behind all others, and is read as this.
+    // What comes out is the message with the field after all others, and is read as this.
     ensures head { (message : MessageView) → Head bytes.now message → IfOk result (λ out. Head out.items (with_last message name.now value.now)) }
     ensures read_again { (message : MessageView) → read bytes.now ≡ Ok message → IfOk result (λ out. read out.items ≡ Ok (with_last message name.now value.now)) }
 {
@@ -104,7 +104,7 @@ fn with_line(alloc: Global, bytes: &[u8], name: &[u8], value: &[u8]) -> Result<V
     Ok(out)
 }
 
-/// The place of the first empty line, 0 where there is none.
+/// The place of the first empty line, 0 if there is none.
 #[tactic(auto, using(crate::proofs::AddedSteps::ends_here, crate::proofs::AddedSteps::ends_behind, crate::proofs::LineSteps::none_left, crate::proofs::LineSteps::line_size))]
 fn head_end(bytes: &[u8]) -> usize
     ensures exact { result ≡ head_end bytes.now }

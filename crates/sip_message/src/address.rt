@@ -8,7 +8,7 @@ ghost use Rattle.sip_message.specs.declared.address.Quoting.TheVariants.{Outside
 use text_grammar::cut;
 use tn_values::{Local, Number};
 
-/// Where a byte stands in a value with quoted strings (RFC 3261, section 25.1, `quoted-string`).
+/// Where a byte is in a value with quoted strings (RFC 3261, section 25.1, `quoted-string`).
 #[derive(Clone, Copy, Debug, PartialEq, Eq)]
 enum Quoting {
     Outside,
@@ -17,7 +17,7 @@ enum Quoting {
 }
 
 impl Quoting {
-    /// Where the next byte stands.
+    /// Where the next byte is.
     fn after(self, byte: u8) -> Quoting
         ensures { result ≡ after self byte }
     {
@@ -32,15 +32,15 @@ impl Quoting {
     }
 }
 
-/// The number of the first address of a From, To or P-Asserted-Identity value (RFC 3261, section 20.10), None where it
-/// has none.
+/// The number of the first address of a From, To or P-Asserted-Identity value (RFC 3261, section 20.10), None if it has
+/// none.
 pub(crate) fn address_number(value: &[u8], local: &Local) -> Option<Number>
     ensures { result ≡ address_number value.now local.now }
 {
     uri_number(address(value), local)
 }
 
-/// The number of a `tel:`, `sip:` or `sips:` URI (RFC 3966, section 3; RFC 3261, section 19.1.6), None where it has none.
+/// The number of a `tel:`, `sip:` or `sips:` URI (RFC 3966, section 3; RFC 3261, section 19.1.6), None if it has none.
 pub fn uri_number(uri: &[u8], local: &Local) -> Option<Number>
     ensures { result ≡ uri_number uri.now local.now }
 {
@@ -56,7 +56,7 @@ pub fn uri_number(uri: &[u8], local: &Local) -> Option<Number>
     }
 }
 
-/// The number of the user part in front of the first `@`.
+/// The number of the user part before the first `@`.
 fn user_number(text: &[u8], local: &Local) -> Option<Number>
     ensures { result ≡ user_number local.now text.now }
 {
@@ -66,7 +66,7 @@ fn user_number(text: &[u8], local: &Local) -> Option<Number>
     }
 }
 
-/// What stands behind the scheme, which is compared without case.
+/// What comes after the scheme, which is compared without case.
 fn behind_scheme<'a>(uri: &'a [u8], scheme: &[u8]) -> Option<&'a [u8]>
     ensures { option_copied result ≡ behind_scheme scheme.now uri.now }
 {
@@ -91,7 +91,7 @@ fn address(value: &[u8]) -> &[u8]
     }
 }
 
-/// What stands behind the first `<` outside of quoted strings.
+/// What comes after the first `<` outside of quoted strings.
 fn behind_bracket(value: &[u8]) -> Option<&[u8]>
     ensures { option_copied result ≡ behind_bracket value.now }
 {
@@ -107,7 +107,7 @@ fn behind_bracket(value: &[u8]) -> Option<&[u8]>
     None
 }
 
-/// The text up to the first such byte, all of it where it has none.
+/// The text up to the first such byte, all of it if it has none.
 fn before(text: &[u8], byte: u8) -> &[u8]
     ensures { result.now ≡ before byte text.now }
 {

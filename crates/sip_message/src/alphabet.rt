@@ -1,4 +1,4 @@
-//! Which bytes stand in the parts of a message head (RFC 3261, section 25.1).
+//! Which bytes the parts of a message head may have (RFC 3261, section 25.1).
 ghost use Rattle.std.specs.Prelude.{◌≡◌};
 ghost use Rattle.std.specs.List.{list_all};
 ghost use Rattle.sip_message.specs.HeadAlphabet.{is_name, is_target, is_target_byte};
@@ -6,7 +6,7 @@ ghost use Rattle.text_grammar.specs.Bytes.{is_name_byte};
 
 use text_grammar::is_name_byte;
 
-/// Whether a byte may stand in the URI of a start line.
+/// Whether a byte may be in the URI of a start line.
 fn is_target_byte(byte: u8) -> bool
     ensures { result ≡ is_target_byte byte }
 {
@@ -23,7 +23,7 @@ pub(crate) fn is_name(text: &[u8]) -> bool
     }
 }
 
-/// Whether all bytes may stand in a name.
+/// Whether all bytes may be in a name.
 fn are_name_bytes(text: &[u8]) -> bool
     ensures { result ≡ list_all is_name_byte text.now }
 {
@@ -40,7 +40,7 @@ pub fn is_target(text: &[u8]) -> bool
     }
 }
 
-/// Whether all bytes may stand in the URI of a start line.
+/// Whether all bytes may be in the URI of a start line.
 fn are_target_bytes(text: &[u8]) -> bool
     ensures { result ≡ list_all is_target_byte text.now }
 {

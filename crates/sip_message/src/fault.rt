@@ -11,7 +11,7 @@ use std::fmt;
 pub struct FormFault {
     /// 1 the size, 2 the start line, 3 a line of the head, 4 no empty line, 5 From, 6 To.
     pub kind: u8,
-    /// The offset in bytes at which it stands, at most the length of the bytes.
+    /// The offset in bytes of the fault, at most the length of the bytes.
     pub place: u32,
 }
 
@@ -20,7 +20,7 @@ pub struct FormFault {
 pub enum MessageFault {
     /// The bytes are no message.
     Form(FormFault),
-    /// Want of memory.
+    /// Memory ran out.
     Memory,
 }
 

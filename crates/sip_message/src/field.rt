@@ -21,7 +21,7 @@ pub(crate) struct Field<'a> {
     pub value: Value<'a>,
 }
 
-/// The number of the first such field, None where there is none or its address has none.
+/// The number of the first such field, None if there is none or its address has none.
 pub(crate) fn number_of(fields: &[Field<'_>], known: Known, local: &Local) -> Option<Number>
     ensures { result ≡ number_of (is_named known) (map field_seen fields.now) local.now }
 {
@@ -31,7 +31,7 @@ pub(crate) fn number_of(fields: &[Field<'_>], known: Known, local: &Local) -> Op
     }
 }
 
-/// The time of the first such field, in Unix seconds, None where there is none or its value is no date.
+/// The time of the first such field, in Unix seconds, None if there is none or its value is no date.
 pub(crate) fn time_of(fields: &[Field<'_>], known: Known) -> Option<u64>
     ensures { result ≡ time_of (is_named known) (map field_seen fields.now) }
 {

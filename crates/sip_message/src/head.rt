@@ -52,7 +52,7 @@ pub(crate) fn read_head<'a>(
     }))
 }
 
-/// Reads the field that begins with the line and goes on over the continuations in front of the lines.
+/// Reads the field that begins with the line and goes on over the continuations at the beginning of the lines.
 fn read_field<'a>(
     alloc: Global,
     line: Line<'a>,
@@ -76,7 +76,7 @@ fn read_field<'a>(
 }
 
 impl HeadFields<'_> {
-    /// None where exactly one field is such a one; else the offset of the second, or of the empty line where there is none.
+    /// None if exactly one field is such a one; else the offset of the second, or of the empty line if there is none.
     #[tactic(auto, using(crate::proofs::FieldSteps::placed_step, crate::proofs::FieldSteps::placed_end))]
     pub(crate) fn surplus(&self, known: Known) -> Option<u32>
         ensures { result ≡ surplus (is_named known) (head_seen self.now) }

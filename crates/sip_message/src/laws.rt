@@ -9,13 +9,13 @@ ghost use Rattle.sip_message.specs.Names.{is_asserted, is_date, is_from, is_iden
 ghost use Rattle.sip_message.specs.Reading.{read};
 ghost use Rattle.sip_message.specs.Target.{TargetLaw};
 
-/// Bytes are read as a message just where they are its head (RFC 3261, section 7).
+/// Bytes are read as a message exactly if they are its head (RFC 3261, section 7).
 pub fn head_law()
     ensures { (bytes : List ℕ) (message : MessageView) → (read bytes ≡ Ok message) ↔ Head bytes message }
 {}
 
-/// What is asked of a message with one more header field behind its own: an Identity field has its value behind the others, and all else
-/// that is asked stays as it was where the name is none of those that it is asked of.
+/// What is asked of a message with one more header field after its own. An Identity field has its value after the others. All else that
+/// is asked stays as it was if the name is none of those that it is asked of.
 pub fn added_field_law()
     ensures identity { (message : MessageView) (name value : List ℕ) → is_identity name ≡ true
         → identities (with_last message name value) ≡ identities message ++ value ∷ [] }

@@ -46,7 +46,7 @@ impl<'a> Lines<'a> {
         }
     }
 
-    /// Takes the next line, where one is left; a last piece without LF is none.
+    /// Takes the next line, if one is left; a last piece without LF is none.
     #[tactic(auto, using(crate::proofs::LineSteps::line_taken, crate::proofs::LineSteps::none_left, crate::proofs::LineSteps::line_size))]
     pub(crate) fn next(&mut self) -> Option<Line<'a>>
         ensures { NextLine (option_map line_seen result) self.old self.new }
@@ -63,7 +63,7 @@ impl<'a> Lines<'a> {
         })
     }
 
-    /// Takes the next line and gives its text, where it begins with space or tab.
+    /// Takes the next line and gives its text, if it begins with space or tab.
     #[tactic(auto, using(crate::proofs::ContinuationSteps::stops_here, crate::proofs::ContinuationSteps::begins_here))]
     pub(crate) fn next_continuation(&mut self) -> Option<&'a [u8]>
         ensures { NextContinuation (option_copied result) self.old self.new }

@@ -44,8 +44,8 @@ const TO: u8 = 6;
 
 /// The head of a SIP request (RFC 3261, section 7): its method, its URI and its header fields in their order.
 ///
-/// Values that stand in one line are views into the bytes that were read; those of several lines are joined. A contract
-/// sees method, URI and the list of names and values. No value is longer than 65,535 bytes.
+/// A value in one line is a view into the bytes that were read; one of several lines is joined. A contract sees method, URI and the list of
+/// names and values. No value is longer than 65,535 bytes.
 #[derive(Drop)]
 pub struct Message<'a> {
     method: &'a [u8],
@@ -76,12 +76,12 @@ impl<'a> Model for Message<'a> {
 }
 
 impl<'a> Message<'a> {
-    /// Reads the head of a message of at most 65,535 bytes: its start line, its header fields with their continuations, and
-    /// the empty line; the body behind that isn't read.
+    /// Reads the head of a message of at most 65,535 bytes: its start line, its header fields with their continuations, and the empty line.
+    /// The body after that isn't read.
     ///
-    /// The faults are tried in this order: 1 the size, at 65,535; the first bad line, which is 2 for the start line, at 0,
-    /// or 3, at its first byte; 4 no empty line, at the length; 5 and 6 where there isn't exactly one From or To, at the
-    /// second such field or else at the empty line. `Memory` comes for want of memory alone.
+    /// The faults are tried in this order: 1 the size, at 65,535; the first bad line, which is 2 for the start line, at 0, or 3, at its
+    /// first byte; 4 no empty line, at the length; 5 and 6 if there isn't exactly one From or To, at the second such field or else at the
+    /// empty line. `Memory` comes only if memory runs out.
     #[tactic(auto, using(crate::proofs::AnswerLaws::answers_head, crate::proofs::AnswerLaws::answers_fault, crate::proofs::AnswerLaws::answers_only_fault, crate::proofs::AnswerLaws::answers_place, crate::proofs::ShortLaws::answers_short))]
     pub fn read(alloc: Global, bytes: &'a [u8]) -> Result<Message<'a>, MessageFault>
         ensures exact { Gives (λ message. message) result (read bytes.now) }
@@ -102,7 +102,7 @@ impl<'a> Message<'a> {
         self.method == b"INVITE".as_slice()
     }
 
-    /// The number of From (RFC 3261, section 20.20): that of the first address in the value of the first such field, None where it has none.
+    /// The number of From (RFC 3261, section 20.20): that of the first address in the value of the first such field, None if it has none.
     pub fn from_number(&self, local: &Local) -> Option<Number>
         ensures exact { result ≡ from_number self.now local.now }
         ensures found { IfSome result (λ number. IsNumberOf is_from self.now.fields local.now number) }
@@ -111,7 +111,7 @@ impl<'a> Message<'a> {
         number_of(&self.fields, Known::From, local)
     }
 
-    /// The number of To (RFC 3261, section 20.39): that of the first address in the value of the first such field, None where it has none.
+    /// The number of To (RFC 3261, section 20.39): that of the first address in the value of the first such field, None if it has none.
     pub fn to_number(&self, local: &Local) -> Option<Number>
         ensures exact { result ≡ to_number self.now local.now }
         ensures found { IfSome result (λ number. IsNumberOf is_to self.now.fields local.now number) }
@@ -120,7 +120,7 @@ impl<'a> Message<'a> {
         number_of(&self.fields, Known::To, local)
     }
 
-    /// The number of the request URI (RFC 3261, section 19.1.6; RFC 3966, section 3), None where it has none.
+    /// The number of the request URI (RFC 3261, section 19.1.6; RFC 3966, section 3), None if it has none.
     pub fn target_number(&self, local: &Local) -> Option<Number>
         ensures exact { result ≡ target_number self.now local.now }
         ensures found { IfSome result (λ number. GivesNumber self.now.uri local.now number) }
@@ -129,7 +129,7 @@ impl<'a> Message<'a> {
         uri_number(self.uri, local)
     }
 
-    /// The number of the first P-Asserted-Identity field (RFC 3325, section 9.1) that gives one, None where none does.
+    /// The number of the first P-Asserted-Identity field (RFC 3325, section 9.1) that gives one, None if none does.
     pub fn asserted_number(&self, local: &Local) -> Option<Number>
         ensures exact { result ≡ asserted_number self.now local.now }
         ensures found { IfSome result (λ number. IsFirstNumber is_asserted self.now.fields local.now number) }
@@ -157,8 +157,8 @@ impl<'a> Message<'a> {
         }
     }
 
-    /// The time of the first Date field (RFC 3261, section 20.17), in Unix seconds; None where there is no such field or
-    /// its value is no date in one of the three forms of HTTP (RFC 9110, section 5.6.7).
+    /// The time of the first Date field (RFC 3261, section 20.17), in Unix seconds; None if there is no such field or its value is no date
+    /// in one of the three forms of HTTP (RFC 9110, section 5.6.7).
     pub fn date(&self) -> Option<u64>
         ensures exact { result ≡ date self.now }
         ensures found { IfSome result (λ second. IsTimeOf is_date self.now.fields second) }
@@ -227,7 +227,7 @@ fn fault<T>(kind: u8, place: u32) -> Result<T, MessageFault>
     Err(MessageFault::Form(FormFault { kind, place }))
 }
 
-/// The parts of a message, where exactly one field is From and exactly one is To.
+/// The parts of a message, if exactly one field is From and exactly one is To.
 fn checked<'a>(
     method: &'a [u8],
     uri: &'a [u8],

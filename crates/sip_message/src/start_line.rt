@@ -6,7 +6,7 @@ ghost use Rattle.sip_message.specs.StartLine.{start_line};
 use crate::alphabet::{is_name, is_target};
 use text_grammar::cut;
 
-/// The method and the URI of a start line (RFC 3261, section 7.1), None where the line is none.
+/// The method and the URI of a start line (RFC 3261, section 7.1), None if the line is none.
 pub(crate) fn start_line(line: &[u8]) -> Option<(&[u8], &[u8])>
     ensures { option_map (λ parts. (parts.0.now, parts.1.now)) result ≡ start_line line.now }
 {

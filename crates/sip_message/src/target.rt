@@ -12,16 +12,16 @@ use crate::message::{MOST_BYTES, Message, SIZE};
 use std::alloc::{AllocError, Global};
 use text_grammar::cut;
 
-/// The bytes of a message with another request URI: what stands between the first two spaces is this, and all else is as it was. Reading
-/// them gives the same message with this URI.
+/// The bytes of a message with another request URI: between the first two spaces is this URI, and all else is as it was. Reading them
+/// gives the same message with this URI.
 ///
-/// The fault is that of the bytes if they are no message, and else 1, the size, if they would be more than 65,535 with this URI; `Memory`
-/// comes for want of memory alone. [`crate::is_target`] tells of the URI.
+/// If the bytes are no message, the fault is theirs. Else it is 1, the size, if they would be more than 65,535 with this URI. `Memory`
+/// comes only if memory runs out. [`crate::is_target`] tells of the URI.
 pub fn with_target(alloc: Global, bytes: &[u8], uri: &[u8]) -> Result<Vec<u8>, MessageFault>
     requires uri { IsTrue (is_target uri.now) }
     ensures exact { Gives (λ out. out.items) result (targeted bytes.now uri.now) }
 
-    // Between its first two spaces stands the URI, and before and after them what stood there.
+    // Between its first two spaces is the URI, and before and after them is what was there.
     ensures written { IfOk result (λ out. HasOtherUri bytes.now uri.now out.items) }
 
     // What comes out is the message with this URI, and is read as this.

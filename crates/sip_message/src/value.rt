@@ -7,7 +7,7 @@ ghost use Rattle.sip_message.specs.Value.{extended, trimmed, trimmed_end, trimme
 use crate::lines::Lines;
 use std::alloc::{AllocError, Global};
 
-/// A value: a view where it stands in one line, its own bytes where it was joined of several.
+/// A value: a view if it is in one line, its own bytes if it was joined of several.
 #[derive(Debug, Drop)]
 pub(crate) enum Value<'a> {
     View(&'a [u8]),
@@ -42,7 +42,7 @@ impl<'a> Value<'a> {
     }
 }
 
-/// The value with a space and one more part behind it.
+/// The value with a space and one more part after it.
 fn joined<'a>(mut bytes: Vec<u8>, part: &[u8]) -> Result<Value<'a>, AllocError>
     ensures { IfOk result (λ value. value_seen value ≡ bytes.items ++ 32 ∷ part.now) }
 {
@@ -51,7 +51,7 @@ fn joined<'a>(mut bytes: Vec<u8>, part: &[u8]) -> Result<Value<'a>, AllocError>
     Ok(Value::Joined(bytes))
 }
 
-/// Reads the value that begins with `rest` and goes on over the continuations in front of the lines.
+/// Reads the value that begins with `rest` and goes on over the continuations at the beginning of the lines.
 #[tactic(auto, using(crate::proofs::ValueSteps::value_joined))]
 pub(crate) fn read_value<'a>(
     alloc: Global,
@@ -75,7 +75,7 @@ pub(crate) fn trimmed(text: &[u8]) -> &[u8]
     trimmed_end(trimmed_front(text))
 }
 
-/// A text without the blanks in front.
+/// A text without the blanks at its beginning.
 fn trimmed_front(text: &[u8]) -> &[u8]
     ensures { result.now ≡ trimmed_front text.now }
 {

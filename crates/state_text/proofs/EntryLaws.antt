@@ -8,7 +8,7 @@ use Rattle.state_text.specs.State.{AreEntries, Entry, is_above}
 use Rattle.state_text.specs.StateText.{kept_line, kept_lines, number_line}
 use Rattle.state_text.proofs.RowLaws.{FoundEntry, end_not_kept, kept_again, kept_found, number_again, number_found}
 
--- the line behind so many entries
+-- the line after so many entries
 abbrev pub end_line : ℕ → List ℕ
 end_line count = number_line (codes "end ") count
 

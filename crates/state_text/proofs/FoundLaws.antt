@@ -23,7 +23,7 @@ whole_by : (b : ℕ) (bs : List ℕ) (t : Bool) → (b == 10) ≡ t → text_of 
 whole_by b bs true e below = let same : b ≡ 10 = grind (arith, nat_tests) in rw same (ap (λ x. 10 ∷ x) below)
 whole_by b bs false e below = onto_text b (ended_lines bs) ∙ ap (λ x. b ∷ x) below
 
--- the lines one behind the other are the text
+-- the lines one after the other are the text
 whole_text : (text : List ℕ) → text_of (ended_lines text) ≡ text
 whole_text [] = refl
 whole_text (b ∷ bs) = whole_by b bs (b == 10) refl (whole_text bs)
@@ -55,7 +55,7 @@ both_text : (xs ys : List (List ℕ)) → text_of (xs ++ ys) ≡ text_of xs ++ t
 both_text [] ys = refl
 both_text (x ∷ xs) ys = ap (λ t. x ++ t) (both_text xs ys) ∙ sym (append_assoc x (text_of xs) (text_of ys))
 
--- what stands before the state, and the lines behind its first
+-- what comes before the state, and the lines after its first
 record FoundHead (lines rest : List (List ℕ)) : Type 0 where
   before : List (List ℕ)
   others : AreOthers before
@@ -78,7 +78,7 @@ cut_by : (number : ℕ) (line : List ℕ) (others : List (List ℕ)) (m : ℕ) (
 cut_by number line others m rest i e below some true h = absurd cc
 cut_by number line others m rest i e below some false h = more_others line others rest (i some) e (below h)
 
--- behind the head stands something, so there is a line more
+-- something comes after the head, so there is a line more
 some_behind : (number : ℕ) (others : List (List ℕ)) (m : ℕ) (rest : List (List ℕ)) (t : Bool) → cond t (Err number) (behind_head (suc number) others) ≡ Ok (m, rest) → 1 ≤ length others
 some_behind number [] m rest true h = absurd cc
 some_behind number [] m rest false h = absurd cc

@@ -1,4 +1,4 @@
--- Lines with which a state file begins are passed, whatever stands after them.
+-- Lines with which a state file begins are passed, whatever comes after them.
 use Rattle.std.proofs.Common.{◌≡◌, ◌⊎◌, inl, inr, ℕ, suc, ◌+◌, ◌^◌, ◌<◌, ◌≤◌, Bool, true, false, List, [], ◌∷◌, ◌++◌, length, Some, Ok, Err, Result, codes, refl, sym, ◌∙◌, ap, subst, arith, append_assoc, append-nil, length-append}
 use Rattle.std.specs.Str.{bytes_eq}
 use Rattle.lists.specs.Steps.{◌>>=◌}

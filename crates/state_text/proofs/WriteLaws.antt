@@ -30,7 +30,7 @@ written_state s =
 pub written_by : (s : StateView) (head kept all : List ℕ) → head ≡ head_text s.window s.call s.moment → kept ≡ head ++ text_of (kept_lines s.kept) → all ≡ kept ++ number_line (codes "end ") (length s.kept) → all ≡ state_text s
 written_by s head kept all h k e = e ∙ ap (λ x. x ++ number_line (codes "end ") (length s.kept)) (k ∙ ap (λ x. x ++ text_of (kept_lines s.kept)) h) ∙ written_state s
 
--- the same text, where there is one
+-- the same text, if there is one
 pub if_same : {X E : Type 0} (result : Result X E) (seen : X → List ℕ) (one other : List ℕ) → one ≡ other → IfOk result (λ x. seen x ≡ one) → IfOk result (λ x. seen x ≡ other)
 if_same (Ok x) seen one other same is = is ∙ same
 if_same (Err fault) seen one other same is = tt

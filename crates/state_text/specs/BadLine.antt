@@ -5,7 +5,7 @@ use Rattle.state_text.specs.Lines.{ended_lines}
 use Rattle.state_text.specs.State.{IsState, StateView}
 use Rattle.state_text.specs.StateText.{IsOther, StateFile, head_line, lines_behind}
 
--- a line that may stand before the state; it is one without its LF too, which the last line of a file may lack
+-- a line that may come before the state; it is one without its LF too, which the last line of a file may lack
 pub record IsOtherLine (line : List ℕ) : Type 0 where
   pub text : List ℕ
   pub other : IsOther text

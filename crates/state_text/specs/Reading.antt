@@ -95,7 +95,7 @@ abbrev pub is_count : ℕ → Option ℕ → Bool
 is_count count None = false
 is_count count (Some number) = number == count
 
--- an entry of a call up to this number may stand after these
+-- an entry of a call up to this number may come after these
 abbrev pub follows : ℕ → List Entry → Entry → Bool
 follows call before entry = nat_le 1 entry.1.call && nat_le entry.1.call call && nat_le entry.1.last most_last && is_above (last_ticket before) entry.0
 
@@ -135,7 +135,7 @@ found_in lines = do
   behind ← behind_head 1 lines
   state_in behind.0 behind.1
 
--- the state that a file holds; an empty file stands for one with this window in which nothing is kept
+-- the state that a file holds; an empty file means one with this window in which nothing is kept
 unfoldable pub read_state : ℕ → List ℕ → Result StateView ℕ
 read_state window [] = Ok (none_kept window)
 read_state window (byte ∷ more) = found_in (ended_lines (byte ∷ more))

@@ -3,7 +3,7 @@ use Rattle.std.specs.Prelude.{ℕ, Option, Some, None}
 use Rattle.state_text.specs.declared.fault.StateFault.{StateFault}
 use Rattle.state_text.specs.declared.fault.StateFault.TheVariants.{Line, Memory}
 
--- the line that a fault names; want of memory names none
+-- the line that a fault names; `Memory` names none
 abbrev pub fault_line : StateFault → Option ℕ
 fault_line (Line line) = Some line
 fault_line Memory = None

@@ -48,7 +48,7 @@ pub record StateText (text : List ℕ) (s : StateView) : Type 0 where
 
 -- ---- files that hold one
 
--- a line, without its LF, that may stand before the state
+-- a line, without its LF, that may come before the state
 pub record IsOther (line : List ℕ) : Type 0 where
   pub one : lacks 10 line ≡ true
   pub other : line ≢ codes "past 1"
@@ -71,6 +71,6 @@ pub record HoldsState (bytes : List ℕ) (s : StateView) : Type 0 where
   pub behind : List ℕ
   pub split : bytes ≡ with_ends before ++ (text ++ behind)
 
--- the file is empty, which stands for a state with this window in which nothing is kept; or it holds a state
+-- the file is empty, which means a state with this window in which nothing is kept; or it holds a state
 abbrev pub StateFile : ℕ → List ℕ → StateView → Type 0
 StateFile window bytes s = ((bytes ≡ []) × (s ≡ none_kept window)) ⊎ HoldsState bytes s

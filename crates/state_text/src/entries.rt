@@ -22,7 +22,7 @@ pub(crate) fn are_entries(call: u32, kept: &[([u8; 32], Kept)]) -> bool
     true
 }
 
-/// Whether an entry may stand after these.
+/// Whether an entry may come after these.
 fn follows(call: u32, before: &[([u8; 32], Kept)], entry: &([u8; 32], Kept)) -> bool
     ensures exact { result ≡ follows call before.now entry.now }
     ensures ticket { IsTicket entry.now.0 }

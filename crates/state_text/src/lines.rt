@@ -58,7 +58,7 @@ impl<'a> Lines<'a> {
     }
 }
 
-/// The first line of a text with its LF, and what stands after it; None of the empty text.
+/// The first line of a text with its LF, and what comes after it; None of the empty text.
 #[tactic(auto, using(crate::proofs::LineLaws::first_is, crate::proofs::LineLaws::last_is, crate::proofs::LineLaws::none_is))]
 fn first_line(text: &[u8]) -> Option<(&[u8], &[u8])>
     ensures line { MatchOption result (ended_lines text.now ≡ []) (λ found. ended_lines text.now ≡ found.0.now ∷ ended_lines found.1.now) }

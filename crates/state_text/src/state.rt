@@ -50,7 +50,7 @@ impl Model for State {
 }
 
 impl State {
-    /// Reads a state file. An empty one stands for a state with the window `past`, of at most a day in seconds, in which no call came and nothing is
+    /// Reads a state file. An empty one means a state with the window `past`, of at most a day in seconds, in which no call came and nothing is
     /// kept.
     ///
     /// `Line` names the first line that can't be read, or the line after the last if lines are missing.
@@ -119,7 +119,7 @@ impl State {
         &self.kept
     }
 
-    /// The text of the state. The only error is want of memory.
+    /// The text of the state. The only error is that memory ran out.
     ///
     /// Reading it gives the same state if the number of its call is at most 4,000,000,000.
     #[tactic(auto, using(crate::proofs::AnswerLaws::handed_on, crate::proofs::AnswerLaws::text_again))]

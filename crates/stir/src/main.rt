@@ -26,13 +26,13 @@ use std::{env, io};
 use stir_cmd::run;
 use stir_outside::{FileShelf, Sink, StdinSource, StdoutSink, write_whole};
 
-/// The line for want of memory, where not even the words could be held.
+/// The line for when memory runs out, if not even the words could be held.
 const NO_MEMORY: &[u8] = b"want of memory\n";
 
-/// The status for want of memory.
+/// The status for when memory runs out.
 const MEMORY: u8 = 6;
 
-/// The status where that line couldn't be written.
+/// The status if that line couldn't be written.
 const SINK_FAILED: u8 = 4;
 
 /// Hands the words and the real objects to `run`.

@@ -20,7 +20,7 @@ no_key : (certificate : Option CertView) → kept_question certificate None ≡ 
 no_key None = refl
 no_key (Some certificate) = refl
 
--- the question at an index, and those of the certificates behind it
+-- the question at an index, and those of the certificates after it
 step : (chain : List CertView) (keys : Keys) (i : ℕ) → i < length chain
     → questions_from (drop i chain) (drop i keys) ≡ option_to_list (kept_question (slice_get chain i) (slice_get keys i)) ++ questions_from (drop (suc i) chain) (drop (suc i) keys)
 step [] keys i within = absurd (omega arith)

@@ -1,4 +1,4 @@
--- Lines of no question, of one, and of one list of questions behind another.
+-- Lines of no question, of one, and of one list of questions after another.
 use Rattle.std.proofs.Common.{◌≡◌, ℕ, Bool, true, false, cond, List, [], ◌∷◌, ◌++◌, append_assoc, append-nil, refl, sym, ◌∙◌, ap}
 use Rattle.cert_store.specs.Rules.{QuestionView}
 use Rattle.single_calls.specs.Asks.{ask_line, ask_lines}
@@ -14,7 +14,7 @@ lines_append (x ∷ xs) ys = ap (λ (l : List ℕ). ask_line x ++ l) (lines_appe
 pub no_line : (text : List ℕ) → text ≡ text ++ []
 no_line text = sym (append-nil text)
 
--- where a test leaves no question
+-- if a test leaves no question
 pub no_lines : (text : List ℕ) (test : Bool) (questions : List QuestionView) → test ≡ false → text ≡ text ++ ask_lines (cond test questions [])
 no_lines text test questions is = sym (append-nil text) ∙ ap (λ t. text ++ ask_lines (cond t questions [])) (sym is)
 

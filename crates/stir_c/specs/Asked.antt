@@ -33,6 +33,6 @@ pub record IsAskedFirst (materials : Materials) (files : Files) (call : Call) (l
 
 -- ---- how it is written
 
--- the lines over what is known of the chains, and with those of the PASSporTs where it is so
+-- the lines over what is known of the chains, and with those of the PASSporTs if it is so
 abbrev pub lines_for : Bool → List Reading → List State → List ℕ
 lines_for own readings states = ask_lines (questions_over own readings states)

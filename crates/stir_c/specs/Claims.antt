@@ -6,7 +6,7 @@ use Rattle.serde_json.specs.Written.{has_float}
 use Rattle.text_grammar.specs.Cut.{lacks}
 use Rattle.verify_rules.specs.Call.{Reading, payload_of}
 
--- no floating-point number stands in the value, and it is at most 127 deep
+-- no floating-point number is in the value, and it is at most 127 deep
 abbrev pub has_form : Data → Bool
 has_form value = not (has_float value) && nat_le (depth value) most_deep
 
@@ -19,7 +19,7 @@ abbrev pub said_text : Option Data → List ℕ
 said_text None = []
 said_text (Some payload) = payload_text payload
 
--- no LF stands in it
+-- no LF is in it
 abbrev pub IsOneLine : List ℕ → Type 0
 IsOneLine text = lacks 10 text ≡ true
 

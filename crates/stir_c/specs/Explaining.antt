@@ -13,7 +13,7 @@ use Rattle.stir_c.specs.declared.found.Found.{Found}
 use Rattle.stir_c.specs.declared.found.Found.TheVariants.{Refused, Passes}
 use Rattle.stir_c.specs.declared.said.Said.{Said}
 
--- what was found of a call, for whom explains it
+-- what was found of a call, for whoever explains it
 abbrev pub finding_of : Found → Finding
 finding_of (Refused refused) = findings.Refused refused
 finding_of (Passes pass) = findings.Passes pass
@@ -25,8 +25,8 @@ pub record ExplainedOf (given : Handed) (number : ℕ) (answers lines : List ℕ
 
 -- ---- what is told
 
--- The call is judged as is said; the lines that explain it under this number stand in the room, and it is said how many bytes they have. What
--- is behind them is as it was.
+-- The call is judged as is said. The lines that explain it under this number are in the room, and it is said how many bytes they have. What
+-- is after them is as it was.
 pub record ExplainedInto (given : Handed) (number : ℕ) (answers before now : List ℕ) (said : Said) : Type 0 where
   pub lines : List ℕ
   pub judged : JudgedBy given answers said

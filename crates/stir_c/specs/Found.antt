@@ -1,4 +1,4 @@
--- What comes of a call by all rules but the one on replay, where its chains are there and every question is answered.
+-- What comes of a call by all rules but the one on replay, if its chains are there and every question is answered.
 use Rattle.std.specs.Prelude.{◌≡◌, ⊤, None, Some}
 use Rattle.verify_rules.specs.Call.{Call}
 use Rattle.verify_rules.specs.World.{First, World}

@@ -83,7 +83,7 @@ AreNoSettings past future country national = (86400 < past) ⊎ (86400 < future)
 abbrev pub IsBadText : ℕ → (List ℕ → ℕ → Type 0) → List ℕ → Type 0
 IsBadText most FirstBad text = (most < length text) ⊎ ((line : ℕ) × FirstBad text line)
 
--- behind anchors something stands that is none
+-- after anchors comes something that is none
 abbrev pub AreNoAnchors : List ℕ → Type 0
 AreNoAnchors bytes = (place : ℕ) × EndsAt bytes place
 
@@ -91,7 +91,7 @@ AreNoAnchors bytes = (place : ℕ) × EndsAt bytes place
 abbrev pub IsFaultFor : Fault → Type 0 → Fault → Type 0
 IsFaultFor this cause fault = ((fault ≡ this) × cause) ⊎ (fault ≡ faults.Memory)
 
--- Which input is outside its grammar or its limits; want of memory is free.
+-- Which input is outside its grammar or its limits; memory may always run out.
 abbrev pub IsFaulty : Handed → List ℕ → Fault → Type 0
 IsFaulty given answers faults.Settings = AreNoSettings given.past given.future given.country given.national
 IsFaulty given answers faults.Map = IsBadText 16777216 BadMap given.listed

@@ -50,7 +50,7 @@ call_with given settings = call_of settings given.moment given.message
 
 -- ---- what is listed
 
--- The call breaks none of rules 1 to 9, and is known again by this ticket up to this second; the lines are those of its PASSporTs, in the order in
+-- The call breaks none of rules 1 to 9, and is known again by this ticket up to this second. The lines are those of its PASSporTs, in the order in
 -- which it went.
 pub record ListsLines (line : Reading → List ℕ) (call : Call) (lines ticket : List ℕ) (last : ℕ) : Type 0 where
   pub none : first early_rules call ≡ None
@@ -79,7 +79,7 @@ pub record TellsEarly (line : Reading → List ℕ) (call : Call) (lines : List 
   pub passes : said.kind ≡ 0 → ListsLines line call lines said.ticket said.last
   pub breaks : said.kind ≡ 1 → BreaksEarly call lines said
 
--- so it is told; the lines stand in the room, and what is behind them is as it was
+-- so it is told; the lines are in the room, and what is after them is as it was
 pub record ListedInto (line : Reading → List ℕ) (given : HandedCall) (before now : List ℕ) (said : Said) : Type 0 where
   pub settings : Settings
   pub set : AreSettings given.past given.future given.country given.national settings

@@ -96,7 +96,7 @@ pub record IsOrderRead (given : HandedOrder) (order : OrderView) (holder : Holde
   pub order_is : IsOrderOf given local order
   pub holder_is : IsHolderOf given holder
 
--- Which input is outside its grammar or its limits; want of memory is free.
+-- Which input is outside its grammar or its limits; memory may always run out.
 abbrev pub IsOrderFaulty : HandedOrder → Fault → Type 0
 IsOrderFaulty given faults.Settings = ◌≡◌ {A = Option LocalView} (local_of given.country given.national) None
 IsOrderFaulty given faults.Map = ⊥

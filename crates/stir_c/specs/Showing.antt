@@ -21,7 +21,7 @@ IsNoChain bytes = (certificates : List CertView) → Chain bytes certificates �
 
 -- ---- what is told
 
--- the lines stand in the room, and it is said how many bytes they have; what is behind them is as it was
+-- the lines are in the room, and it is said how many bytes they have; what is after them is as it was
 pub record ShownInto (bytes before now : List ℕ) (said : Said) : Type 0 where
   pub lines : List ℕ
   pub shown : IsShown bytes lines

@@ -112,7 +112,7 @@ pub record HasFaultWith (given : HandedOrder) (signature : List ℕ) (input : �
   pub number : input_of fault ≡ Some input
   pub cause : IsFaultyWith given signature fault
 
--- the signed message stands in the room, and it is said how many bytes it has; what is behind it is as it was
+-- the signed message is in the room, and it is said how many bytes it has; what is after it is as it was
 pub record SignedInto (given : HandedOrder) (signature before now : List ℕ) (said : Said) : Type 0 where
   pub out : List ℕ
   pub signed : IsSignedBy given (Some signature) out

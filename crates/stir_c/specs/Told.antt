@@ -43,7 +43,7 @@ said_of (Refused refused) size = record {
 }
 said_of (Passes pass) size = record { kind = 0; input = 0; rule = 0; code = 0; field = 0; part = 0; last = pass.last; size = size; ticket = pass.ticket }
 
--- the number of an input; want of memory has none
+-- the number of an input; `Memory` has none
 abbrev pub input_of : Fault → Option ℕ
 input_of faults.Settings = Some 1
 input_of faults.Map = Some 2
@@ -99,8 +99,8 @@ pub record HasFault (given : Handed) (answers : List ℕ) (input : ℕ) : Type 0
 
 -- ---- a call that is asked for
 
--- The lines are those of the questions that the rules ask for the call; and whoever confirms all of them, by him the call passes or breaks a rule
--- as is said.
+-- The lines are those of the questions that the rules ask for the call. By whoever confirms all of them, the call passes or breaks a rule as is
+-- said.
 pub record AskedBy (given : Handed) (lines : List ℕ) (said : Said) : Type 0 where
   pub settings : Settings
   pub materials : Materials
@@ -109,7 +109,7 @@ pub record AskedBy (given : Handed) (lines : List ℕ) (said : Said) : Type 0 wh
   pub if_confirmed : (says : Says) → Confirms says (asked_for materials (files_of given.sizes given.chains) (call_in given settings))
       → Tells (world_in given materials says) (call_in given settings) said
 
--- such lines stand in the room, and it is said how many bytes they have; what is behind them is as it was
+-- such lines are in the room, and it is said how many bytes they have; what is after them is as it was
 pub record AskedInto (given : Handed) (before now : List ℕ) (said : Said) : Type 0 where
   pub lines : List ℕ
   pub asked : AskedBy given lines said

@@ -52,7 +52,7 @@ pub(crate) fn ask_screened(
     Ok(Asked { lines, found })
 }
 
-/// The lines for the chains; and for the PASSporTs, where no rule before the first that asks for a signature is broken.
+/// The lines for the chains; and for the PASSporTs, if no rule before the first that asks for a signature is broken.
 #[tactic(auto, using(crate::proofs::LineLaws::without_own, crate::proofs::LineLaws::with_own))]
 fn lines_for(
     alloc: Global,
@@ -95,7 +95,7 @@ fn add_chains(alloc: Global, chains: &CallChains, text: &mut Vec<u8>) -> Result<
     Ok(())
 }
 
-/// Adds those of one chain, where rules 10, 11, 12 and 14 hold for it.
+/// Adds those of one chain, if rules 10, 11, 12 and 14 hold for it.
 #[tactic(auto, using(crate::proofs::LineLaws::no_line))]
 fn add_chain(alloc: Global, state: ChainState<'_>, text: &mut Vec<u8>) -> Result<(), AllocError>
     ensures { OnOk result (text.new.items ≡ text.old.items ++ ask_lines (chain_questions (seen state.entry))) }

@@ -36,7 +36,7 @@ pub(crate) fn find<'a>(sizes: &[usize], chains: &'a [u8], name: &[u8]) -> Option
     None
 }
 
-/// The first bytes, so many or all that there are, and those behind them.
+/// The first bytes, so many or all that there are, and those after them.
 fn cut(bytes: &[u8], size: usize) -> (&[u8], &[u8])
     ensures first { result.0.now ≡ take size bytes.now }
     ensures rest { result.1.now ≡ drop size bytes.now }

@@ -28,7 +28,7 @@ pub(crate) fn add_claims(
     add_line(&payload, text)
 }
 
-/// A number and the space behind it. `AllocError` is the only error.
+/// A number and the space after it. `AllocError` is the only error.
 fn number_text(alloc: Global, number: u32) -> Result<String, AllocError>
     ensures { IfOk result (λ text. string_bytes text ≡ decimal number ++ 32 ∷ []) }
 {

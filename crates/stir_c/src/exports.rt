@@ -28,9 +28,10 @@ pub extern "C" fn stir_abi() -> u64
     ABI
 }
 
-/// Judges a call by rules 1 to 17 and 19 (RFC 8224, section 6.2): by its settings, its second and its message, the chain map with the chains, the
-/// trust anchors, the code table, and the answers of a verifier of signatures. Kind 0: it breaks none, and `ticket` and `last` tell how it is known
-/// again. Kind 1: it breaks `rule` first, at `field` and `part`. Kind 2: the input of this number is outside its grammar or its limits.
+/// Judges a call by rules 1 to 17 and 19 (RFC 8224, section 6.2). It goes by the call's settings, its second and its message, the chain map with
+/// the chains, the trust anchors, the code table, and the answers of a verifier of signatures. Kind 0: it breaks none, and `ticket` and `last` tell
+/// how it is known again. Kind 1: it breaks `rule` first, at `field` and `part`. Kind 2: the input of this number is outside its grammar or its
+/// limits.
 #[unsafe(no_mangle)]
 pub extern "C" fn stir_judge(
     alloc: Global,
@@ -81,8 +82,9 @@ pub extern "C" fn stir_judge(
     said_for(judge(alloc, &inputs, answers))
 }
 
-/// Asks for a call: writes the lines of what a verifier of signatures is to confirm, and tells what comes of the call if he confirms all of it, as
-/// `stir_judge` does. If he doesn't, `stir_judge` tells by the lines that he confirms. Kind 4: there is no room for the lines.
+/// Asks for a call: writes the lines of what a verifier of signatures is to confirm. It tells what comes of the call if the verifier confirms all
+/// of it, as `stir_judge` does. If the verifier doesn't, `stir_judge` tells by the lines that it confirms. Kind 4: there is no room for the
+/// lines.
 #[unsafe(no_mangle)]
 pub extern "C" fn stir_ask(
     alloc: Global,
@@ -147,8 +149,8 @@ pub extern "C" fn stir_ask(
     told_asked(ask(alloc, &inputs), room)
 }
 
-/// Explains a call, as `stir_judge` judges it: writes a line for each of rules 1 to 17 and 19 in their order, up to the first that is broken, and tells what
-/// `stir_judge` does. The lines begin with `number`. Kind 4: there is no room for the lines.
+/// Explains a call, as `stir_judge` judges it: writes a line for each of rules 1 to 17 and 19 in their order, up to the first that is broken. It tells what
+/// `stir_judge` tells. The lines begin with `number`. Kind 4: there is no room for the lines.
 #[unsafe(no_mangle)]
 pub extern "C" fn stir_explain(
     alloc: Global,
@@ -215,9 +217,9 @@ pub extern "C" fn stir_explain(
     told_asked(explain(alloc, &inputs, number, answers), room)
 }
 
-/// Lists the chains of certificates for which a call asks: writes the x5us of its PASSporTs (RFC 8225, section 4.3), in the order in which the call
-/// went, each with an LF. Kind 0: the call breaks none of rules 1 to 9, and `ticket` and `last` tell how it is known again; the other rules aren't
-/// tried. Kind 1: it breaks `rule` first, and asks for no chain. Kind 4: there is no room for the lines.
+/// Lists the chains of certificates for which a call asks. It writes the x5us of its PASSporTs (RFC 8225, section 4.3), in the order in which the
+/// call went, each with an LF. Kind 0: the call breaks none of rules 1 to 9, and `ticket` and `last` tell how it is known again; the other rules
+/// aren't tried. Kind 1: it breaks `rule` first, and asks for no chain. Kind 4: there is no room for the lines.
 #[unsafe(no_mangle)]
 pub extern "C" fn stir_x5u(
     alloc: Global,
@@ -259,10 +261,11 @@ pub extern "C" fn stir_x5u(
     told_asked(list(alloc, Listed::X5us, &setting, message), room)
 }
 
-/// Says what the PASSporTs of a call say: writes a line for each, in the order in which the call went. It has the number of the Identity field, counted
-/// from 1 in message order, a space, the payload that was signed in its deterministic form (RFC 8225, section 9), and an LF. A payload has no such form
-/// if a floating-point number stands in it; then a hyphen is written. Kind 0: the call breaks none of rules 1 to 9, and `ticket` and `last` tell how it
-/// is known again; the other rules aren't tried. Kind 1: it breaks `rule` first, and nothing is written. Kind 4: there is no room for the lines.
+/// Says what the PASSporTs of a call say. It writes a line for each, in the order in which the call went. The line has the number of the Identity
+/// field, counted from 1 in message order, a space, the payload that was signed in its deterministic form (RFC 8225, section 9), and an LF. A payload
+/// has no such form if a floating-point number is in it; then a hyphen is written. Kind 0: the call breaks none of rules 1 to 9, and `ticket` and
+/// `last` tell how it is known again; the other rules aren't tried. Kind 1: it breaks `rule` first, and nothing is written. Kind 4: there is no room
+/// for the lines.
 #[unsafe(no_mangle)]
 pub extern "C" fn stir_claims(
     alloc: Global,

@@ -8,7 +8,7 @@ use crate::signing::{Unsigned, signed, to_sign};
 use crate::writing::{Text, told_text};
 use std::alloc::Global;
 
-/// Tells what has to be signed so that a message gets an Identity field (RFC 8224, section 4.1), which has the PASSporT of the message's calling
+/// Tells what has to be signed so that a message gets an Identity field (RFC 8224, section 4.1). The field has the PASSporT of the message's calling
 /// number and that of To. Kind 0: `ticket` is the digest to be signed. Kind 1: nothing may be signed, for the cause `rule`: 1 the message can't be, 2
 /// it lacks a number, 3 the certificate doesn't cover the calling number. Kind 2: the input of this number is outside its grammar or its limits.
 #[unsafe(no_mangle)]

@@ -21,7 +21,7 @@ pub(crate) enum Found {
 }
 
 impl Found {
-    /// What was found, for whom explains it.
+    /// What was found, for whoever explains it.
     pub(crate) fn finding(&self) -> Finding
         ensures { result ≡ finding_of self.now }
     {

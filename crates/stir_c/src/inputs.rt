@@ -53,7 +53,7 @@ pub(crate) enum Fault {
 }
 
 impl Fault {
-    /// The number of the input; none for want of memory.
+    /// The number of the input; none if memory ran out.
     pub(crate) fn number(self) -> Option<u32>
         ensures { result ≡ input_of self }
     {

@@ -76,7 +76,7 @@ same_cut (round ∷ next ∷ rounds) (other ∷ more ∷ others) cut cut_other s
 
 -- ---- the outcomes of a call
 
--- both pass, or neither; and they are one where the replay rule answers the same
+-- both pass, or neither; and they are one if the replay rule answers the same
 pub record AreAlike (outcome other : Outcome) : Type 0 where
   pub same_passes : passes outcome ≡ passes other
   pub decided : answer_of outcome ≡ answer_of other → outcome ≡ other
@@ -84,7 +84,7 @@ pub record AreAlike (outcome other : Outcome) : Type 0 where
 turned : (outcome other : Outcome) → AreAlike outcome other → AreAlike other outcome
 turned outcome other alike = record { same_passes = sym alike.same_passes; decided = λ same. sym (alike.decided (sym same)) }
 
--- what the rules say of the call decides, where it isn't set aside
+-- what the rules say of the call decides, if it isn't set aside
 outcomes_of : (world other : World) (settings : Settings) (entry : Entry) (mine yours : Outcome) → First world (call_in settings entry) ≡ First other (call_in settings entry)
     → Answers world settings entry mine → Answers other settings entry yours → is_unread mine ≡ false → is_unasked mine ≡ false → is_unread yours ≡ false
     → is_unasked yours ≡ false → AreAlike mine yours
@@ -166,7 +166,7 @@ rows_alike settings (call ∷ calls) (mine ∷ more) (yours ∷ others) (here, l
     (row_of settings call yours, refl, subst (λ (r : Row). IsSameCall r (row_of settings call yours)) is (record { number = refl; ticket = refl; passes = here.same_passes }))
 rows_alike settings (call ∷ calls) (mine ∷ more) (yours ∷ others) (here, later) (suc place) row stands = rows_alike settings calls more others later place row stands
 
--- where each call has one answer of the replay rule, it has one outcome
+-- if each call has one answer of the replay rule, it has one outcome
 abbrev OneEach : Settings → List Entry → List Outcome → List Outcome → Type 0
 OneEach settings calls mine yours = (place : ℕ) (row other : Row) → Stands (rows_of settings calls mine) place row → Stands (rows_of settings calls yours) place other
     → row.answer ≡ other.answer
@@ -197,7 +197,7 @@ rounds_turned [] (other ∷ others) alike = alike
 rounds_turned (round ∷ rounds) [] alike = alike
 rounds_turned (round ∷ rounds) (other ∷ others) (calls, here, more) = (sym calls, all_turned round.outcomes other.outcomes here, rounds_turned rounds others more)
 
--- of a list and another behind it
+-- of a list and another after it
 any_left : (test : Outcome → Bool) (xs ys : List Outcome) → list_any test (xs ++ ys) ≡ false → (list_any test xs ≡ false) × (list_any test ys ≡ false)
 any_left test [] ys none = (refl, none)
 any_left test (x ∷ xs) ys none =
@@ -225,7 +225,7 @@ rounds_alike world other settings same (round ∷ rounds) (next ∷ others) (her
       rounds_alike world other settings same rounds others later a.1 b.1 parts.1 parts_other.1,
     )
 
--- the same calls stand in both
+-- the same calls are in both
 pub has_each : (config : JudgeConfig) (rounds others : List Round) → RoundsAlike rounds others → HasEach (row_rounds config rounds) (row_rounds config others)
 has_each config [] [] alike round place row stands = absurd (none-some row stands)
 has_each config [] (next ∷ others) alike round place row stands = absurd alike

@@ -52,7 +52,7 @@ wrote drilling before now status came low = by_status came.ran.known
     by_status (inr (inl e)) = absurd (omega (arith, e, low))
     by_status (inr (inr e)) = absurd (omega (arith, e, low))
 
--- memory was wanting before the log was made
+-- memory ran out before the log was made
 short : (drilling : DrillingView) (before now : Outside) (status : ℕ) → Ends before now status memory_line 6
     → DrillRan drilling.seed drilling.count drilling.workers before.written now.written before.write_faults now.write_faults status
 short drilling before now status (inl ends) = record {

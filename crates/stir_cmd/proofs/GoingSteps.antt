@@ -65,7 +65,7 @@ pub same_window : (files : Option Files) (verifying : VerifyingView) (name : Lis
     → settings ≡ settings_by verifying.judging.settings → materials.state.window ≡ settings.past
 same_window files verifying name materials settings stands given = rw given stands.state.holds.window
 
--- ---- a restored service stands at the state's last call
+-- ---- a restored service is at the state's last call
 
 pub goes_on_from : (settings : Settings) (told : Told) (state : StateView) (service : ServiceView) (counts : Counts) (call moment : ℕ) → IsRestored settings told state service → call ≡ state.call → moment ≡ state.moment
     → GoesOnFrom call moment (state_by service counts)

@@ -123,7 +123,7 @@ keeps_input command d = record {
   says = λ before now status came low. says command before now status came.ran low;
 }
 
--- .. and so it is if the answer is said by what stands around
+-- .. and so it is if the answer is said by what is around the program
 pub keeps_shelf : (command : Outside → Outside → Answering) → ((before now : Outside) → Decides (command before now)) → Keeps (shelf_course command)
 keeps_shelf command d = record {
   causes = λ before now status ran. causes (command before now) (d before now) before now status ran;
@@ -132,7 +132,7 @@ keeps_shelf command d = record {
   says = λ before now status ran low. says (command before now) before now status ran low;
 }
 
--- ---- memory was wanting before anything was read
+-- ---- memory ran out before anything was read
 
 nothing_taken : (left : Option (List ℕ)) → Consumes left left []
 nothing_taken None = tt

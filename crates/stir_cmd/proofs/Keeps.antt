@@ -17,7 +17,7 @@ pub record Keeps (course : Course) : Type 0 where
   pub through : (before now : Outside) (status : ℕ) → course.Came before now status → status ≤ 1 → course.Through before now status
   pub says : (before now : Outside) (status : ℕ) → course.Came before now status → status ≤ 1 → course.Says before now status
 
--- and memory may have been wanting before anything was read
+-- and memory may have run out before anything was read
 pub record KeepsAll (course : Course) : Type 0 where
   pub keeps : Keeps course
   pub wanting : (before now : Outside) (status : ℕ) → IsUntouched before now → Ends before now status memory_line 6 → course.Came before now status

@@ -9,7 +9,7 @@ use Rattle.stir_cmd.specs.Outside.{Outside}
 use Rattle.stir_cmd.specs.OverLog.{log_course, log_course_on, log_in}
 use Rattle.stir_cmd.proofs.Keeps.{Keeps}
 
--- a file stops the run only where a read of the shelf failed
+-- a file stops the run only if a read of the shelf failed
 abbrev pub StopsOnlyForFaults : (Outside → Outside → Words) → Type 0
 StopsOnlyForFaults words = (before now : Outside) → NotRisen before.counts.faults now.counts.faults → (batches : List Batch) (calls : List Entry) (text name : List ℕ) → (words before now).Stops batches calls text name → ⊥
 

@@ -36,7 +36,7 @@ calls_turned [] (other ∷ others) same = same
 calls_turned (row ∷ rows) [] same = same
 calls_turned (row ∷ rows) (other ∷ others) (here, more) = (call_turned row other here, calls_turned rows others more)
 
--- where a call stands in the one, it stands in the other
+-- at a place where the one has a call, the other has it too
 there : (rows others : List Row) → AreOneCalls rows others → (place : ℕ) (row : Row) → Stands rows place row → (other : Row) × Stands others place other × IsOneCall row other
 there [] others same place row stands = absurd (none-some row stands)
 there (r ∷ rows) [] same place row stands = absurd same

@@ -83,7 +83,7 @@ gives_by laws verifying alone single before now status (Some files) (Some bytes)
       (subst (λ (x : Option (List ℕ)). IfTold other.files other.left (VerifiedFrom verifying x other other_now other_status)) alone (ran.headline ran.done))) quiet ran.quiet;
 }
 
--- where no state is named, and where one is
+-- if no state is named, and if one is
 by_state : OneReportLawsOf → (verifying : VerifyingView) (state : Option (List ℕ)) → verifying.state ≡ state → (before now : Outside) (status : ℕ)
     → (status ≤ 1 → IfTold before.files before.left (VerifiedFrom verifying state before now status)) → GivesOneFrom verifying state before now status
 by_state laws verifying (Some name) is before now status said = with_state laws.one_log laws.same_world verifying name is before now status said

@@ -181,7 +181,7 @@ gives_by one_log same_world verifying name named single before now status (Some 
       (subst (λ (x : Option (List ℕ)). IfTold other.files other.left (VerifiedFrom verifying x other other_now other_status)) named (ran.headline ran.done))) quiet ran.quiet;
 }
 
--- where a state is named
+-- if a state is named
 pub with_state : OneLog → SameWorldLaw → (verifying : VerifyingView) (name : List ℕ) → verifying.state ≡ Some name → (before now : Outside) (status : ℕ)
     → (status ≤ 1 → IfTold before.files before.left (VerifiedFrom verifying (Some name) before now status)) → GivesOneFrom verifying (Some name) before now status
 with_state one_log same_world verifying name named before now status said =

@@ -1,4 +1,4 @@
--- A course over named files keeps what it promises where the course behind them does.
+-- A course over named files keeps what it promises if the course after them does.
 use Rattle.std.proofs.Common.{◌≡◌, ℕ, ◌≤◌, ◌⊎◌, inl, inr, Some, None, arith}
 use Rattle.stir_files.specs.Named.{first_fault}
 use Rattle.stir_outside.specs.Files.{Files}
@@ -28,7 +28,7 @@ KeepsEach over = (read : over.Read) → Keeps (over.course read)
 abbrev pub RanBehind : OverFiles → Outside → Outside → ℕ → Type 0
 RanBehind over before now status = Behind over before now (λ read mid. (over.course read).Came mid now status)
 
--- a run that ended with 0 or 1 is one behind the files
+-- a run that ended with 0 or 1 went on after the files
 pub behind_files : (over : OverFiles) (before now : Outside) (status : ℕ) → (over_files over).Came before now status → status ≤ 1 → RanBehind over before now status
 behind_files over before now status (inl b) low = b
 behind_files over before now status (inr early) low = absurd (omega (arith, low, early_high over.named before now status early))

@@ -1,4 +1,4 @@
--- The named files were read, and the run goes on behind them.
+-- The named files were read, and the run goes on after them.
 use Rattle.std.proofs.Common.{◌≡◌, ℕ, ◌+◌, ◌≤◌, length, inl, inr, List, Option, Ok, subst}
 use Rattle.stir_files.specs.Stop.{Truly}
 use Rattle.stir_outside.specs.Files.{Counts, CountsGoOn, Files}
@@ -22,7 +22,7 @@ goes_on over read files files_now counts counts_now left reads written writes no
   says = subst (λ (x : Option Files). (over.course read).Came (outside x counts_now left reads written writes) now status) same came;
 })
 
--- memory was wanting behind the files
+-- memory ran out after the files
 pub short_behind : (over : OverFiles) (files files_now : Option Files) (counts counts_now : Counts) (left : Option (List ℕ)) (reads : ℕ) (written : Option (List ℕ)) (writes : ℕ) (now : Outside) (status : ℕ)
     → NoMemory (outside files_now counts_now left reads written writes) now status → (over_files over).Came (outside files counts left reads written writes) now status
 short_behind over files files_now counts counts_now left reads written writes now status none = inr (inr (record { stays = record { left = none.stays.left; read_faults = none.stays.read_faults }; ends = none.ends }))

@@ -44,7 +44,7 @@ keeps_all laws (RetargetBy words) = sending.keeps_all words
 keeps_all laws (DrillBy order) = drilling.keeps_all order
 keeps_all laws (OnceBy order) = claiming.keeps_all order.size
 
--- what it came to, where memory may have been wanting for the words
+-- what it came to, if memory may have run out for the words
 pub ran : Laws → (order : Option OrderView) (before now : Outside) (status : ℕ) → RanOrShort order before now status → Ran order before now status
 ran laws order before now status (inl came) = came
 ran laws None before now status (inr short) = inr short

@@ -40,7 +40,7 @@ from_files verifying materials settings files files_now counts counts_now left r
 from_files verifying materials settings files files_now counts counts_now left reads written writes now status stands truly same goes few given stay (inr none) =
     short_behind (verify_over verifying) files files_now counts counts_now left reads written writes now status none
 
--- ---- a new service stands at first
+-- ---- a new service has judged no call, and holds no chain
 
 same_past : (service : ServiceView) → ((ticket : List ℕ) → found service.past ticket ≡ None) → held service.past ≡ nothing
 same_past service none = λ i ticket. by_ticket ticket i

@@ -1,4 +1,4 @@
--- What a run promises, by its words: the course of the command that they order. Want of memory alone is free.
+-- What a run promises, by its words: the course of the command that they order. Running out of memory alone is free.
 use Rattle.std.specs.Prelude.{◌≡◌, ◌⊎◌, ℕ, ◌≤◌, List, codes, Option, Some, None}
 use Rattle.std.specs.Io.KnownBytes.{Appends}
 use Rattle.stir_outside.specs.Ending.{EndsAs, memory_line}
@@ -22,7 +22,7 @@ pub record WordsRefused (before now : Outside) (status : ℕ) : Type 0 where
   pub untouched : IsUntouched before now
   pub ends : EndsAs before.written now.written before.write_faults now.write_faults status (codes "words refused\n") 2
 
--- memory was wanting for the words, and nothing was read
+-- memory ran out for the words, and nothing was read
 pub record WordsShort (before now : Outside) (status : ℕ) : Type 0 where
   pub untouched : IsUntouched before now
   pub ends : EndsAs before.written now.written before.write_faults now.write_faults status memory_line 6
@@ -66,7 +66,7 @@ course (Some order) = course_of order
 abbrev pub Ran : Option OrderView → Outside → Outside → ℕ → Type 0
 Ran order before now status = (course order).Came before now status
 
--- and memory may have been wanting for the words, whatever they order
+-- and memory may have run out for the words, whatever they order
 abbrev pub RanOrShort : Option OrderView → Outside → Outside → ℕ → Type 0
 RanOrShort order before now status = Ran order before now status ⊎ WordsShort before now status
 
@@ -80,11 +80,11 @@ pub record HasCauses (order : Option OrderView) (before now : Outside) (status :
   pub input : status ≡ 5 → (course order).Refused before now
   pub memory : status ≡ 6 → (course order).Short before now
 
--- what the words, the files and the input ask for comes, where nothing fails outside, or memory was wanting
+-- if nothing fails outside, what the words, the files and the input ask for comes, or memory ran out
 abbrev pub IsComplete : Option OrderView → Outside → Outside → ℕ → Type 0
 IsComplete order before now status = (course order).Answers before now status
 
--- how much of the input was read where it is done
+-- how much of the input was read if it is done
 abbrev pub IsThrough : Option OrderView → Outside → Outside → ℕ → Type 0
 IsThrough order before now status = (course order).Through before now status
 

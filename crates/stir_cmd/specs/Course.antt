@@ -1,4 +1,4 @@
--- What a command promises of a run. Each is said of what stood around the program before the run and of what stands there behind it.
+-- What a command promises of a run. Each is said of what was around the program before the run and of what is there after it.
 use Rattle.std.specs.Prelude.{ℕ}
 use Rattle.stir_cmd.specs.Outside.{Outside}
 
@@ -9,14 +9,14 @@ pub record Course : Type 1 where
   pub Done : Outside → Outside → ℕ → Type 0
   -- 3: a file or the input couldn't be read
   pub Unread : Outside → Outside → Type 0
-  -- 4: the output couldn't be written, and a front of what was to be written was
+  -- 4: the output couldn't be written, and a prefix of what was to be written was
   pub Unwritten : Outside → Outside → Type 0
   -- 5: a file or the input is refused
   pub Refused : Outside → Outside → Type 0
-  -- 6: memory was wanting
+  -- 6: memory ran out
   pub Short : Outside → Outside → Type 0
-  -- which status comes where nothing fails outside
+  -- which status comes if nothing fails outside
   pub Answers : Outside → Outside → ℕ → Type 0
-  -- where it is done: how much of the input was read, and what that means in the words of the command's subject
+  -- if it is done: how much of the input was read, and what that means in the words of the command's subject
   pub Through : Outside → Outside → ℕ → Type 0
   pub Says : Outside → Outside → ℕ → Type 0

@@ -15,7 +15,7 @@ pub record CameDrill (drilling : DrillingView) (before now : Outside) (status : 
 abbrev pub WroteDrill : DrillingView → Outside → Outside → Type 0
 WroteDrill drilling before now = WroteSummary drilling.seed drilling.count drilling.workers before.written now.written
 
--- The status is 0, 4 or 6, and none other. Where the sink never failed it is 0, or memory was wanting.
+-- The status is 0, 4 or 6, and none other. If the sink never failed it is 0, or memory ran out.
 abbrev pub drill_course : DrillingView → Course
 drill_course drilling = record {
   Came = CameDrill drilling;

@@ -1,4 +1,4 @@
--- The commands `explain` and `ask`. Where shelf and input are told, what was written is what is explained of each call of the log, or what is
+-- The commands `explain` and `ask`. If shelf and input are told, what was written is what is explained of each call of the log, or what is
 -- asked for all of them.
 use Rattle.std.specs.Prelude.{◌≡◌, ℕ, ◌<◌, List, [], ◌∷◌}
 use Rattle.std.specs.Io.KnownBytes.{Appends}
@@ -40,9 +40,9 @@ EachCall P [] (answer ∷ answers) = ⊥
 EachCall P (call ∷ calls) [] = ⊥
 EachCall P (call ∷ calls) (answer ∷ answers) = P call answer × EachCall P calls answers
 
--- The bytes are a whole log; each of its calls is explained by what the files say, up to the first rule that it breaks; these lines were written,
--- and nothing else; and the status says whether each line is `ok`. At a PASSporT whose file couldn't be read a line may say `unread`: at most as
--- often as the shelf's failed reads rose, and not at all where these stood still below their last value.
+-- The bytes are a whole log. Each of its calls is explained by what the files say, up to the first rule that it breaks. These lines were written,
+-- and nothing else, and the status says whether each line is `ok`. At a PASSporT whose file couldn't be read a line may say `unread`: at most as
+-- often as the shelf's failed reads rose, and not at all if these stayed as they were, below their last value.
 pub record ExplainedLog (settings : Settings) (materials : Materials) (files : Files) (bytes : List ℕ) (before now : Outside) (status : ℕ) : Type 0 where
   pub calls : List Entry
   pub answers : List AnswerView

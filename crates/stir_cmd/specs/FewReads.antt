@@ -1,4 +1,4 @@
--- How often a run with the words of `verify` reads files, where shelf and input are told: no more often than if each of the named files, and the
+-- How often a run with the words of `verify` reads files, if shelf and input are told: no more often than if each of the named files, and the
 -- file of each x5u that the log's calls name, were read once.
 use Rattle.std.specs.Prelude.{ℕ, ◌+◌, ◌≤◌, List, [], length, Option, Some, None}
 use Rattle.call_log.specs.Entry.{Entry}
@@ -14,8 +14,8 @@ use Rattle.stir_cmd.specs.Outside.{IfTold, Outside}
 use Rattle.stir_cmd.specs.Calls.{settings_by}
 use Rattle.stir_cmd.specs.Verifying.{start_at}
 
--- The named files are in their grammars, and the bytes are a whole log. If these are at most 4,096 texts, among them each x5u text that the calls of
--- the log name and the chain map lists, files were read at most four times more often than there are texts.
+-- The named files are in their grammars, and the bytes are a whole log. Take at most 4,096 texts, among them each x5u text that the calls of the log
+-- name and the chain map lists: files were read at most four more times than there are texts.
 pub record ReadsFew (verifying : VerifyingView) (files : Files) (bytes : List ℕ) (before now : Outside) : Type 0 where
   pub materials : Materials
   pub stands : MaterialsOf (Some files) verifying.judging materials

@@ -73,7 +73,7 @@ hop_line key faults.Memory = []
 abbrev pub too_long_line : List ℕ
 too_long_line = codes "refused 400 1 0.65535\n"
 
--- the faults that are answered by a line, or by want of memory
+-- the faults that are answered by a line, or as memory that ran out
 abbrev pub HasVerdictLine : Verdict → Type 0
 HasVerdictLine verdicts.Passed = ⊥
 HasVerdictLine (verdicts.Refused refused) = ⊤

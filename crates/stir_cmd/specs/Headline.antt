@@ -1,4 +1,4 @@
--- What a run promises for the words of `verify` where shelf and input are told: each call gets the code of the first rule that it breaks, and a
+-- What a run promises for the words of `verify` if shelf and input are told: each call gets the code of the first rule that it breaks, and a
 -- call that breaks none is valid, save that each last PASSporT lets exactly one such call pass.
 use Rattle.std.specs.Prelude.{◌≡◌, ℕ, ◌+◌, ◌≤◌, List, [], ◌++◌, Option, Some, None}
 use Rattle.std.specs.Io.KnownBytes.{Appends}
@@ -28,10 +28,10 @@ use Rattle.stir_cmd.specs.Outside.{IfTold, Outside}
 use Rattle.stir_cmd.specs.Calls.{config_by, settings_by, world_by}
 use Rattle.stir_cmd.specs.Verifying.{start_at}
 
--- Rounds of 256 calls, but the last, judged by what the files say: each call is answered by the first rule that it breaks. Where no two signing
--- inputs of last PASSporTs have one digest, the outcomes are legal: of the calls that break no rule and have one last PASSporT exactly one is
--- valid, which with one worker is the first, and each other is a replay of it. Calls are set aside for certificates alone: at most as often, counting pairs of
--- a round and an x5u text, as the shelf's failed reads rose, and not at all where they didn't.
+-- Rounds of 256 calls, but the last, judged by what the files say: each call is answered by the first rule that it breaks. If no two signing inputs of last
+-- PASSporTs have one digest, the outcomes are legal: of the calls that break no rule and have one last PASSporT exactly one is valid, which with one worker
+-- is the first, and each other is a replay of it. Calls are set aside for certificates alone: at most as often, counting pairs of a round and an x5u text, as
+-- the shelf's failed reads rose, and not at all if they didn't.
 pub record AreJudged (settings : Settings) (workers : ℕ) (materials : Materials) (files : Files) (before now : Outside) (rounds : List Round) : Type 0 where
   pub cut : IsCut rounds
   pub each : InEach (Answers (world_by materials files) settings) rounds

@@ -53,7 +53,7 @@ pub record InputFailed (before now : Io) (text : List ℕ) (status : ℕ) : Type
   pub line : text ≡ failed_line
   pub said : status ≡ 3
 
--- memory was wanting
+-- memory ran out
 pub record InputShort (text : List ℕ) (status : ℕ) : Type 0 where
   pub line : text ≡ memory_line
   pub said : status ≡ 6
@@ -93,7 +93,7 @@ MayGive command bytes status = (text : List ℕ) × command.Gives bytes text sta
 abbrev pub MayRefuse : Answering → ℕ → Type 0
 MayRefuse command status = (text : List ℕ) × command.Long text status
 
--- which status comes, where the bytes of the input are told and nothing fails outside
+-- which status comes, if the bytes of the input are told and nothing fails outside
 pub record InputComplete (command : Answering) (before now : Outside) (status : ℕ) : Type 0 where
   pub short : (bytes : List ℕ) → before.left ≡ Some bytes → length bytes ≤ command.most → IsQuiet before now → MayGive command bytes status ⊎ (status ≡ 6)
   pub long : (bytes : List ℕ) → before.left ≡ Some bytes → command.most < length bytes → IsQuiet before now → MayRefuse command status ⊎ (status ≡ 6)
@@ -120,7 +120,7 @@ input_course command = record {
   Says = λ before now status. Answered command (io_in before) (io_in now) status;
 }
 
--- The same of a command that reads files for its answer: what it may answer is said by what stands around before it and after it.
+-- The same of a command that reads files for its answer: what it may answer is said by what is around the program before it and after it.
 abbrev pub shelf_course : (Outside → Outside → Answering) → Course
 shelf_course command = record {
   Came = λ before now status. RanInput (command before now) (io_in before) (io_in now) status;

@@ -30,7 +30,7 @@ pub record AreOneReport (before now : Outside) (status : ℕ) (other other_now :
   pub other_written : Appends other.written other_now.written text
   pub same_status : status ≡ other_status
 
--- each other run over the same files and log gave the same report, where no two of those texts have one digest
+-- each other run over the same files and log gave the same report, if no two of those texts have one digest
 pub record IsOneReport (verifying : VerifyingView) (files : Files) (bytes : List ℕ) (before now : Outside) (status : ℕ) : Type 0 where
   pub same : IsLogApart verifying bytes → (other other_now : Outside) (other_status : ℕ)
       → JudgedTheSame (Some (VerifyBy verifying)) files bytes other other_now other_status → AreOneReport before now status other other_now other_status

@@ -1,12 +1,12 @@
--- What stands around the program: the shelf of named files, the input and the output.
+-- What is around the program: the shelf of named files, the input and the output.
 use Rattle.std.specs.Prelude.{◌≡◌, ⊤, ℕ, List, Option, Some, None}
 use Rattle.stir_outside.specs.Files.{Counts, Files}
 use Rattle.stir_outside.specs.declared.shelf.Shelf.{Ghosts as ShelfOf}
 use Rattle.stir_outside.specs.declared.sink.Sink.{Ghosts as SinkOf}
 use Rattle.stir_outside.specs.declared.source.Source.{Ghosts as SourceOf}
 
--- the files where the shelf tells them, and its counts; what is left of the input where it is told, and how often reads of it failed; what was
--- written where that is told, and how often writes failed
+-- the files if the shelf tells them, and its counts; what is left of the input if it is told, and how often reads of it failed; what was
+-- written if that is told, and how often writes failed
 pub record Outside : Type 0 where
   pub files : Option Files
   pub counts : Counts
@@ -40,7 +40,7 @@ io_in stands = io stands.left stands.read_faults stands.written stands.write_fau
 abbrev pub io_of : {I O : Type 0} → SourceOf I → SinkOf O → I → O → Io
 io_of bytes lines input sink = io (bytes.left input) (bytes.faults input) (lines.written sink) (lines.faults sink)
 
--- it holds of the files and of the bytes that were left, where both are told
+-- it holds of the files and of the bytes that were left, if both are told
 abbrev pub IfTold : Option Files → Option (List ℕ) → (Files → List ℕ → Type 0) → Type 0
 IfTold None left P = ⊤
 IfTold (Some files) None P = ⊤

@@ -1,4 +1,4 @@
--- A command over named files: they are read first, and what it promises behind them is a course of its own, by what they say.
+-- A command over named files: they are read first, and what it promises after them is a course of its own, by what they say.
 use Rattle.std.specs.Prelude.{◌≡◌, ◌⊎◌, ℕ, ◌+◌, ◌≤◌, List, length, Option, Some, None}
 use Rattle.stir_files.specs.Named.{NamedFile, first_fault}
 use Rattle.stir_outside.specs.Files.{Counts, CountsGoOn, Files}
@@ -6,7 +6,7 @@ use Rattle.stir_cmd.specs.Outside.{Outside, outside}
 use Rattle.stir_cmd.specs.Course.{Course}
 use Rattle.stir_cmd.specs.Stopping.{AnswersFault, Early, EndsEarly, FileFailed, FileRefused, Front, HaveNoFault, IsEarly, IsQuiet}
 
--- which files, in their order; what is read of them; when what was read stands for them; and the course by what was read
+-- which files, in their order; what is read of them; when what was read matches them; and the course by what was read
 pub record OverFiles : Type 1 where
   pub named : List NamedFile
   pub Read : Type 0
@@ -17,7 +17,7 @@ pub record OverFiles : Type 1 where
 abbrev pub counted : Outside → Counts → Outside
 counted before counts = outside before.files counts before.left before.read_faults before.written before.write_faults
 
--- The files were read, each once at most, and have no fault, and this is said of the run from behind them on.
+-- The files were read, each once at most, and have no fault, and this is said of the run after them.
 pub record Behind (over : OverFiles) (before now : Outside) (Says : over.Read → Outside → Type 0) : Type 0 where
   pub read : over.Read
   pub stands : over.Stands before.files read
@@ -28,13 +28,13 @@ pub record Behind (over : OverFiles) (before now : Outside) (Says : over.Read �
   pub stay : counts.faults ≤ now.counts.faults
   pub says : Says read (counted before counts)
 
--- Where a named file has a fault the status says so; and where none has, it is the one that is asked for behind them.
+-- If a named file has a fault the status says so; and if none has, it is the one that is asked for after them.
 pub record AnswersFiles (over : OverFiles) (before now : Outside) (status : ℕ) : Type 0 where
   pub fault : AnswersFault over.named before now status
   pub none : (files : Files) → before.files ≡ Some files → first_fault files over.named ≡ None → IsQuiet before now
       → Behind over before now (λ read mid. (over.course read).Answers mid now status) ⊎ (status ≡ 6)
 
--- the whole: a named file can't be had, or memory was wanting before the input was begun; or it goes on behind the files
+-- the whole: a named file can't be had, or memory ran out before the input was begun; or it goes on after the files
 abbrev pub over_files : OverFiles → Course
 over_files over = record {
   Came = λ before now status. Behind over before now (λ read mid. (over.course read).Came mid now status) ⊎ EndsEarly over.named before now status;

@@ -9,12 +9,12 @@ use Rattle.stir_cmd.specs.Course.{Course}
 use Rattle.stir_cmd.specs.Outside.{Outside}
 use Rattle.stir_cmd.specs.Stopping.{IsQuiet}
 
--- Where the bytes are a whole log, all of it is answered; where they aren't, they are refused; or memory was wanting.
+-- If the bytes are a whole log, all of it is answered; if they aren't, they are refused; or memory ran out.
 pub record AnswersBytes (passed : Passed) (before now : Outside) (status : ℕ) : Type 0 where
   pub whole : (bytes : List ℕ) (calls : List Entry) → before.left ≡ Some bytes → LogText passed bytes calls [] → IsQuiet before now → (status ≤ 1) ⊎ (status ≡ 6)
   pub part : (bytes rest : List ℕ) (calls : List Entry) → before.left ≡ Some bytes → LogText passed bytes calls rest → rest ≢ [] → IsQuiet before now → (status ≡ 5) ⊎ (status ≡ 6)
 
--- the log and the streams, of all that stands around the program
+-- the log and the streams, of all that is around the program
 abbrev pub log_in : Outside → RunState
 log_in stands = run_state stands.left (streams stands.read_faults stands.written stands.write_faults)
 

@@ -50,7 +50,7 @@ abbrev pub holder_by : Option HolderMaterials → Option HolderView
 holder_by None = None
 holder_by (Some holder) = Some (record { entries = unwrap_or holder.leaf.list []; table = holder.table })
 
--- the holder's certificate, where one is named, has a list
+-- the holder's certificate, if one is named, has a list
 abbrev pub HasList : Option HolderMaterials → Type 0
 HasList None = ⊤
 HasList (Some holder) = is_some holder.leaf.list ≡ true
@@ -76,7 +76,7 @@ pub record GivesFault (order : OrderView) (holder : Option HolderView) (signs : 
   pub gives : signed bytes order holder signs ≡ Err fault
   pub caused : IsCaused bytes order holder signs fault
 
--- why nothing is written of bytes that were read; want of memory is free
+-- why nothing is written of bytes that were read; running out of memory is free
 abbrev pub GivesWhy : OrderView → Option HolderView → (List ℕ → List ℕ → Option (List ℕ)) → List ℕ → SignFault → Type 0
 GivesWhy order holder signs bytes faults.Form = GivesFault order holder signs bytes faults.Form
 GivesWhy order holder signs bytes faults.NoNumber = GivesFault order holder signs bytes faults.NoNumber
@@ -85,7 +85,7 @@ GivesWhy order holder signs bytes (faults.NoSignature digest) = GivesFault order
 GivesWhy order holder signs bytes faults.Provider = ⊥
 GivesWhy order holder signs bytes faults.Memory = ⊤
 
--- the faults that are answered by a line, or by want of memory: the provider of an answers file never fails
+-- the faults that are answered by a line, or as memory that ran out: the provider of an answers file never fails
 abbrev pub HasLine : SignFault → Type 0
 HasLine faults.Form = ⊤
 HasLine faults.NoNumber = ⊤

@@ -28,7 +28,7 @@ verify_words settings workers materials before now = words_by (basis_of settings
 abbrev pub judging_course : Settings → ℕ → Materials → Course
 judging_course settings workers materials = log_course (verify_words settings workers materials) (λ before now status. Unit {0})
 
--- memory may be wanting for the service, before the input is begun
+-- memory may run out for the service, before the input is begun
 abbrev pub RanBy : Settings → ℕ → Materials → Outside → Outside → ℕ → Type 0
 RanBy settings workers materials before now status = (judging_course settings workers materials).Came before now status ⊎ NoMemory before now status
 
@@ -54,7 +54,7 @@ going_words settings workers materials before now =
 abbrev pub going_course : Settings → ℕ → GoingMaterials → Course
 going_course settings workers materials = log_course_on (start_at materials.state) (going_words settings workers materials) (λ before now status. Unit {0})
 
--- memory may be wanting for the service, before the input is begun
+-- memory may run out for the service, before the input is begun
 abbrev pub WentOn : Settings → ℕ → GoingMaterials → Outside → Outside → ℕ → Type 0
 WentOn settings workers materials before now status = (going_course settings workers materials).Came before now status ⊎ NoMemory before now status
 

@@ -66,7 +66,7 @@ pub(crate) fn send_message<S: Shelf, I: Source, O: Sink>(
     }
 }
 
-/// The same, where a message goes through the gateway so.
+/// The same, for a message that goes through the gateway at this place.
 #[tactic(auto, unfolding(log_run::specs::Ending::failed_line))]
 fn send_input<S: Shelf, I: Source, O: Sink>(
     alloc: Global,

@@ -58,7 +58,7 @@ impl<'a> SignerCommand<'a> {
         }
     }
 
-    /// The names of the files of the holder, where one is named.
+    /// The names of the files of the holder, if one is named.
     fn holder(&self) -> Option<HolderFiles<'a>>
         ensures { option_map holder_view result ≡ (command_of self.now).holder }
     {
@@ -203,7 +203,7 @@ fn sign_bytes(
     }
 }
 
-/// What is signed of bytes for a holder, where one is given.
+/// What is signed of bytes for a holder, if one is given.
 #[tactic(auto, using(crate::proofs::SignSteps::gives_of, crate::proofs::SignSteps::refuses_of))]
 fn sign_for(
     alloc: Global,

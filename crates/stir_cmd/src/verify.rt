@@ -20,7 +20,7 @@ use stir_words::Verifying;
 use verify_rules::Settings;
 use verify_service::{Service, World};
 
-/// Reads the named files, and judges the calls of the log by what they say; where a file can't be had, it says so. A log that goes on from a state
+/// Reads the named files, and judges the calls of the log by what they say; if a file can't be had, it says so. A log that goes on from a state
 /// ends with the state that it hands on.
 #[tactic(auto, using(crate::proofs::GoingSteps::ran_alone, crate::proofs::GoingSteps::ran_on))]
 pub(crate) fn verify<R: Threads + Sync, S: Shelf, I: Source, O: Sink>(

@@ -69,7 +69,7 @@ sha_bytes : (m : List ℕ) → are_bytes (sha256 m) ≡ true
 unfolding sha256
 sha_bytes m = digest_are (final_hash initial_hash_256 m) 8
 
--- ---- hex digits stand in a line
+-- ---- hex digits may be in a line
 
 -- no end of a line, and no CR
 abbrev is_inner : ℕ → Bool

@@ -5,7 +5,7 @@ use Rattle.std.specs.Fmt.{decimal}
 use Rattle.std.proofs.Math.Seq.{drop-append_seam}
 use Rattle.call_log.specs.Entry.{headed}
 
--- a header is that of no message, and what stands behind it follows
+-- a header is that of no message, and what comes after it follows
 pub headed_behind : (moment size : ℕ) (behind : List ℕ) → headed moment size [] ++ behind ≡ headed moment size behind
 unfolding headed
 headed_behind moment size behind =
@@ -21,7 +21,7 @@ take_front : (xs ys : List ℕ) → take (length xs) (xs ++ ys) ≡ xs
 take_front [] ys = refl
 take_front (x ∷ xs) ys = ap (λ r. x ∷ r) (take_front xs ys)
 
--- what stands between what is before it and what is behind it
+-- what is between what comes before it and what comes after it
 middle_is : (front message behind : List ℕ) → slice_range (front ++ (message ++ behind)) (length front) (length front + length message) ≡ message
 middle_is front message behind =
     let n : length front + length message - length front ≡ length message = omega arith in
@@ -29,7 +29,7 @@ middle_is front message behind =
     ∙ ap (λ x. take (length message) x) (drop-append_seam front (message ++ behind))
     ∙ take_front message behind
 
--- the end of the log, once more behind a header
+-- the end of the log, once more after a header
 pub entry_again : (log log_now front message : List ℕ) (moment size start end : ℕ) → log ≡ front ++ message → size ≡ length message
     → start ≡ end - size → end ≡ length log → log_now ≡ (log ++ headed moment size []) ++ slice_range (log ++ headed moment size []) start end
     → log_now ≡ log ++ headed moment (length message) message

@@ -21,7 +21,7 @@ crlf = 13 ∷ 10 ∷ []
 abbrev last_field : Field
 last_field = record { name = codes "Content-Length"; value = codes "0" }
 
--- the lines of the fields behind From
+-- the lines of the fields after From
 abbrev behind_from : List Field → List ℕ
 behind_from fields = flat_map field_line (drop 3 (fields_with [] fields))
 

@@ -25,7 +25,7 @@ use Rattle.stir_drill.specs.declared.change.Change.{Change}
 use Rattle.stir_drill.specs.declared.change.Change.TheVariants.{Plain, Repeats, Unsigned, Stale, Unconfirmed, Outside}
 use Rattle.stir_drill.specs.declared.drawn.Drawn.{Drawn}
 
--- ---- what stands in a string as it is
+-- ---- what is written in a string as it is
 
 abbrev is_plain : ℕ → Bool
 is_plain b = nat_le 32 b && (not (b == 34) && not (b == 92))

@@ -11,11 +11,11 @@ use Rattle.stir_drill.specs.Message.{message_of, moment_of}
 abbrev pub drawn_at : ℕ → ℕ → Drawn
 drawn_at seed number = record { number = number; change = change_of_call number (kind_of seed number); line = line_of seed number }
 
--- the message of a call: that of the call before, where it repeats it, or its own
+-- the message of a call: that of the call before, if it repeats it, or its own
 abbrev pub message_after : Drawn → List ℕ → List ℕ
 message_after call before = if repeats call.change then before else message_of call
 
--- the entry of a call, behind this message
+-- the entry of a call, after this message
 abbrev pub entry_of : Drawn → List ℕ → List ℕ
 entry_of call before = headed (moment_of call.number) (length (message_after call before)) (message_after call before)
 

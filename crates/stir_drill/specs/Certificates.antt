@@ -1,5 +1,5 @@
 -- The certificates of the drill (this project's own rule, in the terms of RFC 5280, section 4.1, and RFC 8226, section 9). Their signatures
--- stand for some: what confirms them is the answers.
+-- aren't real ones: what confirms them is the answers.
 use Rattle.std.specs.Prelude.{ℕ, List, [], ◌∷◌, ◌++◌, codes, replicate}
 use Rattle.sha2.specs.Sha256.{sha256}
 use Rattle.der_reader.specs.Elem.{element_text}

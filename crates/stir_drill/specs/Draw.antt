@@ -5,7 +5,7 @@ use Rattle.std.specs.Prelude.{ℕ, zero, suc, ◌+◌, ◌-◌, ◌*◌, ◌/◌
 abbrev pub next : ℕ → ℕ
 next x = (x * 6364136223846793005 + 1442695040888963407) % 2 ^ 64
 
--- what is drawn where this is the state after the draw
+-- what is drawn if this is the state after the draw
 abbrev pub drawn : ℕ → ℕ
 drawn x = x / 2 ^ 33
 

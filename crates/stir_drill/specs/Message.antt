@@ -1,5 +1,5 @@
--- The message of a call of the drill, the PASSporT that it carries, and what is signed (this project's own rule, in the terms of RFC 3261,
--- section 7, RFC 8224, section 4, RFC 8225, sections 4, 5 and 9, and RFC 8588, section 4).
+-- The message of a call of the drill, the PASSporT that it carries, and what is signed. This is this project's own rule, in the terms of
+-- RFC 3261, section 7, RFC 8224, section 4, RFC 8225, sections 4, 5 and 9, and RFC 8588, section 4.
 use Rattle.std.specs.Prelude.{ℕ, ◌+◌, ◌/◌, List, [], ◌∷◌, ◌++◌, Some, None, codes, decimal, replicate, if◌then◌else◌}
 use Rattle.std.specs.Int.{bytes_high_first}
 use Rattle.std.specs.List.{flat_map}
@@ -44,7 +44,7 @@ passport_of call = record {
 abbrev pub signing_of : Drawn → List ℕ
 signing_of call = Signing (Det (Header (passport_of call))) (Det (Payload (passport_of call)))
 
--- the signature, which stands for one: the number of the call in eight bytes, the highest first, and 56 zero bytes
+-- the signature, which isn't a real one: the number of the call in eight bytes, the highest first, and 56 zero bytes
 abbrev pub signature_of : ℕ → List ℕ
 signature_of number = bytes_high_first 8 number ++ replicate 56 0
 
@@ -76,7 +76,7 @@ identity_field value = record { name = codes "Identity"; value = value }
 abbrev pub identity_fields : Drawn → List Field
 identity_fields call = if has_identity call.change then identity_field (identity_of call) ∷ [] else []
 
--- the line of this field, where there is one
+-- the line of this field, if there is one
 abbrev pub identity_line : Drawn → List ℕ
 identity_line call = flat_map field_line (identity_fields call)
 

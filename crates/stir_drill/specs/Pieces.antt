@@ -1,4 +1,4 @@
--- What stands around the parts of a message that differ.
+-- What is around the parts of a message that differ.
 use Rattle.std.specs.Prelude.{ℕ, List, codes}
 
 -- before the calling number, between it and the Identity header field, and after this

@@ -30,7 +30,7 @@ pub(crate) struct Calls {
     pub(crate) last: usize,
 }
 
-/// Makes so many calls behind these answers.
+/// Makes so many calls after these answers.
 pub(crate) fn make_calls(
     alloc: Global,
     seed: u64,
@@ -55,7 +55,7 @@ pub(crate) fn make_calls(
     Ok(calls)
 }
 
-/// Makes the call of this number behind the others.
+/// Makes the call of this number after the others.
 fn put_call(alloc: Global, calls: &mut Calls, number: u64) -> Result<(), AllocError>
     requires { number ≤ 100000 }
     ensures { (seed before : ℕ) → number ≡ suc before → Holds seed before calls.old → OnOk result (Holds seed (suc before) calls.new) }
@@ -112,7 +112,7 @@ fn put_own(alloc: Global, calls: &mut Calls, call: Drawn) -> Result<(), AllocErr
     Ok(())
 }
 
-/// Appends the line that confirms the signature of a call's PASSporT, where it is confirmed.
+/// Appends the line that confirms the signature of a call's PASSporT, if it is confirmed.
 fn put_confirmed(
     alloc: Global,
     answers: &mut Vec<u8>,

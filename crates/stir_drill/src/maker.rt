@@ -27,7 +27,7 @@ pub struct Drill {
 }
 
 impl Drill {
-    /// The drill of this seed with so many calls, at most 100,000. `Memory` comes where there is no memory for it.
+    /// The drill of this seed with so many calls, at most 100,000. `Memory` comes if there is no memory for it.
     pub fn make(alloc: Global, seed: u64, count: u32) -> Result<Drill, Memory>
         requires { count ≤ 100000 }
         ensures log { IfOk result (λ drill. drill.log.items ≡ log_of seed count) }

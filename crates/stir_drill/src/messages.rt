@@ -11,7 +11,7 @@ use base64::engine::general_purpose::URL_SAFE_NO_PAD;
 use itoa::Buffer;
 use std::alloc::{AllocError, Global};
 
-/// What stands before the calling number,
+/// What comes before the calling number,
 const FRONT: &str =
     "INVITE sip:+12125551213@example.net SIP/2.0\r\nVia: SIP/2.0/UDP host.example.org;branch=z9hG4bK1\r\nMax-Forwards: 70\r\nFrom: <sip:+";
 
@@ -22,7 +22,7 @@ const MIDDLE: &str =
 /// and after it.
 const END: &str = "Content-Length: 0\r\n\r\n";
 
-/// What stands in the line of the Identity header field before the token and after it.
+/// What the line of the Identity header field has before the token and after it.
 const IDENTITY: &str = "Identity: ";
 
 const PARAMETERS: &str = ";info=<https://cert.example.org/drill.cer>;alg=ES256;ppt=\"shaken\"\r\n";
@@ -75,7 +75,7 @@ fn put_entry(
     Ok(())
 }
 
-/// The line of the Identity header field of a call, which has this signature over this text; no line where the call has none.
+/// The line of the Identity header field of a call, which has this signature over this text; no line if the call has none.
 #[tactic(auto, using(crate::proofs::MessageLaws::line_absent))]
 pub(crate) fn identity_line(
     alloc: Global,

@@ -1,4 +1,4 @@
--- The first line of a text is what stands before its first LF, and that.
+-- The first line of a text is what comes before its first LF, and that.
 use Rattle.std.proofs.Common.{◌≡◌, ℕ, suc, ◌+◌, ◌<◌, Bool, true, false, ◌==◌, List, [], ◌∷◌, ◌++◌, length, take, drop, refl, ap, ◌∙◌, arith}
 use Rattle.std.proofs.Math.Seq.{take-length, drop-length}
 use lib.Seq.{drop-append-add}

@@ -56,7 +56,7 @@ impl Inputs {
     }
 }
 
-/// Reads the files in the order of the list, of which no two are to hold the same; each is read within its limit and tried by its grammar
+/// Reads the files in the order of the list. No two of them are to hold the same. Each is read within its limit and tried by its grammar
 /// before the next is read.
 ///
 /// The first event in this order decides: a file is missing, too long, can't be read, or is outside its grammar.

@@ -1,4 +1,4 @@
--- A text is read as an answers file's rows exactly where its lines say these rows, and none signs what one before it signs.
+-- A text is read as an answers file's rows exactly if its lines say these rows, and none signs what one before it signs.
 use Rattle.std.proofs.Common.{◌≡◌, ℕ, Bool, true, false, cond, List, [], ◌∷◌, map, Option, Some, None, option_and_then, IfSome, Ok, Err, ◌↔◌, refl, sym, ap, ◌∙◌, subst}
 use Rattle.std.specs.Option.{option_map}
 use Rattle.std.specs.Str.{bytes_eq}

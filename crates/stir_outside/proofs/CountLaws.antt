@@ -26,7 +26,7 @@ none_at before now h = inl (omega arith)
 pub not_rose : (before now : ℕ) → NotRisen before now → Rose before now → ⊥
 not_rose before now stayed rose = omega arith
 
--- and none that stands at 0 rose
+-- and none that is at 0 rose
 pub never_rose : Rose 0 0 → ⊥
 never_rose rose = not_rose 0 0 (record { same = refl; below_last = λ last. omega arith }) rose
 

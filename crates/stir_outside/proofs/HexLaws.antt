@@ -24,7 +24,7 @@ use Rattle.stir_outside.specs.AnswersLine.{IsHex}
 any_case : (c : ℕ) → hex_digit_value (to_ascii_lowercase c) ≡ hex_digit_value c
 any_case c = grind (arith, nat_tests)
 
--- the digit of a value in lower case, where the byte is a digit; and a test of it that computes
+-- the digit of a value in lower case, if the byte is a digit; and a test of it that computes
 abbrev is_its_digit : ℕ → Bool
 is_its_digit c = unwrap_or (option_map (λ v. slice_index lower_digits v == to_ascii_lowercase c) (hex_digit_value c)) true
 

@@ -1,4 +1,4 @@
--- A line of the answers file is read as a row exactly where it is the text of that row.
+-- A line of the answers file is read as a row exactly if it is the text of that row.
 use Rattle.std.proofs.Common.{◌≡◌, ◌↔◌, ℕ, ◌==◌, Bool, true, false, ◌&&◌, nat_le, cond, List, [], ◌∷◌, length, slice_index, codes, Option, Some, None, option_and_then, refl, ap, subst, ◌∙◌, arith}
 use Rattle.std.specs.List.{list_all, join_with_byte}
 use Rattle.std.specs.Option.{option_map}

@@ -8,12 +8,12 @@ use Rattle.stir_outside.specs.Told.{Takes, AppendsFront}
 pub takes_none : (left : Option (List ℕ)) (held : List ℕ) → Takes left left held held
 takes_none left held = record { taken = []; behind = sym (append-nil held); from_front = Consumes-nil left }
 
--- what a further read consumed stands behind what was taken before
+-- what a further read consumed comes after what was taken before
 pub takes_more : (left mid now : Option (List ℕ)) (held before after bytes : List ℕ) → Takes left mid held before → Consumes mid now bytes → after ≡ before ++ bytes → Takes left now held after
 takes_more left mid now held before after bytes t c e =
     record { taken = t.taken ++ bytes; behind = e ∙ ap (λ x. x ++ bytes) t.behind ∙ append_assoc held t.taken bytes; from_front = Consumes-trans left mid now t.taken bytes t.from_front c }
 
--- what stands before the rest of the text was written
+-- what comes before the rest of the text was written
 pub record WrittenBefore (written written_now : Option (List ℕ)) (text rest : List ℕ) : Type 0 where
   pub front : List ℕ
   pub split : text ≡ front ++ rest
@@ -22,7 +22,7 @@ pub record WrittenBefore (written written_now : Option (List ℕ)) (text rest : 
 pub written_none : (written : Option (List ℕ)) (text : List ℕ) → WrittenBefore written written text text
 written_none written text = record { front = []; split = refl; appended = Appends-nil written }
 
--- a further write appended a front of the rest
+-- a further write appended a prefix of the rest
 pub written_more : (written mid now : Option (List ℕ)) (text rest : List ℕ) (count : ℕ) → WrittenBefore written mid text rest → Appends mid now (take count rest) → WrittenBefore written now text (drop count rest)
 written_more written mid now text rest count w a =
     record {
@@ -40,11 +40,11 @@ kept_appends (Some x) None c bytes p k = absurd p
 kept_appends (Some x) (Some y) None bytes p k = absurd k
 kept_appends (Some x) (Some y) (Some z) bytes p k = k ∙ p
 
--- a write that failed kept what was written, and that is a front of the text
+-- a write that failed kept what was written, and that is a prefix of the text
 pub written_front : (written mid now : Option (List ℕ)) (text rest : List ℕ) → WrittenBefore written mid text rest → Keeps mid now → AppendsFront written now text
 written_front written mid now text rest w k = record { front = w.front; rest = rest; split = w.split; appended = kept_appends written mid now w.front w.appended k }
 
--- bytes taken from the front of what was left
+-- the first bytes of what was left, taken from it
 pub consumed : (items buf : List ℕ) (taken count : ℕ) → take count buf ≡ take count (drop taken items) → drop taken items ≡ take count buf ++ drop (taken + count) items
 consumed items buf taken count e = sym (take-append-drop count (drop taken items)) ∙ ap (λ x. x ++ drop count (drop taken items)) (sym e) ∙ ap (λ x. take count buf ++ x) (drop-drop count taken items)
 
@@ -52,7 +52,7 @@ consumed items buf taken count e = sym (take-append-drop count (drop taken items
 pub nothing_left : (items : List ℕ) (room taken count : ℕ) → count ≡ min room (length (drop taken items)) → count ≡ 0 → 0 < room → drop (taken + count) items ≡ []
 nothing_left items room taken count e zero some = drop_all (taken + count) items (omega (arith, length-drop taken items))
 
--- one byte given from the front of what was left
+-- one byte given, the first of what was left
 pub one_given : (items buf : List ℕ) (taken byte : ℕ) → taken < length items → byte ≡ slice_index_or items taken byte → 0 < length buf
     → drop taken items ≡ take 1 (slice_set buf 0 byte) ++ drop (taken + 1) items
 one_given items [] taken byte h e some = absurd (omega arith)

@@ -7,12 +7,12 @@ use Rattle.stir_outside.specs.Count.{GoesOn}
 abbrev pub Files : Type 0
 Files = List (List ℕ × List ℕ)
 
--- the content of the file of that name, where there is one
+-- the content of the file of that name, if there is one
 abbrev pub file : List ℕ → Files → Option (List ℕ)
 file name [] = None
 file name (entry ∷ others) = if bytes_eq name entry.0 then Some entry.1 else file name others
 
--- a fact about the file of that name, where the shelf tells its files
+-- a fact about the file of that name, if the shelf tells its files
 abbrev pub OfFile : Option Files → List ℕ → (Option (List ℕ) → Type 0) → Type 0
 OfFile None name P = ⊤
 OfFile (Some files) name P = P (file name files)
@@ -25,7 +25,7 @@ AreBytes content = (i : ℕ) → slice_index content i < 256
 abbrev pub HoldBytes : Files → Type 0
 HoldBytes files = (name content : List ℕ) → file name files ≡ Some content → AreBytes content
 
--- the same, where the shelf tells its files
+-- the same, if the shelf tells its files
 abbrev pub HoldBytesWhere : Option Files → Type 0
 HoldBytesWhere None = ⊤
 HoldBytesWhere (Some files) = HoldBytes files

@@ -41,7 +41,7 @@ pub record AnswersOf (text : List ℕ) (held : Held) : Type 0 where
   pub says : held_says held ≡ says rows
   pub signs : held_signs held ≡ signs rows
 
--- the line of a fault other than want of memory
+-- the line of a fault, and None if memory ran out
 abbrev pub line_of : AnswerFault → Option ℕ
 line_of (Line number) = Some number
 line_of Memory = None

@@ -10,6 +10,6 @@ is_name_byte byte = nat_le 0x21 byte && nat_le byte 0x7E && not (byte == 59 || b
 unfoldable pub is_name : List ℕ → Bool
 is_name text = nat_le 1 (length text) && nat_le (length text) 64 && list_all is_name_byte text
 
--- the name that a text is, byte for byte, where it is one
+-- the name that a text is, byte for byte, if it is one
 abbrev pub name_of : List ℕ → Option (List ℕ)
 name_of text = if is_name text then Some text else None

@@ -16,7 +16,7 @@ pub record SteadyState : Type 0 where
   pub held : Held
   pub asks : ℕ
 
--- a call was counted, and failed where it is listed
+-- a call was counted, and failed if it is listed
 pub record Asked {T E : Type 0} (before now : ProviderState) (result : Result T E) : Type 0 where
   pub held : now.held ≡ before.held
   pub failing : now.failing ≡ before.failing

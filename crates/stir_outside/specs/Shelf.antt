@@ -13,7 +13,7 @@ is_failed (Err Long) = false
 is_failed (Err Failed) = true
 is_failed (Err Memory) = false
 
--- the counts behind an answer: that of its kind is one more, and the others are as they were
+-- the counts after an answer: that of its kind is one more, and the others are as they were
 abbrev pub counted : {T : Type 0} → Counts → Result T ShelfFault → Counts
 counted counts (Ok content) = record counts { reads = one_more counts.reads }
 counted counts (Err Missing) = record counts { misses = one_more counts.misses }

@@ -1,4 +1,4 @@
-//! The trusted edge: the real files and streams behind the traits. They tell nothing of content.
+//! The trusted edge: the traits over real files and streams. They tell nothing of content.
 
 pub mod files;
 pub mod stdin;

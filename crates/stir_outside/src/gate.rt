@@ -1,4 +1,4 @@
-/// Where a worker stands before it judges a call. It tells nothing: tests let workers meet there.
+/// A point that a worker passes before it judges a call. It tells nothing: tests let workers meet there.
 pub trait Gate {
     /// Passes the gate: this worker, counted from 0, is about to judge the call of this number.
     fn at(&mut self, worker: u8, call: u32);

@@ -17,7 +17,7 @@ pub trait Provider {
     ghost faults: { Self → ℕ };
 
     /// Whether `signature`, r then s in 32 bytes each, is one of `key` over `digest`. The key is a point in its
-    /// uncompressed form (SEC 1, section 2.3.3). `Failed` comes only where `faults` rose.
+    /// uncompressed form (SEC 1, section 2.3.3). `Failed` comes only if `faults` rose.
     fn confirm(
         &mut self,
         key: &[u8; 65],
@@ -31,8 +31,8 @@ pub trait Provider {
         ensures cause { HasCause (faults self.old) (faults self.new) result }
         ensures answer { IfOk result (λ good. good ≡ says self.old key.now digest.now signature.now) };
 
-    /// The signature over `digest` by the key that has this name, r then s in 32 bytes each; None where the provider
-    /// has none. `Failed` comes only where `faults` rose.
+    /// The signature over `digest` by the key that has this name, r then s in 32 bytes each; None if the provider has
+    /// none. `Failed` comes only if `faults` rose.
     fn sign(&mut self, name: &[u8], digest: &[u8; 32]) -> Result<Option<[u8; 64]>, Failed>
         ensures same_says { says self.new ≡ says self.old }
         ensures same_signs { signs self.new ≡ signs self.old }

@@ -19,14 +19,14 @@ pub enum ShelfFault {
 
 /// A shelf of named files, as a folder of the file system.
 ///
-/// `files` is the map from names to contents, where the shelf tells it; no call changes it. `counts` are
-/// its counts of files read, missing, too long and failed, each in 64 bits.
+/// `files` is the map from names to contents, if the shelf tells it; no call changes it. `counts` are its counts of
+/// files read, missing, too long and failed, each in 64 bits.
 pub trait Shelf {
     ghost files: { Self → Option Files };
 
     ghost counts: { Self → Counts };
 
-    /// Reads the file of that name whole, where it has at most `limit` bytes.
+    /// Reads the file of that name whole, if it has at most `limit` bytes.
     fn read(&mut self, alloc: Global, name: &str, limit: usize) -> Result<Vec<u8>, ShelfFault>
         ensures same { files self.new ≡ files self.old }
         ensures go_on { CountsGoOn (counts self.old) (counts self.new) }

@@ -6,14 +6,14 @@ use crate::source::Failed;
 
 /// A sink for bytes, as the standard output.
 ///
-/// `written` is what was written, where the sink tells that; `faults` counts its failed writes in 64 bits.
+/// `written` is what was written, if the sink tells that; `faults` counts its failed writes in 64 bits.
 pub trait Sink {
     ghost written: { Self → Option (List ℕ) };
 
     ghost faults: { Self → ℕ };
 
-    /// Writes a front of the bytes, at least one of them, and says how many. `Failed` writes nothing,
-    /// and comes only where `faults` rose.
+    /// Writes a prefix of the bytes, at least one of them, and says how many. `Failed` writes nothing, and comes only
+    /// if `faults` rose.
     fn write(&mut self, bytes: &[u8]) -> Result<usize, Failed>
         requires { 0 < length bytes.now }
         ensures some { IfOk result (λ count. 0 < count) }

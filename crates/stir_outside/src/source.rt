@@ -20,8 +20,8 @@ pub trait Source {
 
     ghost reads: { Self → ℕ };
 
-    /// Reads up to `buf.len()` bytes into the front of `buf` and says how many; 0 is the end. `Failed`
-    /// takes nothing, and comes only where `faults` rose.
+    /// Reads up to `buf.len()` bytes into the first bytes of `buf` and says how many; 0 is the end. `Failed` takes
+    /// nothing, and comes only if `faults` rose.
     fn read(&mut self, buf: &mut [u8]) -> Result<usize, Failed>
         requires { 0 < length buf.old }
         ensures within { IfOk result (λ count. count ≤ length buf.new) }

@@ -39,8 +39,8 @@ impl From<AllocError> for ReadFault {
 /// The bytes that one read asks for at most.
 const BLOCK: usize = 4096;
 
-/// Reads from the source behind what `bytes` holds, until they are `limit` bytes or the source ends.
-/// What was taken before a fault is kept: `bytes` has gained all that the source lost, in every case.
+/// Reads from the source, and appends to `bytes`, until it has `limit` bytes or the source ends. What was taken before
+/// a fault is kept: `bytes` has gained all that the source lost, in every case.
 #[tactic(auto, using(crate::proofs::Transfers::takes_none, crate::proofs::Transfers::takes_more))]
 pub fn read_up_to<I: Source>(
     source: &mut I,
@@ -68,7 +68,7 @@ pub fn read_up_to<I: Source>(
     Ok(())
 }
 
-/// Writes the whole text to the sink; at a fault a front of it was written.
+/// Writes the whole text to the sink; at a fault a prefix of it was written.
 #[tactic(auto, using(crate::proofs::Transfers::written_none, crate::proofs::Transfers::written_more, crate::proofs::Transfers::written_all, crate::proofs::Transfers::written_front))]
 pub fn write_whole<O: Sink>(sink: &mut O, text: &[u8]) -> Result<(), Failed>
     ensures whole { OnOk result (Appends (O.written sink.old) (O.written sink.new) text.now) }

@@ -16,7 +16,7 @@ fn lines(alloc: Global, count: u32, front: &str, back: &str) -> Result<String, A
     Ok(text)
 }
 
-/// The first bad line of a code table, or 0 where it is one.
+/// The first bad line of a code table, or 0 if it is one.
 fn bad_line_of_table(alloc: Global, text: &str) -> u32 {
     if text.len() >= 4_000_000_000 {
         return u32::MAX;
@@ -36,7 +36,7 @@ fn map_of(alloc: Global, text: &str) -> Result<ChainMap, MapFault> {
     ChainMap::read(alloc, text.as_bytes())
 }
 
-/// The first bad line of a chain map, or 0 where it is one.
+/// The first bad line of a chain map, or 0 if it is one.
 fn bad_line_of_map(alloc: Global, text: &str) -> u32 {
     match map_of(alloc, text) {
         Ok(_) => 0,

@@ -45,6 +45,6 @@ accepted_again : (table : List Known) (pairs : List Pair) → Accepted table pai
 accepted_again table pairs a =
     let each = known_first table pairs ∙ once_again table pairs a.once in let all = required_again table pairs a.required in rw (each, all) refl
 
--- a table accepts exactly the options that are known, stand once and are all that it requires
+-- a table accepts exactly the options that are known, come once and are all that it requires
 pub accepted_are : (table : List Known) (pairs : List Pair) → (accepts table pairs ≡ true) ↔ Accepted table pairs
 accepted_are table pairs = (accepted table pairs, accepted_again table pairs)

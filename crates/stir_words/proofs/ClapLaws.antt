@@ -1,4 +1,4 @@
--- clap takes words that are options exactly where the table accepts the options, and then finds their values.
+-- clap takes words that are options exactly if the table accepts the options, and then finds their values.
 use Rattle.std.proofs.Common.{◌≡◌, inl, inr, Bool, true, false, not, cond, ◌&&◌, ◌||◌, List, [], ◌∷◌, map, Option, Some, None, is_some, Ok, Err, refl, sym, ◌∙◌, ap}
 use Rattle.std.specs.List.{fold, list_any}
 use Rattle.std.proofs.lemmas.Bool.{and_parts}
@@ -24,7 +24,7 @@ use Rattle.stir_words.proofs.OrderLaws.{all_found}
 use Rattle.stir_words.proofs.ClapTable.{built_is, ready, row, row_first, row_given, rules, shape_for, simple_and_free}
 use Rattle.stir_words.proofs.ClapWalk.{all_quiet, and_assoc, quiet, quiet_or, walks}
 
--- ---- behind the words
+-- ---- after the words
 
 -- nothing has a default
 no_default : (rows : List Row) (known : Known) (t : Bool) → has_row known.name rows ≡ t → default_fault rows (ready known) ≡ []
@@ -52,7 +52,7 @@ missing_or true true others whole e = e
 missing_or true false others whole e = refl
 missing_or false given others whole e = e
 
--- an option is missing exactly where not all stand that the table requires
+-- an option is missing exactly if not all are there that the table requires
 missing_is : (table : List Known) (pairs : List Pair)
     → list_any (λ (rule : Rule). rule.required && not (is_given rule.id (map row pairs))) (rules table) ≡ not (has_required table pairs)
 missing_is [] pairs = refl

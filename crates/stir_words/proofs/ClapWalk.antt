@@ -49,7 +49,7 @@ at_value seen name =
 abbrev twice_fault : Bool → Kinds
 twice_fault stands = or_else (cond (stands && true) (kind.ArgumentConflict ∷ []) []) []
 
--- it may be used where it wasn't before
+-- it may be used if it wasn't before
 use_is : (name value : Text) (required : Bool) (seen : List Pair) (t : Bool) → has name seen ≡ t → quiet (use_fault false (named name required) (value ∷ []) (map row seen)) ≡ not t
 use_is name value required seen true e = let stands : has_row name (map row seen) ≡ true = row_has name seen ∙ e in rw stands refl
 use_is name value required seen false e = let stands : has_row name (map row seen) ≡ false = row_has name seen ∙ e in rw stands refl
@@ -177,7 +177,7 @@ stuck table (pair ∷ pairs) words h o l = stuck_first table h words o.0 pair o.
 
 -- ---- one option
 
--- where the option isn't known, or was there before
+-- if the option isn't known, or was there before
 unknown_first : (table : List Known) (h : Held) (words rest : List Text) (pair : Pair) → Joined words pair rest ⊎ Parted words pair rest → is_known table pair.name ≡ false
     → all_quiet table (walk_from h) words ≡ false
 unknown_first table h words rest pair (inl j) not_known =
@@ -264,7 +264,7 @@ with_stands table seen pair known new =
 
 -- ---- all of them
 
--- the words are taken exactly where the options are known and stand once, and then these are found
+-- the words are taken exactly if the options are known and come once, and then these are found
 pub record Walks (table : List Known) (h : Held) (words : List Text) (seen pairs : List Pair) : Type 0 where
   pub takes : all_quiet table (walk_from h) words ≡ are_known table seen pairs
   pub finds : are_known table seen pairs ≡ true → settled (rules table) (fold (walked (rules table) []) (walk_from h) words).held ≡ held (seen ++ pairs)

@@ -52,7 +52,7 @@ alone_parts name lacking = rw (no_sign name lacking, whole_before name lacking) 
 
 -- ---- what the word says
 
--- the word isn't `--`, and has this name, and behind its `=` this value
+-- the word isn't `--`, and has this name, and after its `=` this value
 pub record Says (word name : List ℕ) (value : Option (List ℕ)) : Type 0 where
   pub no_end : bytes_eq word (45 ∷ 45 ∷ []) ≡ false
   pub says : long_of word ≡ Some (name, value)

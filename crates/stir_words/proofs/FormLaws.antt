@@ -7,7 +7,7 @@ some_more : (pair : Pair) (more : Option (List Pair)) → is_some (option_map (�
 some_more pair None = refl
 some_more pair (Some pairs) = refl
 
--- an option in front, where it fits
+-- an option before others, if it fits
 more_if : (fits : Bool) (pair : Pair) (more : Option (List Pair)) (words : List (List ℕ)) → is_some more ≡ are_formed false words
     → is_some (with_more fits pair more) ≡ option_map_or (λ now. are_formed now words) (cond fits (Some false) None) false
 more_if true pair more words m = some_more pair more ∙ m

@@ -1,4 +1,4 @@
--- The words that fall into options are these options one behind the other.
+-- The words that fall into options are these options one after the other.
 use Rattle.std.proofs.Common.{◌≡◌, ℕ, ◌==◌, ◌⊎◌, inl, inr, Bool, true, false, not, cond, List, [], ◌∷◌, ◌++◌, codes, Option, Some, None, refl, sym, ◌∙◌, ap, position, ◌↔◌, ◌+◌, take, drop, option_and_then, subst}
 use Rattle.std.specs.Option.{option_map}
 use Rattle.text_grammar.specs.Cut.{behind, cut, lacks}
@@ -9,7 +9,7 @@ use Rattle.stir_words.proofs.TurnLaws.{not_stepped, stepped}
 
 -- ---- what a word says
 
--- a name without `=`, and behind it the value where there is one
+-- a name without `=`, and after it the value if there is one
 abbrev SaysOf : List ℕ → List ℕ → Option (List ℕ) → Type 0
 SaysOf text name None = (is_filled name ≡ true) × (text ≡ name)
 SaysOf text name (Some value) = text ≡ name ++ equals_sign ∷ value

@@ -30,7 +30,7 @@ no_options command words h = ap (option_and_then (if_accepted command)) (none_fo
 given : (command : Command) (words : List (List ℕ)) → are_options words ≡ true → order_by command words ≡ if_accepted command (options_in words)
 given command words h = ap (option_and_then (if_accepted command)) (all_found (pairs_of words) h)
 
--- what the values of the options come to, where the table accepts them
+-- what the values of the options come to, if the table accepts them
 pub ordered : (command : Command) (words : List (List ℕ)) (values : Given) (result : Result Order WordsFault) → are_options words ≡ true
     → (accepts (options_of command) (options_in words) ≡ true) × (values ≡ given_by (options_in words)) → Orders (order_with command values) result
     → Orders (order_by command words) result

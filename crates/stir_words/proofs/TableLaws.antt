@@ -1,11 +1,11 @@
--- Options that are known and stand at most once: seen from the front, and seen from behind.
+-- Options that are known and come at most once: seen from the beginning, and seen from the end.
 use Rattle.std.proofs.Common.{◌≡◌, ℕ, Bool, true, false, not, ◌&&◌, ◌||◌, List, [], ◌∷◌, ◌++◌, refl, sym, ◌∙◌, ap}
 use Rattle.std.specs.Cmp.Lexicographic.{nat_list_eq_equiv}
 use Rattle.std.specs.Str.{bytes_eq}
 use Rattle.stir_words.specs.Options.{Pair}
 use Rattle.stir_words.specs.Table.{Known, are_known, has, is_known}
 
--- each is an option of the table, and none behind it has its name
+-- each is an option of the table, and none after it has its name
 abbrev pub known_once : List Known → List Pair → Bool
 known_once table [] = true
 known_once table (pair ∷ pairs) = is_known table pair.name && (not (has pair.name pairs) && known_once table pairs)
@@ -66,7 +66,7 @@ regrouped true true true false false = refl
 regrouped true true false a true = refl
 regrouped true true false a false = refl
 
--- seen from the front, each name is looked for among those before it
+-- seen from the beginning, each name is looked for among those before it
 same_known : (table : List Known) (seen pairs : List Pair) → are_known table seen pairs ≡ (known_once table pairs && apart seen pairs)
 same_known table seen [] = refl
 same_known table seen (pair ∷ pairs) =
@@ -82,6 +82,6 @@ pub and_true : (b : Bool) → (b && true) ≡ b
 and_true true = refl
 and_true false = refl
 
--- where nothing was seen before, both ways are one
+-- if nothing was seen before, both ways are one
 pub known_first : (table : List Known) (pairs : List Pair) → are_known table [] pairs ≡ known_once table pairs
 known_first table pairs = same_known table [] pairs ∙ ap (λ b. known_once table pairs && b) (apart_none pairs) ∙ and_true (known_once table pairs)

@@ -1,9 +1,9 @@
--- Words that begin with an option are this option and those of the words behind it.
+-- Words that begin with an option are this option and those of the words after it.
 use Rattle.std.proofs.Common.{◌≡◌, ℕ, Bool, true, false, List, [], ◌∷◌, Option, Some, None, refl, ap}
 use Rattle.std.specs.Option.{option_map}
 use Rattle.stir_words.specs.Options.{First, Named, Pair, at_name, at_word, first_at, first_if, first_named, first_of, long_of, pairs_from, with_more}
 
--- the options of the words behind the first, with the first in front
+-- the first option, and after it the options of the other words
 abbrev after : First → Option (List Pair)
 after first = option_map (λ (pairs : List Pair). first.pair ∷ pairs) (pairs_from None first.rest)
 

@@ -14,7 +14,7 @@ use Rattle.stir_words.specs.declared.fault.WordsFault.TheVariants.{Refused, Memo
 abbrev pub rule_for : Known → Rule
 rule_for known = record (new_rule known.name) { long = Some known.name; action = Some Set; required = known.required }
 
--- a command with these options: no name of a program stands before the words, and none of the options is for help
+-- a command with these options: no name of a program comes before the words, and none of the options is for help
 abbrev pub app_for : List Known → App
 app_for table = record { top = record (new_shape (codes "stir")) { rules = map rule_for table; no_binary_name = true; disable_help_flag = true }; subs = [] }
 
@@ -22,7 +22,7 @@ app_for table = record { top = record (new_shape (codes "stir")) { rules = map r
 abbrev pub values_in : ArgMatches → Given
 values_in matches = first_value (found_of matches)
 
--- what was found are the values of these options, which the table accepts; or it doesn't accept them, or memory was wanting
+-- what was found are the values of these options, which the table accepts; or it doesn't accept them, or memory ran out
 abbrev pub IsParsed : List Known → List Pair → Result ArgMatches WordsFault → Type 0
 IsParsed table pairs (Ok matches) = (accepts table pairs ≡ true) × (values_in matches ≡ given_by pairs)
 IsParsed table pairs (Err Refused) = accepts table pairs ≡ false

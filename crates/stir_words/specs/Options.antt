@@ -6,7 +6,7 @@ use Rattle.text_grammar.specs.Cut.{behind, cut, lacks}
 
 -- ---- a word
 
--- what a word says: a name, and the value behind its first `=` where it has one
+-- what a word says: a name, and the value after its first `=` if it has one
 pub record Named : Type 0 where
   pub name : List ℕ
   pub value : Option (List ℕ)
@@ -23,7 +23,7 @@ abbrev pub with_value : List ℕ → Option (List ℕ × List ℕ) → Named
 with_value text None = record { name = text; value = None }
 with_value text (Some parts) = record { name = parts.0; value = Some parts.1 }
 
--- what stands behind the dashes, cut at the first `=`
+-- what comes after the dashes, cut at the first `=`
 abbrev pub named : List ℕ → Option Named
 named text = if is_filled text then Some (with_value text (cut equals_sign text)) else None
 
@@ -43,11 +43,11 @@ pub record Pair : Type 0 where
   pub name : List ℕ
   pub value : List ℕ
 
--- an option in front of others
+-- an option before others
 abbrev pub with_more : Bool → Pair → Option (List Pair) → Option (List Pair)
 with_more fits pair more = if fits then option_map (λ pairs. pair ∷ pairs) more else None
 
--- a value behind `=` may be any text that isn't empty; without `=` the name waits for the next word
+-- a value after `=` may be any text that isn't empty; without `=` the name waits for the next word
 abbrev pub at_name : List ℕ → Option (List ℕ) → (List ℕ → Option (List Pair)) → Option (List Pair) → Option (List Pair)
 at_name name None waits more = waits name
 at_name name (Some value) waits more = with_more (is_filled value) (record { name = name; value = value }) more
@@ -56,14 +56,14 @@ abbrev pub at_word : Option Named → (List ℕ → Option (List Pair)) → Opti
 at_word None waits more = None
 at_word (Some word) waits more = at_name word.name word.value waits more
 
--- the options that the words are, behind a name that waits for its value where there is one
+-- the options that the words are, after a name that waits for its value if there is one
 abbrev pub pairs_from : Option (List ℕ) → List (List ℕ) → Option (List Pair)
 pairs_from None [] = Some []
 pairs_from (Some name) [] = None
 pairs_from None (word ∷ words) = at_word (long_of word) (λ name. pairs_from (Some name) words) (pairs_from None words)
 pairs_from (Some name) (word ∷ words) = with_more (is_value word) (record { name = name; value = word }) (pairs_from None words)
 
--- the options that the words are, where they fall into options
+-- the options that the words are, if they fall into options
 unfoldable pub pairs_of : List (List ℕ) → Option (List Pair)
 pairs_of words = pairs_from None words
 
@@ -77,7 +77,7 @@ options_in words = unwrap_or (pairs_of words) []
 
 -- ---- word by word
 
--- behind a name, with its value where that stands behind `=`: whether the value has still to come; none where it can't
+-- after a name, with its value if that comes after `=`: whether the value has still to come; none if it can't
 abbrev pub step_with : Option (List ℕ) → Option Bool
 step_with None = Some true
 step_with (Some value) = if is_filled value then Some false else None
@@ -85,19 +85,19 @@ step_with (Some value) = if is_filled value then Some false else None
 abbrev pub step_named : Named → Option Bool
 step_named word = step_with word.value
 
--- behind a word, where a value has to come or not: whether one has to come
+-- after a word, given whether it has to be a value: whether the next one has to be a value
 abbrev pub step : Bool → List ℕ → Option Bool
 step true word = if is_value word then Some false else None
 step false word = option_and_then step_named (long_of word)
 
--- each word is an option or the value of one, where a value has to come first or not
+-- each word is an option or the value of one, given whether a value has to come first
 abbrev pub are_formed : Bool → List (List ℕ) → Bool
 are_formed waits [] = not waits
 are_formed waits (word ∷ words) = option_map_or (λ now. are_formed now words) (step waits word) false
 
 -- ---- the first option
 
--- an option, and the words behind it
+-- an option, and the words after it
 pub record First : Type 0 where
   pub pair : Pair
   pub rest : List (List ℕ)
@@ -105,12 +105,12 @@ pub record First : Type 0 where
 abbrev pub first_if : Bool → First → Option First
 first_if fits first = if fits then Some first else None
 
--- the value stands in the next word
+-- the value is the next word
 abbrev pub parted : List ℕ → List (List ℕ) → Option First
 parted name [] = None
 parted name (value ∷ words) = first_if (is_value value) (record { pair = record { name = name; value = value }; rest = words })
 
--- the value stands behind `=`
+-- the value comes after `=`
 abbrev pub joined : List ℕ → List ℕ → List (List ℕ) → Option First
 joined name value words = first_if (is_filled value) (record { pair = record { name = name; value = value }; rest = words })
 
@@ -142,7 +142,7 @@ pub record Parted (words : List (List ℕ)) (pair : Pair) (rest : List (List ℕ
   pub value : is_value pair.value ≡ true
   pub words_are : words ≡ (codes "--" ++ pair.name) ∷ pair.value ∷ rest
 
--- the words are these options, one behind the other
+-- the words are these options, one after the other
 abbrev pub Options : List (List ℕ) → List Pair → Type 0
 Options words [] = words ≡ []
 Options words (pair ∷ pairs) = (rest : List (List ℕ)) × (Joined words pair rest ⊎ Parted words pair rest) × Options rest pairs

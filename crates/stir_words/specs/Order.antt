@@ -75,7 +75,7 @@ pub record DivertingView : Type 0 where
   pub answers : List ℕ
   pub holder : Option HolderNames
 
--- by what a call is judged, and when it came; where it goes on; and under which key and when its diversion is signed, with the file of the key's
+-- by what a call is judged, when it came and where it goes on; under which key and when its diversion is signed, and the file of the key's
 -- certificate
 pub record RetargetingView : Type 0 where
   pub judging : JudgingView
@@ -132,7 +132,7 @@ asking_of given =
     option_map (λ settings. record { chains = chains; anchors = anchors; table = table; settings = settings }) (settings_of given))
     (given (codes "table"))) (given (codes "anchors"))) (given (codes "chains"))
 
--- `--leaf` and `--table` stand together, or neither stands
+-- `--leaf` and `--table` are given together, or neither is
 abbrev pub holder_by : Option (List ℕ) → Option (List ℕ) → Option (Option HolderNames)
 holder_by None None = Some None
 holder_by (Some leaf) (Some table) = Some (Some (record { leaf = leaf; table = table }))
@@ -142,7 +142,7 @@ holder_by None (Some table) = None
 abbrev pub holder_of : Given → Option (Option HolderNames)
 holder_of given = holder_by (given (codes "leaf")) (given (codes "table"))
 
--- what `sign` and `divert` have in common, where each part is there
+-- what `sign` and `divert` have in common, if each part is there
 abbrev pub signer_from : Option (List ℕ) → Option (List ℕ) → Option ℕ → Option LocalView → Option (List ℕ) → Option (Option HolderNames) → Option SignerView
 signer_from key x5u iat l answers holder =
     option_and_then (λ k. option_and_then (λ u. option_and_then (λ i. option_and_then (λ n. option_and_then (λ a.
@@ -170,7 +170,7 @@ diverting_from earlier by = option_and_then (λ e. option_map (diverting_by e) b
 abbrev pub diverting_of : Given → Option DivertingView
 diverting_of given = diverting_from (earlier_of given) (signer_of given)
 
--- what `retarget` orders, where each part is there
+-- what `retarget` orders, if each part is there
 abbrev pub retargeting_from : Option JudgingView → Option (List ℕ) → Option (List ℕ) → Option ℕ → Option (List ℕ) → Option (List ℕ) → Option ℕ → Option RetargetingView
 retargeting_from judging key x5u iat target leaf moment =
     option_and_then (λ j. option_and_then (λ k. option_and_then (λ u. option_and_then (λ i. option_and_then (λ t. option_and_then (λ l.
@@ -206,7 +206,7 @@ abbrev pub order_by : Command → List (List ℕ) → Option OrderView
 order_by command words =
     option_and_then (λ pairs. if accepts (options_of command) pairs then order_with command (given_by pairs) else None) (pairs_of words)
 
--- what the words behind the program's name order: the first is the name of a command, and the others are its options
+-- what the words after the program's name order: the first is the name of a command, and the others are its options
 unfoldable pub order_of : List (List ℕ) → Option OrderView
 order_of [] = None
 order_of (name ∷ words) = option_and_then (λ command. order_by command words) (command_named name)
@@ -219,7 +219,7 @@ pub record IsSigner (key x5u : List ℕ) (iat : ℕ) : Type 0 where
   pub uri : is_uri x5u ≡ true
   pub within : iat ≤ last_second
 
--- the same, and the identifier of the call, where the form has one, is a UUID in 36 characters
+-- the same, and the identifier of the call, if the form has one, is a UUID in 36 characters
 pub record IsSigning (order : SigningView) : Type 0 where
   pub by : IsSigner order.key order.x5u order.iat
   pub origid : has_origid (form_kind order.form) ≡ true
@@ -234,7 +234,7 @@ pub record IsRetargeting (order : RetargetingView) : Type 0 where
   pub by : IsSigner order.key order.x5u order.iat
   pub moment : order.moment ≤ last_second
 
--- what is ordered can be signed, where it is to be
+-- what is ordered can be signed, if it is to be
 abbrev pub CanBeSigned : OrderView → Type 0
 CanBeSigned (SignBy order) = IsSigning order
 CanBeSigned (DivertBy order) = IsDiverting order

@@ -119,7 +119,7 @@ order_view Show = ShowCertificates
 order_view (Drill drilling) = DrillBy (drilling_view drilling)
 order_view (Once claiming) = OnceBy (claiming_view claiming)
 
--- the answer is what is ordered; or nothing is, or memory was wanting
+-- the answer is what is ordered; or nothing is, or memory ran out
 abbrev pub Orders : Option OrderView → Result Order WordsFault → Type 0
 Orders order (Ok found) = order ≡ Some (order_view found)
 Orders order (Err Refused) = order ≡ None

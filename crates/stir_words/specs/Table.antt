@@ -16,14 +16,14 @@ abbrev pub get : List ℕ → List Pair → Option (List ℕ)
 get name [] = None
 get name (pair ∷ pairs) = if bytes_eq pair.name name then Some pair.value else get name pairs
 
--- the value of the option of each name, where it stands
+-- the value of the option of each name, if it is there
 abbrev pub Given : Type 0
 Given = List ℕ → Option (List ℕ)
 
 abbrev pub given_by : List Pair → Given
 given_by pairs = λ name. get name pairs
 
--- an option of that name stands among them
+-- an option of that name is among them
 abbrev pub has : List ℕ → List Pair → Bool
 has name pairs = is_some (get name pairs)
 
@@ -36,7 +36,7 @@ abbrev pub are_known : List Known → List Pair → List Pair → Bool
 are_known table seen [] = true
 are_known table seen (pair ∷ pairs) = is_known table pair.name && (not (has pair.name seen) && are_known table (seen ++ pair ∷ []) pairs)
 
--- all that the table requires stand there
+-- all that the table requires are there
 abbrev pub has_required : List Known → List Pair → Bool
 has_required table pairs = list_all (λ known. not known.required || has known.name pairs) table
 
@@ -46,7 +46,7 @@ accepts table pairs = are_known table [] pairs && has_required table pairs
 
 -- ---- the commands
 
--- an option that has to stand
+-- an option that is required
 abbrev pub needed : List ℕ → Known
 needed name = record { name = name; required = true }
 

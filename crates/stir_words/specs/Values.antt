@@ -15,22 +15,22 @@ use Rattle.passport_claims.specs.declared.form.Form.{Form}
 use Rattle.passport_claims.specs.declared.form.Form.TheVariants as forms
 use Rattle.stir_words.specs.Table.{Given}
 
--- the text, where it has this form
+-- the text, if it has this form
 abbrev pub text_if : (List ℕ → Bool) → List ℕ → Option (List ℕ)
 text_if fits text = if fits text then Some text else None
 
--- a number of at most so much; where the option doesn't stand, this one
+-- a number of at most so much; if the option isn't given, this one
 abbrev pub number_or : ℕ → ℕ → Option (List ℕ) → Option ℕ
 number_or other most None = Some other
 number_or other most (Some text) = number_up_to most text
 
 -- ---- by what calls are judged and numbers are read
 
--- `--past`: at most a day, in seconds; 60 where the option doesn't stand
+-- `--past`: at most a day, in seconds; 60 if the option isn't given
 abbrev pub past_of : Given → Option ℕ
 past_of given = number_or 60 86400 (given (codes "past"))
 
--- `--future`: at most a day, in seconds; 5 where the option doesn't stand
+-- `--future`: at most a day, in seconds; 5 if the option isn't given
 abbrev pub future_of : Given → Option ℕ
 future_of given = number_or 5 86400 (given (codes "future"))
 
@@ -39,7 +39,7 @@ abbrev pub unless_none : Option ℕ → Option ℕ
 unless_none None = None
 unless_none (Some n) = if n == 0 then None else Some n
 
--- `--workers`: 1 to 8, and 1 where the option doesn't stand
+-- `--workers`: 1 to 8, and 1 if the option isn't given
 abbrev pub workers_of : Given → Option ℕ
 workers_of given = unless_none (number_or 1 8 (given (codes "workers")))
 
@@ -59,7 +59,7 @@ size_of given = unless_none (option_and_then (number_up_to 1048576) (given (code
 abbrev pub national_of : Given → Option ℕ
 national_of given = number_or 10 14 (given (codes "national"))
 
--- `--country`: its digits, as they stand
+-- `--country`: its digits, as they are given
 abbrev pub country_of : Given → List ℕ
 country_of given = unwrap_or (given (codes "country")) (codes "1")
 
@@ -110,7 +110,7 @@ plain_by form =
     else if bytes_eq form (codes "compact") then Some forms.Compact
     else None
 
--- the attestation and the identifier stand exactly with `shaken`
+-- the attestation and the identifier are given exactly with `shaken`
 abbrev pub form_by : List ℕ → Option (List ℕ) → Option (List ℕ) → Option Form
 form_by form None None = plain_by form
 form_by form (Some attest) (Some origid) = if bytes_eq form (codes "shaken") then shaken_by attest origid else None

@@ -26,7 +26,7 @@ pub(crate) enum Command {
     Once,
 }
 
-/// An option that a command takes: its name, without dashes, and whether it has to stand.
+/// An option that a command takes: its name, without dashes, and whether it is required.
 #[derive(Clone, Copy, Debug)]
 pub(crate) struct Row {
     pub(crate) name: &'static str,
@@ -153,7 +153,7 @@ const LEAF: Row = Row {
     required: false,
 };
 
-/// The same, where it has to stand.
+/// The same, if it is required.
 const OWN_LEAF: Row = Row {
     name: "leaf",
     required: true,

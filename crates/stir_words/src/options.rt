@@ -6,14 +6,14 @@ ghost use Rattle.text_grammar.specs.Cut.{behind};
 ghost use Rattle.stir_words.specs.Options.{are_formed, are_options, is_value, long_of, named, step, step_named, step_with};
 ghost use Rattle.stir_words.specs.Seen.{named_of, texts};
 
-/// What a word says that begins with two dashes: a name, and the value behind its first `=` where it has one.
+/// What a word says that begins with two dashes: a name, and the value after its first `=` if it has one.
 #[derive(Clone, Copy, Debug)]
 pub(crate) struct Long<'a> {
     pub(crate) name: &'a str,
     pub(crate) value: Option<&'a str>,
 }
 
-/// What stands behind the two dashes of a word.
+/// What comes after the two dashes of a word.
 #[tactic(auto, using(crate::proofs::WordSteps::dashes_found, crate::proofs::WordSteps::no_dashes))]
 fn behind_dashes(word: &str) -> Option<&str>
     ensures { option_copied result ≡ behind (codes "--") word.now }
@@ -24,7 +24,7 @@ fn behind_dashes(word: &str) -> Option<&str>
     }
 }
 
-/// What stands before the first `=`, and what behind it.
+/// What comes before the first `=`, and what after it.
 fn parts_of(text: &str) -> Option<(&str, &str)>
     ensures { MatchOption result (position_or_len (λ byte. byte == 61) text.now ≡ length text.now)
         (λ parts. (parts.0.now ≡ before_first (λ byte. byte == 61) text.now) × (parts.1.now ≡ after_first (λ byte. byte == 61) text.now)
@@ -33,7 +33,7 @@ fn parts_of(text: &str) -> Option<(&str, &str)>
     text.split_once('=')
 }
 
-/// What the text behind the dashes says.
+/// What the text after the dashes says.
 #[tactic(auto, using(crate::proofs::WordSteps::cut_in_two, crate::proofs::WordSteps::not_cut))]
 fn named(text: &str) -> Option<Long<'_>>
     ensures { option_map named_of result ≡ named text.now }
@@ -74,7 +74,7 @@ fn is_value(word: &str) -> bool
     }
 }
 
-/// Whether a name waits for its value behind this word, where one waits in front of it or not; None where the word can't stand there.
+/// Whether a name waits for its value after this word, given whether one waits before it. None if the word can't come there.
 fn step(waits: bool, word: &str) -> Option<bool>
     ensures { result ≡ step waits word.now }
 {
@@ -87,14 +87,14 @@ fn step(waits: bool, word: &str) -> Option<bool>
     }
 }
 
-/// Behind a word that has to be a value.
+/// After a word that has to be a value.
 fn behind_value(word: &str) -> Option<bool>
     ensures { result ≡ step true word.now }
 {
     if is_value(word) { Some(false) } else { None }
 }
 
-/// Behind a word that is a name, with its value where that stands behind `=`.
+/// After a word that is a name, with its value if that comes after `=`.
 fn behind_long(long: &Long<'_>) -> Option<bool>
     ensures { result ≡ step_named (named_of long.now) }
 {
@@ -104,7 +104,7 @@ fn behind_long(long: &Long<'_>) -> Option<bool>
     }
 }
 
-/// Behind a value that stands behind `=`.
+/// After a value that comes after `=`.
 fn behind_sign(value: &str) -> Option<bool>
     ensures { result ≡ step_with (Some value.now) }
 {

@@ -73,26 +73,27 @@ pub enum Order<'a> {
 }
 
 impl<'a> Order<'a> {
-    /// What the words behind the program's name order, or that they are refused.
+    /// What the words after the program's name order, or that they are refused.
     ///
-    /// The first word is the name of a command. The others fall into options, `--name=value` or `--name` and a next word that is the
-    /// value and doesn't begin with `-`; no value is empty, and with `=` it is all behind the first `=`. Each is an option of the command,
-    /// at most once, and all that the command requires stand.
+    /// The first word is the name of a command. The others fall into options. An option is `--name=value`, or `--name` and a next word
+    /// that is the value and doesn't begin with `-`. No value is empty, and with `=` it is all that comes after the first `=`. Each is an
+    /// option of the command, at most once, and all that the command requires are there.
     ///
-    /// `verify` and `explain` require `--chains`, `--anchors`, `--table` and `--answers`, each the name of a file, and `ask` the first three;
-    /// all take `--past`, a number of at most 86,400 (60), `--future`, the same (5), `--country`, 1 to 3 digits (1), and `--national`, a number
-    /// (10), the last two of which have to make a [`Local`](tn_values::Local). `verify` takes `--workers` as well, a number from 1 to 8 (1), and
-    /// `--state`, the name of a file.
-    /// Numbers are decimal digits without a leading zero. `show` takes none. `drill` requires `--seed`, a number below 2^64, and `--count`, a
-    /// number of at most 100,000, and takes `--workers`. `once` requires `--size`, a number from 1 to 1,048,576, and takes `--workers`.
+    /// `verify` and `explain` require `--chains`, `--anchors`, `--table` and `--answers`, each the name of a file, and `ask` requires the first
+    /// three. All three take `--past`, a number of at most 86,400 (60), `--future`, the same (5), `--country`, 1 to 3 digits (1), and
+    /// `--national`, a number (10). The last two have to make a [`Local`](tn_values::Local). `verify` takes `--workers` as well, a number from
+    /// 1 to 8 (1), and `--state`, the name of a file. Numbers are decimal digits without a leading zero. `show` takes no option. `drill`
+    /// requires `--seed`, a number below 2^64, and `--count`, a number of at most 100,000, and takes `--workers`. `once` requires `--size`, a
+    /// number from 1 to 1,048,576, and takes `--workers`.
     ///
     /// `sign` and `divert` require `--key`, the name of a key, `--x5u`, the URI of its certificates, `--iat`, a number of at most
-    /// 253,402,300,799, and `--answers`, the name of a file; they take `--leaf` and `--table`, the names of two files that stand together,
-    /// `--country` and `--national`. `sign` requires `--form` as well, which is `base`, `compact` or `shaken`, and exactly with `shaken`
-    /// `--attest`, which is `A`, `B` or `C`, and `--origid`, a UUID in 36 characters. `divert` requires `--earlier`, a telephone number.
+    /// 253,402,300,799, and `--answers`, the name of a file. They take `--leaf` and `--table`, the names of two files that are given
+    /// together or not at all, `--country` and `--national`. `sign` requires `--form` as well, which is `base`, `compact` or `shaken`.
+    /// Exactly with `shaken` come `--attest`, which is `A`, `B` or `C`, and `--origid`, a UUID in 36 characters. `divert` requires
+    /// `--earlier`, a telephone number.
     ///
     /// `retarget` requires the four files of `verify`, `--key`, `--x5u`, `--iat`, `--target`, any text, `--leaf`, and `--moment`, a number of at most
-    /// 253,402,300,799; it takes `--past`, `--future`, `--country` and `--national`.
+    /// 253,402,300,799. It takes `--past`, `--future`, `--country` and `--national`.
     #[tactic(auto, using(crate::proofs::OptionLaws::options_are, crate::proofs::AcceptLaws::accepted_are, crate::proofs::SigningLaws::can_be_signed))]
     pub fn of(alloc: Global, words: &'a [&'a str]) -> Result<Order<'a>, WordsFault>
         ensures exact { Orders (order_of (texts words.now)) result }
@@ -147,7 +148,7 @@ impl<'a> Order<'a> {
         }
     }
 
-    /// The order of a command with these values, where they are of their forms.
+    /// The order of a command with these values, if they are of their forms.
     fn with_values(command: Command, given: &ArgMatches<'a>) -> Option<Order<'a>>
         ensures { option_map order_view result ≡ order_with command (values_in given.now) }
     {

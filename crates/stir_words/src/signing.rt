@@ -35,7 +35,7 @@ pub struct Signing<'a> {
     pub local: Local,
     /// The name of the file with the answers of the provider of signatures.
     pub answers: &'a str,
-    /// Whose key it is, where that is looked at.
+    /// Whose key it is, if that is looked at.
     pub holder: Option<HolderFiles<'a>>,
 }
 
@@ -54,7 +54,7 @@ pub struct Diverting<'a> {
     pub local: Local,
     /// The name of the file with the answers of the provider of signatures.
     pub answers: &'a str,
-    /// Whose key it is, where that is looked at.
+    /// Whose key it is, if that is looked at.
     pub holder: Option<HolderFiles<'a>>,
 }
 
@@ -125,14 +125,14 @@ fn signer_of<'a>(given: &ArgMatches<'a>) -> Option<Signer<'a>>
     })
 }
 
-/// The files of the holder, where they are given; None where only one of the two is.
+/// The files of the holder, if they are given; None if only one of the two is.
 fn holder_of<'a>(given: &ArgMatches<'a>) -> Option<Option<HolderFiles<'a>>>
     ensures { option_map (option_map holder_view) result ≡ holder_of (values_in given.now) }
 {
     holder_by(given.get_str("leaf"), given.get_str("table"))
 }
 
-/// The files of the holder, which stand together or not at all.
+/// The files of the holder, which are given together or not at all.
 fn holder_by<'a>(leaf: Option<&'a str>, table: Option<&'a str>) -> Option<Option<HolderFiles<'a>>>
     ensures { option_map (option_map holder_view) result ≡ holder_by (option_copied leaf.entry) (option_copied table.entry) }
 {

@@ -16,16 +16,16 @@ use tn_values::{Local, Number};
 /// A day in seconds.
 const DAY: u64 = 86_400;
 
-/// How many seconds old a PASSporT may be where that isn't given.
+/// How many seconds old a PASSporT may be if that isn't given.
 const PAST: u64 = 60;
 
-/// How many seconds the `iat` of a PASSporT may be ahead where that isn't given.
+/// How many seconds the `iat` of a PASSporT may be ahead if that isn't given.
 const FUTURE: u64 = 5;
 
 /// The most workers.
 const MOST_WORKERS: u64 = 8;
 
-/// The workers where their number isn't given.
+/// The workers if their number isn't given.
 const WORKERS: u64 = 1;
 
 /// The greatest seed of a drill.
@@ -40,10 +40,10 @@ const MOST_SLOTS: u64 = 1_048_576;
 /// The most digits of a national number.
 const MOST_NATIONAL: u64 = 14;
 
-/// How many digits a national number has where that isn't given.
+/// How many digits a national number has if that isn't given.
 const NATIONAL: u8 = 10;
 
-/// The country where none is given.
+/// The country if none is given.
 const COUNTRY: &str = "1";
 
 /// How many seconds old a PASSporT may be.
@@ -156,7 +156,7 @@ pub(crate) fn local_of(given: &ArgMatches<'_>) -> Option<Local>
     Local::new(country_of(given).as_bytes(), national)
 }
 
-/// The country's digits, as they stand.
+/// The country's digits, as they are given.
 fn country_of<'a>(given: &ArgMatches<'a>) -> &'a str
     ensures { result.now ≡ country_of (values_in given.now) }
 {
@@ -197,7 +197,7 @@ pub(crate) fn key_of<'a>(given: &ArgMatches<'a>) -> Option<&'a str>
     }
 }
 
-/// The text, where it is the name of a key.
+/// The text, if it is the name of a key.
 fn key_in(text: &str) -> Option<&str>
     ensures { option_copied result ≡ text_if is_key text.now }
 {
@@ -219,14 +219,14 @@ fn is_key(text: &[u8]) -> bool
     }
 }
 
-/// Whether all bytes may stand in the name of a key.
+/// Whether all bytes may be in the name of a key.
 fn are_key_bytes(text: &[u8]) -> bool
     ensures { result ≡ list_all is_key_byte text.now }
 {
     text.iter().all(|byte| is_key_byte(*byte))
 }
 
-/// Whether a byte may stand in the name of a key: visible ASCII other than `;`, `,`, `"`, `<`, `>` and backslash.
+/// Whether a byte may be in the name of a key: visible ASCII other than `;`, `,`, `"`, `<`, `>` and backslash.
 fn is_key_byte(byte: u8) -> bool
     ensures { result ≡ is_key_byte byte }
 {
@@ -243,7 +243,7 @@ pub(crate) fn x5u_of<'a>(given: &ArgMatches<'a>) -> Option<&'a str>
     }
 }
 
-/// The text, where it is the URI of a certificate.
+/// The text, if it is the URI of a certificate.
 fn uri_in(text: &str) -> Option<&str>
     ensures { option_copied result ≡ text_if is_uri text.now }
 {
@@ -294,7 +294,7 @@ pub(crate) fn form_of(given: &ArgMatches<'_>) -> Option<Form>
     }
 }
 
-/// The form of that name; the attestation and the identifier stand exactly with `shaken`.
+/// The form of that name; the attestation and the identifier are given exactly with `shaken`.
 fn form_by(form: &str, attest: Option<&str>, origid: Option<&str>) -> Option<Form>
     ensures { result ≡ form_by form.now (option_copied attest.entry) (option_copied origid.entry) }
 {

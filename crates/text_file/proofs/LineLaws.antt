@@ -26,7 +26,7 @@ last_by text false e some = rw e refl
 last_line : (text : List ℕ) → lacks 10 text ≡ true → 0 < length text → file_lines text ≡ text ∷ []
 last_line text h some = ap lines_of_parts (split_none 10 text h) ∙ last_by text (length text == 0) refl some
 
--- what stands behind the last LF is a line as it is, and nothing follows it
+-- what comes after the last LF is a line as it is, and nothing follows it
 pub last_of : (text front back : List ℕ) → lacks 10 text ≡ true → 0 < length text → front ≡ take (length text) text → back ≡ drop (length text) text
     → file_lines text ≡ front ∷ file_lines back
 last_of text front back h some f b =

@@ -1,4 +1,4 @@
--- A line has these words exactly where it is these words with one space between each two.
+-- A line has these words exactly if it is these words with one space between each two.
 use Rattle.std.proofs.Common.{◌≡◌, ◌↔◌, ℕ, ◌≤◌, Bool, true, false, ◌&&◌, nat_le, ◌==◌, cond, List, [], ◌∷◌, length, Some, None, refl, sym, ap, subst, ◌∙◌, arith}
 use Rattle.std.specs.List.{onto_first, list_all, join_with_byte}
 use Rattle.std.proofs.lemmas.Bool.{and_parts}

@@ -22,7 +22,7 @@ first_by : (byte b : ℕ) (bs rest : List ℕ) (t : Bool) → (b == byte) ≡ t 
 first_by byte b bs rest true e below h = let k = rw e at h in absurd (cc)
 first_by byte b bs rest false e below h = let k = rw e at h in let here = below k in rw (e, here) refl
 
--- the first part of a text that has one stands before the first of them
+-- the first part of a text that has the byte is what comes before the first one
 pub split_first : (byte : ℕ) (front rest : List ℕ) → lacks byte front ≡ true → split_at_byte byte (front ++ byte ∷ rest) ≡ front ∷ split_at_byte byte rest
 split_first byte [] rest h = rw (same_byte byte) refl
 split_first byte (b ∷ bs) rest h = first_by byte b bs rest (b == byte) refl (split_first byte bs rest) h

@@ -3,7 +3,7 @@ use Rattle.std.proofs.Common.{◌≡◌, ℕ, true, false, List, [], ◌∷◌, 
 use Rattle.text_file.specs.Reading.{go_on, read_lines}
 use Rattle.text_file.specs.Rows.{AddsLine, Reached}
 
--- what is left gives the same behind a line
+-- what is left gives the same after a line
 reads_on : {R : Type 0} (add : List R → List ℕ → Option (List R)) (given : Result (List R) ℕ) (lines more : List (ℕ × List ℕ)) (line : ℕ × List ℕ) (rows : List R) (k : Option (List R))
     → lines ≡ line ∷ more → add rows line.1 ≡ k → read_lines add lines rows ≡ given → go_on k line.0 (λ next. read_lines add more next) ≡ given
 reads_on add given lines more line rows k e a h =

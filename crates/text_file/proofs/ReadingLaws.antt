@@ -1,4 +1,4 @@
--- A reading stops at a line exactly where that line is refused behind the ones before it.
+-- A reading stops at a line exactly if that line is refused after the ones before it.
 use Rattle.std.proofs.Common.{◌≡◌, ℕ, List, [], ◌∷◌, ◌++◌, Option, Some, None, Ok, Err, refl, ap, ◌∙◌}
 use Rattle.text_file.specs.Reading.{go_on, read_lines, Refuses}
 
@@ -32,7 +32,7 @@ over_by : {S : Type 0} (take : S → List ℕ → Option S) (line : ℕ × List 
 over_by take line before more reached None below h = absurd cc
 over_by take line before more reached (Some next) below h = below next h
 
--- the lines before are read, and the others behind them
+-- the lines before are read, and the others after them
 pub read_over : {S : Type 0} (take : S → List ℕ → Option S) (before more : List (ℕ × List ℕ)) (state reached : S) → read_lines take before state ≡ Ok reached
     → read_lines take (before ++ more) state ≡ read_lines take more reached
 read_over take [] more state reached h = let same : state ≡ reached = cc in ap (λ s. read_lines take more s) same

@@ -1,4 +1,4 @@
--- Lines are read as rows exactly where they say these rows, and none is refused behind those before it.
+-- Lines are read as rows exactly if they say these rows, and none is refused given those before it.
 use Rattle.std.proofs.Common.{◌≡◌, ℕ, Bool, true, false, cond, List, [], ◌∷◌, ◌++◌, map, Option, Some, None, option_and_then, Ok, refl, sym, ap, ◌∙◌, append_assoc, append-nil}
 use Rattle.text_file.specs.Reading.{go_on, read_lines}
 use Rattle.text_file.specs.Rows.{one_row, EachFits}
@@ -6,7 +6,7 @@ use Rattle.text_file.specs.Rows.{one_row, EachFits}
 abbrev said : {R : Type 0} → (List ℕ → Option R) → List (ℕ × List ℕ) → List (Option R)
 said row_of lines = map (λ line. row_of line.1) lines
 
--- the lines say the rows behind the first ones
+-- the lines say the rows after the first ones
 pub record Says {R : Type 0} (row_of : List ℕ → Option R) (is_refused : List R → R → Bool) (lines : List (ℕ × List ℕ)) (before rows : List R) : Type 0 where
   pub new : List R
   pub all : rows ≡ before ++ new

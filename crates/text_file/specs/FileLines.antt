@@ -4,7 +4,7 @@ use Rattle.std.specs.List.{enumerate_from}
 use Rattle.std.specs.Str.Lines.{lines}
 
 -- every line of the text, without its end: a line ends at an LF, and one CR directly before that is dropped; the last line may
--- lack its LF, and a CR that it ends with is then its own. Behind a last LF there is no further line
+-- lack its LF, and a CR that it ends with is then its own. After a last LF there is no further line
 abbrev pub file_lines : List ℕ → List (List ℕ)
 file_lines text = lines text
 

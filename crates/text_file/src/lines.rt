@@ -11,7 +11,7 @@ use text_grammar::cut;
 pub struct Line<'a> {
     /// Which line of the file it is, from 1; lines that are passed over count.
     pub number: u32,
-    /// What stands on it.
+    /// What is written on it.
     pub text: &'a [u8],
 }
 
@@ -48,7 +48,7 @@ impl<'a> Lines<'a> {
         }
     }
 
-    /// The next line that isn't passed over, or None where there is no more.
+    /// The next line that isn't passed over, or None if there is no more.
     pub fn next(&mut self) -> Option<Line<'a>>
         ensures { MatchOption result ((self.old ≡ []) × (self.new ≡ []))
             (λ line. self.old ≡ (line.number, line.text.now) ∷ self.new) }
@@ -65,7 +65,7 @@ impl<'a> Lines<'a> {
     }
 }
 
-/// The first line of the text without its end, and what stands behind it; None of the empty text.
+/// The first line of the text without its end, and what comes after it; None of the empty text.
 #[tactic(auto, using(crate::proofs::LineLaws::first_of, crate::proofs::LineLaws::last_of))]
 fn first_line(text: &[u8]) -> Option<(&[u8], &[u8])>
     ensures line { MatchOption result (file_lines text.now ≡ [])

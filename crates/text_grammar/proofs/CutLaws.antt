@@ -1,4 +1,4 @@
--- A text cut at a byte is what stood before it, the byte, and what stood behind it; no such byte stood before.
+-- A text cut at a byte is what came before it, the byte, and what came after it; no such byte came before.
 use Rattle.std.proofs.Common.{sym, ◌∙◌, ◌≡◌, ℕ, suc, ◌+◌, ◌<◌, ◌≤◌, Bool, true, false, ◌==◌, nat_lt, cond, List, [], ◌∷◌, ◌++◌, length, take, drop, Option, Some, None, refl, arith, ap, position}
 use Rattle.std.specs.List.{position_or_len}
 use Rattle.std.proofs.lemmas.Bool.Decides.{nat_tests}
@@ -16,7 +16,7 @@ is_byte byte b = b == byte
 abbrev place_of : ℕ → List ℕ → ℕ
 place_of byte text = position_or_len (is_byte byte) text
 
--- at the place stands the byte, and before it none
+-- the byte is at the place, and none before it
 pub record Cuts (byte : ℕ) (text : List ℕ) (place : ℕ) : Type 0 where
   pub within : place + 1 ≤ length text
   pub split : text ≡ take place text ++ byte ∷ drop (place + 1) text
@@ -78,18 +78,18 @@ place_again : (byte : ℕ) (front rest : List ℕ) → lacks byte front ≡ true
 place_again byte [] rest h = rw (same_byte byte) refl
 place_again byte (b ∷ bs) rest h = place_by byte b bs rest (b == byte) refl (place_again byte bs rest) h
 
--- a text in which such a byte stands behind a front that lacks it is cut there
+-- a text in which such a byte comes after a prefix that lacks it is cut there
 pub cut_again : (byte : ℕ) (front rest : List ℕ) → lacks byte front ≡ true → cut byte (front ++ byte ∷ rest) ≡ Some (front, rest)
 cut_again byte front rest h =
     let place = place_again byte front rest h in
     let within : nat_lt (length front) (length (front ++ byte ∷ rest)) ≡ true = grind (arith, nat_tests, length-append front (byte ∷ rest)) in
     rw (place, within, take-append_seam front (byte ∷ rest), drop-append-add front (byte ∷ rest) 1) refl
 
--- a text that begins with the front has the rest behind it
+-- a text that begins with the prefix has the rest after it
 pub behind_again : (front rest : List ℕ) → behind front (front ++ rest) ≡ Some rest
 behind_again front rest = rw (take-append_seam front rest, (bytes_eq-Decides front front).1 refl, drop-append_seam front rest) refl
 
--- a text whose front is this one is the front and what stands behind it
+-- a text whose prefix is this one is the prefix and what comes after it
 pub behind_split : (front text : List ℕ) → bytes_eq (take (length front) text) front ≡ true → text ≡ front ++ drop (length front) text
 behind_split front text e =
     let same : take (length front) text ≡ front = (bytes_eq-Decides _ _).0 e in

@@ -92,7 +92,7 @@ number_within most text n h =
     let f = found most text n (is_decimal text) refl (nat_le (digits_value 10 text) most) refl h in
     omega (arith, f.1, f.2)
 
--- a byte that is no digit stands in no number
+-- a byte that is no digit is in no number
 pub decimal_lacks : (n byte : ℕ) → n < 2 ^ 64 → is_ascii_digit byte ≡ false → lacks byte (decimal n) ≡ true
 decimal_lacks n byte h other = each is_ascii_digit (λ b. not (b == byte)) (λ b d. no_digit b byte d other) (decimal n) (digits_decimal digit_numerals n h)
 

@@ -1,11 +1,11 @@
--- A law joins a reader on lists with a grammar: what is read is in the grammar, what is in the grammar is read, and where
--- the reader can't go on the longest front ends that a text of the grammar begins with.
+-- A law joins a reader on lists with a grammar: what is read is in the grammar, what is in the grammar is read, and where the reader can't go on the longest
+-- prefix ends that a text of the grammar begins with.
 use Rattle.std.proofs.Common.{◌≡◌, ℕ, zero, suc, ◌+◌, ◌-◌, ◌≤◌, ◌<◌, List, [], ◌∷◌, ◌++◌, length, take, Ok, Err, refl, sym, ◌∙◌, ap, subst, append_assoc, arith, length-append}
 use Rattle.std.proofs.lemmas.List.{take_at}
 use Rattle.text_grammar.specs.Place.{Begins, IsPlace}
 use Rattle.text_grammar.specs.Reading.{Read}
 
--- the longest front that a text of the grammar begins with, as a split of the text
+-- the longest prefix that a text of the grammar begins with, as a split of the text
 pub record Stops (F : Type 0) (N : F → List ℕ → Type 0) (text left : List ℕ) : Type 0 where
   pub front : List ℕ
   pub split : text ≡ front ++ left
@@ -26,7 +26,7 @@ carried : (F : Type 0) (M N : F → List ℕ → Type 0) (a rest front : List �
 carried F M N a rest [] b y more f out e m = out f b y more e m
 carried F M N a rest (x ∷ front) b y more f out e m = out f x (front ++ b ∷ y) (front ++ b ∷ more) e m
 
--- The front a is forced, and behind it N decides.
+-- The prefix a is forced, and after it N decides.
 pub stops_after : (F : Type 0) (M N : F → List ℕ → Type 0) (a rest left : List ℕ)
     → ((f : F) (t : List ℕ) → N f t → M f (a ++ t))
     → ((f : F) (x : ℕ) (u v : List ℕ) → rest ≡ x ∷ u → M f (a ++ x ∷ v) → N f (x ∷ v))

@@ -19,7 +19,7 @@ pub record Cut (p : ℕ → Bool) (lim : ℕ → Type 0) (a rest : List ℕ) : T
   pub fits : lim (length a)
   pub stop : (x : ℕ) (u : List ℕ) → rest ≡ x ∷ u → (p x ≡ false) ⊎ (lim (suc (length a)) → ⊥)
 
--- Two ways to split one text into a run and what stands behind it are one.
+-- Two ways to split one text into a run and what comes after it are one.
 pub same_run : (p : ℕ → Bool) (lim : ℕ → Type 0) (a s b t : List ℕ)
     → ((j k : ℕ) → j ≤ k → lim k → lim j)
     → a ++ s ≡ b ++ t → Cut p lim a s → list_all p b ≡ true → lim (length b)

@@ -92,7 +92,7 @@ pub law_byte : (F : Type 0) (n c : ℕ) (r : List ℕ → Read F) (N : F → Lis
     → Law F n r N → Law F (suc n) (λ t. byte_at c t >>= r) (λ f. Byte c ▹ N f)
 law_byte F n c r N l = law_one F n (λ b. b == c) (Byte c) r N (is_one_byte c) l
 
--- the same, with the bound of what stands behind it
+-- the same, with the bound of what comes after it
 pub law_mark : (F : Type 0) (n c : ℕ) (r : List ℕ → Read F) (N : F → List ℕ → Type 0)
     → Law F n r N → Law F n (λ t. byte_at c t >>= r) (λ f. Byte c ▹ N f)
 law_mark F n c r N l = law_less F n (suc n) _ _ (omega arith) (law_byte F n c r N l)
@@ -188,7 +188,7 @@ law_end F n x = record {
         subst (λ (u : List ℕ). Stops F (End F x) (b ∷ t) u) same
         (stops_here F (End F x) (b ∷ t) begins (λ c rest q f more m. let z : c ∷ more ≡ [] = m.empty in absurd (cc)))
 
--- one grammar where the first byte is of this class, and the other one elsewhere
+-- one grammar if the first byte is of this class, and else the other one
 pub law_either : (F : Type 0) (n : ℕ) (p : ℕ → Bool) (r s : List ℕ → Read F) (M N : F → List ℕ → Type 0)
     → ((f : F) → M f [] → ⊥)
     → ((f : F) (x : ℕ) (u : List ℕ) → M f (x ∷ u) → p x ≡ true)

@@ -20,7 +20,7 @@ pub record IsRun (p : ℕ → Bool) (lim : ℕ → Type 0) (A : List ℕ → Typ
   pub fits : (a : List ℕ) → A a → lim (length a)
   pub down : (j k : ℕ) → j ≤ k → lim k → lim j
 
--- Behind this run nothing of the grammar can stand, and the reader refuses all.
+-- After this run nothing of the grammar can come, and the reader refuses all.
 pub record Dead (F : Type 0) (r : List ℕ → Read F) (N : F → List ℕ → Type 0) : Type 0 where
   pub refused : (t : List ℕ) → r t ≡ Err t
   pub none : (f : F) (t : List ℕ) → N f t → ⊥
@@ -90,7 +90,7 @@ law_any F n p r N heads l = record { found = found; again = again; stops = stops
     stops t left h e = subst (λ (u : List ℕ). Stops F (λ f. Taking (Any p) (λ a. N a f)) u left) (take-append-drop (prefix_len p t) t)
         (stops_at _ _ left (cut t) ((l _ (cut t).each).stops _ left (short (prefix_len p t) n t h) e))
 
--- spaces and tabs, where no text of N begins with one
+-- spaces and tabs, if no text of N begins with one
 pub law_blanks : (F : Type 0) (n : ℕ) (r : List ℕ → Read F) (N : F → List ℕ → Type 0)
     → ((f : F) (x : ℕ) (u : List ℕ) → N f (x ∷ u) → is_blank x ≡ false)
     → Law F n r N → Law F n (λ t. r (skip is_blank t)) (λ f. Blanks ▹ N f)
@@ -100,7 +100,7 @@ some_more : (F : Type 0) (k : ℕ) (t : List ℕ) (r : List ℕ → List ℕ →
     → (some_at (suc k) t >>= (λ x. r x.0 x.1)) ≡ r (take (suc k) t) (drop (suc k) t)
 some_more F k t r = let h : eqb (suc k) 0 ≡ false = ne_eqb (suc k) 0 (λ e. omega arith) in rw h refl
 
--- One run. What stands behind it may depend on it, and behind some runs nothing may stand.
+-- One run. What comes after it may depend on it, and after some runs nothing may come.
 law_cut : (F : Type 0) (n : ℕ) (p : ℕ → Bool) (lim : ℕ → Type 0) (A : List ℕ → Type 0) (count : List ℕ → ℕ)
     (r : List ℕ → List ℕ → Read F) (N : List ℕ → F → List ℕ → Type 0)
     → IsRun p lim A
@@ -155,7 +155,7 @@ law_cut F n p lim A count r N run cut inside complete heads status =
         (same_run p lim _ _ m.piece m.rest run.down (take-append-drop (count t) t ∙ m.split) (cut t) (run.each m.piece m.is_piece)
         (run.fits m.piece m.is_piece) (λ x v z. heads m.piece f x v (subst (N m.piece f) z m.goes_on)))
 
-    -- what stands behind the run, where the next byte of the text is known
+    -- what comes after the run, if the next byte of the text is known
     behind : (a s : List ℕ) → Cut p lim a s → (f : F) (x : ℕ) (u v : List ℕ) → s ≡ x ∷ u → Taking A (λ a. N a f) (a ++ x ∷ v) → N a f (x ∷ v)
     behind a s c f x u v e m =
         let w : (a ≡ m.piece) × (x ∷ v ≡ m.rest) = same_run p lim a (x ∷ v) m.piece m.rest run.down m.split
@@ -256,7 +256,7 @@ law_run F n p most sample r N h k heads l =
         record { value = b.value; more = sample ∷ b.more; text = b.text }
     complete (x ∷ a) all fits = of_run (x ∷ a) (record { each = all; some = omega arith; within = fits })
 
--- one or more bytes of a class, where something can stand behind each of them
+-- one or more bytes of a class, if something can come after each of them
 pub law_some : (F : Type 0) (n : ℕ) (p : ℕ → Bool) (sample : ℕ) (r : List ℕ → List ℕ → Read F) (N : List ℕ → F → List ℕ → Type 0)
     → p sample ≡ true
     → ((a : List ℕ) (f : F) (x : ℕ) (u : List ℕ) → N a f (x ∷ u) → p x ≡ false)

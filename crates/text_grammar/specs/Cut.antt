@@ -1,4 +1,4 @@
--- A text cut in two: at the first of its bytes that is a given one, or behind a given front.
+-- A text cut in two: at the first of its bytes that is a given one, or after a given prefix.
 use Rattle.std.specs.Prelude.{Some, None, if◌then◌else◌, length, ℕ, ◌+◌, ◌==◌, Bool, not, List, take, drop, position, Option}
 use Rattle.std.specs.List.{list_all}
 use Rattle.std.specs.Option.{option_map}
@@ -8,10 +8,10 @@ use Rattle.std.specs.Str.{bytes_eq}
 abbrev pub lacks : ℕ → List ℕ → Bool
 lacks byte text = list_all (λ b. not (b == byte)) text
 
--- what stands before the first such byte, and what behind it
+-- what comes before the first such byte, and what after it
 abbrev pub cut : ℕ → List ℕ → Option (List ℕ × List ℕ)
 cut byte text = option_map (λ place. (take place text, drop (place + 1) text)) (position (λ b. b == byte) text)
 
--- what stands behind the front, where the text begins with it
+-- what comes after the prefix, if the text begins with it
 abbrev pub behind : List ℕ → List ℕ → Option (List ℕ)
 behind front text = if bytes_eq (take (length front) text) front then Some (drop (length front) text) else None

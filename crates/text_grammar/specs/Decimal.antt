@@ -6,7 +6,7 @@ use Rattle.std.specs.List.{list_all}
 use Rattle.std.specs.Str.Parse.{digits_value}
 use Rattle.text_grammar.specs.Bytes.{is_empty}
 
--- a zero stands before another byte
+-- a zero comes before another byte
 abbrev pub has_leading_zero : List ℕ → Bool
 has_leading_zero [] = false
 has_leading_zero (first ∷ []) = false
@@ -15,6 +15,6 @@ has_leading_zero (first ∷ second ∷ more) = first == 48
 abbrev pub is_decimal : List ℕ → Bool
 is_decimal text = list_all is_ascii_digit text && not (is_empty text) && not (has_leading_zero text)
 
--- the number that the text writes, where it is one of at most `most`
+-- the number that the text writes, if it is one of at most `most`
 abbrev pub number_up_to : ℕ → List ℕ → Option ℕ
 number_up_to most text = if is_decimal text && nat_le (digits_value 10 text) most then Some (digits_value 10 text) else None

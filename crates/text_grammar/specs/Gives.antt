@@ -16,6 +16,6 @@ Gives view result read = given.Gives stop_view view result read
 abbrev pub slice_view : Bor (List ℕ) → List ℕ
 slice_view s = s.now
 
--- a piece, and what stands behind it
+-- a piece, and what comes after it
 abbrev pub split_view : Bor (List ℕ) × Bor (List ℕ) → List ℕ × List ℕ
 split_view s = (s.0.now, s.1.now)

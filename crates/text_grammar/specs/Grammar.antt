@@ -1,4 +1,4 @@
--- The pieces that the grammar of a text format is put together from. A piece says which texts may stand in its place,
+-- The pieces that the grammar of a text format is put together from. A piece says which texts may come in its place,
 -- and `A ▹ N` says of a text that it is a piece A followed by a text of N.
 use Rattle.std.specs.Prelude.{◌≡◌, ℕ, ◌≤◌, Bool, List, [], ◌∷◌, ◌++◌, length, map, IsTrue}
 use Rattle.std.specs.List.{list_all}
@@ -43,7 +43,7 @@ pub record Run (p : ℕ → Bool) (most : ℕ) (text : List ℕ) : Type 0 where
   pub some : 1 ≤ length text
   pub within : length text ≤ most
 
--- the end of the text, where x was read
+-- the end of the text, at which x was read
 pub record End (F : Type 0) (x f : F) (text : List ℕ) : Type 0 where
   pub empty : text ≡ []
   pub same : x ≡ f

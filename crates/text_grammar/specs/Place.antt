@@ -8,7 +8,7 @@ pub record Begins (F : Type 0) (N : F → List ℕ → Type 0) (front : List ℕ
   pub more : List ℕ
   pub text : N value (front ++ more)
 
--- The place is the length of the longest front of the text with which a text of the grammar begins.
+-- The place is the length of the longest prefix of the text with which a text of the grammar begins.
 pub record IsPlace (F : Type 0) (N : F → List ℕ → Type 0) (text : List ℕ) (place : ℕ) : Type 0 where
   pub within : place ≤ length text
   pub begins : Begins F N (take place text)

@@ -6,8 +6,8 @@ ghost use Rattle.text_grammar.specs.Decimal.{is_decimal, number_up_to};
 
 use std::str;
 
-/// The number that a text of decimal digits writes, without a sign and without a leading zero except
-/// in `0` itself; `None` where the text is none, or the number is above `most`.
+/// The number that a text of decimal digits writes, without a sign and without a leading zero except in `0` itself;
+/// `None` if the text is none, or the number is above `most`.
 #[tactic(auto, using(crate::proofs::DecimalLaws::number_written, crate::proofs::DecimalLaws::number_only))]
 pub fn read_number(text: &[u8], most: u64) -> Option<u64>
     ensures exact { result ≡ number_up_to most text.now }
@@ -17,7 +17,7 @@ pub fn read_number(text: &[u8], most: u64) -> Option<u64>
     parsed(text, most)
 }
 
-/// The number, where the text is one and it is no more than `most`.
+/// The number, if the text is one and it is no more than `most`.
 #[tactic(auto, using(crate::proofs::DecimalLaws::is_text))]
 fn parsed(text: &[u8], most: u64) -> Option<u64>
     ensures { result ≡ number_up_to most text.now }

@@ -4,8 +4,7 @@ ghost use Rattle.text_grammar.specs.Cut.{behind, cut, lacks};
 
 use memchr::memchr;
 
-/// What stands before the first such byte of the text, and what stands behind it; `None` where the
-/// text has no such byte.
+/// What comes before the first such byte of the text, and what comes after it; `None` if the text has no such byte.
 #[tactic(auto, using(crate::proofs::CutLaws::cut_within, crate::proofs::CutLaws::cut_split, crate::proofs::CutLaws::cut_first, crate::proofs::CutLaws::cut_none))]
 pub fn cut(text: &[u8], byte: u8) -> Option<(&[u8], &[u8])>
     ensures exact { option_map (λ parts. (parts.0.now, parts.1.now)) result ≡ cut byte text.now }
@@ -22,7 +21,7 @@ pub fn cut(text: &[u8], byte: u8) -> Option<(&[u8], &[u8])>
     Some((front, rest))
 }
 
-/// What stands behind the front of the text; `None` where the text doesn't begin with it.
+/// What comes after this prefix of the text; `None` if the text doesn't begin with it.
 #[tactic(auto, using(crate::proofs::CutLaws::behind_split))]
 pub fn behind<'a>(text: &'a [u8], front: &[u8]) -> Option<&'a [u8]>
     ensures exact { option_copied result ≡ behind front.now text.now }
@@ -34,7 +33,7 @@ pub fn behind<'a>(text: &'a [u8], front: &[u8]) -> Option<&'a [u8]>
     }
 }
 
-/// Where the first such byte stands.
+/// Where the first such byte is.
 #[tactic(auto, using(crate::proofs::PlaceLaws::first_is))]
 fn first_place(text: &[u8], byte: u8) -> Option<usize>
     ensures { result ≡ position (λ b. b == byte) text.now }

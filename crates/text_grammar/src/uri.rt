@@ -30,7 +30,7 @@ fn has_form_of_uri(text: &[u8]) -> bool
     }
 }
 
-/// Whether all bytes may stand in a URI.
+/// Whether all bytes may be in a URI.
 fn are_uri_bytes(text: &[u8]) -> bool
     ensures { result ≡ list_all is_uri_byte text.now }
 {
@@ -48,8 +48,8 @@ pub fn uri_text(uri: &[u8]) -> &str
     }
 }
 
-/// A law, with nothing to do: what may stand between the angle brackets of `info` in an Identity header field (RFC 8224,
-/// section 4) can be the URI of a certificate, and nothing else can.
+/// A law, with nothing to do: what may be written between the angle brackets of `info` in an Identity header field (RFC
+/// 8224, section 4) can be the URI of a certificate, and nothing else can.
 pub fn uri_law()
     ensures { (text : List ℕ) → Run is_uri_byte 2048 text ↔ IsTrue (is_uri text) }
 {}

@@ -17,7 +17,7 @@ use Rattle.tn_auth_list.specs.declared.table_rows.Row.{Row}
 abbrev pub codes_of : List Row → List (List ℕ)
 codes_of rows = map (λ row. row.code) rows
 
--- a key more is counted where it is new
+-- a key more is counted if it is new
 count_push : (xs : List (List ℕ)) (x : List ℕ) → distinct_count bytes_eq (xs ++ x ∷ []) ≡ distinct_count bytes_eq xs + cond (is_member bytes_eq xs x) 0 1
 count_push [] x = refl
 count_push (y ∷ xs) x = rw (list_any-append (bytes_eq y) xs (x ∷ []), nat_list_eq_equiv.symm x y)
@@ -36,14 +36,14 @@ codes_push rows row = ap (distinct_count bytes_eq) (map-append (λ (r : Row). r.
 pub given_push : (rows : List Row) (row : Row) → given_count (rows ++ row ∷ []) ≡ given_count rows + cond (is_all row.gives) 0 1
 given_push rows row = let more = sum_by-append (λ (r : Row). cond (not (is_all r.gives)) 1 0) rows (row ∷ []) in grind (arith, nat_tests, more)
 
--- a code is among those of the rows exactly where some row names it
+-- a code is among those of the rows exactly if some row names it
 pub named : (rows : List Row) (code : List ℕ) → Decides (is_member bytes_eq (codes_of rows) code) (Names rows code)
 named [] code = (λ e. absurd cc, λ n. absurd n)
 named (row ∷ rows) code = Decides-or _ _ (Decides-like _ (λ e. sym e) (λ e. sym e) (bytes_eq-Decides code row.code)) (named rows code)
 
 -- ---- the limits
 
--- the limits hold by number exactly where the test says so
+-- the limits hold by number exactly if the test says so
 pub limits : (rows : List Row) → Decides (is_within rows) ((code_count rows ≤ 20000) × (given_count rows ≤ 200000))
 unfolding is_within
 limits rows = search (rules, tests)

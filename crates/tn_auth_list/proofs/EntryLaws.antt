@@ -1,4 +1,4 @@
--- Laws of reading one entry: it gives the entry whose text stands there, and no other; and a fault is what is wrong there.
+-- Laws of reading one entry: it gives the entry whose text is there, and no other; and a fault is what is wrong there.
 use Rattle.std.proofs.Common.{◌≡◌, ◌≢◌, ℕ, ◌==◌, ◌<◌, ◌≤◌, ◌^◌, nat_le, nat_lt, Bool, true, false, cond, List, [], ◌++◌, length, bit_and, Some, None, Result, Ok, Err, refl, sym, ap, subst, ◌∙◌, inl, inr, ◌⊎◌, append-nil, length-append, arith}
 use Rattle.std.proofs.lemmas.Bool.Decides.{nat_tests}
 use Rattle.std.proofs.lemmas.Option.{cond_some}

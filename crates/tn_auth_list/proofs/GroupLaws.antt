@@ -99,7 +99,7 @@ codes_held rows row groups is =
     let codes = is.codes in
     codes_push rows row ∙ cc
 
--- there is room for a row exactly where the rows with it are within the limits
+-- there is room for a row exactly if the rows with it are within the limits
 pub room_is : (rows : List Row) (row : Row) (groups : Groups) → IsGroups rows groups → has_room groups row ≡ is_within (rows ++ row ∷ [])
 unfolding is_within
 room_is rows row groups is =
@@ -108,7 +108,7 @@ room_is rows row groups is =
     let given = fits groups.given _ 200000 (is_all row.gives) (omega (arith, given_push rows row, is.given)) (omega (arith, within.1, is.given)) in
     rw (codes, given) refl
 
--- the row was added, and counted where it gives a range or a number
+-- the row was added, and counted if it gives a range or a number
 pub groups_push : (rows : List Row) (row : Row) (old new : Groups) → IsGroups rows old → has_room old row ≡ true
     → PutsRow old.by_code new.by_code row → new.given ≡ old.given + cond (is_all row.gives) 0 1 → (is_past rows row ≡ false) × IsGroups (rows ++ row ∷ []) new
 groups_push rows row old new is room put count =

@@ -26,7 +26,7 @@ set_for group set e same rows code is = record {
 abbrev same : List ℕ → List ℕ → Bool
 same = eq_by_cmp (slice_cmp nat_cmp)
 
--- the group of a code among entries, the last where a code stands twice
+-- the group of a code among entries, the last if a code comes twice
 abbrev pub group_among : List (List ℕ × GroupView) → List ℕ → Option GroupView
 group_among entries code = update_all same (λ _. None) entries code
 

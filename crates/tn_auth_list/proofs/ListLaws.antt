@@ -50,7 +50,7 @@ entries_length (x ∷ xs) e =
 
 -- ---- entries in order
 
--- an answer behind a test of the part's end
+-- an answer after a test of the part's end
 at_end : {A E : Type 0} (end : Bool) (v w : A) (r : Result A E) → cond end (Ok v) r ≡ Ok w → ((end ≡ true) × (v ≡ w)) ⊎ (r ≡ Ok w)
 at_end true v w r e = inl (refl, inside v w e)
 at_end false v w r e = inr e
@@ -115,7 +115,7 @@ entries_again (x ∷ xs) (suc room) before part e l is =
     (after (entry_in item) x _ _ (entry_again item x (refl, refl, each.0))
     (entries_again xs room (before ++ x ∷ []) item.behind refl (omega (arith, l)) each.1)))
 
--- what is wrong where the part doesn't end
+-- what is wrong if the part doesn't end
 some_tells : {A : Type 0} (part : PartView) (v : A) (r : Result A Fault) (Wrong : Fault → Type 0) → Tells r Wrong
     → Tells (cond (length part.left == 0) (Ok v) r) (λ fault. (1 ≤ length part.left) × Wrong fault)
 some_tells part v r Wrong tells fault = of (length part.left == 0) refl
@@ -239,7 +239,7 @@ one_list bytes a b s t = inside a b (sym (list_again bytes a s) ∙ list_again b
 
 -- ---- faults of a list as a whole
 
--- what is wrong with the SEQUENCE that the bytes begin with, or behind it
+-- what is wrong with the SEQUENCE that the bytes begin with, or after it
 wrong_list : (bytes content rest : List ℕ) (fault : Fault) → bytes ≡ element_text sequence_tag content ++ rest → length content < 65536
     → Within WrongContent (λ text. (entries : List Entry) × IsContentOf text entries) (Behind LeftOver) (standing sequence_tag content rest 0) fault → Refused bytes fault
 wrong_list bytes content rest fault text size wrong = inr (record {

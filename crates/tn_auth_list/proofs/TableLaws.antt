@@ -1,4 +1,4 @@
--- A text is read as a table's rows exactly where its lines say these rows, and they are within the limits.
+-- A text is read as a table's rows exactly if its lines say these rows, and they are within the limits.
 use Rattle.std.proofs.Common.{◌≡◌, ℕ, true, not, List, [], ◌∷◌, ◌++◌, map, Some, Ok, Err, ◌↔◌, sym, ap, ◌∙◌, append_assoc, append-nil, refl, arith}
 use Rattle.std.proofs.lemmas.Bool.{not-false}
 use Rattle.text_file.specs.FileLines.{text_lines}

@@ -1,4 +1,4 @@
--- A line of the code table is read as a row exactly where it is the text of that row.
+-- A line of the code table is read as a row exactly if it is the text of that row.
 use Rattle.std.proofs.Common.{◌≡◌, ◌↔◌, ℕ, ◌^◌, ◌-◌, ◌<◌, ◌≤◌, ◌==◌, Bool, true, false, ◌&&◌, nat_le, cond, List, [], ◌∷◌, length, codes, Option, Some, None, option_and_then, refl, ap, subst, ◌∙◌, arith}
 use Rattle.std.specs.Fmt.{decimal}
 use Rattle.std.specs.List.{list_all, join_with_byte}
@@ -28,7 +28,7 @@ WordsLaw = (line : List ℕ) (words : List (List ℕ)) → (line_words line ≡ 
 
 -- ---- found
 
--- the words behind the code are those of what is given
+-- the words after the code are those of what is given
 abbrev IsGiven : List (List ℕ) → Gives → Type 0
 IsGiven rest given = MayGive given × (rest ≡ given_words given)
 

@@ -11,6 +11,6 @@ is_code_byte byte = nat_le 0x21 byte && nat_le byte 0x7E
 unfoldable pub is_code : List ℕ → Bool
 is_code text = nat_le 1 (length text) && nat_le (length text) 32 && list_all is_code_byte text
 
--- the code that a text is, byte for byte, where it is one
+-- the code that a text is, byte for byte, if it is one
 abbrev pub code_of : List ℕ → Option (List ℕ)
 code_of text = if is_code text then Some text else None

@@ -26,7 +26,7 @@ with_gives group (Single number) = record group { singles = group.singles ++ num
 abbrev pub GroupHolds : GroupView → List ℕ → Type 0
 GroupHolds group number = (group.all ≡ true) ⊎ SetHolds (set_of group.spans group.singles) number
 
--- the group is what the rows give the code, and there is one where they name it
+-- the group is what the rows give the code, and there is one exactly if they name it
 pub record IsGroupOf (rows : List Row) (code : List ℕ) (group : Option GroupView) : Type 0 where
   pub names : IsSome group ↔ Names rows code
   pub all : ((unwrap_or group no_group).all ≡ true) ↔ SaysAll rows code

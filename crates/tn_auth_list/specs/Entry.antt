@@ -31,6 +31,6 @@ unfoldable pub is_list : List Entry → Bool
 is_list entries =
     nat_le 1 (length entries) && nat_le (length entries) 1000 && list_all (λ entry. not (is_range_of_one entry)) entries
 
--- the list of these entries, where there is one
+-- the list of these entries, if there is one
 abbrev pub list_of : List Entry → Option (List Entry)
 list_of entries = if is_list entries then Some entries else None

@@ -6,7 +6,7 @@ use Rattle.der_reader.specs.declared.part.Fault.{Fault}
 use Rattle.tn_auth_list.specs.declared.faults.ListFault.{ListFault}
 use Rattle.tn_auth_list.specs.declared.faults.ListFault.TheVariants.{At, Memory}
 
--- an element at this place can't be read or has another tag, or bytes that stand here are left over
+-- an element at this place can't be read or has another tag, or bytes here are left over
 abbrev pub der_at : ℕ → Fault
 der_at place = at_kind 1 place
 
@@ -30,19 +30,19 @@ no_count_at place = at_kind 5 place
 abbrev pub past_limit_at : ℕ → Fault
 past_limit_at place = at_kind 6 place
 
--- a fault other than want of memory
+-- a fault other than `Memory`
 abbrev pub fault_seen : ListFault → Option Fault
 fault_seen (At kind place) = Some (at_kind kind place)
 fault_seen Memory = None
 
--- the result, as it is seen, is what was read, or its fault; want of memory is free
+-- the result, as it is seen, is what was read, or its fault; `Memory` is free
 abbrev pub GivesSeen : {A B : Type 0} → (A → B) → Result A ListFault → Result B Fault → Type 0
 GivesSeen seen result read = given.Gives fault_seen seen result read
 
 abbrev pub Gives : {A : Type 0} → Result A ListFault → Result A Fault → Type 0
 Gives result read = GivesSeen (λ x. x) result read
 
--- a fault stands no further behind than this
+-- a fault's place is no further than this
 abbrev pub IsPlaceBelow : {A : Type 0} → ℕ → Result A ListFault → Type 0
 IsPlaceBelow end (Ok x) = ⊤
 IsPlaceBelow end (Err (At kind place)) = place ≤ end

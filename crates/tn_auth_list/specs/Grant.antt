@@ -35,7 +35,7 @@ pub record TableOf (text : List ℕ) (table : List (List ℕ × Held)) : Type 0 
   pub read : table_rows text ≡ Ok rows
   pub grants : (code : List ℕ) → GrantOf rows code (grant_in table code)
 
--- the line of a fault other than want of memory
+-- the line of a fault other than `Memory`
 abbrev pub line_of : TableFault → Option ℕ
 line_of (Line number) = Some number
 line_of Memory = None

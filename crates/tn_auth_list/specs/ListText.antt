@@ -30,7 +30,7 @@ range_tag = 0xA1
 abbrev pub single_tag : ℕ
 single_tag = 0xA2
 
--- one entry: what it is stands behind its tag as an element of its own
+-- one entry: what it is comes after its tag as an element of its own
 abbrev pub entry_tag : Entry → ℕ
 entry_tag (Code text) = code_tag
 entry_tag (Range span) = range_tag

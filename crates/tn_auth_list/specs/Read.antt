@@ -61,7 +61,7 @@ entry_in item =
     else (if item.tag == single_tag then single_in item.content
     else Err (der_at item.place)))
 
--- behind these entries as many as there is room for, up to the end of the part; one more is past the limit where it begins
+-- after these entries as many as there is room for, up to the end of the part; one more is past the limit where it begins
 unfoldable pub entries_from : ℕ → List Entry → PartView → Result (List Entry) Fault
 entries_from zero before part = if length part.left == 0 then Ok before else Err (past_limit_at part.place)
 entries_from (suc room) before part =

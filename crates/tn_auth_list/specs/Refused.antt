@@ -74,8 +74,8 @@ WrongEntry =
     ByTag code_tag (WrongString IsCode 3) (ByTag range_tag WrongRange (ByTag single_tag (WrongString IsNumber 4)
     (λ item fault. fault ≡ at_kind 1 item.place)))
 
--- entries in order, where there is room for so many: bytes are left and there is room for none; or the first entry is wrong, or it is an
--- entry and those behind it are wrong, where there is room for one less
+-- entries in order, with room for so many: bytes are left and there is room for none; or the first entry is wrong; or it is an entry and those
+-- after it are wrong, with room for one less
 unfoldable pub WrongEntries : ℕ → PartView → Fault → Type 0
 WrongEntries zero part fault = (1 ≤ length part.left) × (fault ≡ at_kind 6 part.place)
 WrongEntries (suc room) part fault =
@@ -85,11 +85,11 @@ WrongEntries (suc room) part fault =
 abbrev pub WrongContent : PartView → Fault → Type 0
 WrongContent part fault = ((part.left ≡ []) × (fault ≡ at_kind 2 0)) ⊎ ((1 ≤ length part.left) × WrongEntries 1000 part fault)
 
--- the bytes are no list, which is one SEQUENCE and nothing behind it, and this is their first fault
+-- the bytes are no list, which is one SEQUENCE and nothing after it, and this is their first fault
 abbrev pub Refused : List ℕ → Fault → Type 0
 Refused bytes = First (Unless (IsTagged sequence_tag) 1 (Within WrongContent (λ text. (entries : List Entry) × IsContentOf text entries) (Behind LeftOver))) (whole_text bytes)
 
--- an answer other than a list and want of memory is the first fault of the bytes
+-- an answer other than a list and `Memory` is the first fault of the bytes
 abbrev pub IsRefused : {A : Type 0} → List ℕ → Result A ListFault → Type 0
 IsRefused bytes (Ok list) = ⊤
 IsRefused bytes (Err (At kind place)) = Refused bytes (at_kind kind place)
@@ -97,7 +97,7 @@ IsRefused bytes (Err Memory) = ⊤
 
 -- ---- faults of a list as a whole
 
--- bytes are left over behind a list's text, and the first of them stands at the place
+-- bytes are left over after a list's text, and the first of them is at the place
 pub record IsLeftOver (bytes : List ℕ) (place : ℕ) : Type 0 where
   pub list : List ℕ
   pub entries : List Entry
@@ -107,7 +107,7 @@ pub record IsLeftOver (bytes : List ℕ) (place : ℕ) : Type 0 where
   pub some : 0 < length rest
   pub at : place ≡ length list
 
--- behind 1,000 entries there are more bytes in the list's SEQUENCE, and the first of them stands at the place
+-- after 1,000 entries there are more bytes in the list's SEQUENCE, and the first of them is at the place
 pub record IsPastLimit (bytes : List ℕ) (place : ℕ) : Type 0 where
   pub entries : List Entry
   pub more : List ℕ

@@ -24,7 +24,7 @@ MayGive All = ⊤
 MayGive (Range span) = IsRange span
 MayGive (Single number) = (is_number number ≡ true) × (number ≡ codes "*" → ⊥)
 
--- the words behind the code: `*`, `START COUNT`, or `NUMBER`
+-- the words after the code: `*`, `START COUNT`, or `NUMBER`
 abbrev pub given_words : Gives → List (List ℕ)
 given_words All = codes "*" ∷ []
 given_words (Range span) = span.start ∷ decimal span.size ∷ []

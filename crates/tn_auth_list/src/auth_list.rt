@@ -41,10 +41,10 @@ impl Model for AuthList {
 impl AuthList {
     /// The list that the bytes are, in DER.
     ///
-    /// The list is one SEQUENCE and nothing behind it. An entry is an element with the tag `A0`, `A1` or `A2`: a code has
+    /// The list is one SEQUENCE and nothing after it. An entry is an element with the tag `A0`, `A1` or `A2`: a code has
     /// an IA5String in it, a range a SEQUENCE of an IA5String and an INTEGER, and a number an IA5String. Faults are found
     /// in the order in which the elements are read, and the first is the answer: `ListFault` says which there are, and
-    /// where each stands.
+    /// where each is.
     #[tactic(auto, using(crate::proofs::ListLaws::read_is_list, crate::proofs::ListLaws::answer_again, crate::proofs::ListLaws::one_list, crate::proofs::ListLaws::answer_refused, crate::proofs::ListLaws::answer_is_refused, crate::proofs::ListLaws::empty_refused, crate::proofs::ListLaws::left_over_refused, crate::proofs::ListLaws::past_limit_refused))]
     pub fn read(alloc: Global, bytes: &[u8]) -> Result<AuthList, ListFault>
         // The entries, or the first fault.
@@ -72,7 +72,7 @@ impl AuthList {
         Ok(AuthList { entries })
     }
 
-    /// The list of these entries. None where there is none or more than 1,000, or a range of a single number.
+    /// The list of these entries. None if there is none or more than 1,000, or a range of a single number.
     #[tactic(auto, unfolding(crate::specs::Entry::is_list))]
     pub fn build(entries: Vec<Entry>) -> Option<AuthList>
         ensures { result ≡ list_of entries.items }
@@ -94,7 +94,7 @@ impl AuthList {
         &self.entries
     }
 
-    /// The one DER text of the list. `Memory` comes where there is no memory for it.
+    /// The one DER text of the list. `Memory` comes if there is no memory for it.
     #[tactic(auto, using(crate::proofs::ListLaws::list_again, crate::proofs::ListLaws::one_text))]
     pub fn write(&self, alloc: Global) -> Result<Vec<u8>, Memory>
         // The text, and reading it gives this list.

@@ -14,8 +14,8 @@ use std::{fmt, str};
 /// A service provider code: 1 to 32 bytes of visible ASCII, 0x21 to 0x7E (`ServiceProviderCode` of RFC 8226, section 9).
 ///
 /// That a code is no longer than 32 bytes and has no blank is this project's own rule. A contract sees the code as the
-/// list of its bytes, and equality, order, hash and `{}` are those of this list: `12` stands before
-/// `123`, and `123` before `13`.
+/// list of its bytes, and equality, order, hash and `{}` are those of this list: `12` comes before `123`, and `123`
+/// before `13`.
 #[derive(Clone, Copy, PartialEq, Eq, Hash)]
 pub struct Code {
     text: ShortText<32>,
@@ -35,7 +35,7 @@ impl Model for Code {
 }
 
 impl Code {
-    /// The code that `text` is, byte for byte. None where it isn't 1 to 32 bytes from 0x21 to 0x7E.
+    /// The code that `text` is, byte for byte. None if it isn't 1 to 32 bytes from 0x21 to 0x7E.
     #[tactic(auto, unfolding(crate::specs::Code::is_code))]
     pub fn new(text: &[u8]) -> Option<Code>
         ensures { result ≡ code_of text.now }
@@ -112,14 +112,14 @@ impl fmt::Debug for Code {
     }
 }
 
-/// Whether all bytes may stand in a code.
+/// Whether all bytes may be in a code.
 fn are_code_bytes(text: &[u8]) -> bool
     ensures { result ≡ list_all is_code_byte text.now }
 {
     text.iter().all(|byte| is_code_byte(*byte))
 }
 
-/// Whether a byte may stand in a code.
+/// Whether a byte may be in a code.
 fn is_code_byte(byte: u8) -> bool
     ensures { result ≡ is_code_byte byte }
 {

@@ -14,7 +14,7 @@ pub enum ListFault {
     At {
         /// `DER`, `EMPTY`, `CODE`, `NUMBER`, `COUNT` or `LIMIT`.
         kind: u8,
-        /// The offset, in bytes from the first one that was given, at which the fault stands.
+        /// The offset of the fault, in bytes from the first one that was given.
         place: u32,
     },
     /// Memory ran out.

@@ -7,8 +7,8 @@ ghost use Rattle.tn_auth_list.specs.Read.{read_list};
 ghost use Rattle.tn_auth_list.specs.Refused.{Refused};
 ghost use Rattle.tn_auth_list.specs.declared.entries.Entry.{Entry};
 
-/// Entries are read of bytes just where these are the list of them (RFC 8226, section 9), and a fault just
-/// where it is their first.
+/// Entries are read of bytes exactly if these are the list of them (RFC 8226, section 9), and a fault
+/// exactly if it is their first.
 pub fn list_law()
     ensures again { (bytes : List ℕ) (entries : List Entry) → ListText bytes entries → read_list bytes ≡ Ok entries }
     ensures found { (bytes : List ℕ) (entries : List Entry) → AllBytes bytes → read_list bytes ≡ Ok entries → ListText bytes entries }

@@ -96,7 +96,7 @@ impl Groups {
         }
     }
 
-    /// Adds what a line says; false where the line is bad.
+    /// Adds what a line says; false if the line is bad.
     pub(crate) fn add_line(&mut self, line: &[u8]) -> Result<bool, Memory>
         ensures { IfOk result (AddsLine add_row IsGroups self.old self.new line.now) }
     {
@@ -106,7 +106,7 @@ impl Groups {
         }
     }
 
-    /// Adds what a row gives; false where it passes a limit of the table.
+    /// Adds what a row gives; false if it passes a limit of the table.
     fn add(&mut self, row: Row) -> Result<bool, Memory>
         ensures { IfOk result (Adds is_past IsGroups self.old self.new row) }
     {

@@ -31,7 +31,7 @@ impl Gives {
     }
 }
 
-/// What a line says: `CODE *`, `CODE NUMBER` or `CODE START COUNT`. None where it is none of these.
+/// What a line says: `CODE *`, `CODE NUMBER` or `CODE START COUNT`. None if it is none of these.
 #[tactic(auto, unfolding(crate::specs::CodeTable::row_of))]
 pub(crate) fn row_of(line: &[u8]) -> Option<Row>
     ensures { result ≡ row_of line.now }
@@ -43,7 +43,7 @@ pub(crate) fn row_of(line: &[u8]) -> Option<Row>
     }
 }
 
-/// The row of a code and what it is given, where both are such.
+/// The row of a code and what it is given, if both are such.
 fn with_code(code: &[u8], gives: Option<Gives>) -> Option<Row>
     ensures { result ≡ with_code code.now gives }
 {

@@ -1,5 +1,5 @@
--- Laws of spans that stand apart from each other: where all ranks of a part are in them, one span has them all; those that have the
--- same ranks are the same spans.
+-- Laws of spans that are apart from each other: if all ranks of a part are in them, one span has them all; those that have the same
+-- ranks are the same spans.
 use Rattle.std.proofs.Common.{◌≡◌, ℕ, zero, suc, ◌<◌, ◌≤◌, inl, inr, List, [], ◌∷◌, length, Any, Contains, arith, refl, sym, subst}
 use Rattle.std.proofs.lemmas.Bool.{cases_lt}
 use Rattle.tn_values.specs.Merged.{AreApart, IsWhole, rank_behind, rank_of}
@@ -16,7 +16,7 @@ from_low (span ∷ spans) low rank (begin, whole, rest) (inr h) =
     let some = begins span whole.is in
     omega (arith, begin, more, some)
 
--- the rank behind the first span is in none of them
+-- the rank after the first span is in none of them
 pub behind_first : (span : SpanView) (spans : List SpanView) → AreApart (suc (rank_behind span)) spans → InSpans (span ∷ spans) (rank_behind span) → ⊥
 behind_first span spans rest (inl h) = let before = h.before in omega (arith, before)
 behind_first span spans rest (inr h) = let more = from_low spans (suc (rank_behind span)) (rank_behind span) rest h in omega (arith, more)
@@ -45,7 +45,7 @@ one_span (span ∷ spans) low first behind (begin, whole, rest) some all =
           (λ rank from before. elim (all rank from before) [ inl here ↦ (let ends = here.before in absurd (omega (arith, ends, low, from))) | inr there ↦ there ]))
     ]
 
--- ---- the rank behind a span is in none of them
+-- ---- the rank after a span is in none of them
 
 -- a span of a list begins no earlier than the list, and has a number
 contained : (spans : List SpanView) (low : ℕ) (span : SpanView) → AreApart low spans → Contains spans span
@@ -88,7 +88,7 @@ begins_first : (s t : SpanView) (ts : List SpanView) → IsWhole t → AreApart 
     → rank_of t.start ≤ rank_of s.start
 begins_first s t ts whole rest h = from_low (t ∷ ts) (rank_of t.start) (rank_of s.start) (omega arith, whole, rest) h
 
--- and where both begin alike it ends no later
+-- and if both begin alike it ends no later
 ends_first : (s t : SpanView) (ss ts : List SpanView) → IsWhole s → AreApart (suc (rank_behind s)) ss → rank_of s.start ≡ rank_of t.start
     → ((rank : ℕ) → InSpans (t ∷ ts) rank → InSpans (s ∷ ss) rank) → rank_behind t ≤ rank_behind s
 ends_first s t ss ts whole rest starts had =
@@ -99,7 +99,7 @@ ends_first s t ss ts whole rest starts had =
       | inr reaches ↦ omega (arith, reaches)
     ]
 
--- what stands behind the first spans
+-- what comes after the first spans
 behind_both : (s t : SpanView) (ss ts : List SpanView) → AreApart (suc (rank_behind s)) ss → rank_behind s ≡ rank_behind t
     → ((rank : ℕ) → InSpans (s ∷ ss) rank → InSpans (t ∷ ts) rank) → (rank : ℕ) → InSpans ss rank → InSpans ts rank
 behind_both s t ss ts rest ends had rank h =

@@ -30,7 +30,7 @@ number_stays number h = bytes_stay number (number_parts number h).bytes
 no_plus : (byte : ℕ) → is_number_byte byte ≡ true → (byte == plus) ≡ false
 no_plus byte h = grind (arith, nat_tests)
 
--- a number has no `+` in front
+-- a number doesn't begin with `+`
 without_plus : (number : List ℕ) (local : LocalView) → is_number number ≡ true
     → number_of_kept number local ≡ option_map (with_country local) (exact number)
 unfolding is_number

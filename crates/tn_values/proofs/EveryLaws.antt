@@ -18,7 +18,7 @@ use Rattle.tn_values.proofs.NumberFacts.{number_parts}
 at_byte : (test : ℕ → Bool) (byte : ℕ) → list_all test number_bytes ≡ true → is_number_byte byte ≡ true → test byte ≡ true
 at_byte test byte h is = grind (arith, nat_tests)
 
--- a test that passes where another does passes all that the other does
+-- if a test passes each byte that another passes, it passes all bytes when the other does
 all_by : (test other : ℕ → Bool) (bytes : List ℕ) → list_all other bytes ≡ true → ((byte : ℕ) → other byte ≡ true → test byte ≡ true)
     → list_all test bytes ≡ true
 all_by test other [] h passes = refl
@@ -26,7 +26,7 @@ all_by test other (byte ∷ bytes) h passes =
     let each = and_parts (other byte) (list_all other bytes) h in
     both_true (passes byte each.0) (all_by test other bytes each.1 passes)
 
--- a test of all texts with one of the bytes in front is a test of each byte
+-- a test of all texts with one of the bytes before them is a test of each byte
 fronts : (test : List ℕ → Bool) (bytes : List ℕ) (texts : List (List ℕ))
     → list_all test (flat_map (λ byte. map (λ text. byte ∷ text) texts) bytes) ≡ list_all (λ byte. list_all (λ text. test (byte ∷ text)) texts) bytes
 fronts test [] texts = refl

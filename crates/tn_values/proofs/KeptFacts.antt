@@ -1,17 +1,17 @@
--- What is kept of a text, and of a front of it.
+-- What is kept of a text, and of a prefix of it.
 use Rattle.std.proofs.Common.{◌≡◌, ℕ, ◌+◌, ◌<◌, ◌≤◌, Bool, true, cond, List, ◌++◌, length, get_or, take, drop, arith, ap, sym, ◌∙◌, length-append}
 use Rattle.std.specs.List.{filter}
 use Rattle.std.proofs.lemmas.List.Elements.{filter-append}
 use Rattle.std.proofs.lemmas.List.{take-append-drop}
 use Rattle.std.proofs.lemmas.List.Filters.{length-filter_more}
 
--- a front keeps no more than the whole
+-- a prefix keeps no more than the whole
 front_keeps_less : (p : ℕ → Bool) (text : List ℕ) (n : ℕ) → length (filter p (take n text)) ≤ length (filter p text)
 front_keeps_less p text n =
     let split : filter p text ≡ filter p (take n text) ++ filter p (drop n text) = ap (filter p) (sym (take-append-drop n text)) ∙ filter-append p (take n text) (drop n text) in
     omega (arith, ap length split, length-append (filter p (take n text)) (filter p (drop n text)))
 
--- a byte that is kept behind a front: the whole keeps more than the front
+-- a byte that is kept after a prefix: the whole keeps more than the prefix
 pub front_and_one : (p : ℕ → Bool) (text : List ℕ) (i : ℕ) → i < length text → p (get_or text i 0) ≡ true
     → length (filter p (take i text)) < length (filter p text)
 front_and_one p text i inside keeps =

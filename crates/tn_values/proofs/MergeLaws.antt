@@ -1,4 +1,4 @@
--- Laws of merging: what spans in order come to stands apart, has the same ranks, and is no more spans.
+-- Laws of merging: what spans in order come to is apart, has the same ranks, and is no more spans.
 use Rattle.std.proofs.Common.{◌≡◌, ℕ, suc, ◌+◌, ◌-◌, ◌^◌, ◌<◌, ◌≤◌, Bool, true, false, cond, nat_le, max, ◌⊎◌, inl, inr, List, [], ◌∷◌, length, take, drop, arith, refl, sym, ap, ◌∙◌, subst}
 use Rattle.std.proofs.Math.Nat.{pow-le-pow_right}
 use Rattle.std.proofs.lemmas.Bool.{cases_lt}
@@ -32,7 +32,7 @@ clipped_behind span is =
 
 -- ---- a span joined to the one that it touches
 
--- what begins no later than behind a span ends within the numbers of its length
+-- what begins no later than one past the end of a span ends within the numbers of its length
 touching : (span other : SpanView) → IsSpan span → rank_of other.start ≤ rank_behind span
     → rank_behind other ≤ 10 ^ length span.start + 10 ^ length span.start
 touching span other is h =
@@ -107,7 +107,7 @@ rises (span ∷ spans) low sorted first = (
       (λ d some. sorted 0 1 d (omega arith) (omega (arith, some))),
 )
 
--- ---- what they come to stands apart
+-- ---- what they come to is apart
 
 abbrev AreSpans : List SpanView → Type 0
 AreSpans spans = AllByRecursion IsSpan spans
@@ -238,7 +238,7 @@ merge_joined spans i span other inside at touches =
     ap (merged_from span) (drop_more spans i other inside) ∙ ap (λ (s : SpanView). merged_from span (s ∷ behind)) (sym at)
     ∙ ap (λ b. cond b (merged_from (joined span other) behind) (span ∷ merged_from (clipped other) behind)) test
 
--- or stands apart from it
+-- or is apart from it
 pub merge_apart : (spans : List SpanView) (i : ℕ) (span other : SpanView) → i < length spans → other ≡ slice_index_or spans i other
     → rank_behind span < rank_of other.start → merged_from span (drop i spans) ≡ span ∷ merged_from (clipped other) (drop (i + 1) spans)
 merge_apart spans i span other inside at far =
@@ -251,7 +251,7 @@ pub spans_more : (spans : List SpanView) (i : ℕ) (span : SpanView) → i < len
     → All IsSpan (take i spans) → All IsSpan (take (i + 1) spans)
 spans_more spans i span inside at is are = All-more IsSpan spans i span inside are (subst (λ (s : SpanView). IsSpan s) at is)
 
--- the first, and those behind it
+-- the first, and those after it
 pub spans_all : (spans : List SpanView) (first : SpanView) (i : ℕ) → 1 ≤ length spans → first ≡ slice_index_or spans 0 first → IsSpan first
     → length (take (length spans - 1) (drop 1 spans)) ≤ i → All IsSpan (take i (take (length spans - 1) (drop 1 spans))) → All IsSpan spans
 spans_all [] first i some at is long are = absurd (omega (arith, some))

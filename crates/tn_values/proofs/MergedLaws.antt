@@ -98,9 +98,9 @@ one_entry set span m is all =
     (λ rank from before. span_rank set span m is all rank (record { from = from; before = before })) in
     (found.0, found.1, found.2, found.3, span_reached span found.1 found.4)
 
--- ---- the span that holds the first number, or the number behind it
+-- ---- the span that holds the first number, or the number after it
 
--- where it reaches as far, it has all numbers
+-- if it reaches as far, it has all numbers
 pub all_by_first : (set : SetView) (span own : SpanView) → Contains set.spans own → SpanHolds own span.start → rank_behind span ≤ rank_behind own
     → (number : List ℕ) → SpanHolds span number → SetHolds set number
 all_by_first set span own there first reaches number h =
@@ -108,7 +108,7 @@ all_by_first set span own there first reaches number h =
     let from = at.from in
     inl (there.0, own, there.1, there.2, span_reached span own (from, reaches) number h)
 
--- where no span holds the first number, this is missing
+-- if no span holds the first number, this is missing
 pub first_gap : (set : SetView) (span : SpanView) → IsSpan span → (SetHolds set span.start → ⊥) → Gap span set
 first_gap set span is not = record {
   number = span.start;
@@ -117,7 +117,7 @@ first_gap set span is not = record {
   not_held = not;
 }
 
--- where it ends before, the number behind it is missing
+-- if it ends before, the number after it is missing
 pub gap_behind : (set : SetView) (span own : SpanView) → IsMerged set → IsSpan span → Contains set.spans own → SpanHolds own span.start
     → rank_behind own < rank_behind span → Gap span set
 gap_behind set span own m is there first short =

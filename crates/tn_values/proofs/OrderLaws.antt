@@ -1,4 +1,4 @@
--- Laws of the order of sides: `After` up to the number, `Before` behind it.
+-- Laws of the order of sides: `After` up to the number, `Before` after it.
 use Rattle.std.proofs.Common.{◌≡◌, ℕ, zero, suc, ◌<◌, ◌≤◌, Bool, true, false, cond, nat_lt, List, [], ◌∷◌, ◌++◌, map, length, Ordering, Less, Equal, Greater, nat_cmp, arith, refl, sym, ap, subst}
 use Rattle.std.proofs.lemmas.Bool.Decides.{nat_tests}
 use Rattle.std.proofs.lemmas.Cmp.{nat_list_cmp_total}
@@ -22,7 +22,7 @@ AreBefore all = AllByRecursion (λ side. side ≡ Before) all
 abbrev AreAfter : List Side → Type 0
 AreAfter all = AllByRecursion (λ side. side ≡ After) all
 
--- behind a side that isn't `After` all are `Before`
+-- after a side that isn't `After` all are `Before`
 abbrev pub InOrder : List Side → Type 0
 InOrder [] = Unit {0}
 InOrder (Before ∷ all) = AreBefore all
@@ -34,7 +34,7 @@ before_at [] k d h inside = absurd (omega (arith, inside))
 before_at (side ∷ all) zero d h inside = h.0
 before_at (side ∷ all) (suc k) d h inside = before_at all k d h.1 (omega (arith, inside))
 
--- behind a side `Before` each is `Before`
+-- after a side `Before` each is `Before`
 pub stays_before : (all : List Side) (i j : ℕ) (d : Side) → InOrder all → i ≤ j → j < length all → slice_index_or all i d ≡ Before
     → slice_index_or all j d ≡ Before
 stays_before [] i j d h order inside is = absurd (omega (arith, inside))

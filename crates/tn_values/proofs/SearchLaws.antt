@@ -1,4 +1,4 @@
--- The search among sides in order: each step leaves a part in which the side `Within` may stand.
+-- The search among sides in order: each step leaves a part in which the side `Within` may be.
 use Rattle.std.proofs.Common.{◌≡◌, ℕ, ◌+◌, ◌<◌, ◌≤◌, inl, inr, List, length, Some, None, arith}
 use Rattle.std.proofs.lemmas.Bool.{cases_lt}
 use Rattle.std.specs.List.{slice_index_or}

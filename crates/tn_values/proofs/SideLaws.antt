@@ -117,7 +117,7 @@ pub span_side : (set : SetView) (number : List ℕ) → Any (λ span. SpanHolds 
 span_side set number (k, span, inside, at, h) =
     (k, inside, side_of_spans set number k Before span inside ∙ ap (side_of_span number) at ∙ span_within span number h)
 
--- and so has a single that is the number, where this isn't of digits alone
+-- and so has a single that is the number, if this isn't of digits alone
 pub single_side : (set : SetView) (number : List ℕ) → are_digits number ≡ false → Contains set.singles number
     → (k : ℕ) × (length set.spans ≤ k) × (k < part_count set) × (slice_index_or (sides set number) k Before ≡ Within)
 single_side set number d (k, inside, at) =
@@ -167,7 +167,7 @@ span_entry set number place d (inside, is) =
           absurd cc
     ]
 
--- an entry is found just where the set holds the number
+-- an entry is found exactly if the set holds the number
 pub entry_decides : (set : SetView) (number : List ℕ) (found : Option ℕ) → IsEntryOf set number found
     → (is_some found ≡ true → SetHolds set number) × (SetHolds set number → is_some found ≡ true)
 entry_decides set number None h = (λ t. absurd cc, λ held. absurd (h held))

@@ -26,7 +26,7 @@ all_digits (byte ∷ rest) h =
 pub value_below : (text : List ℕ) → are_digits text ≡ true → value_of text < 10 ^ length text
 value_below text h = digits_value-lt 10 text (all_digits text h)
 
--- ---- a front of digits
+-- ---- a prefix of digits
 
 pub digit_at : (text : List ℕ) (i : ℕ) → are_digits text ≡ true → i < length text → is_digit (get_or text i 0) ≡ true
 digit_at [] i h inside = absurd (omega arith)

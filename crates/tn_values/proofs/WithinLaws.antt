@@ -13,7 +13,7 @@ pub record HasSpans (spans : List SpanView) (set : SetView) (i : ℕ) : Type 0 w
 pub record HasSingles (singles : List (List ℕ)) (set : SetView) (i : ℕ) : Type 0 where
   pub each : (k : ℕ) (number : List ℕ) → k < i → slice_index_or singles k number ≡ number → SetHolds set number
 
--- ---- where a number is missing
+-- ---- a number that is missing
 
 pub single_outside : (singles : List (List ℕ)) (set : SetView) (i : ℕ) (item : List ℕ) → i < length singles → item ≡ slice_index_or singles i item
     → is_number item ≡ true → (SetHolds set item → ⊥) → Outside (set_of [] singles) set

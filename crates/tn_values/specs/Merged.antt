@@ -9,7 +9,7 @@ use Rattle.tn_values.specs.Number.{is_number}
 use Rattle.tn_values.specs.Span.{SpanView, value_of, end_of}
 use Rattle.tn_values.specs.NumberSet.{SetView}
 
--- where a number of digits alone stands among all such numbers, which go by length and then by value
+-- the rank of a number of digits alone among all such numbers, which go by length and then by value
 abbrev pub rank_of : List ℕ → ℕ
 rank_of number = 10 ^ length number + value_of number
 
@@ -51,7 +51,7 @@ clipped span = record { start = span.start; size = rank_behind span - rank_of sp
 abbrev pub joined : SpanView → SpanView → SpanView
 joined span other = record { start = span.start; size = max (rank_behind span) (rank_behind other) - rank_of span.start }
 
--- what a span and those behind it, in order, come to where each that touches the one before it is joined to it
+-- what a span and those after it, in order, come to if each that touches the one before it is joined to it
 abbrev pub merged_from : SpanView → List SpanView → List SpanView
 merged_from span [] = span ∷ []
 merged_from span (other ∷ others) =

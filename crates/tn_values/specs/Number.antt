@@ -11,6 +11,6 @@ is_number_byte byte = is_digit byte || byte == 42 || byte == 35
 unfoldable pub is_number : List ℕ → Bool
 is_number text = nat_le 1 (length text) && nat_le (length text) 15 && list_all is_number_byte text
 
--- the number that a text is, byte for byte, where it is one
+-- the number that a text is, byte for byte, if it is one
 abbrev pub exact : List ℕ → Option (List ℕ)
 exact text = if is_number text then Some text else None

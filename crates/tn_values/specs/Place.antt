@@ -1,4 +1,4 @@
--- Where a number of digits alone stands, and which entries of a set hold a number.
+-- The place of a number of digits alone, and which entries of a set hold a number.
 use Rattle.std.specs.Prelude.{ℕ, Bool, false, ◌&&◌, ◌||◌, ◌==◌, nat_le, nat_lt, List, length, Option, Some, None, if◌then◌else◌}
 use Rattle.std.specs.List.{list_any}
 use Rattle.std.specs.Str.{bytes_eq}

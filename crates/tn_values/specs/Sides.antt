@@ -1,4 +1,4 @@
--- Where a number stands to the entries of a set, one after another: its spans first, and then its singles.
+-- Where a number is, as seen from the entries of a set, one after another: its spans first, and then its singles.
 use Rattle.std.specs.Prelude.{◌≡◌, ℕ, ◌<◌, ◌≤◌, nat_lt, List, ◌++◌, map, length, Option, Some, None, if◌then◌else◌}
 use Rattle.std.specs.Cmp.Lexicographic.{slice_cmp}
 use Rattle.std.specs.List.{slice_index_or}
@@ -12,14 +12,14 @@ use Rattle.tn_values.specs.Merged.{rank_of, rank_behind}
 use Rattle.tn_values.specs.declared.sorted.Side.{Side}
 use Rattle.tn_values.specs.declared.sorted.Side.TheVariants.{Before, Within, After}
 
--- the rank of a number, where it is of digits alone
+-- the rank of a number, if it is of digits alone
 abbrev pub rank_in : List ℕ → Option ℕ
 rank_in number = if are_digits number then Some (rank_of number) else None
 
 abbrev pub side_by_rank : SpanView → ℕ → Side
 side_by_rank span rank = if nat_lt rank (rank_of span.start) then Before else if nat_lt rank (rank_behind span) then Within else After
 
--- a number that isn't of digits alone stands behind every span
+-- a number that isn't of digits alone comes after every span
 abbrev pub side_of_span : List ℕ → SpanView → Side
 side_of_span number span = if are_digits number then side_by_rank span (rank_of number) else After
 
@@ -28,7 +28,7 @@ side_by_order Less = Before
 side_by_order Equal = Within
 side_by_order Greater = After
 
--- a number of digits alone stands before every single
+-- a number of digits alone comes before every single
 abbrev pub side_of_single : List ℕ → List ℕ → Side
 side_of_single number single = if are_digits number then Before else side_by_order (slice_cmp nat_cmp number single)
 

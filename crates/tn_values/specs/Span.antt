@@ -1,5 +1,5 @@
 -- Ranges of telephone numbers, `TelephoneNumberRange` of RFC 8226, section 9: a first number of digits, and how many follow from it on.
--- That a range ends at the last number of its start's length, where its count passes that, is this project's own rule.
+-- That a range ends at the last number of its start's length, if its count passes that, is this project's own rule.
 use Rattle.std.specs.Prelude.{◌≡◌, ℕ, ◌+◌, ◌^◌, ◌<◌, ◌≤◌, Bool, true, ◌&&◌, nat_le, min, List, length, Option, Some, None, if◌then◌else◌}
 use Rattle.std.specs.Str.Parse.{digits_value}
 use Rattle.tn_values.specs.Digit.{are_digits}
@@ -24,7 +24,7 @@ pub record SpanHolds (span : SpanView) (number : List ℕ) : Type 0 where
 abbrev pub is_span : List ℕ → ℕ → Bool
 is_span start size = are_digits start && nat_le 1 size
 
--- the span of this start and size, where there is one
+-- the span of this start and size, if there is one
 abbrev pub span_of : List ℕ → ℕ → Option SpanView
 span_of start size = if is_span start size then Some (record { start = start; size = size }) else None
 

@@ -1,11 +1,11 @@
-//! Which bytes stand in numbers.
+//! Which bytes may be in numbers.
 ghost use Rattle.std.specs.Prelude.{◌≡◌};
 ghost use Rattle.tn_values.specs.Canon.{is_separator};
 ghost use Rattle.tn_values.specs.Digit.{is_digit, are_digits};
 ghost use Rattle.tn_values.specs.Number.{is_number_byte, is_number};
 ghost use Rattle.std.specs.List.{list_all};
 
-/// Whether a byte may stand in a number: `0-9 * #`.
+/// Whether a byte may be in a number: `0-9 * #`.
 fn is_number_byte(byte: u8) -> bool
     ensures { result ≡ is_number_byte byte }
 {
@@ -26,7 +26,7 @@ pub(crate) fn are_digits(text: &[u8]) -> bool
     text.iter().all(|byte| byte.is_ascii_digit())
 }
 
-/// Whether all bytes may stand in a number.
+/// Whether all bytes may be in a number.
 fn are_number_bytes(text: &[u8]) -> bool
     ensures { result ≡ list_all is_number_byte text.now }
 {

@@ -5,7 +5,7 @@ ghost use Rattle.tn_values.specs.Canon.{without_separators};
 use crate::alphabet::is_separator;
 use std::marker::Model;
 
-/// The longest number behind its `+`.
+/// The longest number with its `+`.
 pub(crate) const CAPACITY: usize = 16;
 
 /// Up to 16 bytes, kept in place. A contract sees their list.
@@ -70,7 +70,7 @@ impl Kept {
     }
 }
 
-/// The text without its separators, or None where more than 16 bytes are left.
+/// The text without its separators, or None if more than 16 bytes are left.
 pub(crate) fn kept_of(text: &[u8]) -> Option<Kept>
     ensures { MatchOption result
         (16 < length (without_separators text.now))

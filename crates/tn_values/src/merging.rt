@@ -58,7 +58,7 @@ impl Ranked {
     }
 }
 
-/// The spans with their ranks, and behind them a span of size 1 for each number of digits alone.
+/// The spans with their ranks, and after them a span of size 1 for each number of digits alone.
 pub(crate) fn with_ranks(
     alloc: Global,
     spans: &[Span],
@@ -96,7 +96,7 @@ pub(crate) fn sorted(spans: Vec<Ranked>) -> Vec<Ranked>
     spans
 }
 
-/// What spans in order come to where each that touches the one before it is joined to it.
+/// What spans in order come to if each that touches the one before it is joined to it.
 pub(crate) fn merged(alloc: Global, spans: &[Ranked]) -> Result<Vec<Span>, Memory>
     ensures value { IfOk result (λ all. all.items ≡ merged spans.now) }
     ensures spans { IfOk result (λ _. All IsSpan spans.now) }

@@ -14,8 +14,8 @@ use std::{fmt, str};
 
 /// A telephone number: 1 to 15 bytes of `0-9 * #` (`TelephoneNumber` of RFC 8226, section 9).
 ///
-/// A contract sees it as the list of its bytes, and equality, order, hash and `{}` are those of this list: `12`
-/// stands before `123`, and `123` before `13`.
+/// A contract sees it as the list of its bytes, and equality, order, hash and `{}` are those of this list: `12` comes before
+/// `123`, and `123` before `13`.
 #[derive(Clone, Copy, PartialEq, Eq, PartialOrd, Ord, Hash)]
 pub struct Number {
     text: ShortText<15>,
@@ -35,7 +35,7 @@ impl Model for Number {
 }
 
 impl Number {
-    /// The number that `text` is, byte for byte. None where it isn't 1 to 15 bytes of `0-9 * #`.
+    /// The number that `text` is, byte for byte. None if it isn't 1 to 15 bytes of `0-9 * #`.
     #[tactic(auto, unfolding(crate::specs::Number::is_number))]
     pub fn exact(text: &[u8]) -> Option<Number>
         ensures { result ≡ exact text.now }
@@ -48,14 +48,14 @@ impl Number {
         })
     }
 
-    /// The canonical number that `text` stands for, or None where there is none.
+    /// The canonical number that `text` stands for, or None if there is none.
     ///
-    /// The bytes `(`, `)`, `-`, `.` and space are dropped. Behind a leading `+` the text is international and stands as
-    /// it is. Otherwise a text of digits alone that is as long as a national number of `local` gets the country's digits
-    /// in front, and any other stands as it is. What is left has to be a number: 1 to 15 bytes of `0-9 * #`.
+    /// The bytes `(`, `)`, `-`, `.` and space are dropped. After a leading `+` the text is international and stays as it is.
+    /// Otherwise a text of digits alone that is as long as a national number of `local` gets the country's digits before it,
+    /// and any other stays as it is. What is left has to be a number: 1 to 15 bytes of `0-9 * #`.
     ///
-    /// Texts that differ in the dropped bytes alone are read alike. Every number is read from its bytes behind a `+`, and from
-    /// its bytes alone unless they are digits and as many as a national number of `local` has.
+    /// Texts that differ in the dropped bytes alone are read alike. Every number is read from its bytes after a `+`. It is
+    /// also read from its bytes alone, unless they are digits and as many as a national number of `local` has.
     pub fn read(text: &[u8], local: &Local) -> Option<Number>
         ensures canonical { result ≡ Canon text.now local.now }
         ensures number { IfSome result (λ number. IsTrue (is_number number)) }

@@ -1,4 +1,4 @@
-//! Where numbers of digits alone stand.
+//! The places of numbers of digits alone.
 ghost use Rattle.std.specs.Prelude.{◌≡◌, ◌+◌, ◌^◌, ◌<◌, ◌≤◌, length, IsTrue, IfSome};
 ghost use Rattle.tn_values.specs.Digit.{are_digits};
 ghost use Rattle.tn_values.specs.Number.{is_number};
@@ -8,7 +8,7 @@ ghost use Rattle.tn_values.specs.Span.{value_of};
 use crate::alphabet::are_digits;
 use crate::numbers::Number;
 
-/// Where a number of digits alone stands: how many digits it has, and its value.
+/// The place of a number of digits alone: how many digits it has, and its value.
 #[derive(Clone, Copy)]
 pub(crate) struct Place {
     pub(crate) digits: usize,
@@ -18,7 +18,7 @@ pub(crate) struct Place {
 impl Place {
     ghost use Rattle.tn_values.specs.Place.{place_of};
 
-    /// The place of a number, or None where a byte of it is no digit.
+    /// The place of a number, or None if a byte of it is no digit.
     #[tactic(auto, unfolding(crate::specs::Number::is_number))]
     pub(crate) fn of(number: &Number) -> Option<Place>
         ensures value { result ≡ place_of number.now }
@@ -35,7 +35,7 @@ impl Place {
     }
 }
 
-/// Where a number of digits alone stands among all such numbers, which go by length and then by value.
+/// The rank of a number of digits alone among all such numbers, which go by length and then by value.
 pub(crate) fn rank_of(number: &Number) -> Option<u64>
     ensures { result ≡ rank_in number.now }
 {

@@ -9,7 +9,7 @@ use crate::kept::{Kept, kept_of};
 use crate::numbering::Local;
 use crate::numbers::Number;
 
-/// The canonical number that a text stands for, or None where there is none.
+/// The canonical number that a text stands for, or None if there is none.
 #[tactic(auto, unfolding(crate::specs::Canon::Canon, crate::specs::Number::is_number))]
 pub(crate) fn canonical(text: &[u8], local: &Local) -> Option<Number>
     ensures { result ≡ Canon text.now local.now }
@@ -24,7 +24,7 @@ pub(crate) fn canonical(text: &[u8], local: &Local) -> Option<Number>
     }
 }
 
-/// The number of a text without `+`: with the country's digits in front where it is national.
+/// The number of a text without `+`: with the country's digits before it if it is national.
 fn completed(text: &[u8], local: &Local) -> Option<Number>
     ensures { result ≡ option_map (with_country local.now) (exact text.now) }
 {

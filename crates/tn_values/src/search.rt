@@ -28,7 +28,7 @@ pub(crate) fn entry_of<L: Ledger>(
     }
 }
 
-/// The same where no step is counted.
+/// The same, but no step is counted.
 pub(crate) fn entry_uncounted<L: Ledger>(
     set: &Sorted,
     number: &Number,

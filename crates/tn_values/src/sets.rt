@@ -35,7 +35,7 @@ impl NumberSet {
     /// The set of all numbers of the spans and all `others`.
     ///
     /// Spans of one length that overlap or touch become one, and so does a number of digits alone with them. `Memory` comes
-    /// where there is none for the merged spans.
+    /// if there is no memory for the merged spans.
     pub fn build(spans: Vec<Span>, others: Vec<Number>) -> Result<NumberSet, Memory>
         ensures holds { IfOk result (λ set. (n : List ℕ) → SetHolds set n ↔ SetHolds (set_of spans.items others.items) n) }
         ensures few { IfOk result (λ set. part_count set ≤ length spans.items + length others.items) }
@@ -48,7 +48,7 @@ impl NumberSet {
     /// The spans, which with [`NumberSet::singles`] hold exactly the numbers of the set.
     pub fn spans(&self) -> &[Span]
         ensures value { result.now ≡ self.now.spans }
-        // Where all numbers of a span are in the set, one of its spans holds them all.
+        // If all numbers of a span are in the set, one of its spans holds them all.
         ensures one { (span : SpanView) → IsTrue (is_number span.start) → IsTrue (is_span span.start span.size)
             → ((n : List ℕ) → SpanHolds span n → SetHolds self.now n) → OneSpanHolds self.now.spans span }
     {
@@ -78,8 +78,8 @@ impl NumberSet {
         self.has_from::<Brand>(number, Blank::new(1))
     }
 
-    /// The same, and the steps that it takes, each a look at one span or one single: s of them, where 2^s is at most twice
-    /// [`NumberSet::parts`] and one.
+    /// The same, and the steps that it takes, each a look at one span or one single. For s steps, 2^s is at most one more
+    /// than twice [`NumberSet::parts`].
     pub fn has_counted<L: Ledger>(&self, number: &Number, steps: &mut Steps<L>) -> bool
         ensures holds { IsTrue result ↔ SetHolds self.now number.now }
         ensures steps { Spent steps.old steps.new (part_count self.now) }
@@ -88,7 +88,7 @@ impl NumberSet {
         entry_of(&self.entries, number, steps).is_some()
     }
 
-    /// The same where no step is counted.
+    /// The same, but no step is counted.
     fn has_from<L: Ledger>(&self, number: &Number, blank: Blank) -> bool
         requires name { blank.name ≡ L.name }
         requires parts { blank.parts ≡ L.parts }
@@ -141,7 +141,7 @@ impl NumberSet {
     }
 
     /// Whether the set has every number of the span: the one of its spans that holds the first number has them all, or the
-    /// number behind it is missing.
+    /// number after that span is missing.
     fn has_span(&self, span: &Span) -> bool
         ensures all { IsTrue result → (n : List ℕ) → SpanHolds span.now n → SetHolds self.now n }
         ensures gap { result ≡ false → Gap span.now self.now }

@@ -16,21 +16,21 @@ use std::cmp::Ordering;
 use std::marker::Model;
 use std::sync::ledger::Ledger;
 
-/// Where a number stands to an entry of a set.
+/// Where a number is, as seen from an entry of a set.
 #[derive(Clone, Copy, Debug, PartialEq, Eq)]
 pub enum Side {
     /// Before the entry, and before all later ones.
     Before,
     /// The entry holds it.
     Within,
-    /// Behind the entry, and behind all earlier ones.
+    /// After the entry, and after all earlier ones.
     After,
 }
 
-/// The entries of a set: spans, and behind them the single numbers that aren't of digits alone.
+/// The entries of a set: spans, and after them the single numbers that aren't of digits alone.
 ///
 /// The spans are sorted by length and then by start. No two of one length overlap or touch, and none passes the last number
-/// of its length; a number of digits alone is a span of size 1. The singles are sorted by their bytes, and each stands once.
+/// of its length; a number of digits alone is a span of size 1. The singles are sorted by their bytes, and each comes once.
 /// A contract sees the spans and the singles as two lists.
 #[derive(Debug, Drop)]
 pub struct Sorted {
@@ -70,7 +70,7 @@ impl Sorted {
         self.spans.len() + self.singles.len()
     }
 
-    /// How many of them are spans; these stand first.
+    /// How many of them are spans; these come first.
     pub fn span_count(&self) -> usize
         ensures { result ≡ length self.now.spans }
     {
@@ -91,7 +91,7 @@ impl Sorted {
         &self.singles
     }
 
-    /// Where the number stands to entry `i`, counted from 0. It is one step.
+    /// Where the number is, as seen from entry `i`, counted from 0. It is one step.
     pub fn probe<L: Ledger>(&self, i: usize, number: &Number, steps: &mut Steps<L>) -> Side
         requires { i < part_count self.now }
         ensures side { result ≡ slice_index_or (sides self.now number.now) i result }
@@ -114,7 +114,7 @@ impl Sorted {
     }
 }
 
-/// Where a number stands to a span.
+/// Where a number is, as seen from a span.
 fn side_of_span(number: &Number, span: &Span) -> Side
     ensures { result ≡ side_of_span number.now span.now }
 {
@@ -130,7 +130,7 @@ fn side_of_span(number: &Number, span: &Span) -> Side
     }
 }
 
-/// Where a number stands to a single that isn't of digits alone.
+/// Where a number is, as seen from a single that isn't of digits alone.
 fn side_of_single(number: &Number, single: &Number) -> Side
     ensures { result ≡ side_of_single number.now single.now }
 {

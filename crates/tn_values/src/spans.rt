@@ -11,9 +11,9 @@ use std::marker::Model;
 
 /// The numbers of digits alone that are as long as a first one and follow it, `TelephoneNumberRange` of RFC 8226, section 9.
 ///
-/// A span of size s holds the numbers of start's length from start to start + s - 1. Where that end passes the last number
-/// of start's length, the span ends at that last number, and its size stays as given. A contract sees `start`, a list of
-/// bytes, and `size`, a number.
+/// A span of size s holds the numbers of start's length from start to start + s - 1. If that end passes the last number of
+/// start's length, the span ends at that last number, and its size stays as given. A contract sees `start`, a list of bytes,
+/// and `size`, a number.
 #[derive(Clone, Copy, Debug, PartialEq, Eq, Hash)]
 pub struct Span {
     start: Number,
@@ -36,7 +36,7 @@ impl Model for Span {
 impl Span {
     ghost use Rattle.tn_values.specs.Place.{covers};
 
-    /// The span of `size` numbers from `start` on. None where a byte of `start` is no digit, or `size` is 0.
+    /// The span of `size` numbers from `start` on. None if a byte of `start` is no digit, or `size` is 0.
     pub fn new(start: Number, size: u64) -> Option<Span>
         ensures { result ≡ span_of start size }
     {
@@ -62,7 +62,7 @@ impl Span {
         self.size
     }
 
-    /// Whether the number is one of the span: digits alone, as long as the first number, and no further behind it than the
+    /// Whether the number is one of the span: digits alone, as long as the first number, and no further after it than the
     /// size allows.
     pub fn holds(&self, number: &Number) -> bool
         ensures { IsTrue result ↔ SpanHolds self.now number.now }
@@ -100,7 +100,7 @@ impl Span {
             .min(numbers_of(self.digits()))
     }
 
-    /// Where the first number stands among all numbers of digits alone, which go by length and then by value.
+    /// The rank of the first number among all numbers of digits alone, which go by length and then by value.
     pub(crate) fn rank(&self) -> u64
         ensures value { result ≡ rank_of self.now.start }
         ensures short { result ≤ 2 * 10 ^ 15 }

@@ -22,7 +22,7 @@ pub fn answer<R: Threads + Sync>(
     }
 }
 
-/// The report of a log, cut into rounds, where some calls of the provider and some reads of the shelf fail.
+/// The report of a log, cut into rounds, when some calls of the provider and some reads of the shelf fail.
 fn report<R: Threads + Sync>(rt: &R, alloc: Global, words: &[&[u8]]) -> Result<String, Unread> {
     let told = told(rt, alloc, words)?;
     report_of(alloc, told.lines.as_slice())
@@ -65,7 +65,7 @@ impl Gate for Notes {
     }
 }
 
-/// The workers that passed the gate, counted from 0, each with the number of the call, where one worker judged a log in rounds.
+/// The workers that passed the gate, counted from 0, each with the number of the call, when one worker judged a log in rounds.
 fn passed<R: Threads + Sync>(rt: &R, alloc: Global, words: &[&[u8]]) -> Result<String, Unread> {
     let [rounds, log, world @ ..] = words else {
         return Err(Unread::Call);

@@ -59,7 +59,7 @@ fn settings_of(
     })
 }
 
-/// Puts the fields of the judged PASSporTs in call order, the last second, and the ticket behind other words.
+/// Puts the fields of the judged PASSporTs in call order, the last second, and the ticket after other words.
 fn put_screened(answer: Answer, screened: &Screened) -> Answer {
     let mut answer = answer;
     for place in 0..screened.count() {
@@ -68,7 +68,7 @@ fn put_screened(answer: Answer, screened: &Screened) -> Answer {
     answer.word(screened.last()).hex(screened.ticket())
 }
 
-/// Puts `refused`, the response code, the rule, and where it is broken behind other words.
+/// Puts `refused`, the response code, the rule, and where it is broken after other words.
 pub fn put_refusal(answer: Answer, refusal: Refusal) -> Answer {
     let answer = answer
         .word("refused")
@@ -77,7 +77,7 @@ pub fn put_refusal(answer: Answer, refusal: Refusal) -> Answer {
     put_place(answer, refusal.place)
 }
 
-/// Puts a place behind other words.
+/// Puts a place after other words.
 pub fn put_place(answer: Answer, place: Place) -> Answer {
     answer.word(place.field).word(place.part)
 }

@@ -105,7 +105,7 @@ impl<'a> Row<'a> {
     }
 }
 
-/// Whom a signer asks: the holder, where there is one, and the provider.
+/// Whom a signer asks: the holder, if there is one, and the provider.
 #[derive(Drop)]
 struct Asked {
     list: Option<AuthList>,
@@ -135,7 +135,7 @@ impl Asked {
         })
     }
 
-    /// The holder, where there is one.
+    /// The holder, if there is one.
     fn holder(&self) -> Option<Holder<'_>> {
         match &self.list {
             Some(list) => Some(Holder {
@@ -188,7 +188,7 @@ fn put_signed(
     }
 }
 
-/// Puts a fault, and where it carries one its digest, behind other words.
+/// Puts a fault, and its digest if it carries one, after other words.
 fn put_fault(answer: Answer, fault: SignFault) -> Answer {
     let answer = answer.word("fault").option(fault.number());
     match fault {

@@ -21,7 +21,7 @@ pub fn answer(alloc: Global, call: &str, words: &[&[u8]]) -> Result<String, Unre
     }
 }
 
-/// What rules 10 to 17 and 19 come to at a moment, where some calls of the provider fail.
+/// What rules 10 to 17 and 19 come to at a moment, when some calls of the provider fail.
 fn finish_answer(alloc: Global, words: &[&[u8]]) -> Result<String, Unread> {
     let [
         moment,
@@ -143,7 +143,7 @@ impl<'a> Case<'a> {
         }
     }
 
-    /// The word behind an x5u; `none` where it isn't listed.
+    /// The word after an x5u; `none` if it isn't listed.
     fn file(self, x5u: &[u8]) -> &'a [u8] {
         let mut rest = self.files;
         for _ in self.files {
@@ -174,7 +174,7 @@ impl<'a> Case<'a> {
     }
 }
 
-/// Puts a verdict and where it stands behind other words.
+/// Puts a verdict and its place after other words.
 fn put_verdict(answer: Answer, verdict: Verdict) -> Answer {
     match verdict {
         Verdict::Passed => answer.word("passed"),

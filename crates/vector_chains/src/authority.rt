@@ -82,7 +82,7 @@ fn build(alloc: Global, words: &[&[u8]]) -> Result<String, Unread> {
     }
 }
 
-/// How one code stands to another.
+/// Whether one code is less than another, equal or greater.
 fn compared(alloc: Global, words: &[&[u8]]) -> Result<String, Unread> {
     let [left, right] = words else {
         return Err(Unread::Call);
@@ -102,7 +102,7 @@ fn read(alloc: Global, words: &[&[u8]]) -> Result<String, Unread> {
     }
 }
 
-/// Puts the entries of a list behind other words, as `code CODE`, `range START COUNT` and `single NUMBER`.
+/// Puts the entries of a list after other words, as `code CODE`, `range START COUNT` and `single NUMBER`.
 pub fn put_entries(answer: Answer, list: &AuthList) -> Answer {
     let mut answer = answer;
     for entry in list.entries() {
@@ -111,7 +111,7 @@ pub fn put_entries(answer: Answer, list: &AuthList) -> Answer {
     answer
 }
 
-/// Puts an entry behind other words.
+/// Puts an entry after other words.
 fn put_entry(answer: Answer, entry: &Entry) -> Answer {
     match entry {
         Entry::Code(code) => answer.word("code").word(*code),

@@ -95,7 +95,7 @@ impl Case<'_> {
         }
     }
 
-    /// Puts the x5us that are held behind other words, in the order in which they leave as one chain more after another is put: the least
+    /// Puts after other words the x5us that are held, in the order in which they leave as one more chain after another is put: the least
     /// recently used first.
     fn leaving(
         &mut self,
@@ -132,7 +132,7 @@ impl Case<'_> {
     }
 }
 
-/// Puts how many certificates the chain has that was found behind other words, or `none`.
+/// Puts after other words how many certificates the chain has that was found, or `none`.
 fn put_found(answer: Answer, found: Option<&Judged>) -> Answer {
     match found {
         Some(judged) => answer.word(judged.length()),

@@ -95,7 +95,7 @@ fn read(alloc: Global, words: &[&[u8]]) -> Result<String, Unread> {
     put_extensions(answer, &certificate).line()
 }
 
-/// Puts issuer, subject, first and last second, key, digest and signature of a certificate behind other words.
+/// Puts issuer, subject, first and last second, key, digest and signature of a certificate after other words.
 fn put_values(answer: Answer, certificate: &Certificate) -> Answer {
     answer
         .hex(certificate.issuer())
@@ -107,7 +107,7 @@ fn put_values(answer: Answer, certificate: &Certificate) -> Answer {
         .hex(certificate.signature().as_slice())
 }
 
-/// Puts what the extensions of a certificate say behind other words: whether it is an authority, path length and usage, the two
+/// Puts after other words what the extensions of a certificate say: whether it is an authority, path length and usage, the two
 /// key identifiers, and the entries of its list. What it lacks is `-`.
 fn put_extensions(answer: Answer, certificate: &Certificate) -> Answer {
     let answer = answer
@@ -119,7 +119,7 @@ fn put_extensions(answer: Answer, certificate: &Certificate) -> Answer {
     list_or_dash(answer, certificate.list())
 }
 
-/// Puts the entries of a list behind other words, or `-`.
+/// Puts the entries of a list after other words, or `-`.
 fn list_or_dash(answer: Answer, list: Option<&AuthList>) -> Answer {
     match list {
         Some(list) => put_entries(answer, list),
@@ -127,7 +127,7 @@ fn list_or_dash(answer: Answer, list: Option<&AuthList>) -> Answer {
     }
 }
 
-/// Puts bytes behind other words, or `-`.
+/// Puts bytes after other words, or `-`.
 fn hex_or_dash(answer: Answer, bytes: Option<&[u8]>) -> Answer {
     match bytes {
         Some(bytes) => answer.hex(bytes),

@@ -82,8 +82,8 @@ impl Case<'_> {
         judged(alloc, self.chain, self.anchors, self.table, provider)
     }
 
-    /// Where rules 11, 12 and 14 are broken, `-` where they aren't; how the signatures were answered for; how often was asked. The listed
-    /// calls of the provider fail.
+    /// Where rules 11, 12 and 14 are broken, `-` if they aren't; how the signatures were answered for; how often the provider was asked.
+    /// Its listed calls fail.
     fn said(self, alloc: Global, words: &[&[u8]]) -> Result<String, Unread> {
         let [failing] = words else {
             return Err(Unread::Call);
@@ -155,7 +155,7 @@ impl Case<'_> {
     }
 }
 
-/// Puts what is asked for a certificate behind other words.
+/// Puts after other words what is asked for a certificate.
 fn put_question(answer: Answer, question: Question<'_>) -> Answer {
     let Question {
         key,
@@ -165,7 +165,7 @@ fn put_question(answer: Answer, question: Question<'_>) -> Answer {
     answer.hex(key).hex(digest).hex(signature)
 }
 
-/// Puts where rules 11, 12 and 14 are broken, and how the signatures were answered for, behind other words.
+/// Puts after other words where rules 11, 12 and 14 are broken, and how the signatures were answered for.
 fn put_judged(answer: Answer, judged: &Judged) -> Answer {
     let answer = answer
         .option(judged.profile())
@@ -174,7 +174,7 @@ fn put_judged(answer: Answer, judged: &Judged) -> Answer {
     put_asked(answer, judged.asked())
 }
 
-/// Puts how the signatures were answered for behind other words.
+/// Puts after other words how the signatures were answered for.
 fn put_asked(answer: Answer, asked: Asked) -> Answer {
     match asked {
         Asked::NotAsked => answer.word("unasked"),

@@ -29,7 +29,7 @@ pub fn entries_of(alloc: Global, words: &[u8]) -> Result<Vec<Entry>, Unread> {
     Ok(entries)
 }
 
-/// Puts the entry that a word is behind others; an empty word is none.
+/// Puts after others the entry that a word is; an empty word is none.
 fn put_entry_of(word: &str, entries: &mut Vec<Entry>) -> Result<(), Unread> {
     if !word.is_empty() {
         entries.push(entry_of(word)?)?;

@@ -119,7 +119,7 @@ fn anchor(alloc: Global, words: &[&[u8]]) -> Result<String, Unread> {
     Answer::new(alloc).hex(anchors.get(place).whole()).line()
 }
 
-/// The number of the anchor above the last certificate, `-` where this is itself an anchor, or the fault.
+/// The number of the anchor above the last certificate, `-` if this is itself an anchor, or the fault.
 fn shape_answer(alloc: Global, words: &[&[u8]]) -> Result<String, Unread> {
     let [chain, anchors] = words else {
         return Err(Unread::Call);

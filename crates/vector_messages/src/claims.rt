@@ -53,7 +53,7 @@ fn read(alloc: Global, words: &[&[u8]]) -> Result<String, Unread> {
     }
 }
 
-/// What a token says, where the field's type is a word of these or `none`.
+/// What a token says, if the field's type is one of these words or `none`.
 fn said_of(
     alloc: Global,
     token: &Token,
@@ -68,7 +68,7 @@ fn said_of(
     }
 }
 
-/// Puts the type with what it adds, the URI, the time, the calling number and the called ones behind other words.
+/// Puts after other words the type with what it adds, the URI, the time, the calling number and the called ones.
 fn put_parts(answer: Answer, passport: &Passport) -> Answer {
     let answer = put_kind(answer, &passport.kind())
         .text(passport.x5u())
@@ -77,7 +77,7 @@ fn put_parts(answer: Answer, passport: &Passport) -> Answer {
     put_numbers(answer, passport.dest())
 }
 
-/// Puts the type with what it adds behind other words.
+/// Puts after other words the type with what it adds.
 fn put_kind(answer: Answer, kind: &Kind) -> Answer {
     match kind {
         Kind::Base => answer.word("base"),

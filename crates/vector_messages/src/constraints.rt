@@ -43,7 +43,7 @@ fn put_constraints(alloc: Global, constraints: &Constraints) -> Result<String, U
     answer.line()
 }
 
-/// Puts the claim at this index and its values behind other words.
+/// Puts the claim at this index and its values after other words.
 fn put_permit(answer: Answer, constraints: &Constraints, claim: usize) -> Answer
     requires { claim < length constraints.now.permits }
 {
@@ -71,7 +71,7 @@ fn write(alloc: Global, words: &[&[u8]]) -> Result<String, Unread> {
     Answer::new(alloc).hex(written.as_slice()).line()
 }
 
-/// The constraints of these claims, in the words of [`put_constraints`] behind `ok`, or `none`.
+/// The constraints of these claims, in the words of [`put_constraints`] after `ok`, or `none`.
 fn build(alloc: Global, words: &[&[u8]]) -> Result<String, Unread> {
     let [count, words @ ..] = words else {
         return Err(Unread::Call);
@@ -87,7 +87,7 @@ fn build(alloc: Global, words: &[&[u8]]) -> Result<String, Unread> {
     }
 }
 
-/// As many texts as the first word says, and the words behind them.
+/// As many texts as the first word says, and the words after them.
 fn texts_of<'a, 'b>(
     alloc: Global,
     count: &[u8],
@@ -105,7 +105,7 @@ fn texts_of<'a, 'b>(
     Ok((texts, words))
 }
 
-/// So many claims with their values behind others, from the words that say them.
+/// So many claims with their values, after others, from the words that say them.
 fn permits_of(
     alloc: Global,
     before: Vec<Permit>,

@@ -84,7 +84,7 @@ fn parts(alloc: Global, field: &Field<'_>) -> Result<String, Unread> {
     put(put(answer, &alg), &ppt).line()
 }
 
-/// A parameter with its label, where it is given.
+/// A parameter with its label, if it is given.
 fn labelled(
     alloc: Global,
     label: &[u8],
@@ -98,7 +98,7 @@ fn labelled(
     Ok(Some(text))
 }
 
-/// Puts a parameter, where it is given, behind other words.
+/// Puts a parameter, if it is given, after other words.
 fn put(answer: Answer, parameter: &Option<Vec<u8>>) -> Answer {
     match parameter {
         Some(parameter) => answer.text(parameter.as_slice()),

@@ -25,7 +25,7 @@ fn read(alloc: Global, words: &[&[u8]]) -> Result<String, Unread> {
     }
 }
 
-/// Puts what [`read`] says of a message behind other words.
+/// Puts after other words what [`read`] says of a message.
 fn put_head(answer: Answer, message: &Message) -> Answer {
     let method = if message.is_invite() {
         "invite"
@@ -47,7 +47,7 @@ fn identities(alloc: Global, words: &[&[u8]]) -> Result<String, Unread> {
     }
 }
 
-/// Puts the values of a message's Identity fields behind other words.
+/// Puts the values of a message's Identity fields after other words.
 fn put_identities(answer: Answer, message: &Message) -> Answer {
     let mut answer = answer;
     for i in 0..message.identity_count() {
@@ -69,7 +69,7 @@ fn numbers(alloc: Global, words: &[&[u8]]) -> Result<String, Unread> {
     }
 }
 
-/// Puts what [`numbers`] says of a message behind other words.
+/// Puts after other words what [`numbers`] says of a message.
 fn put_numbers(answer: Answer, message: &Message, local: &Local) -> Answer {
     answer
         .option(message.from_number(local))

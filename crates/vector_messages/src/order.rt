@@ -30,7 +30,7 @@ fn chain_answer(alloc: Global, words: &[&[u8]]) -> Result<String, Unread> {
     }
 }
 
-/// Puts the numbers of the links, in the order in which the call went, behind other words.
+/// Puts after other words the numbers of the links, in the order in which the call went.
 fn put_turn(answer: Answer, order: &Order) -> Answer {
     let mut answer = answer;
     for (place, link) in order.turn.iter().enumerate() {

@@ -14,7 +14,7 @@ pub fn answer(alloc: Global, call: &str, words: &[&[u8]]) -> Result<String, Unre
     }
 }
 
-/// A message with a header field of this name and this value; `name` or `value` where that can't be added.
+/// A message with a header field of this name and this value; `name` or `value` if that can't be added.
 fn added(alloc: Global, words: &[&[u8]]) -> Result<String, Unread> {
     let [name, value, bytes @ ..] = words else {
         return Err(Unread::Call);

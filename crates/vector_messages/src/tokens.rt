@@ -79,7 +79,7 @@ fn signed(alloc: Global, words: &[&[u8]]) -> Result<String, Unread> {
     }
 }
 
-/// Puts what was signed, and the signature, behind other words.
+/// Puts after other words what was signed, and the signature.
 fn put_signed(answer: Answer, token: &Token) -> Answer {
     answer.text(token.signing()).hex(token.signature())
 }
@@ -169,7 +169,7 @@ fn nested(alloc: Global, value: Value, arrays: u8) -> Result<Value, Unread> {
     Ok(value)
 }
 
-/// Puts the deterministic form of a value, or `unwritable`, behind other words.
+/// Puts the deterministic form of a value, or `unwritable`, after other words.
 pub fn put_value(alloc: Global, answer: Answer, value: &Value) -> Result<Answer, Unread> {
     if !is_writable(value) {
         return Ok(answer.word("unwritable"));

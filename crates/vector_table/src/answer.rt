@@ -5,7 +5,7 @@ use std::alloc::{AllocError, Global};
 use std::cmp::Ordering;
 use std::fmt::{Debug, Display, Write};
 
-/// The words of a line, put one behind the other. Where memory ran out on the way, [`Answer::line`] says so.
+/// The words of a line, put one after the other. If memory ran out on the way, [`Answer::line`] says so.
 #[derive(Drop)]
 pub struct Answer {
     alloc: Global,
@@ -23,7 +23,7 @@ impl Answer {
         }
     }
 
-    /// A word that stands as it is, as `ok`, a fault's name or a number does.
+    /// A word that is written as it is, such as `ok`, a fault's name or a number.
     pub fn word<D: Display + Drop>(mut self, word: D) -> Answer {
         let put = self.put(&word);
         self.keep(put)
@@ -37,7 +37,7 @@ impl Answer {
         }
     }
 
-    /// A text, in which what isn't printable stands escaped. The empty text is `x:`.
+    /// A text, in which what isn't printable is escaped. The empty text is `x:`.
     pub fn text(mut self, text: &[u8]) -> Answer {
         if text.is_empty() {
             return self.word("x:");
@@ -70,7 +70,7 @@ impl Answer {
         self
     }
 
-    /// Puts a blank behind the words, where there are any.
+    /// Puts a blank after the words, if there are any.
     fn begin(&mut self) -> Result<(), AllocError> {
         if !self.line.is_empty() {
             self.line.push(' ')?;
@@ -78,14 +78,14 @@ impl Answer {
         Ok(())
     }
 
-    /// Puts a word as it is printed behind the others.
+    /// Puts a word after the others, as it is printed.
     fn put<D: Display>(&mut self, word: &D) -> Result<(), AllocError> {
         self.begin()?;
         write!(self.line, "{word}")?;
         Ok(())
     }
 
-    /// Puts an escaped text behind the other words.
+    /// Puts an escaped text after the other words.
     fn put_text(&mut self, text: &[u8]) -> Result<(), AllocError> {
         self.begin()?;
         for byte in text {
@@ -94,7 +94,7 @@ impl Answer {
         Ok(())
     }
 
-    /// Puts bytes as hex digits behind the other words.
+    /// Puts bytes after the other words, as hex digits.
     fn put_hex(&mut self, bytes: &[u8]) -> Result<(), AllocError> {
         self.begin()?;
         self.line.push_str("x:")?;
@@ -180,7 +180,7 @@ fn debug<D: Debug>(alloc: Global, value: &D) -> Result<String, AllocError> {
     format!(in alloc; "{value:?}")
 }
 
-/// Puts a byte behind a text, escaped as the table's plain texts are where it isn't printable.
+/// Puts a byte after a text. If it isn't printable, it is escaped as in the table's plain texts.
 fn put_escaped(out: &mut String, byte: u8) -> Result<(), AllocError> {
     if let Some(letter) = letter_of(byte) {
         out.push('\\')?;
@@ -193,7 +193,7 @@ fn put_escaped(out: &mut String, byte: u8) -> Result<(), AllocError> {
     Ok(())
 }
 
-/// The letter that stands behind the backslash where a byte has an escape of its own.
+/// The letter after the backslash, if a byte has an escape of its own.
 fn letter_of(byte: u8) -> Option<char> {
     match byte {
         b' ' => Some('s'),

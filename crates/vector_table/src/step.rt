@@ -52,9 +52,9 @@ pub fn slices(alloc: Global, words: &[Vec<u8>]) -> Result<Vec<&[u8]>, AllocError
     Ok(slices)
 }
 
-/// The status where a line can't be read.
+/// The status if a line can't be read.
 const UNREAD: u8 = 2;
-/// The status where the table can't be taken in or an answer can't be written.
+/// The status if the table can't be taken in or an answer can't be written.
 const FAILED: u8 = 3;
 
 /// Why a run over a table ends before the table does.

@@ -134,7 +134,7 @@ impl Names {
         Ok(all)
     }
 
-    /// Puts the bytes of `[COUNT*]PIECE` behind others.
+    /// Puts the bytes of `[COUNT*]PIECE` after others.
     fn put_word(&self, alloc: Global, word: &str, out: &mut Vec<u8>) -> Result<(), Unread> {
         let (count, piece) = counted(word)?;
         for _ in 0..count {
@@ -143,7 +143,7 @@ impl Names {
         Ok(())
     }
 
-    /// Puts the bytes of `$NAME`, `$NAME[FROM..TO]`, `x:HEX` or a plain text behind others.
+    /// Puts the bytes of `$NAME`, `$NAME[FROM..TO]`, `x:HEX` or a plain text after others.
     fn put_piece(&self, alloc: Global, piece: &str, out: &mut Vec<u8>) -> Result<(), Unread> {
         if let Some(name) = piece.strip_prefix('$') {
             return Ok(out.extend_from_slice(self.named(name)?)?);
@@ -170,7 +170,7 @@ impl Names {
     }
 }
 
-/// The bytes from one place up to another, as `FROM..TO]`: the bytes' ends where these are left out.
+/// The bytes from one place up to another, as `FROM..TO]`: the bytes' ends if these are left out.
 fn part_of<'a>(bytes: &'a [u8], part: &str) -> Result<&'a [u8], Unread> {
     let Some(part) = part.strip_suffix(']') else {
         return Err(Unread::Word);
@@ -183,7 +183,7 @@ fn part_of<'a>(bytes: &'a [u8], part: &str) -> Result<&'a [u8], Unread> {
     bytes.get(from..to).ok_or(Unread::Value)
 }
 
-/// The place that a text is, or another where the text is empty.
+/// The place that a text is, or another if the text is empty.
 fn place_of(text: &str, otherwise: usize) -> Result<usize, Unread> {
     if text.is_empty() {
         Ok(otherwise)
@@ -192,7 +192,7 @@ fn place_of(text: &str, otherwise: usize) -> Result<usize, Unread> {
     }
 }
 
-/// The count in front of a `*`, which is 1 where there is none, and the piece.
+/// The count before a `*`, which is 1 if there is none, and the piece.
 fn counted(word: &str) -> Result<(u64, &str), Unread> {
     match word.split_once('*') {
         Some((count, piece)) if are_digits(count) => Ok((number(count.as_bytes())?, piece)),
@@ -205,7 +205,7 @@ fn are_digits(text: &str) -> bool {
     !text.is_empty() && text.bytes().all(|byte| byte.is_ascii_digit())
 }
 
-/// Puts the bytes of hex digits, two a byte, behind others.
+/// Puts the bytes of hex digits, two a byte, after others.
 fn put_hex(alloc: Global, digits: &str, out: &mut Vec<u8>) -> Result<(), Unread> {
     match hex::decode(alloc, digits) {
         Ok(bytes) => Ok(out.extend_from_slice(bytes.as_slice())?),
@@ -214,7 +214,7 @@ fn put_hex(alloc: Global, digits: &str, out: &mut Vec<u8>) -> Result<(), Unread>
     }
 }
 
-/// Puts the bytes of a plain text behind others, where a backslash begins `\xHH`, `\s`, `\n`, `\r`, `\t` or `\\`.
+/// Puts the bytes of a plain text after others. A backslash in it begins `\xHH`, `\s`, `\n`, `\r`, `\t` or `\\`.
 fn put_text(text: &str, out: &mut Vec<u8>) -> Result<(), Unread> {
     let mut rest = text.as_bytes();
     for _ in 0..text.len() {
@@ -231,7 +231,7 @@ fn put_text(text: &str, out: &mut Vec<u8>) -> Result<(), Unread> {
     Ok(())
 }
 
-/// The byte that stands escaped behind a backslash, and what follows.
+/// The byte that is escaped after a backslash, and what follows.
 fn escaped(text: &[u8]) -> Result<(u8, &[u8]), Unread> {
     match text {
         [b'x', high, low, behind @ ..] => Ok((hex_byte([*high, *low])?, behind)),
@@ -240,7 +240,7 @@ fn escaped(text: &[u8]) -> Result<(u8, &[u8]), Unread> {
     }
 }
 
-/// The byte that this letter stands for behind a backslash.
+/// The byte that this letter stands for after a backslash.
 fn byte_of(letter: u8) -> Result<u8, Unread> {
     match letter {
         b's' => Ok(b' '),

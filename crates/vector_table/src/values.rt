@@ -15,7 +15,7 @@ pub fn number_of(digits: &[u8]) -> Result<Number, Unread> {
     Number::exact(digits).ok_or(Unread::Value)
 }
 
-/// The number of seconds that a word is; none where it is `-`.
+/// The number of seconds that a word is; none if it is `-`.
 pub fn seconds(word: &[u8]) -> Result<Option<u64>, Unread> {
     match given(word) {
         Some(word) => Ok(Some(number(word)?)),
@@ -23,7 +23,7 @@ pub fn seconds(word: &[u8]) -> Result<Option<u64>, Unread> {
     }
 }
 
-/// The telephone number that a word is; none where it is `-`.
+/// The telephone number that a word is; none if it is `-`.
 pub fn telephone(word: &[u8]) -> Result<Option<Number>, Unread> {
     match given(word) {
         Some(word) => Ok(Some(number_of(word)?)),
@@ -67,17 +67,17 @@ fn whole<T: Drop>(read: Result<T, u32>) -> Result<T, Unread> {
     }
 }
 
-/// Puts the country and the national length of a local numbering behind other words.
+/// Puts the country and the national length of a local numbering after other words.
 pub fn put_local(answer: Answer, local: &Local) -> Answer {
     answer.word(local.country()).word(local.national())
 }
 
-/// Puts the start and the size of a span behind other words.
+/// Puts the start and the size of a span after other words.
 pub fn put_span(answer: Answer, span: &Span) -> Answer {
     answer.word(span.start()).word(span.size())
 }
 
-/// Puts numbers behind other words.
+/// Puts numbers after other words.
 pub fn put_numbers(answer: Answer, numbers: &[Number]) -> Answer {
     let mut answer = answer;
     for number in numbers {

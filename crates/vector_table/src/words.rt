@@ -31,7 +31,7 @@ pub fn files_of(alloc: Global, words: &[&[u8]]) -> Result<Vec<(Vec<u8>, Vec<u8>)
     Ok(files)
 }
 
-/// A word; none where it is `-`.
+/// A word; none if it is `-`.
 pub fn given(word: &[u8]) -> Option<&[u8]> {
     if word == b"-".as_slice() {
         None
@@ -49,7 +49,7 @@ pub fn numbers_of(alloc: Global, words: &[u8]) -> Result<Vec<u64>, Unread> {
     Ok(numbers)
 }
 
-/// Puts the number that a word is behind others; an empty word is none.
+/// Puts after others the number that a word is; an empty word is none.
 fn put_number(word: &str, numbers: &mut Vec<u64>) -> Result<(), Unread> {
     if !word.is_empty() {
         numbers.push(number(word.as_bytes())?)?;

@@ -31,7 +31,7 @@ fn ask(alloc: Global, words: &[&[u8]]) -> Result<String, Unread> {
     answer.word(provider.asks()).word(provider.faults()).line()
 }
 
-/// Puts what a provider answers to some calls behind other words.
+/// Puts after other words what a provider answers to some calls.
 fn put_answers(
     answer: Answer,
     provider: &mut AnswerProvider<'_>,
@@ -61,7 +61,7 @@ fn taken_by(call: &[u8]) -> usize {
     }
 }
 
-/// Puts what a provider answers to the call of this name behind other words.
+/// Puts after other words what a provider answers to the call of this name.
 fn asked(
     answer: Answer,
     provider: &mut AnswerProvider<'_>,
@@ -75,7 +75,7 @@ fn asked(
     }
 }
 
-/// Puts whether a provider confirms a signature behind other words.
+/// Puts after other words whether a provider confirms a signature.
 fn confirmed(
     answer: Answer,
     provider: &mut AnswerProvider<'_>,
@@ -93,7 +93,7 @@ fn confirmed(
     }
 }
 
-/// Puts the signature that a provider makes behind other words.
+/// Puts after other words the signature that a provider makes.
 fn signed(
     answer: Answer,
     provider: &mut AnswerProvider<'_>,

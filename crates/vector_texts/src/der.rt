@@ -42,7 +42,7 @@ fn says(alloc: Global, words: &[&[u8]]) -> Result<String, Unread> {
     word(alloc, DerFault { kind, place })
 }
 
-/// The first element and what stands behind it, or the fault.
+/// The first element and what comes after it, or the fault.
 fn next(alloc: Global, words: &[&[u8]]) -> Result<String, Unread> {
     let [bytes] = words else {
         return Err(Unread::Call);
@@ -53,7 +53,7 @@ fn next(alloc: Global, words: &[&[u8]]) -> Result<String, Unread> {
     }
 }
 
-/// The tag of an element, its whole bytes, its content, and what stands behind it.
+/// The tag of an element, its whole bytes, its content, and what comes after it.
 fn parts(answer: Answer, element: &Der<'_>, rest: &[u8]) -> Answer {
     answer
         .hex(&[element.tag])
@@ -62,7 +62,7 @@ fn parts(answer: Answer, element: &Der<'_>, rest: &[u8]) -> Answer {
         .hex(rest)
 }
 
-/// What stands in front of the content in the element that is put, and how many bytes the content has.
+/// What comes before the content in the element that is put, and how many bytes the content has.
 fn put_answer(alloc: Global, words: &[&[u8]]) -> Result<String, Unread> {
     let [tag, content] = words else {
         return Err(Unread::Call);

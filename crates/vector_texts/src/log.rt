@@ -75,7 +75,7 @@ fn put_calls(alloc: Global, reader: &mut LogReader, source: &mut Drip) -> Result
     Ok(answer.word("more"))
 }
 
-/// Puts the number, the moment and the message of a call behind other words.
+/// Puts the number, the moment and the message of a call after other words.
 fn put_call(answer: Answer, call: &Call) -> Answer {
     answer
         .word(call.number())

@@ -43,7 +43,7 @@ fn exact(alloc: Global, words: &[&[u8]]) -> Result<String, Unread> {
     or_none(alloc, Number::exact(digits))
 }
 
-/// How one number stands to another.
+/// Whether one number is less than another, equal or greater.
 fn compared(alloc: Global, words: &[&[u8]]) -> Result<String, Unread> {
     let [left, right] = words else {
         return Err(Unread::Call);
@@ -138,7 +138,7 @@ fn set_of(alloc: Global, words: &[u8]) -> Result<NumberSet, Unread> {
     Ok(NumberSet::build(spans, singles)?)
 }
 
-/// Puts the span or the single number that a word is behind others; an empty word is neither.
+/// Puts after others the span or the single number that a word is; an empty word is neither.
 fn put_member(word: &str, spans: &mut Vec<Span>, singles: &mut Vec<Number>) -> Result<(), Unread> {
     if word.is_empty() {
         return Ok(());

@@ -63,7 +63,7 @@ fn list(alloc: Global, words: &[&[u8]]) -> Result<String, Unread> {
     put_entries(Answer::new(alloc), list.as_slice()).line()
 }
 
-/// Puts the window, the call, the moment and the entries of a state behind other words.
+/// Puts the window, the call, the moment and the entries of a state after other words.
 fn put_state(answer: Answer, state: &State) -> Answer {
     let answer = answer
         .word(state.window())
@@ -72,7 +72,7 @@ fn put_state(answer: Answer, state: &State) -> Answer {
     put_entries(answer, state.kept())
 }
 
-/// Puts entries behind other words, each as its ticket and two numbers.
+/// Puts entries after other words, each as its ticket and two numbers.
 fn put_entries(answer: Answer, kept: &[Entry]) -> Answer {
     let mut answer = answer;
     for (ticket, kept) in kept {

@@ -18,7 +18,7 @@ pub fn answer(alloc: Global, call: &str, words: &[&[u8]]) -> Result<String, Unre
     }
 }
 
-/// The lines of a text that say something, each as its number and what stands on it, and `end`.
+/// The lines of a text that say something, each as its number and what is on it, and `end`.
 fn lines(alloc: Global, words: &[&[u8]]) -> Result<String, Unread> {
     let [text] = words else {
         return Err(Unread::Call);
@@ -34,7 +34,7 @@ fn lines(alloc: Global, words: &[&[u8]]) -> Result<String, Unread> {
     answer.word("end").line()
 }
 
-/// Puts the number of a line and what stands on it behind other words.
+/// Puts after other words the number of a line and what is on it.
 fn put_line(answer: Answer, line: Option<Line<'_>>) -> Answer {
     match line {
         Some(line) => answer.word(line.number).text(line.text),
@@ -61,7 +61,7 @@ fn words_answer(alloc: Global, words: &[&[u8]]) -> Result<String, Unread> {
     }
 }
 
-/// Puts the words of a line behind others.
+/// Puts the words of a line after others.
 fn put_words(answer: Answer, words: Words<'_>) -> Answer {
     match words {
         Words::Two(a, b) => answer.text(a).text(b),
@@ -70,7 +70,7 @@ fn put_words(answer: Answer, words: Words<'_>) -> Answer {
     }
 }
 
-/// The number that digits are, where it is no more than a most.
+/// The number that digits are, if it is no more than a most.
 fn number_answer(alloc: Global, words: &[&[u8]]) -> Result<String, Unread> {
     let [digits, most] = words else {
         return Err(Unread::Call);
@@ -86,7 +86,7 @@ fn cut_answer(alloc: Global, words: &[&[u8]]) -> Result<String, Unread> {
     two_or_none(alloc, cut(bytes, *byte))
 }
 
-/// What stands behind a front.
+/// What comes after a prefix.
 fn behind_answer(alloc: Global, words: &[&[u8]]) -> Result<String, Unread> {
     let [bytes, front] = words else {
         return Err(Unread::Call);

@@ -28,7 +28,7 @@ fn order(alloc: Global, words: &[&[u8]]) -> Result<String, Unread> {
     }
 }
 
-/// Puts the name of a command and the values of its options behind other words.
+/// Puts the name of a command and the values of its options after other words.
 fn put_order(answer: Answer, order: &Order<'_>) -> Answer {
     match order {
         Order::Verify(verifying) => put_verifying(answer.word("verify"), verifying),
@@ -52,7 +52,7 @@ fn texts_of<'a>(alloc: Global, words: &[&'a [u8]]) -> Result<Vec<&'a str>, Unrea
     Ok(texts)
 }
 
-/// Puts the four names, the settings, the name of the state or `-`, and the number of workers behind other words.
+/// Puts the four names, the settings, the name of the state or `-`, and the number of workers after other words.
 fn put_verifying(answer: Answer, verifying: &Verifying<'_>) -> Answer {
     let answer = put_judging(answer, &verifying.judging);
     let answer = match verifying.state {
@@ -62,7 +62,7 @@ fn put_verifying(answer: Answer, verifying: &Verifying<'_>) -> Answer {
     answer.word(verifying.workers)
 }
 
-/// Puts the four names and the settings behind other words.
+/// Puts the four names and the settings after other words.
 fn put_judging(answer: Answer, judging: &Judging<'_>) -> Answer {
     let answer = answer
         .text(judging.chains.as_bytes())
@@ -72,7 +72,7 @@ fn put_judging(answer: Answer, judging: &Judging<'_>) -> Answer {
     put_settings(answer, &judging.settings)
 }
 
-/// Puts the three names and the settings behind other words.
+/// Puts the three names and the settings after other words.
 fn put_asking(answer: Answer, asking: &Asking<'_>) -> Answer {
     let answer = answer
         .text(asking.chains.as_bytes())
@@ -81,7 +81,7 @@ fn put_asking(answer: Answer, asking: &Asking<'_>) -> Answer {
     put_settings(answer, &asking.settings)
 }
 
-/// Puts how old and how far ahead a PASSporT may be, the country and the length of national numbers behind other words.
+/// Puts how old and how far ahead a PASSporT may be, the country and the length of national numbers after other words.
 fn put_settings(answer: Answer, settings: &Settings) -> Answer {
     put_local(
         answer.word(settings.past).word(settings.future),
@@ -89,8 +89,8 @@ fn put_settings(answer: Answer, settings: &Settings) -> Answer {
     )
 }
 
-/// Puts what is to be signed of a call behind other words: the form, with the attestation and the identifier where it has them, the key,
-/// the URI, the second, the local numbering, and the files of the answers and of the holder.
+/// Puts what is to be signed of a call after other words. These are the form, with the attestation and the identifier if it has them,
+/// the key, the URI, the second, the local numbering, and the files of the answers and of the holder.
 fn put_signing(answer: Answer, signing: &Signing<'_>) -> Answer {
     let answer = put_form(answer, &signing.form)
         .text(signing.key.as_bytes())
@@ -100,7 +100,7 @@ fn put_signing(answer: Answer, signing: &Signing<'_>) -> Answer {
     put_holder(answer, &signing.holder)
 }
 
-/// Puts how a diversion is to be signed behind other words: the earlier number, and the others as above.
+/// Puts how a diversion is to be signed after other words: the earlier number, and the others as above.
 fn put_diverting(answer: Answer, diverting: &Diverting<'_>) -> Answer {
     let answer = answer
         .word(diverting.earlier)
@@ -111,7 +111,7 @@ fn put_diverting(answer: Answer, diverting: &Diverting<'_>) -> Answer {
     put_holder(answer, &diverting.holder)
 }
 
-/// Puts by what a call is judged behind other words, then how its diversion is signed, where it goes on, the file of the certificate, and the moment.
+/// Puts by what a call is judged after other words, then how its diversion is signed, where it goes on, the file of the certificate, and the moment.
 fn put_retargeting(answer: Answer, words: &Retargeting<'_>) -> Answer {
     put_judging(answer, &words.judging)
         .text(words.key.as_bytes())
@@ -135,7 +135,7 @@ fn put_claiming(answer: Answer, claiming: &Claiming) -> Answer {
     answer.word(claiming.size).word(claiming.workers)
 }
 
-/// Puts a form behind other words.
+/// Puts a form after other words.
 fn put_form(answer: Answer, form: &Form) -> Answer {
     match form {
         Form::Base => answer.word("base"),
@@ -144,7 +144,7 @@ fn put_form(answer: Answer, form: &Form) -> Answer {
     }
 }
 
-/// Puts the two files of the holder behind other words, or `-` for each.
+/// Puts the two files of the holder after other words, or `-` for each.
 fn put_holder(answer: Answer, holder: &Option<HolderFiles<'_>>) -> Answer {
     match holder {
         Some(files) => answer

@@ -51,7 +51,7 @@ struct Done {
 const ROOM: usize = 65_536;
 
 impl Case<'_> {
-    /// Runs it, where some calls fail.
+    /// Runs it, with some calls that fail.
     fn run<R: Threads + Sync>(
         self,
         rt: &R,
@@ -92,8 +92,8 @@ fn command_of(alloc: Global, command: &str) -> Result<Vec<&str>, Unread> {
     Ok(words)
 }
 
-/// The status of a run where the listed reads of files, reads of the log and writes fail, what was written, how many bytes of the log
-/// are left, and how many of each kind failed.
+/// What comes of a run in which the listed reads of files, reads of the log and writes fail: its status, what was written, how many
+/// bytes of the log are left, and how many of each kind failed.
 fn one<R: Threads + Sync>(rt: &R, alloc: Global, words: &[&[u8]]) -> Result<String, Unread> {
     let [files_failing, reads, writes, command, log, files @ ..] = words else {
         return Err(Unread::Call);
@@ -160,7 +160,7 @@ impl Kind {
     }
 }
 
-/// Runs one behind the other that came to the same.
+/// Runs one after the other that came to the same.
 #[derive(Drop)]
 struct Same {
     times: u64,
@@ -178,7 +178,7 @@ impl Same {
 const MOST_CALLS: u64 = 10_000;
 
 /// The runs in which the first call of a kind fails, the second, and so on, up to the run in which none does: how many came to the same,
-/// their status and what was written; and behind `-` those of the last run.
+/// their status and what was written; and after `-` those of the last run.
 fn each<R: Threads + Sync>(
     rt: &R,
     alloc: Global,
@@ -206,7 +206,7 @@ fn each<R: Threads + Sync>(
     Err(Unread::Value)
 }
 
-/// The runs so far and one more; those that came to the same are put behind other words where this one came to something else.
+/// The runs so far and one more; those that came to the same are put after other words if this one came to something else.
 fn counted(answer: Answer, same: Option<Same>, done: Done) -> (Answer, Option<Same>) {
     match same {
         Some(same) if same.is_so(&done) => {
@@ -217,7 +217,7 @@ fn counted(answer: Answer, same: Option<Same>, done: Done) -> (Answer, Option<Sa
     }
 }
 
-/// Puts how many runs came to the same, and to what, behind other words.
+/// Puts how many runs came to the same, and to what, after other words.
 fn put_same(answer: Answer, same: Option<Same>) -> Answer {
     match same {
         Some(same) => put_done(answer.word(same.times), &same.done),
@@ -225,7 +225,7 @@ fn put_same(answer: Answer, same: Option<Same>) -> Answer {
     }
 }
 
-/// Puts the status of a run and what was written behind other words.
+/// Puts the status of a run and what was written after other words.
 fn put_done(answer: Answer, done: &Done) -> Answer {
     answer.word(done.status).text(done.sink.bytes())
 }

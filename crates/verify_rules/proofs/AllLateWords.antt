@@ -16,7 +16,7 @@ use Rattle.verify_rules.proofs.UnmetLaws.{allowed_means}
 use Rattle.verify_rules.proofs.WordLaws.{each_means, each_means_of}
 use Rattle.verify_rules.proofs.WorldVerdict.{first_late}
 
--- ---- each rule on all PASSporTs, where those before it hold
+-- ---- each rule on all PASSporTs, if those before it hold
 
 -- a rule of 10 to 17 or 19 holds
 abbrev pub Keeps : World → Call → LateRule → Type 0
@@ -47,7 +47,7 @@ meanings laws law world typed call = record {
   allowed = each_means_of (broken_by world late.Constraints call.moment) (IsInProfile world) (IsAllowed world) (allowed_means laws world typed call.moment) (in_call_order call);
 }
 
--- ---- what holds where so many of them do
+-- ---- what holds if so many of them do
 
 -- rules 10 to 14, as far as they hold, in their own words
 pub listed_of : (world : World) (call : Call) → Meanings world call → Keeps world call late.Listed → Each (IsListed world) (in_call_order call)

@@ -1,4 +1,4 @@
--- What a call is set aside for stands in the chains that are handed in, or is a question that failed.
+-- What a call is set aside for is in the chains that are handed in, or is a question that failed.
 use Rattle.std.proofs.Common.{◌≡◌, ◌≢◌, inl, inr, ℕ, List, Some, refl, ap, arith}
 use Rattle.std.specs.List.{slice_get}
 use Rattle.stir_outside.specs.Count.{last_count}

@@ -42,7 +42,7 @@ ShortLaw = (bytes : List ℕ) (chain : List CertView) → Chain bytes chain → 
 abbrev pub ChainLaw : Type 0
 ChainLaw = (bytes : List ℕ) (chain : List CertView) → Chain bytes chain → certificates_in bytes ≡ Ok chain
 
--- the test of a payload passes just if it meets the constraints
+-- the test of a payload passes exactly if it meets the constraints
 abbrev pub MeetsLaw : Type 0
 MeetsLaw = (c : ConstraintsView) (payload : Data) → (meets c payload ≡ true) ↔ Meets c payload
 

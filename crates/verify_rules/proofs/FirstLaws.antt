@@ -49,7 +49,7 @@ least rules call (Ok screened) h = none_broken rules call h.0
 least rules call (Err (Refused refused)) h = first_is rules call refused h
 least rules call (Err Memory) h = tt
 
--- ---- rules behind these
+-- ---- rules after these
 
 left_over : (rules late : List Rule) (call : Call) → HoldAll rules call → first (rules ++ late) call ≡ first late call
 left_over [] late call h = refl

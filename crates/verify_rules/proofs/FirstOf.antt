@@ -103,6 +103,6 @@ none_at at (item ∷ items) (other ∷ others) (suc i) one state h e f = none_at
 
 -- ---- what it is
 
--- what can't be read, twice, stands at one place
+-- what can't be read, twice, is at one place
 pub unread_same : (a b : Place) → Some (Unread a) ≡ Some (Unread b) → b ≡ a
 unread_same a b e = cc

@@ -1,4 +1,4 @@
--- What a verdict says of a rule in its own words, once for all rules behind the ninth.
+-- What a verdict says of a rule in its own words, once for all rules after the ninth.
 use Rattle.std.proofs.Common.{◌≡◌, ◌↔◌, ℕ, ◌<◌, List, [], ◌∷◌, ◌++◌, Option, Some, None, Err, refl, arith}
 use Rattle.std.specs.Prelude.{⊤}
 use Rattle.verify_rules.specs.Call.{Call}
@@ -13,7 +13,7 @@ use Rattle.verify_rules.specs.declared.verdict.Verdict.TheVariants.{Passed, Refu
 use Rattle.verify_rules.proofs.FirstLaws.{none_broken}
 use Rattle.verify_rules.proofs.WordLaws.{AllAbove, AllBelow, means}
 
--- what these rules behind the ninth give, where a verdict tells it
+-- what these rules after the ninth give, if a verdict tells it
 abbrev pub LateOf : List Rule → World → Call → Verdict → Type 0
 LateOf rules world call Passed = first rules call ≡ None
 LateOf rules world call (Refused refused) = first rules call ≡ Some refused
@@ -44,7 +44,7 @@ refused_means P (before ∷ front) rule later call refused low high iff h =
     refused_by P rule.number before (front ++ rule ∷ later) call refused (before.broken call) low.0 refl
     (λ e rest. refused_means P front rule later call refused low.1 high (λ holds. iff (e, holds)) rest) h
 
--- where the holding of a rule means this of a call that meets those before it, each verdict says so
+-- if the holding of a rule means this of a call that meets those before it, each verdict says so
 pub late_means : (P : Type 0) (front : List Rule) (rule : Rule) (later : List Rule) (world : World) (call : Call) (verdict : Verdict) → AllBelow rule.number front → AllAbove rule.number later
     → (HoldAll front call → (rule.broken call ≡ None) ↔ P) → (rule.number < 15 → HoldAll (certificate_rules world) call → P)
     → LateOf (front ++ rule ∷ later) world call verdict → MeansLate rule.number P verdict

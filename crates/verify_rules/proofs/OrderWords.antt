@@ -1,4 +1,4 @@
--- What the holding of rule 8 means: the links stand in an order.
+-- What the holding of rule 8 means: the links have an order.
 use Rattle.std.proofs.Common.{◌≡◌, ◌↔◌, ℕ, List, [], ◌∷◌, Option, None, Result, Ok, Err, refl, ap}
 use Rattle.passport_claims.specs.Order.{IsOrder}
 use Rattle.passport_claims.specs.OrderReading.{order_of}

@@ -1,4 +1,4 @@
--- What a rule on chains says where it leaves nothing open: it holds or is broken, so no event of it sets a call aside.
+-- What a rule on chains says if it leaves nothing open: it holds or is broken, so no event of it sets a call aside.
 use Rattle.std.proofs.Common.{ℕ, Bool, true, false, List, [], ◌∷◌, Option, Some, None}
 use Rattle.std.specs.Prelude.{⊤}
 use Rattle.cert_store.specs.Judged.{JudgedView}

@@ -73,7 +73,7 @@ numbered_bytes law number [] = tt
 numbered_bytes law number (value ∷ others) =
     numbered_by number value (numbered (suc number) others) (read_parts value) (λ f e. (law value f).0 e) (numbered_bytes law (suc number) others)
 
--- where each value is in the grammar, they are the fields of these values
+-- if each value is in the grammar, they are the fields of these values
 pub are_numbered : FieldLaw → (number : ℕ) (values : List (List ℕ)) → Each IsFieldText values → AreNumbered number values (numbered number values)
 are_numbered law number [] h = tt
 are_numbered law number (value ∷ others) h =

@@ -36,7 +36,7 @@ refuses_by law one certificate (Some c) has e allows = let met = met_again law o
 
 -- ---- the first
 
--- of each of these it is met, or this is the first of which it isn't, where they are numbered from this on
+-- of each of these it is met, or this is the first of which it isn't; they are numbered from this on
 abbrev FirstFrom : Reading → ℕ → List CertView → Option ℕ → Type 0
 FirstFrom one number certificates None = (i : ℕ) (certificate : CertView) → slice_get certificates i ≡ Some certificate → Allows one certificate
 FirstFrom one number certificates (Some bad) =

@@ -23,7 +23,7 @@ use Rattle.verify_rules.specs.declared.verdict.Verdict.TheVariants.{Passed, Refu
 use Rattle.verify_rules.proofs.FirstOf.{both_none, found, none_at}
 use Rattle.verify_rules.proofs.ResultLaws.{AskNothing, AsksNothing, IsSetAside, definite_event, judged_definite, unjudged_definite}
 
--- ---- what a rule leaves open of a chain: nothing, but where it asks for the chain's signatures, or the chain isn't known
+-- ---- what a rule leaves open of a chain: nothing, unless it asks for the chain's signatures, or the chain isn't known
 
 judged_closed : (rule : LateRule) (table : Table) (moment : ℕ) (one : Reading) (judged : JudgedView) → AsksNothing rule → IsSetAside (at_rule rule table moment one (have judged)) → ⊥
 unfolding at_rule
@@ -246,7 +246,7 @@ by_none says table moment readings states before asked o is none asks signed aft
     ap (λ x. option_or x (option_or (asking says readings states) (first_rule rules_after table moment readings states))) (sym is ∙ none)
     ∙ ap (λ x. option_or x (first_rule rules_after table moment readings states)) (sym asks ∙ signed) ∙ sym after ∙ passed
 
--- ---- where no fault was counted
+-- ---- if no fault was counted
 
 quiet_by : (says : Says) (table : Table) (moment : ℕ) (readings : List Reading) (states : List State) (faults now : ℕ) (bad : Place)
     → IsVerdict says table moment readings states faults now (Unasked bad) → now ≡ faults → faults ≢ last_count → IsLeftOpen readings states bad

@@ -1,4 +1,4 @@
--- Where the links stand in an order, the PASSporTs in call order are those in the order in which the call went.
+-- If the links have an order, the PASSporTs in call order are those in the order in which the call went.
 use Rattle.std.proofs.Common.{◌≡◌, ℕ, List, [], ◌∷◌, ◌++◌, length, map, slice_index_or, Result, Ok, Err, option_to_list, refl, sym, ap, subst, arith}
 use Rattle.std.proofs.lemmas.List.{length-map}
 use Rattle.std.proofs.lemmas.Option.{slice_get-get_or}

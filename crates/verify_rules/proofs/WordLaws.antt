@@ -66,7 +66,7 @@ holds_of [] rule later call h = (none_by rule.number (rule.broken call) (first l
 holds_of (before ∷ earlier) rule later call h =
     holds_of earlier rule later call (none_by before.number (before.broken call) (first (earlier ++ rule ∷ later) call) h).1
 
--- where a rule's holding means this, each answer says so
+-- if a rule's holding means this, each answer says so
 pub means : (P : Type 0) (earlier : List Rule) (rule : Rule) (later : List Rule) (call : Call) (result : Result ScreenedView ScreenFault) → AllBelow rule.number earlier → AllAbove rule.number later
     → (rule.broken call ≡ None) ↔ P → IsScreenedBy (earlier ++ rule ∷ later) call result → Means rule.number P result
 means P earlier rule later call (Ok screened) low high iff h = iff.0 (holds_of earlier rule later call h.0)

@@ -1,4 +1,4 @@
--- Where a call is set aside, it may be: the place, and what holds before it.
+-- If a call is set aside, it may be: the place, and what holds before it.
 use Rattle.std.proofs.Common.{◌≡◌, inl, inr, ℕ, ◌≤◌, suc, List, [], ◌∷◌, take, Option, Some, None, refl, sym, ◌∙◌, ap, subst}
 use Rattle.std.specs.Prelude.{⊤}
 use Rattle.std.specs.List.{slice_get}

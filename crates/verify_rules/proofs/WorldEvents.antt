@@ -144,7 +144,7 @@ behind : (n : ℕ) (bad : Option Place) (a b : Option Refusal) → or_later n ba
 behind n None a b = refl
 behind n (Some bad) a b = refl
 
--- rules behind these are tried where none of these is broken
+-- rules after these are tried if none of these is broken
 pub first_append : (xs ys : List Rule) (call : Call) → first (xs ++ ys) call ≡ option_or (first xs call) (first ys call)
 first_append [] ys call = refl
 first_append (rule ∷ xs) ys call =

@@ -1,4 +1,4 @@
--- Where what is known of the chains is right, a verdict over them is one of the world.
+-- If what is known of the chains is right, a verdict over them is one of the world.
 use Rattle.std.proofs.Common.{◌≡◌, inl, inr, ℕ, List, Option, Some, None, refl, ◌∙◌, ap, subst}
 use Rattle.std.specs.Option.{option_or}
 use Rattle.cert_store.specs.Rules.{Says}

@@ -163,7 +163,7 @@ passport_in one = one.passport
 abbrev pub passports_of : List Reading → List ClaimsView
 passports_of readings = map passport_in readings
 
--- the called number: To's where there is no link, else that of the request URI
+-- the called number: To's if there is no link, else that of the request URI
 abbrev pub called_by : Facts → List Reading → Option (List ℕ)
 called_by said [] = said.to
 called_by said (link ∷ others) = said.target

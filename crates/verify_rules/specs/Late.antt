@@ -1,6 +1,5 @@
 -- Rules 10 to 17 and 19: what the certificate chains of a call's PASSporTs say. Each is asked of a PASSporT and of what is known of its chain, in
--- the order in which the call went. A rule is stated only where those before it hold; what its definition gives elsewhere is never looked
--- at.
+-- the order in which the call went. A rule is stated only if those before it hold; what its definition gives otherwise is never looked at.
 use Rattle.std.specs.Prelude.{ℕ, Bool, true, false, ◌||◌, List, [], ◌∷◌, Option, Some, None}
 use Rattle.std.specs.List.{list_any, slice_get}
 use Rattle.std.specs.Option.{option_or}
@@ -61,8 +60,8 @@ is_code (Code code) = true
 is_code (Range span) = false
 is_code (Single own) = false
 
--- by the entries of the leaf's list: a PASSporT without a type and full attestation want the calling number; partial and gateway attestation
--- want it or a service provider code; a diversion wants the number that is diverted
+-- by the entries of the leaf's list: a PASSporT without a type or with full attestation asks for the calling number; partial and gateway
+-- attestation ask for it or a service provider code; a diversion asks for the number that is diverted
 abbrev pub covers_kind : Table → List Entry → List ℕ → Kind → Bool
 covers_kind table entries orig kinds.Base = covers_number entries table orig
 covers_kind table entries orig (kinds.Shaken levels.A origid) = covers_number entries table orig
@@ -171,7 +170,7 @@ abbrev pub first_rule : List LateRule → Table → ℕ → List Reading → Lis
 first_rule [] table moment readings states = None
 first_rule (rule ∷ rules) table moment readings states = option_or (rule_event rule table moment readings states) (first_rule rules table moment readings states)
 
--- those before rule 16, and those behind it
+-- those before rule 16, and those after it
 abbrev pub rules_before : List LateRule
 rules_before = late.Listed ∷ late.Profile ∷ late.Shape ∷ late.Dates ∷ late.Authority ∷ late.Asked ∷ []
 

@@ -1,4 +1,4 @@
--- Rules 10 to 17 and 19 in their own words: what holds, in a world, of the certificates of a PASSporT where a rule holds, and which rule is the
+-- Rules 10 to 17 and 19 in their own words: what holds, in a world, of the certificates of a PASSporT if a rule holds, and which rule is the
 -- first that doesn't.
 use Rattle.std.specs.Prelude.{◌≡◌, ⊤, ◌⊎◌, ℕ, ◌<◌, ◌≤◌, true, List, length, Option, Some}
 use Rattle.std.specs.List.{slice_get}
@@ -85,7 +85,7 @@ IsCertified world one = OnPath world one (λ chain anchor. IsSigned world.says w
 abbrev pub IsGenuine : World → Reading → Type 0
 IsGenuine world one = (leaf : CertView) × HasLeaf world one leaf × (world.says leaf.key one.mark.digest one.mark.signature ≡ true)
 
--- entries cover the calling number where there is no type or full attestation; they cover it or name some code at partial and gateway
+-- entries cover the calling number if there is no type, or full attestation; they cover it or name some code at partial and gateway
 -- attestation; and they cover the diverted number of a diversion (RFC 8226, section 9; RFC 8588, section 4; RFC 8946, section 4.2; which
 -- attestation asks for which coverage is this project's own rule)
 abbrev pub CoversOrNamesCode : Table → List Entry → List ℕ → Type 0
@@ -121,8 +121,8 @@ IsAllowed world one = (chain : List CertView) × HasChain world one chain × OfE
 
 -- ---- what a verdict says of a rule
 
--- a call that passed meets it; one that this rule refuses doesn't; one that a later rule refuses does, and so does one that is set aside
--- for an unanswered question, where the rule is before the first that asks
+-- a call that passed meets it; one that this rule refuses doesn't; one that a later rule refuses does, and so does one that is set aside for an
+-- unanswered question, if the rule is before the first that asks
 abbrev pub MeansLate : ℕ → Type 0 → Verdict → Type 0
 MeansLate number P Passed = P
 MeansLate number P (Refused refused) = (refused.rule ≡ number → P → ⊥) × (number < refused.rule → P)

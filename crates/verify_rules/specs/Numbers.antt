@@ -6,7 +6,7 @@ use Rattle.tn_values.specs.Local.{LocalView}
 use Rattle.verify_rules.specs.Call.{Reading, called_by}
 use Rattle.verify_rules.specs.declared.facts.Facts.{Facts}
 
--- rule 7 compares with the asserted number; where none is asserted, with From's
+-- rule 7 compares with the asserted number; if none is asserted, with From's
 pub record IsCallingOf (message : MessageView) (local : LocalView) (calling : Option (List ℕ)) : Type 0 where
   pub asserted : (number : List ℕ) → asserted_number message local ≡ Some number → calling ≡ Some number
   pub from : ◌≡◌ {A = Option (List ℕ)} (asserted_number message local) None → calling ≡ from_number message local

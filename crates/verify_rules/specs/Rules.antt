@@ -1,5 +1,5 @@
--- The rules by which a call is judged, and the first that it breaks. A rule is stated of a call only where all rules before it
--- hold; what its definition gives elsewhere is never looked at.
+-- The rules by which a call is judged, and the first that it breaks. A rule is stated of a call only if all rules before it hold; what
+-- its definition gives otherwise is never looked at.
 use Rattle.std.specs.Prelude.{◌≡◌, ℕ, suc, ◌+◌, nat_lt, Bool, ◌||◌, ⊤, List, [], ◌∷◌, ◌++◌, map, slice_index_or, Option, Some, None, Result, Ok, Err, codes, if◌then◌else◌}
 use Rattle.std.specs.Option.{option_or}
 use Rattle.identity_header.specs.Parts.{Parts}
@@ -94,7 +94,7 @@ unreadable said field = unreadable_at field.number (read_field said field)
 unfoldable pub other_calling : Option (List ℕ) → Reading → Option Place
 other_calling calling one = if is_text one.passport.orig calling then None else Some (place one.mark.field 0)
 
--- ---- rule 8, links that stand in no order (RFC 8946, section 4.2)
+-- ---- rule 8, links that are in no order (RFC 8946, section 4.2)
 
 -- the field of the PASSporT with this number, which is 0 for the originating one and counts the links in message order
 abbrev pub field_at : List Reading → ℕ → ℕ

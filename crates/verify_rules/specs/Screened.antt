@@ -55,7 +55,7 @@ paired [] beside = []
 paired (passport ∷ others) [] = []
 paired (passport ∷ others) (one ∷ beside) = reading passport one.signed one.mark ∷ paired others beside
 
--- an order of so many links behind the originating PASSporT: each of its numbers is that of a link
+-- an order of so many links after the originating PASSporT: each of its numbers is that of a link
 pub record IsTurned (readings : List Reading) (count : ℕ) (turn : List ℕ) : Type 0 where
   pub all : length readings ≡ count + 1
   pub few : count ≤ 8
@@ -64,19 +64,19 @@ pub record IsTurned (readings : List Reading) (count : ℕ) (turn : List ℕ) : 
 
 -- ---- answers
 
--- screened where none of these rules is broken; else refused by the first that is. Want of memory alone is free
+-- screened if none of these rules is broken; else refused by the first that is. Out of memory may come in any case
 abbrev pub IsScreenedBy : List Rule → Call → Result ScreenedView ScreenFault → Type 0
 IsScreenedBy rules call (Ok screened) = (first rules call ≡ None) × (screened ≡ screened_of call)
 IsScreenedBy rules call (Err (Refused refused)) = first rules call ≡ Some refused
 IsScreenedBy rules call (Err Memory) = ⊤
 
--- screened where each of these rules holds; else refused by one, and those before it hold
+-- screened if each of these rules holds; else refused by one, and those before it hold
 abbrev pub IsLeast : List Rule → Call → Result ScreenedView ScreenFault → Type 0
 IsLeast rules call (Ok screened) = HoldAll rules call
 IsLeast rules call (Err (Refused refused)) = IsFirst rules call refused
 IsLeast rules call (Err Memory) = ⊤
 
--- whatever rules come behind these: screened is left to those, and refused is refused
+-- whatever rules come after these: screened is left to those, and refused is refused
 abbrev pub IsFirstBefore : List Rule → List Rule → Call → Result ScreenedView ScreenFault → Type 0
 IsFirstBefore rules late call (Ok screened) = first (rules ++ late) call ≡ first late call
 IsFirstBefore rules late call (Err (Refused refused)) = first (rules ++ late) call ≡ Some refused

@@ -46,7 +46,7 @@ pub record SoFar (values : List (List ℕ)) (i : ℕ) (fields : List IdentityFie
 abbrev pub is_compact : IdentityField → Bool
 is_compact field = starts_with nat_eq field.parts.token (codes "..")
 
--- what a message says, its Date only where it is asked for
+-- what a message says, its Date only if it is asked for
 abbrev pub facts_asked : Bool → Facts → Facts
 facts_asked asked full = record { date = if asked then full.date else None; calling = full.calling; to = full.to; target = full.target }
 
@@ -71,7 +71,7 @@ abbrev pub AreLinks : List Reading → Type 0
 AreLinks [] = ⊤
 AreLinks (one ∷ others) = IsLink one.passport × AreLinks others
 
--- all behind the first are links
+-- all after the first are links
 abbrev pub IsChainable : List Reading → Type 0
 IsChainable [] = ⊤
 IsChainable (origin ∷ others) = AreLinks others

@@ -1,4 +1,4 @@
--- What is known of the certificate chain of a PASSporT where its call is judged.
+-- What is known of the certificate chain of a PASSporT when its call is judged.
 use Rattle.cert_store.specs.Judged.{JudgedView}
 use Rattle.verify_rules.specs.declared.chains.ChainState.{ChainState}
 use Rattle.verify_rules.specs.declared.chains.ChainState.TheVariants as held

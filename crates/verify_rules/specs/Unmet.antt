@@ -11,12 +11,12 @@ abbrev pub are_met : ConstraintsView → Option Data → Bool
 are_met c None = false
 are_met c (Some payload) = meets c payload
 
--- so it is where nothing is demanded
+-- so it is if nothing is demanded
 abbrev pub is_met : Option ConstraintsView → Option Data → Bool
 is_met None payload = true
 is_met (Some c) payload = are_met c payload
 
--- the number of the first of these certificates whose constraints the payload doesn't meet, where they are numbered from this on
+-- the number of the first of these certificates whose constraints the payload doesn't meet; they are numbered from this on
 abbrev pub first_unmet : Option Data → ℕ → List CertView → Option ℕ
 first_unmet payload number [] = None
 first_unmet payload number (certificate ∷ others) = if is_met certificate.constraints payload then first_unmet payload (number + 1) others else Some number

@@ -6,7 +6,7 @@ use Rattle.passport_claims.specs.Order.{IsOrder}
 use Rattle.verify_rules.specs.Call.{Reading, passports_of}
 use Rattle.verify_rules.specs.declared.facts.Facts.{Facts}
 
--- the number that is called now: To's where the call wasn't diverted, else that of the request URI
+-- the number that is called now: To's if the call wasn't diverted, else that of the request URI
 pub record IsCalledNow (said : Facts) (links : List Reading) (called : Option (List ℕ)) : Type 0 where
   pub undiverted : length links ≡ 0 → called ≡ said.to
   pub diverted : 1 ≤ length links → called ≡ said.target
@@ -23,7 +23,7 @@ pub record WentSo (said : Facts) (readings went : List Reading) : Type 0 where
   pub origin : Reading
   pub links : List Reading
   pub are : readings ≡ origin ∷ links
-  -- the links stand in this order, up to the number that is called now
+  -- the links are in this order, up to the number that is called now
   pub called : Option (List ℕ)
   pub now : IsCalledNow said links called
   pub turn : List ℕ

@@ -1,5 +1,5 @@
--- The rules in their own words: what holds of a message, its Identity fields and their PASSporTs where a rule holds, and which rule is
--- the first that doesn't.
+-- The rules in their own words: what holds of a message, its Identity fields and their PASSporTs if a rule holds, and which rule is the
+-- first that doesn't.
 use Rattle.std.specs.Prelude.{◌≡◌, ⊤, ◌⊎◌, ℕ, suc, ◌+◌, ◌<◌, ◌≤◌, List, [], ◌∷◌, length, codes, Option, Some, None, Result, Ok, Err}
 use Rattle.identity_header.specs.FieldText.{FieldText}
 use Rattle.identity_header.specs.Parts.{Parts}
@@ -54,7 +54,7 @@ AreNumbered number (value ∷ values) (field ∷ fields) = (field.number ≡ num
 abbrev pub MayOriginate : IdentityField → Type 0
 MayOriginate field = (field.parts.ppt ≡ Some (codes "shaken")) ⊎ (field.parts.ppt ≡ None)
 
--- 5: the field's algorithm is ES256, which it is where none is given
+-- 5: the field's algorithm is ES256, which it is if none is given
 abbrev pub IsEs256 : IdentityField → Type 0
 IsEs256 field = (field.parts.alg ≡ None) ⊎ (field.parts.alg ≡ Some (codes "ES256"))
 
@@ -82,7 +82,7 @@ AreRead said (field ∷ fields) (one ∷ readings) = IsRead said field one × Ar
 abbrev pub IsFrom : Option (List ℕ) → Reading → Type 0
 IsFrom calling one = calling ≡ Some one.passport.orig
 
--- 8: the links stand in an order, from a number that the originating PASSporT calls to the called number (RFC 8946, section 4.2)
+-- 8: the links have an order, from a number that the originating PASSporT calls to the called number (RFC 8946, section 4.2)
 abbrev pub HasOrder : Facts → List Reading → Type 0
 HasOrder said [] = ⊤
 HasOrder said (origin ∷ others) = (turn : List ℕ) × IsOrder origin.passport (passports_of others) (called_by said others) turn
@@ -103,19 +103,19 @@ Means number P (Ok screened) = P
 Means number P (Err (Refused refused)) = (refused.rule ≡ number → P → ⊥) × (number < refused.rule → P)
 Means number P (Err Memory) = ⊤
 
--- the fields that are spoken of are the message's, counted from 1, where each is in the grammar
+-- the fields that are spoken of are the message's, counted from 1, if each is in the grammar
 abbrev pub SpeaksOfFields : Call → Result ScreenedView ScreenFault → Type 0
 SpeaksOfFields call (Ok screened) = AreNumbered 1 (values_of call) (fields_of call)
 SpeaksOfFields call (Err (Refused refused)) = 3 < refused.rule → AreNumbered 1 (values_of call) (fields_of call)
 SpeaksOfFields call (Err Memory) = ⊤
 
--- the PASSporTs that are spoken of are those of the judged fields, where they can be read
+-- the PASSporTs that are spoken of are those of the judged fields, if they can be read
 abbrev pub SpeaksOfRead : Call → Result ScreenedView ScreenFault → Type 0
 SpeaksOfRead call (Ok screened) = AreRead (facts call) (judged_fields (fields_of call)) (in_message call)
 SpeaksOfRead call (Err (Refused refused)) = 6 < refused.rule → AreRead (facts call) (judged_fields (fields_of call)) (in_message call)
 SpeaksOfRead call (Err Memory) = ⊤
 
--- a screened call's PASSporTs stand in the order in which it went; so do those of a call that a rule behind the one on their order refuses
+-- a screened call's PASSporTs come in the order in which it went; so do those of a call that a rule after the one on their order refuses
 abbrev pub SpeaksOfOrder : Call → Result ScreenedView ScreenFault → Type 0
 SpeaksOfOrder call (Ok screened) = WentSo (facts call) (in_message call) screened.readings
 SpeaksOfOrder call (Err (Refused refused)) = 8 < refused.rule → WentSo (facts call) (in_message call) (in_call_order call)

@@ -40,12 +40,12 @@ HoldsBytes world = (name content : List ℕ) → file name world.files ≡ Some 
 
 -- ---- what there is to know of a chain
 
--- the bytes of the file that is listed for an x5u (RFC 7515, section 4.1.5), where one is listed and there
+-- the bytes of the file that is listed for an x5u (RFC 7515, section 4.1.5), if one is listed and there
 abbrev pub content_of : World → List ℕ → Option (List ℕ)
 content_of world x5u = option_and_then (λ name. file name world.files) (listed world.chains x5u)
 
 -- a chain file has at most 49,152 bytes, which is six certificates of 8,192 (this project's own rule); of one that has no more, what the
--- rules on a chain say of its bytes where every question is answered
+-- rules on a chain say of its bytes if every question is answered
 abbrev pub truth_by : World → Option (List ℕ) → State
 truth_by world None = no_chain
 truth_by world (Some bytes) = if nat_lt 49152 (length bytes) then long else have (judged_of world.anchors world.table world.says bytes)
@@ -100,7 +100,7 @@ unsigned_rules = late.Listed ∷ late.Profile ∷ late.Shape ∷ late.Dates ∷ 
 abbrev pub certificate_rules : World → List Rule
 certificate_rules world = map (late_rule world) unsigned_rules
 
--- rules 15 to 17 and 19: those that ask for signatures, and the two behind them
+-- rules 15 to 17 and 19: those that ask for signatures, and the two after them
 abbrev pub signature_rules : World → List Rule
 signature_rules world = late_rule world late.Asked ∷ asking_rule world ∷ map (late_rule world) rules_after
 

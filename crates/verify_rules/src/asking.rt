@@ -83,7 +83,7 @@ fn unless_signed(field: u32, good: bool) -> Option<Event>
     }))
 }
 
-/// Whether the signature of a PASSporT is good under the leaf's key; it isn't where there is no leaf.
+/// Whether the signature of a PASSporT is good under the leaf's key; it isn't if there is no leaf.
 fn is_signed<P: Provider>(
     one: &Taken<'_>,
     leaf: Option<&Certificate>,

@@ -30,19 +30,19 @@ pub fn screen(
     settings: &Settings,
 ) -> Result<Screened, ScreenFault>
 
-    // Refused exactly with what the rules give first; and screened where they give nothing, as what they see of the call.
+    // Refused exactly with what the rules give first; and screened if they give nothing, as what they see of the call.
     ensures exact { IsScreenedBy early_rules (call_of settings.now moment bytes.now) result }
 
     // The rule that refuses is the least that is broken: all before it hold.
     ensures least { IsLeast early_rules (call_of settings.now moment bytes.now) result }
 
-    // Whatever rules come behind these nine, a refused call is refused so, and a screened one is left to them.
+    // Whatever rules come after these nine, a refused call is refused so, and a screened one is left to them.
     ensures first { (late : List Rule) → IsFirstBefore early_rules late (call_of settings.now moment bytes.now) result }
 
     // A screened call is fresh.
     ensures fresh { IfOk result (λ screened. moment ≤ screened.last) }
 
-    // Each rule in its own words, in the grammars and claims of the message that came: of a screened call it holds; where it refuses, it
+    // Each rule in its own words, in the grammars and claims of the message that came: it holds of a screened call; if it refuses, it
     // doesn't hold, and those before it do.
     ensures words { SaysWords bytes.now (call_of settings.now moment bytes.now) result }
 

@@ -18,7 +18,7 @@ pub(crate) struct Facts {
 }
 
 impl Facts {
-    /// What this message says; its Date only where it is asked for.
+    /// What this message says; its Date only if it is asked for.
     fn read(message: &Message<'_>, local: &Local, asks_date: bool) -> Facts
         ensures { result ≡ facts_asked asks_date (facts_of local.now message.now) }
     {
@@ -45,7 +45,7 @@ impl Facts {
     }
 }
 
-/// The Date, where it is asked for.
+/// The Date, if it is asked for.
 fn date_where(message: &Message<'_>, asked: bool) -> Option<u64>
     ensures { result ≡ (if asked then date message.now else None) }
 {

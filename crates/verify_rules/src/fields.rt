@@ -99,7 +99,7 @@ fn first_without<'f, 'a>(fields: &'f [NumberedField<'a>]) -> Option<&'f Numbered
     None
 }
 
-/// Where the first judged field with another algorithm stands.
+/// The place of the first judged field with another algorithm.
 pub(crate) fn foreign_alg(origin: &NumberedField<'_>, fields: &[NumberedField<'_>]) -> Option<Place>
     ensures { result ≡ each foreign_alg (field_seen origin.now ∷ links (map field_seen fields.now)) }
 {
@@ -109,7 +109,7 @@ pub(crate) fn foreign_alg(origin: &NumberedField<'_>, fields: &[NumberedField<'_
     foreign_link(fields)
 }
 
-/// Where the first link with another algorithm stands.
+/// The place of the first link with another algorithm.
 fn foreign_link(fields: &[NumberedField<'_>]) -> Option<Place>
     ensures { result ≡ each foreign_alg (links (map field_seen fields.now)) }
 {
@@ -161,7 +161,7 @@ fn has_ppt(field: &NumberedField<'_>, ppt: &[u8]) -> bool
     is_text(field.parts.ppt(), ppt)
 }
 
-/// Whether the field's algorithm is ES256, which it is where none is given.
+/// Whether the field's algorithm is ES256, which it is if none is given.
 fn is_es256(field: &NumberedField<'_>) -> bool
     ensures { result ≡ is_es256 field.now.parts.alg }
 {

@@ -38,7 +38,7 @@ pub(crate) enum LateRule {
 pub(crate) enum RuleResult {
     /// It holds.
     Holds,
-    /// It is broken at the certificate of this number, or at 0 where none is meant.
+    /// It is broken at the certificate of this number, or at 0 if none is meant.
     Broken(u8),
     /// Nothing: the chain isn't known.
     Unknown,
@@ -92,7 +92,7 @@ impl LateRule {
         }
     }
 
-    /// What it says where the chain was judged.
+    /// What it says if the chain was judged.
     fn tell_judged(
         self,
         table: &CodeTable,
@@ -114,7 +114,7 @@ impl LateRule {
         }
     }
 
-    /// What it says where there is no chain.
+    /// What it says if there is no chain.
     fn tell_missing(self) -> RuleResult
         ensures { result ≡ tell_missing self }
     {
@@ -130,7 +130,7 @@ impl LateRule {
         }
     }
 
-    /// What it says where the chain's file is too long.
+    /// What it says if the chain's file is too long.
     fn tell_long(self) -> RuleResult
         ensures { result ≡ tell_long self }
     {
@@ -147,7 +147,7 @@ impl LateRule {
     }
 }
 
-/// Broken at the part, where there is one.
+/// Broken at the part, if there is one.
 fn by_part(part: Option<u8>) -> RuleResult
     ensures { result ≡ by_part part }
 {
@@ -157,7 +157,7 @@ fn by_part(part: Option<u8>) -> RuleResult
     }
 }
 
-/// Broken where a signature isn't good.
+/// Broken if a signature isn't good.
 fn by_answer(asked: Asked) -> RuleResult
     ensures { result ≡ by_answer asked }
 {

@@ -39,9 +39,8 @@ use passport_json::{token_found_law, token_law};
 use sip_message::head_law;
 use x509_profile::chain_law;
 
-/// What comes of a call by rules 1 to 9, in every world: where they refuse it, so does the first broken rule of all; else it is judged on
-/// by the codes and signatures of the world. Its ticket is the digest of its last PASSporT, and it is fresh up to this one's iat plus
-/// `past`.
+/// What rules 1 to 9 make of a call, in every world. If they refuse it, so does the first broken rule of all; else it is judged on by the codes and
+/// signatures of the world. Its ticket is the digest of its last PASSporT, and it is fresh up to this one's iat plus `past`.
 pub fn screened_law()
     ensures refused { (world : World) (call : Call) (refused : Refusal) → IsScreenedBy early_rules call (Err (Refused refused)) → First world call ≡ Some refused }
     ensures judged { (world : World) (call : Call) (table : Table) (says : Says) (moment : ℕ) (screened : ScreenedView) → IsScreenedBy early_rules call (Ok screened)
@@ -50,8 +49,8 @@ pub fn screened_law()
     ensures last { (call : Call) (screened : ScreenedView) → IsScreenedBy early_rules call (Ok screened) → screened.last ≡ last_of_call call }
 {}
 
-/// What the first broken rule of all says of rules 10 to 17 and 19 in their own words, where the files of the world hold bytes and the call breaks
-/// none of the rules before; and what it says of a call that may be set aside.
+/// What the first broken rule of all says of rules 10 to 17 and 19 in their own words, and what it says of a call that may be set aside. The files of
+/// the world hold bytes, and the call breaks none of the rules before.
 pub fn late_words_law()
     ensures { (world : World) (call : Call) (verdict : Verdict) → HoldsBytes world → first early_rules call ≡ None → VerdictOf world call verdict → SaysLateWords world call verdict }
 {
@@ -61,8 +60,8 @@ pub fn late_words_law()
     constraints_law();
 }
 
-/// What the first broken rule of all says of where it is broken, if it is one of rules 10 to 17 and 19, where the files of the world hold bytes;
-/// and what holds before the place at which a call may be set aside.
+/// What the first broken rule of all says of where it is broken, if it is one of rules 10 to 17 and 19; and what holds before the place at which a call
+/// may be set aside. The files of the world hold bytes.
 pub(crate) fn late_places_law()
     ensures { (world : World) (call : Call) (verdict : Verdict) → HoldsBytes world → first early_rules call ≡ None → VerdictOf world call verdict
         → SpeaksOfLatePlace world call verdict }
@@ -73,8 +72,8 @@ pub(crate) fn late_places_law()
     constraints_law();
 }
 
-/// Of some rules and others behind them the first broken is that of the first, or where none of these is broken that of the others; and where
-/// all hold there is none.
+/// The first broken of some rules and others after them is the first broken of the former or, if none of these is broken, of the latter. If all hold,
+/// there is none.
 pub fn first_law()
     ensures none { (rules : List Rule) (call : Call) → HoldAll rules call → first rules call ≡ None }
     ensures append { (xs ys : List Rule) (call : Call) → first (xs ++ ys) call ≡ option_or (first xs call) (first ys call) }
@@ -115,8 +114,8 @@ pub fn signed_law()
     signed_claims_law();
 }
 
-/// What a verdict over a world says of each rule but the one on replay in its own words, and of where the one is broken that
-/// refuses the call, where the files of the world hold bytes.
+/// What a verdict over a world says of each rule but the one on replay in its own words, and of where the one is broken that refuses the call. The
+/// files of the world hold bytes.
 pub fn words_law()
     ensures { (world : World) (settings : Settings) (moment : ℕ) (bytes : List ℕ) (verdict : Verdict) → HoldsBytes world
         → VerdictOf world (call_of settings moment bytes) verdict → SaysRules world bytes (call_of settings moment bytes) verdict }
@@ -131,8 +130,8 @@ pub fn words_law()
     late_places_law();
 }
 
-/// Rules 10 to 14 depend on no provider of signatures; and rules 15 to 17 and 19 say the same by two of them, where both make the same of each chain of
-/// the call and of the signatures of its PASSporTs.
+/// Rules 10 to 14 depend on no provider of signatures. Rules 15 to 17 and 19 say the same by two of them, if both make the same of each chain of the
+/// call and of the signatures of its PASSporTs.
 pub fn provider_law()
     ensures certificates { (world : World) (other : Says) (call : Call) → first (certificate_rules (with_says world other)) call ≡ first (certificate_rules world) call }
     ensures signatures { (world : World) (other : Says) (call : Call) → truths (with_says world other) (in_call_order call) ≡ truths world (in_call_order call)

@@ -10,8 +10,8 @@ use tn_auth_list::{AuthList, CodeTable, Entry};
 use x509_profile::Certificate;
 
 /// Whether the leaf's authority covers what a PASSporT vouches for (ATIS-1000074, section 5.2.3; RFC 8946, section 4.2): the calling number
-/// where the PASSporT has no type or attests in full; that, or any service provider code, where it attests in part or as a gateway; and the
-/// diverted number where it is a diversion. It doesn't where there is no leaf, or this has no authority list.
+/// if the PASSporT has no type or attests in full; that, or any service provider code, if it attests in part or as a gateway; and the
+/// diverted number if it is a diversion. It doesn't if there is no leaf, or this has no authority list.
 pub(crate) fn covers_leaf(
     table: &CodeTable,
     passport: &Passport,
@@ -35,9 +35,9 @@ fn covers_by(table: &CodeTable, passport: &Passport, list: Option<&AuthList>) ->
     }
 }
 
-/// Whether an authority list covers what a PASSporT vouches for, as rule 17 asks of the leaf's: the calling number where the PASSporT has no
-/// type or attests in full; that, or any service provider code, where it attests in part or as a gateway; and the diverted number where it is
-/// a diversion.
+/// Whether an authority list covers what a PASSporT vouches for, as rule 17 asks of the leaf's: the calling number if the PASSporT has no
+/// type or attests in full; that, or any service provider code, if it attests in part or as a gateway; and the diverted number if it is a
+/// diversion.
 pub fn covers_passport(table: &CodeTable, list: &AuthList, passport: &Passport) -> bool
     ensures { result ≡ covers_kind table.now list.now passport.now.orig passport.now.kind }
 {

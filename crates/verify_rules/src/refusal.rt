@@ -3,8 +3,8 @@ ghost use Rattle.std.specs.Prelude.{◌≡◌};
 ghost use Rattle.verify_rules.specs.Rules.{place, refusal};
 ghost use Rattle.verify_rules.specs.declared.refusal.ScreenFault.{ScreenFault};
 
-/// Where a call breaks a rule: the Identity field, counted from 1 in message order, and a part of it whose
-/// meaning the rule gives; 0 where no field or no part is meant. It is printed `field.part`.
+/// Where a call breaks a rule: the Identity field, counted from 1 in message order, and a part of it whose meaning the rule gives. Each
+/// is 0 if none is meant. It is printed `field.part`.
 #[derive(Clone, Copy, Debug, PartialEq, Eq, Default)]
 pub struct Place {
     pub field: u32,
@@ -23,7 +23,7 @@ pub struct Refusal {
 pub enum ScreenFault {
     /// It breaks a rule.
     Refused(Refusal),
-    /// Memory was wanting, and nothing is said of the call.
+    /// Memory ran out, and nothing is said of the call.
     Memory,
 }
 
@@ -32,7 +32,7 @@ pub enum ScreenFault {
 pub(crate) enum Stop {
     /// Its rule is broken here.
     Broken(Place),
-    /// Memory was wanting.
+    /// Memory ran out.
     Memory,
 }
 

@@ -145,7 +145,7 @@ impl Screened {
     }
 }
 
-/// Where the first PASSporT stands that is too old or too far ahead, in the order in which the call went.
+/// The place of the first PASSporT that is too old or too far ahead, in the order in which the call went.
 #[tactic(auto, using(crate::proofs::TurnSteps::stale_more, crate::proofs::TurnSteps::stale_here, crate::proofs::TurnSteps::stale_done))]
 pub(crate) fn stale(screened: &Screened, moment: u64, settings: &Settings) -> Option<Place>
     ensures { result ≡ each (stale settings.now moment) screened.now.readings }
@@ -158,7 +158,7 @@ pub(crate) fn stale(screened: &Screened, moment: u64, settings: &Settings) -> Op
     None
 }
 
-/// Where this PASSporT stands, if it is too old or too far ahead.
+/// The place of this PASSporT, if it is too old or too far ahead.
 #[tactic(auto, unfolding(crate::specs::Rules::stale))]
 fn stale_at(one: &Taken<'_>, moment: u64, settings: &Settings) -> Option<Place>
     ensures { result ≡ stale settings.now moment (taken_seen one.now) }

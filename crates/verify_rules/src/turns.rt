@@ -10,7 +10,7 @@ use crate::refusal::Place;
 use passport_claims::{Order, chain};
 use tn_values::Number;
 
-/// Where the first PASSporT for another calling number stands, in message order.
+/// The place of the first PASSporT for another calling number, in message order.
 #[tactic(auto, using(crate::proofs::TurnSteps::orig_more, crate::proofs::TurnSteps::orig_here, crate::proofs::TurnSteps::orig_done))]
 pub(crate) fn other_calling(readings: &Readings, facts: &Facts) -> Option<Place>
     ensures { result ≡ each (other_calling facts.now.calling) readings.now }
@@ -23,7 +23,7 @@ pub(crate) fn other_calling(readings: &Readings, facts: &Facts) -> Option<Place>
     None
 }
 
-/// Where this PASSporT stands, if it is for another calling number.
+/// The place of this PASSporT, if it is for another calling number.
 #[tactic(auto, unfolding(crate::specs::Rules::other_calling))]
 fn foreign_orig_at(one: &Taken<'_>, facts: &Facts) -> Option<Place>
     ensures { result ≡ other_calling facts.now.calling (taken_seen one.now) }
@@ -63,14 +63,14 @@ pub(crate) fn order_of(readings: &Readings, facts: &Facts) -> Result<Order, Plac
     }
 }
 
-/// The called number: To's where there is no link, else that of the request URI.
+/// The called number: To's if there is no link, else that of the request URI.
 fn called(facts: &Facts, is_direct: bool) -> Option<Number>
     ensures { result ≡ (if is_direct then facts.now.to else facts.now.target) }
 {
     if is_direct { facts.to } else { facts.target }
 }
 
-/// The number of the field of the PASSporT at this index; 0 where there is none.
+/// The number of the field of the PASSporT at this index; 0 if there is none.
 #[tactic(auto, using(crate::proofs::TurnSteps::field_there, crate::proofs::TurnSteps::field_behind))]
 fn field_at(readings: &Readings, i: usize) -> u32
     ensures { result ≡ field_at readings.now i }

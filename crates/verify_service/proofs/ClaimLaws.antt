@@ -200,7 +200,7 @@ pub own_unasked : (readings : List Reading) (kept : Kept) (held : Chains) (fault
 own_unasked readings kept held faults faults_now verdict outcome parts answered same caused =
     own_by readings kept held faults faults_now outcome parts answered (subst (IsCaused readings (states_for kept held readings) faults faults_now) same caused)
 
--- ---- a call is valid exactly where it is won
+-- ---- a call is valid exactly if it is won
 
 more_wins : (old : Holder) (p : ℕ × ℕ) → old.wins ≡ p ∷ old.wins → ⊥
 more_wins old p same = let more : length old.wins ≡ suc (length old.wins) = ap length same in omega arith

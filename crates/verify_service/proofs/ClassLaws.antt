@@ -27,7 +27,7 @@ use Rattle.verify_service.proofs.ListLaws.{each_length}
 true_is_not_false : true ≡ false → ⊥
 true_is_not_false e = cc
 
--- ---- what stands at an index
+-- ---- what is at an index
 
 within_list : {X : Type 0} → (xs : List X) (i : ℕ) (x : X) → slice_get xs i ≡ Some x → i < length xs
 within_list [] i x is = absurd cc
@@ -121,7 +121,7 @@ pub classes_ready : (settings : Settings) (count : ℕ) (entries : List Entry) (
 classes_ready settings count entries olds news each g =
     each_moved (IsReady settings) (IsGivenClass g.tickets) (λ entry old new. ready_still settings entry g.tickets old new) entries olds news each g.same g.each
 
--- ---- the call of the log that stands there
+-- ---- the call of the log that is there
 
 beside : {A B P : Type 0} → (R : A → B → Type 0) (xs : List A) (ys : List B) (i : ℕ) (y : B) → EachPair R xs ys → slice_get ys i ≡ Some y
     → ((x : A) → slice_get xs i ≡ Some x → R x y → P) → P
@@ -270,7 +270,7 @@ stays_by : (b : Bool) (f g xs : List (List ℕ)) (i : ℕ) (x : List ℕ) → sl
 stays_by true f g xs i x one other = one
 stays_by false f g xs i x one other = other
 
--- what an index stands for stays when texts are added
+-- the text at an index stays when texts are added
 once_stays : (found xs : List (List ℕ)) (i : ℕ) (x : List ℕ) → slice_get found i ≡ Some x → slice_get (once found xs) i ≡ Some x
 once_stays found [] i x is = is
 once_stays found (y ∷ ys) i x is =

@@ -16,7 +16,7 @@ use Rattle.verify_service.specs.declared.finding.Finding.TheVariants as found
 use Rattle.verify_service.specs.declared.outcome.Outcome.{Outcome}
 use Rattle.verify_service.specs.declared.outcome.Outcome.TheVariants.{Valid, Refused, Replay, Unread, Unasked}
 
--- ---- one count behind the other
+-- ---- one count after the other
 
 stays : (count : ℕ) → GoesOn count count
 stays count = record { never_falls = omega arith; within = omega arith }

@@ -44,7 +44,7 @@ module _ (on : Basis) (by : ℕ → Provided) (settings : Settings) (entries : L
   pub each_owed : EachOwed settings entries outs
   each_owed = each_of (IsOwed settings) entries outs counted (λ at entry outcome stands is. owed_at at entry outcome (beside settings entries calls at entry ready stands) is)
 
-  -- over files for which the chains are right, where all providers say the same
+  -- over files for which the chains are right, if all providers say the same
   module _ (told : Option Files) (says : Says) (some : 0 < count) (agree : (w : ℕ) → w < count → (by w).says ≡ says) (right : AreRightHeld told on.materials says on.held on.kept) where
     judged_at : (at : ℕ) (entry : Entry) (outcome : Outcome) → Beside settings calls at entry → slice_get outs at ≡ Some outcome
         → IsJudgedWhere told on.materials says (call_in settings entry) outcome

@@ -21,7 +21,7 @@ use Rattle.verify_service.proofs.CallRowLaws.{ScreenedLaws, ticket_is}
 false_is_not_true : false ≡ true → ⊥
 false_is_not_true e = cc
 
--- ---- what stands at an index
+-- ---- what is at an index
 
 pub out_some : (outs : List Outcome) (at : ℕ) (o : Outcome) → slice_get outs at ≡ Some o → out_at outs at ≡ o
 out_some [] at o is = absurd cc

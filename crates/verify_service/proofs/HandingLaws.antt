@@ -54,7 +54,7 @@ none_above ticket before (e ∷ es) less rise =
     let above = nat_list_cmp_total.trans ticket before e.0 less (is_below before e.0 rise.0) in
     rw (unequal ticket e.0 (apart ticket e.0 above)) (none_above ticket e.0 es above rise.1)
 
--- one that stands further behind is above this one
+-- one that comes later is above this one
 stands_above : (before : List ℕ) (es : List Entry) (at : ℕ) (e : Entry) → Rises (Some before) es → slice_get es at ≡ Some e → slice_cmp nat_cmp before e.0 ≡ Less
 stands_above before [] at e rise is = absurd (none-some e is)
 stands_above before (x ∷ es) zero e rise is = subst (λ (y : Entry). slice_cmp nat_cmp before y.0 ≡ Less) (same_Some x e is) (is_below before x.0 rise.0)

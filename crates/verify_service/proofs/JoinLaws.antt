@@ -121,7 +121,7 @@ shares_given (s ∷ seats) (n ∷ now) many given =
     let rest : shares now ≡ all_shares seats = shares_given seats now (omega arith) (λ w within. given (suc w) (omega arith)) in
     omega arith
 
--- ---- there is a seat where there is one
+-- ---- there is a seat if there was one
 
 not_none : (seat : Holder) (seats : List (Option Holder)) → joined_from (Some seat) seats ≡ None → ⊥
 not_none seat [] is = cc

@@ -35,7 +35,7 @@ false_is_not_true e = cc
 
 -- ---- a chain that isn't known
 
--- a call is unread only where one of its chains isn't known
+-- a call is unread only if one of its chains isn't known
 chain_unread : (readings : List Reading) (states : List State) (faults faults_now : ℕ) (verdict : Verdict) (finding : Finding)
     → IsCaused readings states faults faults_now verdict → IsOfVerdict verdict finding → found_unread finding ≡ true → list_any is_unread states ≡ true
 chain_unread readings states faults faults_now verdict (found.Refused refused) caused is set_aside = absurd (false_is_not_true set_aside)
@@ -61,7 +61,7 @@ open_or_rose : (readings : List Reading) (states : List State) (bad : Place) (fa
 open_or_rose readings states bad faults faults_now (inl open_at) = inl (left_open readings states bad open_at)
 open_or_rose readings states bad faults faults_now (inr failed) = inr failed.rose
 
--- a call is unasked only where a question of one of its chains failed, or one in the last step
+-- a call is unasked only if a question of one of its chains failed, or one in the last step
 unasked_of : (readings : List Reading) (states : List State) (faults faults_now : ℕ) (verdict : Verdict) (finding : Finding)
     → IsCaused readings states faults faults_now verdict → IsOfVerdict verdict finding → found_unasked finding ≡ true
     → (list_any is_unasked states ≡ true) ⊎ Rose faults faults_now

@@ -113,7 +113,7 @@ judged_all materials says place judged (file ∷ files) own =
 
 -- ---- a worker's own places
 
--- at a worker's places stands what it judged
+-- a worker's places have what it judged
 abbrev pub IsWorkers : ℕ → ℕ → ℕ → (ℕ → Option JudgedView) → List (Option JudgedView) → Type 0
 IsWorkers index count place judged chains = (i : ℕ) → ((place + i) % count == index) ≡ true → judged (place + i) ≡ get_or chains i None
 

@@ -1,4 +1,4 @@
--- What stands at an index: of calls, of answers, and of one more.
+-- What is at an index: of calls, of answers, and of one more.
 use Rattle.std.proofs.Common.{◌≡◌, ◌≢◌, ℕ, zero, suc, ◌+◌, ◌<◌, ◌%◌, ◌==◌, ◌⊎◌, inl, inr, true, false, List, [], ◌∷◌, get_or, set, length, Some, sym, ap, arith, get_or-set_same, get_or-set_other, eq-or-lt_of_le, le_of_suc-le-suc}
 use Rattle.std.proofs.lemmas.Bool.Decides.{nat_tests}
 use Rattle.std.specs.List.{slice_get}
@@ -35,7 +35,7 @@ own_test count worker upto same = grind (arith, nat_tests)
 pub is_own : (count worker upto : ℕ) → (upto % count == worker) ≡ true → upto % count ≡ worker
 is_own count worker upto is = grind (arith, nat_tests)
 
--- ---- what stands there
+-- ---- what is there
 
 pub in_bounds : {X : Type 0} → (xs : List X) (i : ℕ) (x : X) → slice_get xs i ≡ Some x → i < length xs
 in_bounds [] i x is = absurd cc

@@ -1,4 +1,4 @@
--- What stands at a worker's own places of a round's texts, calls and answers.
+-- What is at a worker's own places of a round's texts, calls and answers.
 use Rattle.std.proofs.Common.{◌≡◌, ℕ, zero, suc, ◌+◌, ◌<◌, ◌≤◌, ◌%◌, ◌==◌, ◌&&◌, ◌||◌, ◌⊎◌, inl, inr, Bool, true, false, cond, List, [], ◌∷◌, filter, length, Option, Some, mod-lt, refl, sym, ap, ◌∙◌, subst, arith, length-append}
 use Rattle.std.proofs.lemmas.Bool.Decides.{nat_tests}
 use Rattle.std.specs.Cmp.Lexicographic.{bytes_decides, nat_list_eq_equiv}
@@ -118,7 +118,7 @@ own_pair_by true x t s u ts mine us theirs once none law (inr q) given = inr (la
 own_pair_by false x t s u ts mine us theirs once none law (inl here) given = absurd (false_is_not_true (sym none ∙ ap (λ y. has y mine) (sym here.0) ∙ given))
 own_pair_by false x t s u ts mine us theirs once none law (inr q) given = law q given
 
--- a text that is one of a worker's own stands there with its state
+-- a text that is one of a worker's own is there with its state
 pub own_pair : (index count place : ℕ) (texts : List (List ℕ)) (states : List State) (x : List ℕ) (s : State) → IsOnce texts → IsPair x s texts states
     → has x (own_of index count place texts) ≡ true → IsPair x s (own_of index count place texts) (own_of index count place states)
 own_pair index count place [] states x s once p own = absurd p

@@ -68,7 +68,7 @@ stands_here [] i x within is = absurd (omega arith)
 stands_here (y ∷ xs) zero x within is = ap Some (sym is)
 stands_here (y ∷ xs) (suc i) x within is = stands_here xs i x (omega arith) is
 
--- it is the call that stands there
+-- it is the call that is there
 pub is_call : (shown prepared : PreparedView) (index : ℕ) (here call : ReadyCall) → shown ≡ prepared → index < length prepared.calls → here ≡ get_or shown.calls index here
     → slice_get prepared.calls index ≡ Some call → here ≡ call
 is_call shown prepared index here call same within is stands =

@@ -42,7 +42,7 @@ pub record SameNumber (m n : ℕ) (r s : List ℕ) : Type 0 where
   pub number : m ≡ n
   pub behind : r ≡ s
 
--- a number, a byte that is no digit, and what stands behind it
+-- a number, a byte that is no digit, and what comes after it
 pub same_then : (byte m n : ℕ) (r s : List ℕ) → is_ascii_digit byte ≡ false → m < 2 ^ 64 → n < 2 ^ 64 → decimal m ++ byte ∷ r ≡ decimal n ++ byte ∷ s → SameNumber m n r s
 same_then byte m n r s none low high same =
     let h = halves byte (decimal m) (decimal n) r s (decimal_lacks m byte low none) (decimal_lacks n byte high none) same in

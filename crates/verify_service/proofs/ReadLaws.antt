@@ -64,7 +64,7 @@ right_none (Some files) materials says = tt
 
 -- ---- the PASSporTs in turn
 
--- a PASSporT that stands at an index, with those before it
+-- a PASSporT at an index, with those before it
 pub record StandsAt (readings : List Reading) (i : ℕ) (passport : ClaimsView) : Type 0 where
   pub one : Reading
   pub more : take (i + 1) readings ≡ take i readings ++ one ∷ []

@@ -159,7 +159,7 @@ module _ (past : PastView) (calls : List ReadyCall) (outs : List Outcome) (seat 
   once_valid_classes zero few = tt
   once_valid_classes (suc n) few = once_more n (is_valid (out_at outs n)) refl (omega arith) (once_valid_classes n (omega arith))
 
-  -- as many calls are valid, at most, as there are classes
+  -- at most as many calls are valid as there are classes
   pub valid_most : (spare : ℕ) → HasRoom calls spare → valid_upto outs (length calls) ≤ spare
   valid_most spare room =
       let few : length (valid_classes calls outs (length calls)) ≤ room.classes =

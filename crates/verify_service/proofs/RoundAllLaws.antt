@@ -202,7 +202,7 @@ right_after told told_now service says says_now world held now same_told same_sa
     (law (subst (λ (m : Materials). AreRightHeld told m says held.entries []) (sym same_world)
     (subst (λ (h : Holding). AreRightHeld told (materials_of service) says h.entries []) (sym same_held) right))))
 
--- where the shelf tells its files, the outcomes are legal
+-- if the shelf tells its files, the outcomes are legal
 pub legal_by : (told : Option Files) (service : ServiceView) (says : Says) (files : Files) (past next : Held) (entries : List Entry) (outcomes : List Outcome) → told ≡ Some files
     → length outcomes ≡ length entries → AreJudged told service says entries outcomes → RoundSettled past (round_of (rows_of service.settings entries outcomes)) next
     → RoundLegal service.settings (world_of service files says) past entries outcomes next

@@ -144,7 +144,7 @@ module _ (field : FieldLaw) (no_more : NoMoreLaw) (joined_law : JoinedLaw) (told
       (failed_few answered w) (reads.known.own w less).failed.most)
       (subst (λ n. AtMost n (faults_mid w) faults_now) (ap (own_open count w outs) (sym same) ∙ own_open_is count w outs) own)
 
-  -- where no provider failed no question did
+  -- if no provider failed, no question did
   pub none_failed : 0 < count → ((w : ℕ) → w < count → NotRisen (faults w) (faults_mid w)) → list_any is_unasked reads.states ≡ false
   none_failed some stayed =
       none_own is_unasked count 0 reads.states some (λ w less. none_by (list_any is_unasked (own_of w count 0 reads.states)) (list_any is_unasked (own_of w count 0 reads.states) ≡ true)

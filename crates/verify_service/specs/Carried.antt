@@ -26,7 +26,7 @@ pub record CarriedView : Type 0 where
   pub desk : DeskId
   pub seat : Holder
 
--- A call has no class exactly where rules 1 to 9 refuse it. Two calls that they don't refuse have one class exactly where they have one ticket.
+-- A call has no class exactly if rules 1 to 9 refuse it. Two calls that they don't refuse have one class exactly if they have one ticket.
 pub record AreClasses (settings : Settings) (entries : List Entry) (classes : List (Option ℕ)) : Type 0 where
   pub refused : (at : ℕ) (entry : Entry) → slice_get entries at ≡ Some entry → (slice_get classes at ≡ Some None) ↔ (first early_rules (call_in settings entry) ≢ None)
   pub same : (at other : ℕ) (entry second : Entry) → slice_get entries at ≡ Some entry → slice_get entries other ≡ Some second → first early_rules (call_in settings entry) ≡ None
@@ -56,7 +56,7 @@ pub record HasPairs (settings : Settings) (past : Held) (entries : List Entry) (
   pub wins : (p : ℕ × ℕ) → In p seat.wins ↔ IsValidPair entries classes outs p
   pub losses : (p : ℕ × ℕ) → In p seat.losses ↔ IsReplayPair settings past entries classes outs p
 
--- The outcomes are what the rules say of the calls of the log, over any files for which the chains of the round are right, where all providers say the
+-- The outcomes are what the rules say of the calls of the log, over any files for which the chains of the round are right, if all providers say the
 -- same; and calls that pass are known again by what was signed.
 pub record AreRuled (on : Basis) (settings : Settings) (entries : List Entry) (says : ℕ → Says) (workers : ℕ) (outs : List Outcome) : Type 0 where
   pub judged : (told : Option Files) (all : Says) → ((w : ℕ) → w < workers → says w ≡ all) → AreRightHeld told on.materials all on.held on.kept

@@ -20,7 +20,7 @@ out_at outs at = get_or outs at outcomes.Valid
 
 -- ---- wins and losses of calls
 
--- what was answered to the call stands in the seat's wins or losses
+-- what was answered to the call is in the seat's wins or losses
 abbrev pub Placed : PastView → ReadyCall → Holder → Outcome → Type 0
 Placed past call seat outcomes.Valid = (found past (ticket_in call.screening) ≡ None) × In (pair_of call) seat.wins
 Placed past call seat (outcomes.Replay winner) =
@@ -81,7 +81,7 @@ pub record Claimed (past : PastView) (calls : List ReadyCall) (count worker upto
   pub in_turn : old.share ≡ whole → (at : ℕ) (call : ReadyCall) (winner : ℕ) → slice_get calls at ≡ Some call → at < upto → at % count ≡ worker
       → out_at outs at ≡ outcomes.Replay winner → found past (ticket_in call.screening) ≡ None → IsWin calls outs at (loss_of call winner)
 
--- the same of all its calls, where its seats are these
+-- the same of all its calls, if its seats are these
 abbrev pub HasClaimed : PastView → List ReadyCall → ℕ → ℕ → Option Holder → Option Holder → List Outcome → Type 0
 HasClaimed past calls count worker None new outs = ⊥
 HasClaimed past calls count worker (Some old) None outs = ⊥
@@ -112,8 +112,8 @@ abbrev pub own_passports : ℕ → ℕ → List ReadyCall → ℕ → ℕ
 own_passports count worker calls zero = 0
 own_passports count worker calls (suc n) = (if n % count == worker then passports_at (slice_get calls n) else 0) + own_passports count worker calls n
 
--- Of the worker's calls below this index each was answered what the rules say by what its provider says. The provider was asked no more often than
--- these calls have PASSporTs that are judged. As many of them at most as it failed are set aside for a signature of their own, and one only if it failed.
+-- Each of the worker's calls below this index was answered what the rules say, by what its provider says. The provider was asked no more often than these
+-- calls have PASSporTs that are judged. For a signature of their own, they are set aside at most as often as it failed, and one only if it failed.
 pub record Answered (on : Basis) (by : Provided) (calls : List ReadyCall) (count worker upto : ℕ) (outs : List Outcome) : Type 0 where
   pub said : (at : ℕ) (call : ReadyCall) → slice_get calls at ≡ Some call → at < upto → at % count ≡ worker → OutcomeSays on by call (out_at outs at)
   pub cause : (at : ℕ) → at < upto → at % count ≡ worker → HasCauseIf (is_unasked_passport (out_at outs at)) by.faults by.faults_now

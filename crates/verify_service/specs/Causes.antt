@@ -68,12 +68,12 @@ is_unasked_passport (Unasked bad) = is_passport bad
 
 -- ---- counted
 
--- as many x5u texts as a call is unread at, at most, as faults of the shelf were counted
+-- the x5u texts at which a call is unread are at most as many as faults of the shelf were counted
 abbrev pub UnreadIsCounted : Settings → List Entry → ℕ → ℕ → List Outcome → Type 0
 UnreadIsCounted settings entries faults faults_now outcomes = AtMost (length (unread_texts settings entries outcomes)) faults faults_now
 
--- As many of a worker's x5u texts as the signature of a certificate is left open at, and of its calls as one of a PASSporT is left open in, at most, as
--- faults of its provider were counted. `own` is what came of its calls.
+-- At most as many as faults of a worker's provider were counted, together: its x5u texts at which the signature of a certificate is left open, and its
+-- calls in which that of a PASSporT is. `own` is what came of its calls.
 abbrev pub UnaskedIsCounted : Settings → List Entry → List (List ℕ) → List Outcome → ℕ → ℕ → List Outcome → Type 0
 UnaskedIsCounted settings entries texts own faults faults_now outcomes =
     AtMost (length (filter (λ x5u. has x5u texts) (unasked_texts settings entries outcomes)) + length (filter is_unasked_passport own)) faults faults_now
@@ -114,11 +114,11 @@ found_unasked (found.Unread bad) = false
 found_unasked (found.Unasked bad) = true
 found_unasked (found.Passes pass) = false
 
--- it is set aside only where a count of faults rose
+-- it is set aside only if a count of faults rose
 abbrev pub HasCauseIf : Bool → ℕ → ℕ → Type 0
 HasCauseIf set_aside faults faults_now = set_aside ≡ true → Rose faults faults_now
 
--- Of these as many at most are set aside as faults were counted, and one only where the count rose.
+-- At most as many of these are set aside as faults were counted, and one only if the count rose.
 pub record AreCounted {X : Type 0} (set_aside : X → Bool) (xs : List X) (faults faults_now : ℕ) : Type 0 where
   pub most : AtMost (length (filter set_aside xs)) faults faults_now
   pub cause : HasCauseIf (list_any set_aside xs) faults faults_now

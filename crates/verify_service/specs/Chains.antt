@@ -1,4 +1,4 @@
--- What is known of the chains of a call's PASSporTs, and that it is right where the shelf tells its files.
+-- What is known of the chains of a call's PASSporTs, and that it is right if the shelf tells its files.
 use Rattle.std.specs.Prelude.{⊤, ℕ, Bool, true, false, List, Option, Some, None}
 use Rattle.stir_outside.specs.Files.{Files}
 use Rattle.cert_store.specs.Asking.{is_failed}

@@ -26,7 +26,7 @@ use Rattle.verify_service.specs.declared.screening.Screening.TheVariants as scre
 
 -- ---- what is answered
 
--- what rules 10 to 17 and 19 came to where this is answered
+-- what rules 10 to 17 and 19 came to if this is answered
 abbrev pub verdict_of : Outcome → Verdict
 verdict_of outcomes.Valid = verdicts.Passed
 verdict_of (outcomes.Refused refused) = verdicts.Refused refused

@@ -23,7 +23,7 @@ call_in settings entry = call_of settings entry.moment entry.message
 
 -- ---- by which a call is known again
 
--- its ticket, the digest of what was signed as its last PASSporT in the order in which it went; nothing where it has none
+-- its ticket, the digest of what was signed as its last PASSporT in the order in which it went; nothing if it has none
 unfoldable pub ticket_or_none : Call → List ℕ
 ticket_or_none call = unwrap_or (ticket_of call) []
 
@@ -33,7 +33,7 @@ last_second call = last_of_call call
 
 -- ---- what the rules but the one on replay say of a call, in a world
 
--- a call that isn't set aside is refused by the first rule that it breaks, and else valid or a replay; and it is set aside only where it may be
+-- a call that isn't set aside is refused by the first rule that it breaks, and else valid or a replay; and it is set aside only if it may be
 abbrev pub IsJudged : World → Call → Outcome → Type 0
 IsJudged world call Valid = First world call ≡ None
 IsJudged world call (Refused refused) = First world call ≡ Some refused

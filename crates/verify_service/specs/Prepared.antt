@@ -29,7 +29,7 @@ classes_of calls = map (λ call. call.class) calls
 
 -- ---- what holds of each
 
--- A call that was screened has a class of this desk just if rules 1 to 9 don't refuse it. Its number leaves room for one more.
+-- A call that was screened has a class of this desk exactly if rules 1 to 9 don't refuse it. Its number leaves room for one more.
 pub record HasClass (desk : DeskId) (call : ReadyCall) : Type 0 where
   pub known : is_open call.screening ≡ false
   pub classed : is_some call.class ≡ is_passed call.screening
@@ -47,7 +47,7 @@ pub record IsSeat (desk : DeskId) (seat : Holder) : Type 0 where
 abbrev pub AreSeats : DeskId → List Holder → Type 0
 AreSeats desk seats = (w : ℕ) (seat : Holder) → slice_get seats w ≡ Some seat → IsSeat desk seat
 
--- It has 1 to 256 calls. Two of them have one class exactly where they have one ticket, and no two have one number.
+-- It has 1 to 256 calls. Two of them have one class exactly if they have one ticket, and no two have one number.
 pub record IsPrepared (calls : List ReadyCall) (kept : Kept) (desk : DeskId) (seats : List Holder) : Type 0 where
   pub some : 1 ≤ length calls
   pub few : length calls ≤ 256

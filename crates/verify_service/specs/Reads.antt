@@ -25,7 +25,7 @@ pub record AreTexts (settings : Settings) (files : Files) (entries : List Entry)
   pub named : (x5u : List ℕ) → has x5u (named settings entries) ≡ true → is_some (listed files x5u) ≡ true → has x5u texts ≡ true
   pub held_among : AreAmong held texts
 
--- As often at most as a file was read one of these more is held; and the held ones are among them.
+-- At most as many files were read as more of these are held now; and the held ones are among them.
 pub record ReadOnce (texts held held_now : List (List ℕ)) (reads reads_now : ℕ) : Type 0 where
   pub fewer : reads_now + unheld texts held_now ≤ reads + unheld texts held
   pub among : AreAmong held_now texts
@@ -51,8 +51,8 @@ AreUsed files held texts used = (x5u : List ℕ) → has x5u texts ≡ true → 
 pub record HasAsked (judged : Chains) (texts named_texts : List (List ℕ)) (asks asks_now : ℕ) : Type 0 where
   pub most : asks_now ≤ asks + (certificates_in (filter (λ entry. has entry.0 texts) judged) + length named_texts)
 
--- The chains that a round judged, by x5u: each of a text that its calls name, that is listed and whose chain wasn't held; and each is right. As many
--- files were read at most. Each of which every question was answered is held from then on, unless 4,096 others were used since. `Asked` is what is
+-- The chains that a round judged, by x5u: each of a text that its calls name, that is listed and whose chain wasn't held; and each is right. At most
+-- as many files were read. Each of which every question was answered is held from then on, unless 4,096 others were used since. `Asked` is what is
 -- said of the workers' providers.
 pub record HasJudged (told : Option ShelfFiles) (materials : Materials) (says : Says) (named_texts : List (List ℕ)) (held held_now : Holding) (reads reads_now : ℕ)
     (Asked : Chains → Type 0) : Type 0 where

@@ -71,8 +71,8 @@ class_in call = unwrap_or call.class 0
 
 -- ---- a call that is ready
 
--- It was screened. It has a class just if rules 1 to 9 don't refuse it, and one of this desk. Its number leaves room for one more. And each of its
--- chains is held or kept, if a file is listed for it.
+-- It was screened. It has a class exactly if rules 1 to 9 don't refuse it, and one of this desk. Its number leaves room for one more. And each of
+-- its chains is held or kept, if a file is listed for it.
 pub record CallReady (on : Basis) (desk : DeskId) (call : ReadyCall) : Type 0 where
   pub known : is_open call.screening ≡ false
   pub classed : is_some call.class ≡ is_passed call.screening
@@ -83,7 +83,7 @@ pub record CallReady (on : Basis) (desk : DeskId) (call : ReadyCall) : Type 0 wh
 abbrev pub AreAllReady : Basis → DeskId → List ReadyCall → Type 0
 AreAllReady on desk calls = (at : ℕ) (call : ReadyCall) → slice_get calls at ≡ Some call → CallReady on desk call
 
--- Two calls that rules 1 to 9 don't refuse have one class exactly where they have one ticket.
+-- Two calls that rules 1 to 9 don't refuse have one class exactly if they have one ticket.
 pub record AreClassed (calls : List ReadyCall) : Type 0 where
   pub one_ticket : (at other : ℕ) (call second : ReadyCall) → slice_get calls at ≡ Some call → slice_get calls other ≡ Some second → is_passed call.screening ≡ true
       → is_passed second.screening ≡ true → class_in call ≡ class_in second → ticket_in call.screening ≡ ticket_in second.screening

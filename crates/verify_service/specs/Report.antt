@@ -1,4 +1,4 @@
--- The report (this project's own format): a line for each call, with its number, what came of it, and four words behind: the response code,
+-- The report (this project's own format): a line for each call, with its number and four words after it: what came of it, the response code,
 -- the rule, and the place or the call that is replayed.
 use Rattle.std.specs.Prelude.{ℕ, suc, ◌==◌, List, [], ◌∷◌, ◌++◌, codes, if◌then◌else◌}
 use Rattle.std.specs.Fmt.{decimal}
@@ -15,7 +15,7 @@ place_text bad = decimal bad.field ++ (codes "." ++ decimal bad.part)
 abbrev pub refused_text : Refusal → List ℕ
 refused_text refused = codes "refused " ++ (decimal (code_of refused.rule) ++ (codes " " ++ (decimal refused.rule ++ (codes " " ++ place_text refused.place))))
 
--- the rule that isn't decided where the provider failed: 16 at the signature of the PASSporT, whose part is 0, and 15 at that of a certificate
+-- the rule that isn't decided if the provider failed: 16 at the signature of the PASSporT, whose part is 0, and 15 at that of a certificate
 abbrev pub unasked_rule : ℕ → ℕ
 unasked_rule part = if part == 0 then 16 else 15
 

@@ -36,7 +36,7 @@ pub record IsUnaskedRow (bad : Place) (words : List (List ℕ)) : Type 0 where
   pub at : IsPlaceWord bad place
   pub words_are : words ≡ codes "unasked" ∷ codes "-" ∷ decimal rule ∷ place ∷ []
 
--- what came of the call, the response code, the rule, and the place or the call that is replayed; `-` where there is none
+-- what came of the call, the response code, the rule, and the place or the call that is replayed; `-` if there is none
 abbrev pub IsRow : Outcome → List (List ℕ) → Type 0
 IsRow Valid words = words ≡ codes "valid" ∷ codes "-" ∷ codes "-" ∷ codes "-" ∷ []
 IsRow (Refused refused) words = IsRefusedRow refused.rule refused.place words
@@ -44,7 +44,7 @@ IsRow (Replay winner) words = words ≡ codes "replay" ∷ codes "438" ∷ codes
 IsRow (Unread bad) words = IsUnreadRow bad words
 IsRow (Unasked bad) words = IsUnaskedRow bad words
 
--- the call's number and these four words, with one blank between each two, and LF behind the last
+-- the call's number and these four words, with one blank between each two, and LF after the last
 pub record IsLine (number : ℕ) (outcome : Outcome) (line : List ℕ) : Type 0 where
   pub words : List (List ℕ)
   pub row : IsRow outcome words

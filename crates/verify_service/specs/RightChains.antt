@@ -26,7 +26,7 @@ IsThere files held kept x5u = is_some (listed files x5u) ≡ true → (is_some (
 abbrev pub AreThere : ChainFiles → Chains → Kept → List (List ℕ) → Type 0
 AreThere files held kept texts = (x5u : List ℕ) → has x5u texts ≡ true → IsThere files held kept x5u
 
--- where a question of a chain that is kept failed, it is the question of a certificate
+-- if a question of a chain that is kept failed, it is the question of a certificate
 abbrev pub FailAtQuestions : Kept → Type 0
 FailAtQuestions kept = (x5u : List ℕ) (judged : JudgedView) → kept_state x5u kept ≡ Some (have judged) → FailedAt judged.keys judged.asked
 

@@ -32,7 +32,7 @@ abbrev pub states_from : ℕ → (ℕ → Option JudgedView) → List Fetched �
 states_from place judged [] = []
 states_from place judged (file ∷ files) = file_state file (judged place) ∷ states_from (suc place) judged files
 
--- where a question of the chain failed, it is the question of a certificate
+-- if a question of the chain failed, it is the question of a certificate
 abbrev pub FailsAtQuestion : State → Type 0
 FailsAtQuestion (have judged) = FailedAt judged.keys judged.asked
 FailsAtQuestion no_chain = ⊤
@@ -101,15 +101,15 @@ texts_of materials held calls = round_texts materials.chains held (all_named cal
 abbrev pub used_in : List ReadyCall → Holding → Holding
 used_in calls held = record held { entries = touch_all (all_named calls) held.entries }
 
--- The files of these texts were read, each once, and the chains of those that are there judged; what is known of them is right. As many at most
--- couldn't be read as the shelf's faults rose, and no more files were read than chains judged.
+-- The files of these texts were read, each once, and the chains of those that are there judged; what is known of them is right. At most as many
+-- couldn't be read as the shelf's faults rose by, and no more files were read than chains judged.
 pub record KnowsChains (told : Option Files) (materials : Materials) (says : Says) (texts : List (List ℕ)) (counts counts_now : Counts) (states : List State) : Type 0 where
   pub right : EachPair (IsKnownRight told materials says) texts states
   pub unread : AreCounted is_unread states counts.faults counts_now.faults
   pub reads : counts_now.reads ≤ counts.reads + length (filter is_judged states)
 
--- A worker asked no more questions than there are certificates in the chains of its texts, and as many of these chains at most have a question
--- that failed as its provider's faults rose.
+-- A worker asked no more questions than there are certificates in the chains of its texts. At most as many of these chains have a question that
+-- failed as its provider's faults rose by.
 pub record HasAskedOwn (index count asks asks_now faults faults_now : ℕ) (states : List State) : Type 0 where
   pub asked : asks_now ≤ asks + all_certificates (own_of index count 0 states)
   pub failed : AreCounted is_unasked (own_of index count 0 states) faults faults_now

@@ -112,7 +112,7 @@ moment_or moment (Some entry) = entry.moment
 abbrev pub last_entry : List Entry → Option Entry
 last_entry entries = slice_get entries (length entries - 1)
 
--- those of the last call, or these where there is none
+-- those of the last call, or these if there is none
 abbrev pub last_number : ℕ → List Entry → ℕ
 last_number number entries = number_or number (last_entry entries)
 
@@ -133,7 +133,7 @@ pub record IsSameConfig (service now : ServiceView) : Type 0 where
   pub anchors : now.anchors ≡ service.anchors
   pub table : now.table ≡ service.table
 
--- each outcome is what the rules say of its call, where the shelf tells its files
+-- each outcome is what the rules say of its call, if the shelf tells its files
 abbrev pub AreJudged : Option ShelfFiles → ServiceView → Says → List Entry → List Outcome → Type 0
 AreJudged None service says entries outcomes = ⊤
 AreJudged (Some files) service says entries outcomes = EachJudged service.settings (world_of service files says) entries outcomes

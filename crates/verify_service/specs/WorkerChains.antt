@@ -15,8 +15,8 @@ abbrev pub IsChainOf : Materials → Says → List ℕ → Option JudgedView →
 IsChainOf materials says bytes (Some judged) = JudgedAs (judged_of materials.anchors materials.table says bytes) judged
 IsChainOf materials says bytes None = ⊥
 
--- At a place of the worker's own stands what the rules say of the bytes that were read there, or nothing if none were read. At the place of
--- another worker stands nothing.
+-- A place of the worker's own has what the rules say of the bytes that were read there, or nothing if none were read. The place of another
+-- worker has nothing.
 abbrev pub IsOwn : Materials → Says → Bool → Fetched → Option JudgedView → Type 0
 IsOwn materials says true (fetched.Bytes bytes) chain = IsChainOf materials says bytes.items chain
 IsOwn materials says true fetched.NoChain chain = chain ≡ None
@@ -53,8 +53,8 @@ abbrev pub has_failed : Option JudgedView → Bool
 has_failed None = false
 has_failed (Some judged) = is_failed judged.asked
 
--- A worker asked its provider no more questions than there are certificates in the chains that it judged. As many of these at most have a
--- question that failed as faults of its provider were counted, and one only where the count rose.
+-- A worker asked its provider no more questions than there are certificates in the chains that it judged. At most as many of these chains
+-- have a question that failed as faults of its provider were counted, and one only if the count rose.
 pub record ChainsCounted (asks asks_now faults faults_now : ℕ) (chains : List (Option JudgedView)) : Type 0 where
   pub asks_most : asks_now ≤ asks + certificates chains
   pub asks_stay : asks ≤ asks_now

@@ -53,8 +53,8 @@ impl Service {
         ensures desk { result.desk ≡ prepared.desk }
 
         // Each outcome is what the rules say of its call, by what the provider of the call's worker says: over the chains that the round has, and over
-        // all files for which these are right. No provider was asked more often than its worker's calls have PASSporTs that are judged, and as many of
-        // these calls at most as it failed are set aside for a signature of their own.
+        // all files for which these are right. No provider was asked more often than its worker's calls have PASSporTs that are judged. For a signature
+        // of their own, these calls are set aside at most as often as it failed.
         ensures said { (d : _) → AreSaid (basis_in self.old prepared)
             (λ w. provided P.Provider (slice_index_or workers.old w d).provider (slice_index_or workers.new w d).provider)
             (length workers.old) prepared.calls result.outcomes }
@@ -101,8 +101,8 @@ impl Service {
     }
 }
 
-/// Carries out a round: each worker judges its calls, each with a seat of its own; the seats are joined to one; and the calls that are valid are
-/// kept in the past. The outcomes stand in place of those that are handed in. It takes no memory.
+/// Carries out a round: each worker judges its calls, each with a seat of its own; the seats are joined to one; and the calls that are valid are kept in
+/// the past. The outcomes take the place of those that are handed in. It takes no memory.
 pub(crate) fn carry_round<R: Threads + Sync, P: Provider + Send, G: Gate + Send>(
     rt: &R,
     materials: &World,
@@ -130,9 +130,9 @@ pub(crate) fn carry_round<R: Threads + Sync, P: Provider + Send, G: Gate + Send>
     ensures classes { result.classes ≡ map (λ call. call.class) round.calls.items }
     ensures desk { result.desk ≡ round.desk }
 
-    // Each outcome is what the rules say of its call, by what the provider of the call's worker says: over the chains that the round has, and over
-    // all files for which these are right. No provider was asked more often than its worker's calls have PASSporTs that are judged, and as many of
-    // these calls at most as it failed are set aside for a signature of their own.
+    // Each outcome is what the rules say of its call, by what the provider of the call's worker says: over the chains that the round has, and over all
+    // files for which these are right. No provider was asked more often than its worker's calls have PASSporTs that are judged. For a signature of their
+    // own, these calls are set aside at most as often as it failed.
     ensures said { (d : _) → AreSaid (record { materials = materials.now; held = cache.now.entries; kept = round.kept; past = past.old })
         (λ w. provided P.Provider (slice_index_or workers.old w d).provider (slice_index_or workers.new w d).provider)
         (length workers.old) round.calls.items result.outcomes }

@@ -47,14 +47,14 @@ impl Service {
         ensures said { (call : ReadyCall) → slice_get prepared.now.calls index ≡ Some call
             → OutcomeSays (basis_in self.now prepared.now) (provided P.Provider provider.old provider.new) call result }
 
-        // A valid call is won at the desk, and a replay is one of the past or lost there; and a call is valid exactly where it is won.
+        // A valid call is won at the desk, and a replay is one of the past or lost there; and a call is valid exactly if it is won.
         ensures claims { (call : ReadyCall) → slice_get prepared.now.calls index ≡ Some call → Claims self.now.past call seat.old seat.new result }
         ensures won { (call : ReadyCall) → slice_get prepared.now.calls index ≡ Some call
             → (result ≡ Outcome.Valid) ↔ HasWon (basis_in self.now prepared.now) (provided P.Provider provider.old provider.new) call seat.old seat.new }
         ensures settled { Settled seat.new }
 
-        // A call is set aside for a signature of its own only where the provider failed in this call. The provider is asked once at most for each
-        // PASSporT of the call that is judged.
+        // A call is set aside for a signature of its own only if the provider failed in this call. The provider is asked once at most for each PASSporT of
+        // the call that is judged.
         ensures unasked { HasCauseIf (is_unasked_passport result) (P.faults provider.old) (P.faults provider.new) }
         ensures asks { (call : ReadyCall) → slice_get prepared.now.calls index ≡ Some call
             → P.asks provider.new ≤ P.asks provider.old + length (readings_in call.screening) }
@@ -91,12 +91,12 @@ pub(crate) fn judge_ready<P: Provider, G: Gate>(
     // What is answered is what the rules say over the chains that the round has, and over all files for which these are right.
     ensures said { OutcomeSays (basis_of lent.now) (provided P.Provider provider.old provider.new) call.now result }
 
-    // A valid call is won at the desk, and a replay is one of the past or lost there; and a call is valid exactly where it is won.
+    // A valid call is won at the desk, and a replay is one of the past or lost there; and a call is valid exactly if it is won.
     ensures claims { Claims lent.now.past.now call.now seat.old seat.new result }
     ensures won { (result ≡ Outcome.Valid) ↔ HasWon (basis_of lent.now) (provided P.Provider provider.old provider.new) call.now seat.old seat.new }
     ensures settled { Settled seat.new }
 
-    // A call is set aside for a signature of its own only where the provider failed in this call.
+    // A call is set aside for a signature of its own only if the provider failed in this call.
     ensures unasked { HasCauseIf (is_unasked_passport result) (P.faults provider.old) (P.faults provider.new) }
     ensures asks { P.asks provider.new ≤ P.asks provider.old + length (readings_in call.now.screening) }
     ensures asks_stay { P.asks provider.old ≤ P.asks provider.new }

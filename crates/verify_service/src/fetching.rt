@@ -36,8 +36,8 @@ pub(crate) fn fetch_all<S: Shelf>(
     ensures counted { IfOk result (λ files. vec_len files ≡ length texts.now) }
     ensures fetched { IfOk result (λ files. EachPair (IsFetched (S.files shelf.old) world.now) texts.now files.items) }
 
-    // As many files at most couldn't be read as faults were counted. No more were read than there are bytes of, nor, also if memory ran out, than
-    // there are texts.
+    // At most as many files couldn't be read as faults were counted. No more were read than there are bytes of; nor than there are texts, also if
+    // memory ran out.
     ensures unread { IfOk result (λ files. AreCounted is_unread_file files.items (S.counts shelf.old).faults (S.counts shelf.new).faults) }
     ensures read { IfOk result (λ files. (S.counts shelf.new).reads ≤ (S.counts shelf.old).reads + length (filter is_read_file files.items)) }
     ensures reads { (S.counts shelf.new).reads ≤ (S.counts shelf.old).reads + length texts.now }

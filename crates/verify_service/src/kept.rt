@@ -56,7 +56,7 @@ impl KeptChains {
 }
 
 /// Has the cache hold the chain of an x5u, if it was judged and each of its questions was answered, and else the round keep it. `AllocError` is
-/// the only error; the cache is as it was then.
+/// the only error; the cache then is as it was.
 pub(crate) fn store_chain(
     alloc: Global,
     x5u: &[u8],

@@ -39,8 +39,8 @@ pub fn call_law()
     ensures same_moment { (settings : Settings) (entry : Entry) (moment : ℕ) → moment ≡ entry.moment → moment ≡ (call_in settings entry).moment }
 {}
 
-/// What is known of the chains of a call's PASSporTs, one after another, is right: of none yet, and of one PASSporT more where it is right of
-/// the chain of that one's x5u (RFC 7515, section 4.1.5).
+/// What is known of the chains of a call's PASSporTs, one after another, is right: of none yet, and of one PASSporT more if it is right of the
+/// chain of that one's x5u (RFC 7515, section 4.1.5).
 pub fn chains_law()
     ensures none { (told : Option Files) (materials : Materials) (says : Says) → AreRightWhere told materials says [] [] }
     ensures next { (told told_now : Option Files) (materials : Materials) (says says_now : Says) (readings : List Reading) (states : List State) (i : ℕ)
@@ -58,8 +58,8 @@ pub fn fresh_law()
     last_second_law();
 }
 
-/// A line of the report has the words of its row, and the report can be read back: lines are the same only where the number of the call and
-/// what came of it are, and reports only where all that came of their calls is.
+/// A line of the report has the words of its row, and the report can be read back. Lines are the same only if the number of the call and what
+/// came of it are, and reports only if all that came of their calls is.
 pub fn report_law()
     ensures line { (number : ℕ) (outcome : Outcome) → IsLine number outcome (report_text number outcome) }
     ensures same_line { (m n : ℕ) (a b : Outcome) → m < 4294967296 → n < 4294967296 → Fits a → Fits b → report_text m a ≡ report_text n b → (m ≡ n) × (a ≡ b) }

@@ -16,6 +16,7 @@ pub enum Outcome {
     },
     /// It is set aside: the file with the certificates of the PASSporT there couldn't be read.
     Unread(Place),
-    /// It is set aside: the provider failed at a signature, of a certificate where the part is its number, of the PASSporT where it is 0.
+    /// It is set aside: the provider failed at a signature. It is that of a certificate, whose number the part is, or of the PASSporT if
+    /// the part is 0.
     Unasked(Place),
 }

@@ -1,4 +1,4 @@
-//! Preparing a round: all that can want memory.
+//! Preparing a round: all that can run out of memory.
 ghost use Rattle.stir_outside.specs.Stays.{ProviderStays, ShelfStays};
 ghost use Rattle.std.specs.Prelude.{◌≡◌, ◌<◌, ◌≤◌, ◌+◌, [], ℕ, true, length, IfOk, slice_index_or};
 ghost use Rattle.cert_store.specs.Holding.{AreAnswered};
@@ -30,8 +30,8 @@ use stir_outside::{Gate, Provider, Shelf};
 use verify_rules::{Settings, screened_law};
 
 impl Service {
-    /// Prepares a round: screens its calls, reads the chains that they need and that aren't held, each once, and has the workers judge them, each those
-    /// of its own texts; gives each ticket a class and each worker a seat; and makes room for the outcomes and in the past.
+    /// Prepares a round. It screens the calls, reads the chains that they need and that aren't held, each once, and has the workers judge them, each those
+    /// of its own texts. It gives each ticket a class and each worker a seat, and makes room for the outcomes and in the past.
     ///
     /// There are 1 to 8 workers, whose providers say the same, and 1 to 256 calls. The numbers of the calls rise, from above that of the last call that was
     /// handed in, and are below 4,294,967,295; their moments never fall. What is held of chains is right for the shelf and the providers. `Memory` is the
@@ -50,8 +50,8 @@ impl Service {
         requires follow { Follow self.old.number self.old.moment calls.now }
         requires right { (d : _) → HoldsRight (S.files shelf.old) (P.says (slice_index_or workers.old 0 d).provider) self.old }
 
-        // It is the newest round of the service: these calls, screened. A call has no class exactly where rules 1 to 9 refuse it, and two others have one
-        // class exactly where they have one ticket. There is a seat of the desk for each worker, and all together have the whole share.
+        // It is the newest round of the service: these calls, screened. A call has no class exactly if rules 1 to 9 refuse it, and two others have one
+        // class exactly if they have one ticket. There is a seat of the desk for each worker, and all together have the whole share.
         ensures calls { IfOk result (λ prepared. EachPair (IsReady self.old.settings) calls.now prepared.calls) }
         ensures newest { IfOk result (λ prepared. IsNewest self.new prepared) }
         ensures classes { IfOk result (λ prepared. AreClasses self.old.settings calls.now (classes_of prepared.calls)) }

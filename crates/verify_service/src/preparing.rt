@@ -75,8 +75,8 @@ fn is_open(call: &ReadyCall) -> bool
     }
 }
 
-/// Uses the chains that these calls need and the cache holds; reads and judges the others for which a file is listed; has the cache hold those of
-/// which each question was answered; and gives what is known of the others. `AllocError` is the only error; what the cache holds is right then.
+/// Uses the chains that these calls need and the cache holds. Reads and judges the others for which a file is listed. Has the cache hold those of
+/// which each question was answered, and gives what is known of the others. `AllocError` is the only error; what the cache holds is right then.
 pub(crate) fn ready_chains<R: Threads + Sync, S: Shelf, P: Provider + Send, G: Gate + Send>(
     rt: &R,
     alloc: Global,

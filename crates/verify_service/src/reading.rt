@@ -26,7 +26,7 @@ pub fn read_chains<S: Shelf, P: Provider>(
     ensures counted { OnOk result (length chains.new ≡ length screened.now.readings) }
     ensures right { OnOk result (AreRightWhere (S.files shelf.old) world.now (P.says provider.old) screened.now.readings chains.new) }
 
-    // A chain isn't known, or has a question that failed, only where a fault was counted.
+    // A chain isn't known, or has a question that failed, only if a fault was counted.
     ensures unread { OnOk result (HasCauseIf (list_any is_unread chains.new) (S.counts shelf.old).faults (S.counts shelf.new).faults) }
     ensures unasked { OnOk result (HasCauseIf (list_any is_unasked chains.new) (P.faults provider.old) (P.faults provider.new)) }
 

@@ -22,7 +22,7 @@ pub fn report_line(alloc: Global, number: u32, outcome: &Outcome) -> Result<Vec<
     Ok(line.into_bytes())
 }
 
-/// What the line says behind the number, without an LF. `Memory` is the only error.
+/// What the line says after the number, without an LF. `Memory` is the only error.
 pub fn said(alloc: Global, outcome: &Outcome) -> Result<String, AllocError>
     ensures { IfOk result (λ said. string_bytes said ≡ said_text outcome.now) }
 {
@@ -65,7 +65,7 @@ fn unasked(alloc: Global, place: &Place) -> Result<String, AllocError>
     format!(in alloc; "unasked - {rule} {field}.{part}")
 }
 
-/// The rule that isn't decided: that on the PASSporT's own signature where the part is 0.
+/// The rule that isn't decided: that on the PASSporT's own signature if the part is 0.
 fn unasked_rule(part: u32) -> u8
     ensures { result ≡ unasked_rule part }
 {

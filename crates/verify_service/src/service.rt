@@ -18,8 +18,8 @@ pub(crate) const MOST_CHAINS: usize = 4096;
 
 /// Judges calls round by round: what it judges them by, which calls passed before, and the chains that it judged and holds.
 ///
-/// A contract sees the settings, the chain map, the anchors, the code table, the past, the chains that are held, the number and moment of the
-/// last call that was handed in, and whether a round may be its newest.
+/// A contract sees the settings, the chain map, the anchors, the code table, the past, and the chains that are held. It also sees the number
+/// and moment of the last call that was handed in, and whether a round may be its newest.
 #[derive(Drop)]
 pub struct Service {
     pub(crate) settings: Settings,
@@ -70,8 +70,8 @@ impl Service {
         })
     }
 
-    /// Whether these calls may be handed in as a round: they are 1 to 256, their numbers rise, from above that of the last call that was
-    /// handed in, and are below 4,294,967,295, and their moments never fall and are none behind the year 9999.
+    /// Whether these calls may be handed in as a round: they are 1 to 256; their numbers rise, from above that of the last call that was
+    /// handed in, and are below 4,294,967,295; and their moments never fall, and none is after the year 9999.
     #[tactic(auto, using(crate::proofs::FollowLaws::follow_means, crate::proofs::FollowLaws::follow_none, crate::proofs::FollowLaws::follow_many))]
     pub fn follows(&self, calls: &[Call]) -> bool
         ensures { IsTrue result ↔ Follow self.now.number self.now.moment calls.now }

@@ -16,7 +16,7 @@ use std::thread::Threads;
 use stir_outside::{Gate, Provider};
 
 /// Has each worker judge its calls with its seat, in a thread of its own. Worker w, counted from 0, has the calls at index w, w + W and so on, if
-/// there are W workers. What it answers stands at the index of the call in the worker's own place.
+/// there are W workers. What it answers is at the index of the call in the worker's own place.
 pub(crate) fn work_all<R: Threads + Sync, P: Provider + Send, G: Gate + Send>(
     rt: &R,
     lent: &Lent<'_>,

@@ -111,7 +111,7 @@ any_elem tag part item b = subst (λ n. Elem item.whole n item.content.left) b.1
 any : (tag : ℕ) (part : PartView) (item : ItemView) → Begins part item × (item.tag ≡ tag) → AnyElement item.whole tag
 any tag part item b = record { content = item.content.left; elem = any_elem tag part item b }
 
--- what stands there is the signed part that is read, or something is wrong there
+-- what is there is the signed part that is read, or something is wrong there
 pub signed_reads : (part : PartView) → AllBytes part.left → Reads (tbs_in part) (SignedText part.left) (WrongSigned part)
 unfolding tbs_in
 signed_reads part b =
@@ -310,7 +310,7 @@ answer_only_refused all (Ok c) b g = tt
 answer_only_refused all (Err (At kind place)) b g = (certificate_tells all b (at_kind kind place)).0 g
 answer_only_refused all (Err Memory) b g = tt
 
--- ---- a front of a certificate, and a certificate with bytes behind it
+-- ---- a prefix of a certificate, and a certificate with bytes after it
 
 zero_add : (n : ℕ) → 0 + n ≡ n
 zero_add n = omega arith

@@ -20,7 +20,7 @@ use Rattle.x509_profile.proofs.CertLaws.{cert_again, cert_found, whole_is}
 
 -- ---- one certificate
 
--- the certificate at the front and what stands behind it, which is bytes
+-- the certificate that the bytes begin with and what comes after it, which is bytes
 abbrev Fronts : List ℕ → CertView × List ℕ → Type 0
 Fronts bytes found = Cert found.0.whole found.0 × (bytes ≡ found.0.whole ++ found.1) × AllBytes found.1
 
@@ -40,7 +40,7 @@ front_again certificate rest cert =
     after (item_at (whole_text (certificate.whole ++ rest))) _ _ _ (item_stands sequence_tag certificate.whole _ rest 0 cert.elem)
     (after (read_certificate certificate.whole) certificate _ _ (cert_again certificate.whole certificate cert) refl)
 
--- where none is read, none stands
+-- if none is read, the bytes begin with none
 front_none : (bytes : List ℕ) (fault : Fault) → front bytes ≡ Err fault → HasNoFront bytes
 front_none bytes fault none certificate rest cert split =
     let k : front bytes ≡ Ok (certificate, rest) = ap front split ∙ front_again certificate rest cert in absurd (cc none)
@@ -119,7 +119,7 @@ chain_ends bytes refused typed e = subst (IsRight bytes) e (chain_right bytes ty
 
 -- ---- the greatest number of certificates
 
--- no more certificates stand at the front than those before a place at which none stands
+-- the bytes begin with no more certificates than those before a place at which none begins
 fewer : (before others : List CertView) (left behind : List ℕ) → AreCerts before → AreCerts others → joined before ++ left ≡ joined others ++ behind → HasNoFront left
     → length others ≤ length before
 fewer before [] left behind b o e none = omega arith

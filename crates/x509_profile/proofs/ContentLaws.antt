@@ -1,4 +1,4 @@
--- What stands within a part of a certificate is what is read of it, and is read as it is.
+-- What is within a part of a certificate is what is read of it, and is read as it is.
 use Rattle.std.proofs.Common.{◌≡◌, ℕ, ◌==◌, List, [], ◌∷◌, ◌++◌, length, Option, Ok, refl, sym, ap, subst, ◌∙◌, arith, suc}
 use Rattle.std.proofs.lemmas.Bool.Decides.{nat_tests}
 use Rattle.lists.proofs.Bytes.{no_byte}
@@ -136,7 +136,7 @@ extension_found text read b e =
       bytes = value.content_bytes;
     }))))))
 
--- the extension of a text, with where its content stands
+-- the extension of a text, with the place of its content
 abbrev pub opened : (text : List ℕ) (view : ExtensionView) → ExtensionText text view → ExtensionRead
 opened text view t = record {
   oid = view.oid;

@@ -99,7 +99,7 @@ constraints_forms = record { found = text_found; again = read_only }
 err_is : {A : Type 0} {x y : Fault} → x ≡ y → ◌≡◌ {A = Result A Fault} (Err x) (Err y)
 err_is e = ap (λ f. let r : Result _ Fault = Err f in r) e
 
--- what stands in the place for one extension, with one more of its name
+-- what the place for one extension holds, with one more of its name
 slot_reads : {A E : Type 0} (Text : List ℕ → A → Type 0) (read : List ℕ → Result A E) → Forms Text read → (value : List ℕ) (slot : Option A) (broken second : Fault)
     (put : Option A → Values) → AllBytes value
     → Reads (filled slot (or_broken (read value) broken) second >>= λ next. Ok (put next))
@@ -183,7 +183,7 @@ with_reads values part item is =
     (λ read e. let o = extension_found item.whole read is.whole_bytes e in ((extension_view read, o.text_is), there read e o))
     (λ x. (opened item.whole x.0 x.1, extension_again item.whole x.0 x.1))
   where
-    -- where it stands is said by its text
+    -- its text says where it is
     there : (read : ExtensionRead) → extension_of item.whole ≡ Ok read → ReadOf item.whole read
         → Reads (values_by (name_of read.oid) values read item.place (item.place + (length item.whole - length read.octets.whole)))
         (λ next. (view : ExtensionView) × ExtensionText item.whole view × Adds values view next) (IsRefusedThere values item)

@@ -26,7 +26,7 @@ pub record Chain (bytes : List ℕ) (certificates : List CertView) : Type 0 wher
   pub each : AreCerts certificates
   pub most : length certificates ≤ 6
 
--- no certificate stands at the front of these bytes
+-- these bytes begin with no certificate
 abbrev pub HasNoFront : List ℕ → Type 0
 HasNoFront bytes = (certificate : CertView) (rest : List ℕ) → Cert certificate.whole certificate → bytes ≡ certificate.whole ++ rest → ⊥
 
@@ -54,7 +54,7 @@ pub record RefusedCertificate : Type 0 where
 abbrev pub refused_at : ℕ → ℕ → RefusedCertificate
 refused_at number place = record { number = number; place = place }
 
--- The bytes are certificates as far as this place, and what stands there is none, or it is a seventh one's place.
+-- The bytes are certificates as far as this place, and none begins there, or it is a seventh one's place.
 pub record EndsAt (bytes : List ℕ) (refused : RefusedCertificate) : Type 0 where
   pub before : List CertView
   pub behind : List ℕ
@@ -66,14 +66,14 @@ pub record EndsAt (bytes : List ℕ) (refused : RefusedCertificate) : Type 0 whe
   pub bad : (length before ≡ 6) ⊎ HasNoFront behind
   pub most : length before ≤ 6
 
--- the certificate that the first element is, and what stands behind it
+-- the certificate that the first element is, and what comes after it
 unfoldable pub front : List ℕ → Result (CertView × List ℕ) Fault
 front bytes = do
   item ← item_at (whole_text bytes)
   certificate ← read_certificate item.whole
   Ok (certificate, item.behind.left)
 
--- the certificates so far, where none of the bytes is left; else the next one is refused, at the first that is left
+-- the certificates so far, if no byte is left; else the next one is refused, at the first that is left
 abbrev pub ended : List ℕ → List CertView → List ℕ → Result (List CertView) RefusedCertificate
 ended bytes before left = if length left == 0 then Ok before else Err (refused_at (length before + 1) (length bytes - length left))
 
@@ -91,16 +91,16 @@ certificates_in bytes = certificates_from bytes 6 [] bytes
 
 -- ---- how clauses see an answer
 
--- a fault other than want of memory
+-- a fault other than `Memory`
 abbrev pub refused_seen : CertChainFault → Option RefusedCertificate
 refused_seen (At number place) = Some (refused_at number place)
 refused_seen Memory = None
 
--- the certificates, or the first that is refused; want of memory is free
+-- the certificates, or the first that is refused, unless memory runs out
 abbrev pub GivesChain : {X : Type 0} → (X → List CertView) → Result X CertChainFault → Result (List CertView) RefusedCertificate → Type 0
 GivesChain seen result read = given.Gives refused_seen seen result read
 
--- what is refused stands where the whole certificates end, and is one more than they
+-- what is refused begins where the whole certificates end, and its number is one more than theirs
 abbrev pub EndsWhereRefused : {X : Type 0} → List ℕ → Result X CertChainFault → Type 0
 EndsWhereRefused bytes (Ok certificates) = ⊤
 EndsWhereRefused bytes (Err (At number place)) = EndsAt bytes (refused_at number place) × Whole bytes (number - 1) × (number ≤ 7)

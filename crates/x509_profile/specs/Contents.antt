@@ -1,4 +1,4 @@
--- What stands within a part of a certificate, as it is read: a content that isn't of its form is the part's own fault,
+-- What is within a part of a certificate, as it is read: a content that isn't of its form is the part's own fault,
 -- whatever is wrong in it.
 use Rattle.std.specs.Prelude.{ℕ, ◌==◌, List, ◌++◌, length, Bool, Option, Result, Ok, Err, if◌then◌else◌}
 use Rattle.std.specs.Option.{option_map}
@@ -38,7 +38,7 @@ subject_key_of value = do
   string ← sole_at octet_string_tag value
   Ok string.content
 
--- authorityKeyIdentifier: a SEQUENCE, whose first element is the key identifier where it has the tag [0]; what follows is
+-- authorityKeyIdentifier: a SEQUENCE, whose first element is the key identifier if it has the tag [0]; what follows is
 -- passed over (section 4.2.1.1)
 unfoldable pub authority_of : List ℕ → Result (Option (List ℕ)) DerFault
 authority_of value = do

@@ -60,8 +60,8 @@ pub record ExtensionText (text : List ℕ) (extension : ExtensionView) : Type 0 
 pub record SubjectKeyText (value : List ℕ) (key : List ℕ) : Type 0 where
   pub elem : Elem value octet_string_tag key
 
--- What one extension more adds to what those before it say, by its name: an extension of the profile stands once, and its content says something;
--- the enhanced constraints on claims may not stand (RFC 9118, section 4), and another extension is passed over, if it isn't critical.
+-- What one more extension adds to what those before it say, by its name. An extension of the profile comes once, and its content says something.
+-- The enhanced constraints on claims may not come (RFC 9118, section 4), and another extension is passed over, if it isn't critical.
 abbrev pub AddsAs : ExtensionName → Values → ExtensionView → Values → Type 0
 AddsAs BasicConstraints before view values =
     (before.basic ≡ None) × (basic : BasicView) × BasicText view.value basic × (values ≡ record before { basic = Some basic })
@@ -82,7 +82,7 @@ AddsAs Unknown before view values = (view.critical ≡ false) × (values ≡ bef
 abbrev pub Adds : Values → ExtensionView → Values → Type 0
 Adds before view values = (name : ExtensionName) × IsNamed view.oid name × AddsAs name before view values
 
--- the extensions stand one after another, and say this together
+-- the extensions come one after another, and say this together
 pub record ExtensionTexts (text : List ℕ) (values : Values) : Type 0 where
   pub extensions : List ExtensionView
   pub each : OneAfterAnother ExtensionText extensions text

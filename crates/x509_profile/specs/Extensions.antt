@@ -13,7 +13,7 @@ use Rattle.x509_profile.specs.Fault.{fault_at}
 use Rattle.x509_profile.specs.View.{Values, no_values}
 use Rattle.x509_profile.specs.Extended.{extensions_tag}
 
--- What stands in a place for one extension when one more of its name was read: it may not have stood there before.
+-- What a place for one extension holds when one more of its name was read: it may not have held one before.
 abbrev pub filled : {A : Type 0} → Option A → Result A Fault → Fault → Result (Option A) Fault
 filled None said twice = said >>= λ value. Ok (Some value)
 filled (Some before) said twice = Err twice
@@ -46,7 +46,7 @@ values_with values item = do
 abbrev pub ended_at : PartView → Result (Unit {0}) Fault
 ended_at part = end_at part tt
 
--- the extensions by the explicit tag [3], one SEQUENCE and nothing behind it
+-- the extensions by the explicit tag [3], one SEQUENCE and nothing after it
 unfoldable pub marked_in : PartView → Result Values Fault
 marked_in part = do
   marked ← element_at extensions_tag part

@@ -10,12 +10,12 @@ use Rattle.x509_profile.specs.declared.fault.CertFault.TheVariants.{At, Memory}
 abbrev pub fault_at : ℕ → ℕ → Fault
 fault_at kind place = at_kind kind place
 
--- a fault other than want of memory
+-- a fault other than `Memory`
 abbrev pub fault_seen : CertFault → Option Fault
 fault_seen (At kind place) = Some (fault_at kind place)
 fault_seen Memory = None
 
--- The code gives what is read, or its fault; want of memory is free.
+-- The code gives what is read, or its fault, unless memory runs out.
 abbrev pub Gives : {X Y : Type 0} → (X → Y) → Result X CertFault → Result Y Fault → Type 0
 Gives seen result read = given.Gives fault_seen seen result read
 

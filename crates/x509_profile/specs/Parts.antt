@@ -20,7 +20,7 @@ pub record ValidityText (text : List ℕ) (not_before not_after : ℤ) : Type 0 
   pub from : TimeText first.tag first.content not_before
   pub until : TimeText second.tag second.content not_after
 
--- a key: the fixed front and 64 bytes; the point is the front's last byte, 04, and these
+-- a key: the fixed prefix and 64 bytes; the point is the prefix's last byte, 04, and these
 pub record KeyText (text : List ℕ) (point : List ℕ) : Type 0 where
   pub coordinates : List ℕ
   pub form : text ≡ key_front ++ coordinates

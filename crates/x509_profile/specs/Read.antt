@@ -13,7 +13,7 @@ use Rattle.x509_profile.specs.Fault.{fault_at}
 use Rattle.x509_profile.specs.Text.{algorithm_text, is_key, version_text}
 use Rattle.x509_profile.specs.View.{CertView, TbsView, tbs_with, view_of}
 
--- what is behind the first element, if it is this text
+-- what comes after the first element, if it is this text
 unfoldable pub behind_text : List ℕ → ℕ → PartView → Result PartView Fault
 behind_text text kind part = do
   item ← item_at part
@@ -45,11 +45,11 @@ signature_in part = do
   numbers ← or_broken (signature_of item.whole) (fault_at 9 item.place)
   end_at item.behind numbers
 
--- the certificate's SEQUENCE and what is behind it; bytes past the 8,192nd are DER there
+-- the certificate's SEQUENCE and what comes after it; bytes past the 8,192nd are DER there
 unfoldable pub outer_in : List ℕ → Result ItemView Fault
 outer_in all = if nat_lt 8192 (length all) then Err (fault_at 1 8192) else element_at sequence_tag (whole_text all)
 
--- the values of a certificate's parts: the signed part, the algorithm and the signature, and nothing behind them
+-- the values of a certificate's parts: the signed part, the algorithm and the signature, and nothing after them
 abbrev pub parts_in : List ℕ → ItemView → Result CertView Fault
 parts_in all certificate = do
   signed ← element_at sequence_tag certificate.content

@@ -1,4 +1,4 @@
--- Why bytes are no certificate of the profile, by kind and place: the first of its parts, in the order in which they stand, that isn't as the
+-- Why bytes are no certificate of the profile, by kind and place: the first of its parts, in the order in which they come, that isn't as the
 -- profile has it (RFC 5280, section 4.1). The kinds are this project's own: 1 an element, 2 the version, 3 an algorithm, 4 the key, 5 the validity,
 -- 6 to 8 an extension, 9 the signature.
 use Rattle.std.specs.Prelude.{◌≡◌, ◌⊎◌, ℕ, ℤ, ◌<◌, ◌≤◌, List, length, Result, Ok, Err}
@@ -54,7 +54,7 @@ WrongSigned =
 abbrev pub WrongSignature : PartView → Fault → Type 0
 WrongSignature = Followed (λ item. IsSignature item.whole) 9 LeftOver
 
--- In the certificate: the signed part, the algorithm, and the signature up to the end; and nothing may stand behind the certificate.
+-- In the certificate: the signed part, the algorithm, and the signature up to the end; and nothing may come after the certificate.
 abbrev pub WrongCertificate : ItemView → Fault → Type 0
 WrongCertificate certificate =
     First (Unless (IsTagged sequence_tag) 1 (Within WrongSigned IsSigned
@@ -68,7 +68,7 @@ Refused bytes fault =
     ((8192 < length bytes) × (fault ≡ at_kind 1 8192))
     ⊎ ((length bytes ≤ 8192) × First (Unless (IsTagged sequence_tag) 1 WrongCertificate) (whole_text bytes) fault)
 
--- an answer other than Ok, and other than want of memory, is the first fault of the bytes
+-- an answer other than Ok and `Memory` is the first fault of the bytes
 abbrev pub IsRefused : {A : Type 0} → List ℕ → Result A CertFault → Type 0
 IsRefused bytes (Ok certificate) = Unit {0}
 IsRefused bytes (Err (At kind place)) = Refused bytes (at_kind kind place)

@@ -11,7 +11,7 @@ abbrev pub algorithm_text : List ℕ
 algorithm_text =
     0x30 ∷ 0x0A ∷ 0x06 ∷ 0x08 ∷ 0x2A ∷ 0x86 ∷ 0x48 ∷ 0xCE ∷ 0x3D ∷ 0x04 ∷ 0x03 ∷ 0x02 ∷ []
 
--- What stands before the 64 bytes of an uncompressed point: a SEQUENCE of the algorithm, id-ecPublicKey
+-- What comes before the 64 bytes of an uncompressed point: a SEQUENCE of the algorithm, id-ecPublicKey
 -- with the curve prime256v1, and of a BIT STRING whose first byte says that the point isn't compressed
 -- (RFC 5480, sections 2.1.1 and 2.2).
 abbrev pub key_front : List ℕ

@@ -19,7 +19,7 @@ pub record BasicView : Type 0 where
   pub is_ca : Bool
   pub path_length : Option ℕ
 
--- what the extensions of the profile say, each where it stands
+-- what the extensions of the profile say, each if it is there
 pub record Values : Type 0 where
   pub basic : Option BasicView
   pub usage : Option ℕ
@@ -87,7 +87,7 @@ abbrev pub path_length_of : Option BasicView → Option ℕ
 path_length_of (Some basic) = basic.path_length
 path_length_of None = None
 
--- the identifier of the issuer's key, where the extension stands and has one
+-- the identifier of the issuer's key, if the extension is there and has one
 abbrev pub identifier_in_values : Option (Option (List ℕ)) → Option (List ℕ)
 identifier_in_values (Some key) = key
 identifier_in_values None = None

@@ -51,9 +51,9 @@ impl Certificate {
     /// The certificate that the bytes are.
     ///
     /// Its parts are read in byte order, and the first that is broken is the answer, with the offset of
-    /// its first byte; `DER` has the place of the fault where an element can't be read. Of an extension
-    /// it is the offset of the extension; `LIST`, and `CONSTRAINT` of constraints that can't be read, stand
-    /// at its OCTET STRING. More than 8,192 bytes are `DER` at 8,192.
+    /// its first byte. If an element can't be read, `DER` has the place of the fault. Of an extension it is
+    /// the offset of the extension; `LIST`, and `CONSTRAINT` of constraints that can't be read, have that of
+    /// its OCTET STRING. More than 8,192 bytes are `DER` at 8,192.
     pub fn read(alloc: Global, bytes: &[u8]) -> Result<Certificate, CertFault>
         // The values, or the first fault.
         ensures exact { Gives (λ certificate. certificate) result (read_certificate bytes.now) }
@@ -69,7 +69,7 @@ impl Certificate {
         ensures refused { (fault : Fault) → Refused bytes.now fault → Gives (λ certificate. certificate) result (Err fault) }
         ensures only_refused { IsRefused bytes.now result }
 
-        // A front of a certificate ends too early, and bytes behind one are left over.
+        // A prefix of a certificate ends too early, and bytes after one are left over.
         ensures cut_short { (whole more : List ℕ) (c : CertView) → Cert whole c → whole ≡ bytes.now ++ more → 1 ≤ length more
             → Gives (λ certificate. certificate) result (Err (fault_at 1 (length bytes.now))) }
         ensures left_over { (whole more : List ℕ) (c : CertView) → Cert whole c → bytes.now ≡ whole ++ more → 1 ≤ length more → length bytes.now ≤ 8192
@@ -91,7 +91,7 @@ impl Certificate {
     }
 
     /// The subject's name: its whole element, a SEQUENCE (RFC 5280, section 4.1.2.6). Names are one
-    /// where they are so byte for byte, which is this project's own rule.
+    /// if they are so byte for byte, which is this project's own rule.
     pub fn subject(&self) -> &[u8]
         ensures { result.now ≡ self.now.subject }
     {
@@ -147,7 +147,7 @@ impl Certificate {
         self.tbs.extensions.basic.is_some_and(|basic| basic.is_ca)
     }
 
-    /// How many certificates may stand between this one and the leaf, where that is limited.
+    /// How many certificates may come between this one and the leaf, if that is limited.
     pub fn path_length(&self) -> Option<u64>
         ensures { result ≡ self.now.path_length }
     {
@@ -157,7 +157,7 @@ impl Certificate {
             .and_then(|basic| basic.path_length)
     }
 
-    /// What the key may be used for, where that is said: bit 0 is digitalSignature and bit 5 keyCertSign
+    /// What the key may be used for, if that is said: bit 0 is digitalSignature and bit 5 keyCertSign
     /// (RFC 5280, section 4.2.1.3).
     pub fn usage(&self) -> Option<u16>
         ensures { result ≡ self.now.usage }

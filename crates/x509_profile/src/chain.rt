@@ -27,7 +27,7 @@ pub enum CertChainFault {
         /// The offset, in bytes from the chain's first one, at which it begins.
         place: usize,
     },
-    /// Memory was wanting, and nothing is said of the bytes.
+    /// Memory ran out, and nothing is said of the bytes.
     Memory,
 }
 
@@ -85,7 +85,7 @@ pub fn read_chain(alloc: Global, bytes: &[u8]) -> Result<Vec<Certificate>, CertC
     // The bytes are one chain at most.
     ensures unique { (a b : List CertView) → Chain bytes.now a → Chain bytes.now b → a ≡ b }
 
-    // What is refused stands behind as many whole certificates as the bytes begin with, of at most six.
+    // What is refused comes after as many whole certificates as the bytes begin with, of at most six.
     ensures place { EndsWhereRefused bytes.now result }
 {
     certificates_of(alloc, bytes)
@@ -117,7 +117,7 @@ fn certificates_of(alloc: Global, bytes: &[u8]) -> Result<Vec<Certificate>, Cert
     })
 }
 
-/// The certificate that the first element is, and the bytes behind it.
+/// The certificate that the first element is, and the bytes after it.
 #[tactic(auto, unfolding(crate::specs::Chain::front, der_reader::specs::Part::item_at))]
 fn read_front(alloc: Global, bytes: &[u8]) -> Result<(Certificate, &[u8]), CertFault>
     ensures exact { Gives (λ found. (found.0, found.1.now)) result (front bytes.now) }

@@ -1,5 +1,5 @@
-//! What stands within a part of a certificate (RFC 5280, sections 4.1 and 4.2.1). Whoever calls a reader says which fault
-//! it is that a content isn't of its form, and where.
+//! What is within a part of a certificate (RFC 5280, sections 4.1 and 4.2.1). Whoever calls a reader says which fault it
+//! is, and where, if a content isn't of its form.
 
 ghost use Rattle.std.specs.Prelude.{◌≡◌, ◌≤◌, length, IfOk, IfErr};
 ghost use Rattle.std.specs.Option.{option_map};
@@ -19,7 +19,7 @@ use std::marker::Model;
 /// The tag of the key identifier in an authority key identifier, [0].
 const KEY_IDENTIFIER: u8 = 0x80;
 
-/// What is read, where any fault in it is this one.
+/// What is read; any fault in it becomes this one.
 pub(crate) fn or_broken<T: Drop>(said: Result<T, DerFault>, broken: Fault) -> Result<T, Fault>
     ensures exact { result ≡ or_broken said broken }
     ensures fault { IfErr result (λ fault. fault ≡ broken) }
@@ -66,7 +66,7 @@ pub(crate) fn read_validity(text: &[u8]) -> Result<Validity, DerFault>
 pub(crate) struct BasicConstraints {
     /// Whether the key may sign certificates.
     pub is_ca: bool,
-    /// How many certificates may stand between this one and the leaf.
+    /// How many certificates may come between this one and the leaf.
     pub path_length: Option<u64>,
 }
 
@@ -121,7 +121,7 @@ pub(crate) fn read_subject_key(
     Ok(Octets::copy(alloc, string.content)?)
 }
 
-/// The identifier of the issuer's key in an authority key identifier, where it has one: a SEQUENCE, of which what follows its
+/// The identifier of the issuer's key in an authority key identifier, if it has one: a SEQUENCE, of which what follows its
 /// first element is passed over (RFC 5280, section 4.2.1.1).
 #[tactic(auto, unfolding(crate::specs::Contents::authority_of))]
 pub(crate) fn read_authority(

@@ -26,7 +26,7 @@ use tn_auth_list::{AuthList, ListFault};
 /// The tag of the extensions in the signed part, [3].
 const EXTENSIONS: u8 = 0xA3;
 
-/// The extensions of the profile, each where it stands.
+/// The extensions of the profile, each if it is there.
 #[derive(Default, Drop)]
 pub(crate) struct KnownExtensions {
     pub basic: Option<BasicConstraints>,
@@ -48,8 +48,8 @@ impl Model for KnownExtensions {
 }
 
 impl KnownExtensions {
-    /// The extensions that may stand there, behind the key and up to the end of the signed part: by their explicit tag, one
-    /// SEQUENCE, and nothing behind it.
+    /// The extensions that may come there, after the key and up to the end of the signed part: by their explicit tag, one
+    /// SEQUENCE, and nothing after it.
     #[tactic(auto, unfolding(crate::specs::Extensions::optional_in, crate::specs::Extensions::marked_in))]
     pub fn read(alloc: Global, part: &Part) -> Result<KnownExtensions, CertFault>
         ensures exact { Gives (λ known. known) result (optional_in (part_of part.now)) }
@@ -66,7 +66,7 @@ impl KnownExtensions {
         Ok(known)
     }
 
-    /// The extensions that stand there, one after another.
+    /// The extensions that are there, one after another.
     #[tactic(auto, using(der_reader::proofs::EachLaws::at_first))]
     fn read_each(alloc: Global, part: &Part) -> Result<KnownExtensions, CertFault>
         ensures exact { Gives (λ known. known) result (each_in values_with no_values (part_of part.now)) }

@@ -12,10 +12,10 @@ pub enum CertFault {
     At {
         /// What is broken: one of the numbers below.
         kind: u8,
-        /// The offset, in bytes from the certificate's first one, at which the broken part stands.
+        /// The offset, in bytes from the certificate's first one, at which the broken part is.
         place: u32,
     },
-    /// Memory was wanting, and nothing is said of the bytes.
+    /// Memory ran out, and nothing is said of the bytes.
     Memory,
 }
 

@@ -9,7 +9,7 @@ ghost use Rattle.x509_profile.specs.Read.{read_certificate};
 ghost use Rattle.x509_profile.specs.Refused.{Refused};
 ghost use Rattle.x509_profile.specs.View.{CertView};
 
-/// A certificate is read of bytes just where these are one of the profile that says so, and a fault just where it is the first of theirs (RFC 5280,
+/// A certificate is read from bytes exactly if these are one of the profile that says so, and a fault exactly if it is their first (RFC 5280,
 /// section 4.1; RFC 8226).
 pub fn certificate_law()
     ensures again { (bytes : List ℕ) (certificate : CertView) → Cert bytes certificate → read_certificate bytes ≡ Ok certificate }
@@ -17,7 +17,7 @@ pub fn certificate_law()
     ensures refused { (bytes : List ℕ) (fault : Fault) → AllBytes bytes → (read_certificate bytes ≡ Err fault) ↔ Refused bytes fault }
 {}
 
-/// Certificates are read of bytes just where these are their chain; else reading ends behind as many whole certificates as
+/// Certificates are read from bytes exactly if these are their chain. Else reading ends after as many whole certificates as
 /// the bytes begin with, of at most six.
 #[tactic(auto, using(crate::proofs::ChainLaws::chain_again, crate::proofs::ChainLaws::chain_ends, crate::proofs::ChainLaws::ends_whole))]
 pub fn chain_law()

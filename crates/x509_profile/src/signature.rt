@@ -11,7 +11,7 @@ use der_reader::tags::BIT_STRING;
 use der_reader::{Der, DerFault, Fault, Part};
 
 /// The two numbers of the signature, which is the last part. Another element is `SIGNATURE` where it
-/// begins, and bytes behind it are `DER`.
+/// begins, and bytes after it are `DER`.
 #[tactic(auto, unfolding(crate::specs::Read::signature_in))]
 pub(crate) fn read_signature(part: &Part) -> Result<[u8; 64], Fault>
     ensures exact { result ≡ signature_in (part_of part.now) }

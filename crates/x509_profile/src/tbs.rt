@@ -23,7 +23,7 @@ pub(crate) const ALGORITHM: [u8; 12] = [
     0x30, 0x0A, 0x06, 0x08, 0x2A, 0x86, 0x48, 0xCE, 0x3D, 0x04, 0x03, 0x02,
 ];
 
-/// What stands before the 64 bytes of an uncompressed point of P-256: the algorithm id-ecPublicKey with
+/// What comes before the 64 bytes of an uncompressed point of P-256: the algorithm id-ecPublicKey with
 /// the curve prime256v1, and the head of a BIT STRING (RFC 5480, sections 2.1.1 and 2.2).
 const KEY_FRONT: [u8; 27] = [
     0x30, 0x59, 0x30, 0x13, 0x06, 0x07, 0x2A, 0x86, 0x48, 0xCE, 0x3D, 0x02, 0x01, 0x06, 0x08, 0x2A,
@@ -58,7 +58,7 @@ impl Model for TbsCertificate {
 }
 
 impl TbsCertificate {
-    /// The signed part whose content stands there.
+    /// The signed part whose content this part is.
     #[tactic(auto, unfolding(crate::specs::Read::tbs_in))]
     pub fn read(alloc: Global, part: &Part) -> Result<TbsCertificate, CertFault>
         ensures exact { Gives (λ tbs. tbs) result (tbs_in (part_of part.now)) }
@@ -89,7 +89,7 @@ impl TbsCertificate {
     }
 }
 
-/// What is behind the first element, which has to be this text. Another element is a fault of this kind where it begins.
+/// What comes after the first element, which has to be this text. Another element is a fault of this kind where it begins.
 #[tactic(auto, unfolding(crate::specs::Read::behind_text))]
 pub(crate) fn behind_text<'a>(part: &Part<'a>, text: &[u8], kind: u8) -> Result<Part<'a>, Fault>
     ensures exact { seen part_of result ≡ behind_text text.now kind (part_of part.now) }

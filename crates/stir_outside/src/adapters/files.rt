@@ -91,7 +91,7 @@ impl<R: Files + Drop> Shelf for FileShelf<R> {
         ensures long_rose { result ≡ Err ShelfFault.Long → Rose self.old.longs self.new.longs }
         ensures failed_rose { result ≡ Err ShelfFault.Failed → Rose self.old.faults self.new.faults }
 
-        // Each answer raises its own count and no other; want of memory raises none.
+        // Each answer raises its own count and no other; running out of memory raises none.
         ensures counted { self.new ≡ counted self.old result }
     {
         let result = content(&self.rt, alloc, name, limit);
@@ -119,7 +119,7 @@ fn content<R: Files>(rt: &R, alloc: Global, name: &str, limit: usize) -> Result<
     }
 }
 
-/// All that the source has left, where that is no more than the limit.
+/// All that the source has left, if that is no more than the limit.
 fn whole<I: Source>(alloc: Global, source: &mut I, limit: usize) -> Result<Vec<u8>, ShelfFault>
     ensures within { IfOk result (λ bytes. vec_len bytes ≤ limit) }
     ensures whole { IfOk result (λ bytes. IfSome (I.left source.old) (λ left. bytes.items ≡ left)) }

@@ -62,7 +62,7 @@ impl Answers {
     /// Reads an answers file.
     ///
     /// Its lines are `confirm KEY DIGEST SIGNATURE` and `sign NAME DIGEST SIGNATURE` (this project's own rule). Of two
-    /// `sign` lines with the same name and digest the second is bad; a `confirm` line may stand twice.
+    /// `sign` lines with the same name and digest the second is bad; a `confirm` line may come twice.
     pub fn read(alloc: Global, text: &[u8]) -> Result<Answers, AnswerFault>
         requires { length text.now < 2 ^ 32 - 1 }
         ensures answers { IfOk result (AnswersOf text.now) }
@@ -105,7 +105,7 @@ impl Answers {
         })
     }
 
-    /// Adds what a line says; false where the line is bad.
+    /// Adds what a line says; false if the line is bad.
     fn add_line(&mut self, line: &[u8]) -> Result<bool, AllocError>
         ensures { IfOk result (AddsLine self.old self.new line.now) }
     {
@@ -115,7 +115,7 @@ impl Answers {
         }
     }
 
-    /// Adds a row; false where it signs what is signed already.
+    /// Adds a row; false if it signs what is signed already.
     fn add(&mut self, row: Row) -> Result<bool, AllocError>
         ensures { IfOk result (Adds self.old self.new row) }
     {

@@ -27,7 +27,7 @@ impl Model for KeyName {
 }
 
 impl KeyName {
-    /// The name that `text` is, byte for byte. None where it isn't 1 to 64 bytes of the alphabet.
+    /// The name that `text` is, byte for byte. None if it isn't 1 to 64 bytes of the alphabet.
     #[tactic(auto, unfolding(crate::specs::KeyName::is_name))]
     pub(crate) fn new(text: &[u8]) -> Option<KeyName>
         ensures { result ≡ name_of text.now }
@@ -61,14 +61,14 @@ fn is_name(text: &[u8]) -> bool
     }
 }
 
-/// Whether all bytes may stand in a name.
+/// Whether all bytes may be in a name.
 fn are_name_bytes(text: &[u8]) -> bool
     ensures { result ≡ list_all is_name_byte text.now }
 {
     text.iter().all(|byte| is_name_byte(*byte))
 }
 
-/// Whether a byte may stand in a name.
+/// Whether a byte may be in a name.
 fn is_name_byte(byte: u8) -> bool
     ensures { result ≡ is_name_byte byte }
 {

@@ -55,7 +55,7 @@ impl<'a> AnswerProvider<'a> {
         self.faults
     }
 
-    /// Counts a call; it fails where it is listed.
+    /// Counts a call; it fails if it is listed.
     fn ask(&mut self) -> Result<(), Failed>
         ensures { Asked self.old self.new result }
     {
@@ -92,7 +92,7 @@ impl<'a> Provider for AnswerProvider<'a> {
         ensures cause { HasCause self.old.faults self.new.faults result }
         ensures answer { IfOk result (λ good. good ≡ held_says self.old.held key.now digest.now signature.now) }
 
-        // Exactly the listed calls fail; so where none is listed, `faults` stands still.
+        // Exactly the listed calls fail; so if none is listed, `faults` stays as it was.
         ensures fails { is_err result ≡ is_failing self.old.asks self.old.failing }
         ensures faults { self.new.faults ≡ faults_after self.old.faults result }
         ensures failing { self.new.failing ≡ self.old.failing }

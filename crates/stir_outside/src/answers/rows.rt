@@ -48,7 +48,7 @@ pub(crate) enum Row {
     Sign(Order, [u8; 64]),
 }
 
-/// What a line says: `confirm KEY DIGEST SIGNATURE` or `sign NAME DIGEST SIGNATURE`. None where it is neither.
+/// What a line says: `confirm KEY DIGEST SIGNATURE` or `sign NAME DIGEST SIGNATURE`. None if it is neither.
 #[tactic(auto, unfolding(crate::specs::AnswersText::row_of))]
 pub(crate) fn row_of(line: &[u8]) -> Option<Row>
     ensures { result ≡ row_of line.now }

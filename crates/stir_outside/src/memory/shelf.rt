@@ -36,8 +36,8 @@ impl Model for ShelfMem {
 }
 
 impl ShelfMem {
-    /// A shelf of these files, each a name and a content; where a name stands twice, its first counts.
-    /// The calls of `read` that are listed, counted from 1, fail.
+    /// A shelf of these files, each a name and a content; if a name comes twice, its first counts. The calls of `read`
+    /// that are listed, counted from 1, fail.
     pub fn new(files: Vec<(Vec<u8>, Vec<u8>)>, failing: Vec<u64>) -> ShelfMem
         ensures { result ≡ record {
           files = map (λ entry. (entry.0.items, entry.1.items)) files.items;

@@ -8,7 +8,7 @@ use crate::source::Failed;
 use std::alloc::{AllocError, Global};
 use std::marker::Model;
 
-/// A sink in memory, whose writes fail at chosen calls and where no room was reserved.
+/// A sink in memory. Its writes fail at chosen calls, and if no room was reserved.
 #[derive(Drop)]
 pub struct SinkMem {
     bytes: Vec<u8>,

@@ -64,7 +64,7 @@ impl Source for SlowMem {
         ensures fills { false ≡ true → IfOk result (Fills (Some self.new.left) (length buf.old)) }
         ensures same_whole { false ≡ false }
 
-        // One byte, and none only where none is left; it never fails.
+        // One byte, and none only if none is left; it never fails.
         ensures gives { result ≡ Ok (min 1 (length self.old.left)) }
     {
         self.reads = self.reads.saturating_add(1);

@@ -1,4 +1,4 @@
--- A valid order's PASSporT is made, unless memory is wanting.
+-- A valid order's PASSporT is made, unless memory runs out.
 use Rattle.std.proofs.Common.{Ok, sym, ap}
 use Rattle.passport_claims.specs.Passport.{ClaimsView}
 use Rattle.auth_service.specs.Order.{wanted_of}

@@ -1,4 +1,4 @@
--- What is withheld of what is wanted is withheld of the order that it comes of.
+-- What is withheld of what is wanted is withheld of the order that it comes from.
 use Rattle.auth_service.specs.Order.{divert_order_of, holder_seen, wanted_of}
 use Rattle.auth_service.proofs.OrderLaws.{withheld_as}
 use Rattle.auth_service.proofs.signer.divert.Goals as goal

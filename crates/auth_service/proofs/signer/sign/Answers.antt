@@ -1,4 +1,4 @@
--- What is withheld of what is wanted is withheld of the order that it comes of.
+-- What is withheld of what is wanted is withheld of the order that it comes from.
 use Rattle.auth_service.specs.Order.{holder_seen, order_of, wanted_of}
 use Rattle.auth_service.proofs.OrderLaws.{withheld_as}
 use Rattle.auth_service.proofs.signer.sign.Goals as goal

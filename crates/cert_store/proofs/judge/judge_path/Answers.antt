@@ -1,4 +1,4 @@
--- A path has a leaf, with a list where there is authority, and signatures are asked for only there.
+-- A path has a leaf, with a list if there is authority, and signatures are asked for only then.
 use Rattle.std.proofs.Common.{◌≡◌, ◌≢◌, ◌≤◌, length, None, arith}
 use Rattle.cert_store.specs.declared.judged.Asked.TheVariants.{NotAsked}
 use Rattle.cert_store.proofs.JudgedLaws.{path_holds}

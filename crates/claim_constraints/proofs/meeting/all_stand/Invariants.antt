@@ -1,4 +1,4 @@
--- What is left stands just if all do.
+-- The names that are left are members exactly if all are.
 use Rattle.std.proofs.Common.{◌≡◌, drop}
 use Rattle.std.specs.List.{list_all}
 use Rattle.serde_json.specs.View.{view}

@@ -1,4 +1,4 @@
--- The walk goes on behind the anchor that was found.
+-- The walk goes on after the anchor that was found.
 use Rattle.std.proofs.Common.{rules}
 use Rattle.delegation.proofs.ReadLaws.{goes_on}
 use Rattle.delegation.proofs.anchors.read_all.Goals as goal

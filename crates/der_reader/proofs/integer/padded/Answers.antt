@@ -1,4 +1,4 @@
--- The digits stand behind what is left of the zeros.
+-- The digits come after what is left of the zeros.
 use Rattle.der_reader.proofs.IntegerLaws.{behind_zeros}
 use Rattle.der_reader.proofs.integer.padded.Goals as goal
 

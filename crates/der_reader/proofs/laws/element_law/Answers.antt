@@ -1,4 +1,4 @@
--- Elements at the front of bytes.
+-- Elements that bytes begin with.
 use Rattle.der_reader.proofs.NextLaws.{front_short, next_again, next_found, next_shorter, parts_are_bytes}
 use Rattle.der_reader.proofs.laws.element_law.Goals as goal
 

@@ -1,4 +1,4 @@
--- Reading back is the law that each element at the front of some bytes is what `next_at` gives.
+-- Reading back is the law that each element that some bytes begin with is what `next_at` gives.
 use Rattle.std.proofs.Common.{arith}
 use Rattle.std.proofs.lemmas.Grind.{common_steps}
 use Rattle.der_reader.proofs.PutLaws.{added_reads_back, added_short}

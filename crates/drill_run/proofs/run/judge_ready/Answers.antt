@@ -1,4 +1,4 @@
--- A new command judges the log, or memory is wanting for it.
+-- A new command judges the log, or there is no memory for it.
 use Rattle.std.proofs.Common.{Some, sym, ap, subst, ◌∙◌}
 use Rattle.call_log.proofs.LogLaws.{one_log}
 use Rattle.call_log.specs.Log.{start}

@@ -1,4 +1,4 @@
--- Memory was wanting for the drill.
+-- There was no memory for the drill.
 use Rattle.drill_run.proofs.RunLaws.{ended_short}
 use Rattle.drill_run.proofs.run.run_drill.Goals as goal
 

@@ -1,4 +1,4 @@
--- The lines were made, or memory was wanting for them.
+-- The lines were made, or memory ran out for them.
 use Rattle.std.proofs.Common.{◌≡◌, ◌++◌, inl, inr, subst, rules}
 use Rattle.log_run.specs.Ending.{unread_line}
 use Rattle.stir_outside.specs.Ending.{EndsAs}

@@ -1,4 +1,4 @@
--- The line of the place was made, or memory was wanting for it.
+-- The line of the place was made, or memory ran out for it.
 use Rattle.std.proofs.Common.{◌≡◌, inl, inr, subst, rules}
 use Rattle.log_run.specs.Ending.{refused_line}
 use Rattle.stir_outside.specs.Ending.{EndsAs}

@@ -1,4 +1,4 @@
--- The one start, where its div is called and where it isn't.
+-- The one start, if its div is called and if it isn't.
 use Rattle.std.proofs.Common.{◌≡◌, ◌+◌, ◌-◌, length, Some, None, Err, true, false, arith, rules, sym, ◌∙◌, ap}
 use Rattle.passport_claims.specs.Links.{div_at}
 use Rattle.passport_claims.specs.OrderReading.{first_from, is_one_of, may_start}

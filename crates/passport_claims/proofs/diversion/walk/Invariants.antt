@@ -1,4 +1,4 @@
--- What was found, and behind it what is found from the number now called, is all; and the entries to come are zeros.
+-- What was found, and after it what is found from the number now called, is all; and the entries to come are zeros.
 use Rattle.std.proofs.Common.{◌≡◌, ◌∷◌, ◌++◌, ◌-◌, length, take, drop, replicate}
 use Rattle.passport_claims.specs.OrderReading.{behind, walk}
 use Rattle.passport_claims.proofs.diversion.walk.Given as goal

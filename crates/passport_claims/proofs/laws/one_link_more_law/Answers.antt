@@ -1,4 +1,4 @@
--- The new link stands behind the others, and so it is read; and taken away it leaves the others as they stood.
+-- The new link comes after the others, and so it is read; and taken away it leaves the others as they were.
 use Rattle.passport_claims.proofs.GoesOnLaws.{order_less, order_more, order_of_more}
 use Rattle.passport_claims.proofs.laws.one_link_more_law.Goals as goal
 

@@ -1,4 +1,4 @@
--- What the values left give behind the numbers so far is what all values give.
+-- What the values left give after the numbers so far is what all values give.
 use Rattle.std.proofs.Common.{◌≡◌, [], drop}
 use Rattle.serde_json.specs.View.{items_view}
 use Rattle.passport_claims.specs.Members.{numbers_after}

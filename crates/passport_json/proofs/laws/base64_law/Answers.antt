@@ -1,4 +1,4 @@
--- What base64url text stands in.
+-- What base64url text is written in.
 use Rattle.passport_json.proofs.SignedLaws.{encoded_lacks}
 use Rattle.passport_json.proofs.SpelledLaws.{symbols, symbols_length}
 use Rattle.passport_json.proofs.laws.base64_law.Goals as goal

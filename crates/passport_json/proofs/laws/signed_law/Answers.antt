@@ -1,4 +1,4 @@
--- The payload stands in what was signed, in either form.
+-- The payload is in what was signed, in either form.
 use Rattle.passport_json.proofs.PayloadLaws.{compact_signed}
 use Rattle.passport_json.proofs.SignedLaws.{full_signed}
 use Rattle.passport_json.proofs.laws.signed_law.Goals as goal

@@ -1,4 +1,4 @@
--- The deterministic payload stands in base64url behind the dot of what is signed.
+-- The deterministic payload comes in base64url after the dot of what is signed.
 use Rattle.std.proofs.Common.{◌∙◌, ap}
 use Rattle.passport_json.specs.Signing.{Signing}
 use Rattle.passport_json.proofs.SignedLaws.{rebuilt_signed}

@@ -1,4 +1,4 @@
--- The zeros behind the text are what is left of all.
+-- The zeros after the text are what is left of all.
 use Rattle.short_text.proofs.Zeros.{zeros_behind}
 use Rattle.short_text.proofs.text.filled.Goals as goal
 

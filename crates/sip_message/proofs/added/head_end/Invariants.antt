@@ -1,4 +1,4 @@
--- The lines left end where all of them do.
+-- The lines that are left end at the same place as all of them.
 use Rattle.std.proofs.Common.{◌≡◌, ◌+◌, ◌≤◌, length}
 use Rattle.text_grammar.specs.Line.{pieces}
 use Rattle.sip_message.specs.Added.{end_of, head_end}

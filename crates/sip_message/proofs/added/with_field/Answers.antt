@@ -1,4 +1,4 @@
--- What is added stands before the empty line, and is read as the last field.
+-- What is added comes before the empty line, and is read as the last field.
 use Rattle.sip_message.proofs.AddedLaws.{answers_added, answers_placed, answers_read}
 use Rattle.sip_message.proofs.added.with_field.Goals as goal
 

@@ -1,4 +1,4 @@
--- The bytes left give behind the state so far what all of them give.
+-- From the state so far, the bytes left give what all of them give.
 use Rattle.std.proofs.Common.{◌≡◌, length}
 use Rattle.sip_message.specs.declared.address.Quoting.TheVariants.{Outside}
 use Rattle.sip_message.specs.Quoting.{bracket_from}

@@ -1,4 +1,4 @@
--- The value that is looked for stands among the fields left.
+-- The value that is looked for is among the fields left.
 use Rattle.std.proofs.Common.{◌≡◌, ◌<◌, [], drop, get_or, length, map}
 use Rattle.sip_message.specs.Accessors.{values}
 use Rattle.sip_message.specs.Known.{is_named}

@@ -1,4 +1,4 @@
--- The lines left give behind the fields so far what all of them give.
+-- After the fields so far, the lines left give what all of them give.
 use Rattle.std.proofs.Common.{◌≡◌, [], false, length, map}
 use Rattle.sip_message.specs.Reading.{fields_after}
 use Rattle.sip_message.specs.Seen.{placed_seen}

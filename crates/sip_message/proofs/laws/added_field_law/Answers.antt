@@ -1,4 +1,4 @@
--- One field more behind those of a message.
+-- One field more after those of a message.
 use Rattle.std.proofs.Common.{refl}
 use Rattle.sip_message.proofs.AddedAccessors.{calling_same, date_same, identities_more, to_same}
 use Rattle.sip_message.proofs.laws.added_field_law.Goals as goal

@@ -1,4 +1,4 @@
--- The continuations left give behind the value so far what all of them give.
+-- After the value so far, the continuations left give what all of them give.
 use Rattle.std.proofs.Common.{◌≡◌, length}
 use Rattle.sip_message.specs.Lines.{behind_continuations, continuations}
 use Rattle.sip_message.specs.Seen.{value_seen}

@@ -1,4 +1,4 @@
--- What is asked for the call, and what is found of it where all is confirmed.
+-- What is asked for the call, and what is found of it if all is confirmed.
 use Rattle.std.proofs.Common.{refl}
 use Rattle.single_calls.specs.AlwaysYes.{always_yes}
 use Rattle.verify_rules.specs.World.{World}

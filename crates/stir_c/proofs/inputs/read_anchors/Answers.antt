@@ -1,4 +1,4 @@
--- Something stands there that is no anchor.
+-- Something is there that is no anchor.
 use Rattle.std.proofs.Common.{Err, List, inl, refl, subst}
 use Rattle.delegation.specs.Anchors.{EndsAt, IfAt}
 use Rattle.delegation.specs.declared.fault.AnchorFault.{AnchorFault}

@@ -1,4 +1,4 @@
--- A restored service judges the log, or memory is wanting for it.
+-- A restored service judges the log, or memory runs out for it.
 use Rattle.std.proofs.Common.{inr, refl}
 use Rattle.stir_cmd.proofs.GoingSteps.{goes_on_from, log_on, trusts_restored}
 use Rattle.stir_cmd.proofs.verify.go_on_by.Goals as goal

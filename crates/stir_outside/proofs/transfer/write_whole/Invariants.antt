@@ -1,4 +1,4 @@
--- What was written so far is what stands before the rest.
+-- What was written so far is what comes before the rest.
 use Rattle.std.proofs.Common.{length}
 use Rattle.stir_outside.specs.Count.{GoesOn}
 use Rattle.stir_outside.proofs.Transfers.{WrittenBefore}

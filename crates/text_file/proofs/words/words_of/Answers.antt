@@ -1,4 +1,4 @@
--- A space behind the third one parts a fifth part off.
+-- A space after the third one makes a fifth part.
 use Rattle.text_file.proofs.WordLaws.{more_parts}
 use Rattle.text_file.proofs.words.words_of.Goals as goal
 

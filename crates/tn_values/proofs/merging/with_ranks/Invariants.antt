@@ -1,4 +1,4 @@
--- The spans of the numbers so far stand behind those that were given.
+-- The spans of the numbers so far come after those that were given.
 use Rattle.std.proofs.Common.{◌≡◌, ◌++◌, take}
 use Rattle.std.specs.List.{filter_map}
 use Rattle.tn_values.specs.Span.{span_of}

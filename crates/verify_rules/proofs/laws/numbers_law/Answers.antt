@@ -1,4 +1,4 @@
--- The numbers that a call is judged by, where its bytes are read just where they are the head of a message.
+-- The numbers that a call is judged by, given that its bytes are read exactly if they are the head of a message.
 use Rattle.verify_rules.proofs.NumberLaws.{called_in, calling_in}
 use Rattle.verify_rules.proofs.laws.numbers_law.Goals as goal
 use Rattle.sip_message.specs.Reading.{read}

@@ -1,4 +1,4 @@
--- What each worker answered stands in the outcomes.
+-- What each worker answered is in the outcomes.
 use Rattle.std.proofs.Common.{length, vec_len, slice_index_or}
 use Rattle.verify_service.specs.Ready.{basis_of, provided}
 use Rattle.verify_service.proofs.TogetherLaws.{answered_of_all, gathered_as, head_of}

@@ -1,4 +1,4 @@
--- A call is valid exactly where it is won.
+-- A call is valid exactly if it is won.
 use Rattle.verify_service.specs.Ready.{basis_of, provided}
 use Rattle.verify_service.proofs.ClaimLaws.{valid_just_if_won}
 use Rattle.verify_service.proofs.claiming.judge_ready.Goals as goal

@@ -1,4 +1,4 @@
--- One chain more is right, and has its cause where it isn't known.
+-- One chain more is right, and has its cause if it isn't known.
 use Rattle.std.proofs.Common.{◌≡◌, ◌+◌, ◌<◌, [], ◌∷◌, ◌++◌, List, length, take, sym, ap, ◌∙◌, subst, arith}
 use Rattle.std.specs.List.{list_any}
 use Rattle.std.proofs.lemmas.List.{length_push}

@@ -1,4 +1,4 @@
--- The calls that are left follow on exactly where all do.
+-- The calls that are left follow on exactly if all do.
 use Rattle.std.proofs.Common.{◌≡◌, drop}
 use Rattle.verify_service.specs.Service.{all_follow}
 use Rattle.verify_service.proofs.service.all_follow.Given as goal

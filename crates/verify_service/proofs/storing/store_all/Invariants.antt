@@ -1,4 +1,4 @@
--- The chains so far were stored; at the places of the others stands what was judged.
+-- The chains so far were stored; the places of the others have what was judged.
 use Rattle.std.proofs.Common.{◌≡◌, ◌<◌, ◌≤◌, ◌%◌, ℕ, None, length, get_or, slice_index_or, take}
 use Rattle.verify_service.specs.RoundRead.{StoresAll, states_from}
 use Rattle.verify_service.proofs.storing.store_all.Given as goal

@@ -1,4 +1,4 @@
--- What is left behind the certificates so far gives what all bytes give.
+-- What is left after the certificates so far gives what all bytes give.
 use Rattle.std.proofs.Common.{◌≡◌, ◌-◌, ◌≤◌, length}
 use Rattle.x509_profile.specs.Chain.{certificates_from, certificates_in}
 use Rattle.x509_profile.proofs.chain.certificates_of.Given as goal

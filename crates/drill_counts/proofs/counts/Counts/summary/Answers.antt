@@ -1,4 +1,4 @@
--- Seven lines were written, one behind the other.
+-- Seven lines were written, one after the other.
 use Rattle.drill_counts.proofs.LineLaws.{seven_lines}
 use Rattle.drill_counts.proofs.counts.Counts.summary.Goals as goal
 

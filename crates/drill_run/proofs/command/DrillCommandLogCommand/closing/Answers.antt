@@ -1,4 +1,4 @@
--- Memory was wanting for the summary.
+-- There was no memory for the summary.
 use Rattle.std.proofs.Common.{refl, arith}
 use Rattle.log_run.specs.declared.stop.AnswerError.TheVariants.{Memory}
 use Rattle.drill_run.proofs.CommandLaws.{always_err, counting_stopped}

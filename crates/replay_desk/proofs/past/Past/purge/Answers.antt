@@ -7,7 +7,7 @@ use Rattle.replay_desk.specs.Past.{PastView, found, unless_below}
 use Rattle.state_text.specs.declared.kept.Kept.{Kept}
 use Rattle.replay_desk.proofs.past.Past.purge.Goals as goal
 
--- a call stays exactly where the moment isn't after its last second
+-- a call stays exactly if the moment isn't after its last second
 not_below : (moment : ℕ) (call : Option Kept) → option_filter (λ k. nat_le moment k.last) call ≡ unless_below moment call
 not_below moment None = refl
 not_below moment (Some kept) = grind (arith, nat_tests)

@@ -1,4 +1,4 @@
--- The fields left give behind what was found what all of them give.
+-- After what was found, the fields left give what all of them give.
 use Rattle.std.proofs.Common.{◌≡◌, drop, map}
 use Rattle.sip_message.specs.Known.{is_named}
 use Rattle.sip_message.specs.Reading.{placed_named, surplus_after, surplus_of}

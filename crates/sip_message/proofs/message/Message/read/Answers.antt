@@ -1,4 +1,4 @@
--- Where the bytes are a message it is the answer, and where they have a fault that is.
+-- If the bytes are a message, it is the answer; if they have a fault, that is.
 use Rattle.sip_message.proofs.AnswerLaws.{answers_only, answers_only_fault}
 use Rattle.sip_message.proofs.message.Message.read.Goals as goal
 

@@ -1,4 +1,4 @@
--- All files hold bytes where those that are left do.
+-- All files hold bytes if those that are left do.
 use Rattle.std.proofs.Common.{map, drop}
 use Rattle.stir_outside.specs.Files.{HoldBytes}
 use Rattle.stir_outside.proofs.memory.shelf.are_bytes.Given as goal

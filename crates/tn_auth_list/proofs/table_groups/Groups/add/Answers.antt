@@ -1,4 +1,4 @@
--- There is room exactly where the rows stay within the limits.
+-- There is room exactly if the rows stay within the limits.
 use Rattle.std.proofs.Common.{not, sym, ap, ◌∙◌, arith}
 use Rattle.std.proofs.lemmas.Grind.{common_steps}
 use Rattle.tn_auth_list.proofs.GroupLaws.{room_is, groups_push}

@@ -1,4 +1,4 @@
--- A text that was put into the set stands last in the list.
+-- A text that was put into the set is last in the list.
 use Rattle.std.proofs.Common.{ℕ, List, [], ◌∷◌, map, ap, ◌∙◌}
 use Rattle.std.specs.Vec.{vec_items}
 use Rattle.verify_service.specs.Needed.{once}

@@ -1,4 +1,4 @@
--- What is left behind a byte that was given; one byte is not none.
+-- What is left after a byte that was given; one byte is not none.
 use Rattle.std.proofs.Common.{◌∙◌, ap, sym, arith}
 use Rattle.stir_outside.proofs.Transfers.{one_given}
 use Rattle.stir_outside.proofs.memory.slow.SlowMemSource.read.Goals as goal

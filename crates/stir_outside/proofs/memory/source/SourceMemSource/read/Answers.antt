@@ -1,4 +1,4 @@
--- What is copied is the front of what is left, and nothing only where nothing is left.
+-- What is copied is the first bytes of what is left, and nothing only if nothing is left.
 use Rattle.std.proofs.Common.{◌≡◌, drop, ap, sym, ◌∙◌, length, min, take}
 use Rattle.stir_outside.proofs.Transfers.{consumed, nothing_left}
 use Rattle.stir_outside.proofs.memory.source.SourceMemSource.read.Goals as goal
