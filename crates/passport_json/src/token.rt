@@ -130,6 +130,19 @@ impl Token {
         self.compact
     }
 
+    /// What was signed, and the payload, without the rest of the token.
+    pub fn into_signed(self) -> (Vec<u8>, Value)
+        ensures signing { result.0.items ≡ self.signing }
+        ensures payload { view result.1 ≡ self.payload }
+    {
+        let Token {
+            signing,
+            payload,
+            ..
+        } = self;
+        (signing, payload)
+    }
+
     /// When the token was issued, in Unix seconds: the payload's `iat` (RFC 8225, section 5.1.1), if it is a number
     /// written as an integer that 64 bits hold, and not past the year 9999; else `None`.
     pub fn issued_at(&self) -> Option<u64>

@@ -16,7 +16,7 @@ pub(crate) struct Mark {
     pub(crate) signature: [u8; 64],
 }
 
-/// What is kept of a PASSporT beside its claims: its mark, and its token with what was signed.
+/// What is kept of a PASSporT beside its claims: its mark, and what was signed, with its payload.
 #[derive(Drop)]
 pub(crate) struct Beside {
     pub(crate) mark: Mark,
