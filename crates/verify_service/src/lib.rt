@@ -7,13 +7,14 @@
 //!    | Service::prepare     rules 1 to 9; a class for each ticket; the chains that are needed, read and judged once; all that takes memory
 //!    v
 //! Prepared
-//!    | Service::carry       1 to 8 workers, each in a thread of its own: rules 10 to 17 and 19, then the past, then a claim on the desk
+//!    | Service::carry       1 to 8 workers, in threads of their own: rules 10 to 17 and 19, then the past, then a claim on the desk
 //!    v
 //! Carried                   an Outcome for each call   --report_line-->   the lines of the report
 //! ```
 //!
 //! - [`Service::new`] takes the settings and the [`World`] (chain map, anchors, code table). [`Service::round`] is `prepare` and then `carry`.
-//! - A [`Worker`] is a provider of signatures and a gate. Their providers say the same.
+//! - A [`Worker`] is a provider of signatures and a gate. Their providers say the same. Those of [`Worker::prompt`] answer at once; if all do, one thread
+//!   judges the calls.
 //! - [`Service::judge`] judges a call of a prepared round, for a caller with threads of its own.
 //! - [`judge_call`] judges a call by itself, without the calls around it, and gives a [`Finding`]; [`chain_in`] reads one chain, and
 //!   [`read_chains`] those of a call.
