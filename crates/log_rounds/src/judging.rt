@@ -73,7 +73,7 @@ impl<'a> LogVerifier<'a> {
             Ok(carried) => carried,
             Err(_) => return Err(AnswerError::Memory),
         };
-        let outcomes = carried.close();
+        let outcomes = self.service.close(carried);
         match lines_of(alloc, first_number(calls), &outcomes) {
             Ok(lines) => Ok(BatchAnswer::new(lines, all_valid(&outcomes))),
             Err(_) => Err(AnswerError::Memory),

@@ -7,6 +7,7 @@ ghost use Rattle.verify_service.specs.Prepared.{IsNewest};
 ghost use Rattle.verify_service.specs.Service.{HoldsRight, ServiceView};
 
 use crate::logs::{Line, calls_in, one_worker, put_counts, service_of, shelf_of, winner_of};
+use cert_store::Cache;
 use replay_desk::Seat;
 use std::alloc::Global;
 use std::thread::{Threads, join};
@@ -126,6 +127,7 @@ fn judge_by_two<R: Threads + Sync>(
     requires two { seats.1.desk ≡ prepared.now.desk }
 {
     may_be_shared::<Screened>();
+    may_be_shared::<Cache>();
     let (seat, other_seat) = seats;
     let (provider, other_provider) = providers;
     let even = Part {

@@ -1,28 +1,16 @@
 -- One chain more is stored, by what its worker judged.
-use Rattle.std.proofs.Common.{◌≡◌, ◌≢◌, ℕ, suc, ◌+◌, ◌<◌, ◌≤◌, List, [], ◌∷◌, ◌++◌, get_or, length, take, Option, Some, None, refl, sym, ap, ◌∙◌, subst, arith}
+use Rattle.std.proofs.Common.{◌≡◌, ℕ, ◌+◌, ◌<◌, ◌≤◌, List, [], ◌∷◌, ◌++◌, get_or, length, take, Option, Some, None, sym, ap, ◌∙◌, subst}
 use Rattle.std.proofs.lemmas.List.{take_all}
 use Rattle.std.specs.List.{slice_get}
-use Rattle.call_log.specs.Entry.{Entry}
 use Rattle.cert_store.specs.Holding.{Holding}
 use Rattle.cert_store.specs.Judged.{JudgedView}
 use Rattle.cert_store.specs.Using.{IsOnce, names}
 use Rattle.verify_rules.specs.States.{State}
-use Rattle.verify_service.specs.Judging.{EachPair}
 use Rattle.verify_service.specs.Kept.{Kept, StoresChain}
 use Rattle.verify_service.specs.RoundRead.{StoresAll, StoresSome}
-use Rattle.verify_service.specs.Screening.{IsPlaceOf}
-use Rattle.verify_service.specs.declared.screening.ReadyCall.{ReadyCall}
 use Rattle.verify_service.proofs.FetchedLaws.{take_stands}
 use Rattle.verify_service.proofs.ItemLaws.{same_item}
-use Rattle.verify_service.proofs.ListLaws.{each_more, take_item}
 use Rattle.verify_service.proofs.StoreAllLaws.{stores_more}
-
-pub place_next : (entries : List Entry) (i : ℕ) (entry d : Entry) (places now : List ReadyCall) (place : ReadyCall) → i < length entries → entry ≡ get_or entries i d
-    → now ≡ places ++ place ∷ [] → IsPlaceOf entry place → EachPair IsPlaceOf (take i entries) places → EachPair IsPlaceOf (take (i + 1) entries) now
-place_next entries i entry d places now place within is grown here each =
-    subst (λ (ps : List ReadyCall). EachPair IsPlaceOf (take (i + 1) entries) ps) (sym grown)
-    (subst (λ (es : List Entry). EachPair IsPlaceOf es (places ++ place ∷ [])) (sym (take_item entries i entry d within is))
-    (each_more IsPlaceOf (take i entries) places entry place each here))
 
 pub store_next : (texts : List (List ℕ)) (states : List State) (i : ℕ) (x5u : List ℕ) (state known : State) (held mid now : Holding) (kept kept_mid kept_now : Kept)
     → slice_get texts i ≡ Some x5u → take (i + 1) states ≡ take i states ++ known ∷ [] → state ≡ known → IsOnce (names mid.entries)

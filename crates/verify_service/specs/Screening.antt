@@ -29,25 +29,19 @@ last_in Open = 0
 last_in (Refused refused) = 0
 last_in (Passed screened) = screened.last
 
--- the place of this call of the log
-pub record IsPlaceOf (entry : Entry) (place : ReadyCall) : Type 0 where
+-- this call of the log is screened into its place
+pub record Screens (settings : Settings) (entry : Entry) (place : ReadyCall) : Type 0 where
   pub number : place.number ≡ entry.number
   pub moment : place.moment ≡ entry.moment
-
--- the call is screened into its place, and all else of the place stays
-pub record Screens (call : Call) (old new : ReadyCall) : Type 0 where
-  pub screening : IsScreening call new.screening
-  pub number : new.number ≡ old.number
-  pub moment : new.moment ≡ old.moment
-  pub class : new.class ≡ old.class
+  pub screening : IsScreening (call_in settings entry) place.screening
   -- a call has at most nine PASSporTs
-  pub few : length (readings_in new.screening) ≤ 9
+  pub few : length (readings_in place.screening) ≤ 9
   -- the last of them is fresh until a day after the year 9999 at most
-  pub last : last_in new.screening ≤ 253402387199
+  pub last : last_in place.screening ≤ 253402387199
 
 -- the same of the call at this index
-pub record ScreensAt (settings : Settings) (entries : List Entry) (at : ℕ) (old new : ReadyCall) : Type 0 where
-  pub screens : (d : Entry) → at < length entries → Screens (call_in settings (slice_index_or entries at d)) old new
+pub record ScreensAt (settings : Settings) (entries : List Entry) (at : ℕ) (place : ReadyCall) : Type 0 where
+  pub screens : (d : Entry) → at < length entries → Screens settings (slice_index_or entries at d) place
 
 -- ---- a round whose calls are all screened
 

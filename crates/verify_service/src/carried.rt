@@ -70,14 +70,22 @@ impl Carried {
         ensures outcomes { result.items ≡ self.outcomes }
         ensures named { (p : ℕ × ℕ) → In p self.seat.losses → In p self.seat.wins }
     {
+        let (outcomes, _calls) = self.take_apart();
+        outcomes
+    }
+
+    /// The same, with the calls.
+    pub(crate) fn take_apart(self) -> (Vec<Outcome>, Vec<ReadyCall>)
+        ensures outcomes { result.0.items ≡ self.outcomes }
+        ensures named { (p : ℕ × ℕ) → In p self.seat.losses → In p self.seat.wins }
+    {
         let Carried {
             outcomes,
             calls,
             desk,
             seat,
         } = self;
-        drop(calls);
         desk.close(seat);
-        outcomes
+        (outcomes, calls)
     }
 }

@@ -36,6 +36,7 @@ impl Service {
             number: state.call(),
             moment: state.moment(),
             begun: false,
+            places: Vec::new(alloc),
         })
     }
 

@@ -19,12 +19,14 @@ use crate::outcome::Outcome;
 use crate::prepared::Prepared;
 use crate::preparing::{ready_calls, ready_chains};
 use crate::ready::Round;
+use crate::screening::{ReadyCall, screening_threads};
 use crate::seating::desk_for;
 use crate::service::Service;
 use crate::worker::Worker;
 use call_log::Call;
 use cert_store::{Cache, World, cache_law, use_law};
 use std::alloc::{AllocError, Global};
+use std::mem;
 use std::thread::Threads;
 use stir_outside::{Gate, Provider, Shelf};
 use verify_rules::{Settings, screened_law};
@@ -85,6 +87,7 @@ impl Service {
     {
         self.begin(calls);
         self.past.reserve(calls.len())?;
+        let places = mem::replace(&mut self.places, Vec::new(alloc));
         let prepared = prepare_round(
             rt,
             alloc,
@@ -93,6 +96,7 @@ impl Service {
             shelf,
             workers,
             calls,
+            places,
             &mut self.cache,
         )?;
         Ok(prepared)
@@ -121,8 +125,8 @@ impl Service {
     }
 }
 
-/// Prepares a round by these settings, over these materials and these chains that are held. `AllocError` is the only error; what is held of chains is
-/// right then.
+/// Prepares a round by these settings, over these materials and these chains that are held, in these places. `AllocError` is the only error; what is held
+/// of chains is right then.
 fn prepare_round<R: Threads + Sync, S: Shelf, P: Provider + Send, G: Gate + Send>(
     rt: &R,
     alloc: Global,
@@ -131,6 +135,7 @@ fn prepare_round<R: Threads + Sync, S: Shelf, P: Provider + Send, G: Gate + Send
     shelf: &mut S,
     workers: &mut [Worker<P, G>],
     calls: &[Call],
+    places: Vec<ReadyCall>,
     cache: &mut Cache,
 ) -> Result<Prepared, AllocError>
     requires some { 0 < length workers.old }
@@ -166,7 +171,8 @@ fn prepare_round<R: Threads + Sync, S: Shelf, P: Provider + Send, G: Gate + Send
     stored_law();
     cache_law();
     use_law();
-    let mut ready = ready_calls(rt, alloc, settings, calls, workers.len())?;
+    let threads = screening_threads(workers.len());
+    let mut ready = ready_calls(rt, alloc, settings, calls, threads, places)?;
     let classes = class_calls(alloc, &mut ready)?;
     let (desk, seats) = desk_for(alloc, classes, workers.len())?;
     let outcomes = vec![in alloc; Outcome::Valid; calls.len()]?;

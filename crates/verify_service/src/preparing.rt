@@ -5,7 +5,7 @@ ghost use Rattle.stir_outside.specs.Stays.{ProviderStays, ShelfStays};
 ghost use Rattle.verify_service.specs.Judging.{EachPair};
 ghost use Rattle.verify_service.specs.RightChains.{AreRightHeld};
 ghost use Rattle.verify_service.specs.RoundRead.{HasAskedOwn, KnownBy, RoundReads, states_from, texts_of};
-ghost use Rattle.verify_service.specs.Screening.{IsPlaceOf, IsReady, is_open};
+ghost use Rattle.verify_service.specs.Screening.{IsReady, is_open};
 
 use crate::fetching::{Fetched, fetch_all};
 use crate::kept::KeptChains;
@@ -22,18 +22,20 @@ use std::thread::Threads;
 use stir_outside::{Gate, Provider, Shelf};
 use verify_rules::Settings;
 
-/// Screens each call, in at most this many threads. `AllocError` is the only error.
+/// Screens each call, in at most this many threads. The calls take over the places of others that are no longer needed. `AllocError` is the only
+/// error.
 pub(crate) fn ready_calls<R: Threads + Sync>(
     rt: &R,
     alloc: Global,
     settings: &Settings,
     calls: &[Call],
     threads: usize,
+    mut places: Vec<ReadyCall>,
 ) -> Result<Vec<ReadyCall>, AllocError>
     requires threads { 0 < threads }
     ensures ready { IfOk result (λ ready. EachPair (IsReady settings.now) calls.now ready.items) }
 {
-    let mut places = open_calls(alloc, calls)?;
+    places.resize_with(calls.len(), || open_place())?;
     screen_all(rt, alloc, settings, calls, threads, &mut places);
     if any_open(&places) {
         return Err(AllocError);
@@ -41,20 +43,14 @@ pub(crate) fn ready_calls<R: Threads + Sync>(
     Ok(places)
 }
 
-/// A place for each call, which isn't screened yet.
-fn open_calls(alloc: Global, calls: &[Call]) -> Result<Vec<ReadyCall>, AllocError>
-    ensures { IfOk result (λ places. EachPair IsPlaceOf calls.now places.items) }
-{
-    let mut places = Vec::with_capacity(alloc, calls.len())?;
-    'calls: for call in calls {
-        places.push(ReadyCall {
-            number: call.number(),
-            moment: call.moment(),
-            screening: Screening::Open,
-            class: None,
-        })?;
+/// The place of a call that isn't screened yet.
+fn open_place() -> ReadyCall {
+    ReadyCall {
+        number: 0,
+        moment: 0,
+        screening: Screening::Open,
+        class: None,
     }
-    Ok(places)
 }
 
 /// Of some call it isn't known what rules 1 to 9 say.

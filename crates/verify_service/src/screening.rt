@@ -34,7 +34,18 @@ pub struct ReadyCall {
     pub(crate) class: Option<u32>,
 }
 
-/// Screens each call into its own place, in at most this many threads. A place stays open only if memory ran out.
+/// In how many threads the calls of a round are screened for so many workers: twice as many, so that less is left to do when one of them begins late; but
+/// one for one worker.
+pub(crate) fn screening_threads(workers: usize) -> usize
+    requires some { 0 < workers }
+    requires few { workers ≤ 8 }
+    ensures { 0 < result }
+{
+    if workers == 1 { 1 } else { 2 * workers }
+}
+
+/// Screens each call into its own place, in at most this many threads. A place is open then only if memory ran out. What the places held before is
+/// given back by these threads.
 pub(crate) fn screen_all<R: Threads + Sync>(
     rt: &R,
     alloc: Global,
@@ -46,8 +57,7 @@ pub(crate) fn screen_all<R: Threads + Sync>(
     requires threads { 0 < threads }
     requires places { length places.old ≡ length calls.now }
     ensures counted { length places.new ≡ length calls.now }
-    ensures screened { (at : ℕ) (place : ReadyCall) → at < length calls.now
-        → ScreensAt settings.now calls.now at (slice_index_or places.old at place) (slice_index_or places.new at place) }
+    ensures screened { (at : ℕ) (place : ReadyCall) → at < length calls.now → ScreensAt settings.now calls.now at (slice_index_or places.new at place) }
 {
     thread::for_each_mut(
         rt,
@@ -59,10 +69,15 @@ pub(crate) fn screen_all<R: Threads + Sync>(
 
 /// Screens the call at this index into its place.
 fn screen_at(alloc: Global, settings: &Settings, calls: &[Call], at: usize, place: &mut ReadyCall)
-    ensures { ScreensAt settings.now calls.now at place.old place.new }
+    ensures { ScreensAt settings.now calls.now at place.new }
 {
     if let Some(call) = calls.get(at) {
-        place.screening = screen_call(alloc, settings, call);
+        *place = ReadyCall {
+            number: call.number(),
+            moment: call.moment(),
+            screening: screen_call(alloc, settings, call),
+            class: None,
+        };
     }
 }
 

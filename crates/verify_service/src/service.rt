@@ -1,7 +1,11 @@
 //! The service.
-ghost use Rattle.std.specs.Prelude.{◌≡◌, ◌↔◌, IfOk, IsTrue};
+ghost use Rattle.replay_desk.specs.Pairs.{In};
+ghost use Rattle.std.specs.Prelude.{◌≡◌, ◌↔◌, ℕ, IfOk, IsTrue};
 ghost use Rattle.verify_service.specs.Service.{Follow, IsNew, all_follow, follows_on};
 
+use crate::carried::Carried;
+use crate::outcome::Outcome;
+use crate::screening::ReadyCall;
 use call_log::Call;
 use cert_store::{Cache, World};
 use replay_desk::Past;
@@ -30,6 +34,8 @@ pub struct Service {
     pub(crate) moment: u64,
     /// Whether a round was prepared since the state was taken.
     pub(crate) begun: bool,
+    /// The calls of a round that was closed. The next round takes over their places.
+    pub(crate) places: Vec<ReadyCall>,
 }
 
 impl Model for Service {
@@ -67,6 +73,7 @@ impl Service {
             number: 0,
             moment: 0,
             begun: false,
+            places: Vec::new(alloc),
         })
     }
 
@@ -84,6 +91,18 @@ impl Service {
 }
 
 impl Service {
+    /// Closes a round that was carried out, as [`Carried::close`] does. The next round takes over the places of its calls, so that what these hold is given
+    /// back by all threads that screen calls, and not by the one that closes.
+    pub fn close(&mut self, carried: Carried) -> Vec<Outcome>
+        ensures outcomes { result.items ≡ carried.outcomes }
+        ensures named { (p : ℕ × ℕ) → In p carried.seat.losses → In p carried.seat.wins }
+        ensures same { self.new ≡ self.old }
+    {
+        let (outcomes, places) = carried.take_apart();
+        self.places = places;
+        outcomes
+    }
+
     /// It may hold 4,096 chains, as a law for callers: it does nothing when it runs.
     pub(crate) fn holds_many(&self)
         ensures { self.now.held.capacity ≡ 4096 }
