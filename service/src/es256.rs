@@ -1,13 +1,20 @@
 //! ES256 (RFC 7518, section 3.4): ECDSA on P-256 with SHA-256, by OpenSSL. What is confirmed here is what the judge takes for good.
+use openssl::bn::{BigNum, BigNumContext};
 use openssl::ec::{EcGroup, EcKey, EcPoint};
+use openssl::ecdsa::EcdsaSig;
+use openssl::error::ErrorStack;
 use openssl::nid::Nid;
-use openssl::pkey::{PKey, Public};
-use openssl::pkey_ctx::PkeyCtx;
+use openssl::pkey::Public;
 use std::collections::HashMap;
-use std::sync::{Arc, RwLock};
+use std::ops::Range;
+use std::sync::RwLock;
 
 /// A question: the key, an uncompressed point of 65 bytes; the digest, 32; the signature, r and s, 64.
 pub type Question = [u8; 161];
+
+const KEY: Range<usize> = 0..65;
+const DIGEST: Range<usize> = 65..97;
+const SIGNATURE: Range<usize> = 97..161;
 
 /// How many answers a generation holds, and how many keys are held.
 const GENERATION: usize = 32_768;
@@ -16,61 +23,40 @@ const MOST_KEYS: usize = 16_384;
 /// A line `confirm KEY DIGEST SIGNATURE`, as `stir_ask` writes it.
 pub fn question(line: &[u8]) -> Option<Question> {
     let mut question = [0; 161];
-    let words = line.strip_prefix(b"confirm ")?;
-    let digits = [&words[..130.min(words.len())], words.get(131..195)?, words.get(196..)?].concat();
-    if digits.len() != 322 || words[130] != b' ' || words[195] != b' ' {
-        return None;
+    let mut words = line.strip_prefix(b"confirm ")?.split(|byte| *byte == b' ');
+    for part in [KEY, DIGEST, SIGNATURE] {
+        let (bytes, digits) = (&mut question[part], words.next()?);
+        if digits.len() != 2 * bytes.len() {
+            return None;
+        }
+        for (byte, pair) in bytes.iter_mut().zip(digits.chunks_exact(2)) {
+            *byte = digit(pair[0])? << 4 | digit(pair[1])?;
+        }
     }
-    for (byte, pair) in question.iter_mut().zip(digits.chunks(2)) {
-        *byte = (char::from(pair[0]).to_digit(16)? * 16 + char::from(pair[1]).to_digit(16)?) as u8;
+    words.next().is_none().then_some(question)
+}
+
+fn digit(digit: u8) -> Option<u8> {
+    match digit {
+        b'0'..=b'9' => Some(digit - b'0'),
+        b'a'..=b'f' => Some(digit - b'a' + 10),
+        b'A'..=b'F' => Some(digit - b'A' + 10),
+        _ => None,
     }
-    Some(question)
 }
 
 /// Whether the signature is good; what it isn't for whatever reason, it isn't.
-fn is_good(key: &PKey<Public>, digest: &[u8], signature: &[u8]) -> bool {
-    let verify = || {
-        let mut context = PkeyCtx::new(key)?;
-        context.verify_init()?;
-        context.verify(digest, &der(signature))
-    };
+fn is_good(key: &EcKey<Public>, digest: &[u8], signature: &[u8]) -> bool {
+    let (r, s) = signature.split_at(32);
+    let verify = || EcdsaSig::from_private_components(BigNum::from_slice(r)?, BigNum::from_slice(s)?)?.verify(digest, key);
     verify().unwrap_or(false)
-}
-
-/// The public key that a point is, if it lies on the curve.
-fn key_of(point: &[u8]) -> Option<PKey<Public>> {
-    let group = EcGroup::from_curve_name(Nid::X9_62_PRIME256V1).ok()?;
-    let mut context = openssl::bn::BigNumContext::new().ok()?;
-    let point = EcPoint::from_bytes(&group, point, &mut context).ok()?;
-    let key = EcKey::from_public_key(&group, &point).ok()?;
-    key.check_key().ok()?;
-    PKey::from_ec_key(key).ok()
-}
-
-/// A signature of two numbers of 32 bytes as the SEQUENCE of two INTEGERs that OpenSSL takes (RFC 3279, section 2.2.3).
-fn der(signature: &[u8]) -> Vec<u8> {
-    let mut numbers = Vec::with_capacity(70);
-    for number in signature.chunks(32) {
-        let skip = number.iter().take(31).take_while(|byte| **byte == 0).count();
-        let number = &number[skip..];
-        let pad = usize::from(number[0] >= 0x80);
-        numbers.push(2);
-        numbers.push((number.len() + pad) as u8);
-        numbers.extend(std::iter::repeat(0).take(pad));
-        numbers.extend_from_slice(number);
-    }
-    let mut out = Vec::with_capacity(72);
-    out.push(0x30);
-    out.push(numbers.len() as u8);
-    out.extend(numbers);
-    out
 }
 
 /// A verifier that remembers: keys, and what it answered, in two generations. What is asked again is remembered again, so the questions of
 /// certificates stay and those of PASSporTs go.
-#[derive(Default)]
 pub struct Verifier {
-    keys: RwLock<HashMap<[u8; 65], Option<Arc<PKey<Public>>>>>,
+    curve: EcGroup,
+    keys: RwLock<HashMap<[u8; 65], Option<EcKey<Public>>>>,
     answers: RwLock<Generations>,
 }
 
@@ -81,16 +67,18 @@ struct Generations {
 }
 
 impl Verifier {
+    pub fn new() -> Result<Verifier, ErrorStack> {
+        let curve = EcGroup::from_curve_name(Nid::X9_62_PRIME256V1)?;
+        Ok(Verifier { curve, keys: RwLock::default(), answers: RwLock::default() })
+    }
+
     /// Whether the signature of a question is good.
     pub fn confirms(&self, question: &Question) -> bool {
         if let Some(good) = self.remembered(question) {
             return good;
         }
-        let key: [u8; 65] = question[..65].try_into().expect("65 bytes");
-        let good = match self.key(key) {
-            Some(key) => is_good(&key, &question[65..97], &question[97..]),
-            None => false,
-        };
+        let key = self.key(question[KEY].try_into().expect("65 bytes"));
+        let good = key.map_or(false, |key| is_good(&key, &question[DIGEST], &question[SIGNATURE]));
         self.remember(question, good);
         good
     }
@@ -107,24 +95,33 @@ impl Verifier {
     }
 
     fn remember(&self, question: &Question, good: bool) {
-        let mut answers = self.answers.write().expect("answers");
-        if answers.young.len() >= GENERATION {
-            answers.old = std::mem::take(&mut answers.young);
+        let Generations { young, old } = &mut *self.answers.write().expect("answers");
+        if young.len() >= GENERATION {
+            // The older one's memory serves again.
+            std::mem::swap(young, old);
+            young.clear();
         }
-        answers.young.insert(*question, good);
+        young.insert(*question, good);
     }
 
-    fn key(&self, point: [u8; 65]) -> Option<Arc<PKey<Public>>> {
+    fn key(&self, point: [u8; 65]) -> Option<EcKey<Public>> {
         if let Some(key) = self.keys.read().expect("keys").get(&point) {
             return key.clone();
         }
-        let key = key_of(&point).map(Arc::new);
+        let key = self.key_of(&point).ok();
         let mut keys = self.keys.write().expect("keys");
         if keys.len() >= MOST_KEYS {
             keys.clear();
         }
         keys.insert(point, key.clone());
         key
+    }
+
+    /// The public key that a point is, if it lies on the curve: OpenSSL takes no coordinates of another, nor any past the field's prime. Each point of
+    /// P-256 that isn't infinity has the curve's order, since its cofactor is 1, and infinity hasn't 65 bytes (SEC 1, sections 2.3.4 and 3.2.2).
+    fn key_of(&self, point: &[u8; 65]) -> Result<EcKey<Public>, ErrorStack> {
+        let point = EcPoint::from_bytes(&self.curve, point, &mut *BigNumContext::new()?)?;
+        EcKey::from_public_key(&self.curve, &point)
     }
 }
 
@@ -143,7 +140,7 @@ mod tests {
 
     #[test]
     fn a_published_signature_is_good_and_each_changed_byte_of_it_isnt() {
-        let verifier = Verifier::default();
+        let verifier = Verifier::new().unwrap();
         assert!(verifier.confirms(&sample()));
         assert!(verifier.confirms(&sample()), "asked again");
         for at in 1..161 {
@@ -154,19 +151,47 @@ mod tests {
     }
 
     #[test]
-    fn a_signature_goes_into_der_by_its_numbers() {
-        let mut signature = [0u8; 64];
-        signature[31] = 0x7f;
-        signature[32..].fill(0x80);
-        let wanted = [&[0x30, 38, 2, 1, 0x7f, 2, 33, 0][..], &[0x80; 32]].concat();
-        assert_eq!(der(&signature), wanted);
-        assert_eq!(der(&[0; 64]), [0x30, 6, 2, 1, 0, 2, 1, 0]);
+    fn at_its_boundaries_it_says_what_another_program_says() {
+        let verifier = Verifier::new().unwrap();
+        let cases = include_str!("../cases/es256.txt");
+        for line in cases.lines().filter(|line| !line.starts_with(';')) {
+            let (case, what) = line.split_once("; ").expect(line);
+            let (word, line) = case.split_once(' ').expect(line);
+            let question = question(line.as_bytes()).expect(what);
+            assert_eq!(verifier.confirms(&question), word == "good", "{what}");
+        }
+    }
+
+    #[test]
+    fn what_was_answered_is_remembered_through_two_generations() {
+        let verifier = Verifier::new().unwrap();
+        let bad = |number: usize| {
+            let mut question = [0; 161];
+            question[..8].copy_from_slice(&number.to_be_bytes());
+            question
+        };
+        verifier.remember(&sample(), true);
+        for number in 1..GENERATION {
+            verifier.remember(&bad(number), false);
+        }
+        verifier.remember(&bad(GENERATION), false);
+        assert!(verifier.answers.read().unwrap().old.contains_key(&sample()));
+        assert_eq!(verifier.remembered(&sample()), Some(true), "asked again, it is young again");
+        for number in GENERATION..2 * GENERATION {
+            verifier.remember(&bad(number), false);
+        }
+        assert_eq!((verifier.remembered(&bad(1)), verifier.remembered(&sample())), (None, Some(true)));
     }
 
     #[test]
     fn a_line_that_is_no_question_is_none() {
-        for line in ["", "confirm ", "confirm 04 00 00", "sign x 00 00"] {
-            assert_eq!(question(line.as_bytes()), None);
+        let good = format!("confirm 04{} {} {}", "aF".repeat(64), "09".repeat(32), "b1".repeat(64));
+        assert_eq!(question(good.as_bytes()).expect("a question")[..2], [0x04, 0xaf]);
+        for line in ["", "confirm ", "confirm 04 00 00", "sign x 00 00", &good[..good.len() - 1], &good[..good.len() - 2]] {
+            assert_eq!(question(line.as_bytes()), None, "{line}");
+        }
+        for line in [good.replace("04a", "04g"), good.replace("04a", "04 "), good.replace(' ', "  "), format!("{good} "), format!("{good}00")] {
+            assert_eq!(question(line.as_bytes()), None, "{line}");
         }
     }
 }

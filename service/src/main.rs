@@ -37,6 +37,7 @@ fn start(settings: settings::Settings) -> Result<(), String> {
         return Err(format!("the library's declarations are of version {}, and {} is wanted", door::abi(), door::ABI));
     }
     let world = world::World::read(&settings.rules, &settings.chains, &settings.anchors, &settings.table)?;
+    let verifier = es256::Verifier::new().map_err(|error| error.to_string())?;
     let blocks = blocks_of(&settings)?;
     let (past, greatest) = past_of(&settings)?;
     let listener = TcpListener::bind(&settings.listen).map_err(|error| format!("{}: {error}", settings.listen))?;
@@ -46,7 +47,7 @@ fn start(settings: settings::Settings) -> Result<(), String> {
         judge: judge::Judge {
             rules: settings.rules.clone(),
             world: RwLock::new(Arc::new(world)),
-            verifier: es256::Verifier::default(),
+            verifier,
             past,
             numbers: greatest.into(),
             metrics: metrics::Metrics::default(),
