@@ -77,10 +77,15 @@ impl Verifier {
         if let Some(good) = self.remembered(question) {
             return good;
         }
-        let key = self.key(question[KEY].try_into().expect("65 bytes"));
-        let good = key.map_or(false, |key| is_good(&key, &question[DIGEST], &question[SIGNATURE]));
+        let good = self.checks(question);
         self.remember(question, good);
         good
+    }
+
+    /// The same, without remembering the answer.
+    pub fn checks(&self, question: &Question) -> bool {
+        let key = self.key(question[KEY].try_into().expect("65 bytes"));
+        key.map_or(false, |key| is_good(&key, &question[DIGEST], &question[SIGNATURE]))
     }
 
     fn remembered(&self, question: &Question) -> Option<bool> {

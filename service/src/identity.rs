@@ -1,9 +1,24 @@
 //! The x5us of a message: the quick look by which chains are picked. What comes of a call is decided by the proved library alone.
+use crate::atis::invite;
+use serde_json::json;
 
 /// The x5us of the Identity fields in the head of a message, in message order: the URI of each field whose value begins as it has to (RFC 8224,
 /// section 4). So those of all PASSporTs that are judged are among them.
 pub fn x5us_of(message: &[u8]) -> Vec<Vec<u8>> {
     values_of(message).iter().filter_map(|value| x5u_in(value)).map(<[u8]>::to_vec).collect()
+}
+
+/// An INVITE whose PASSporT names these certificates, and which nobody signed: its signature is 64 bytes of zero. It is issued at this second.
+pub fn unsigned(x5u: &str, iat: u64) -> Vec<u8> {
+    let (orig, dest) = ("12155551212", "12125551213");
+    let header = base64url(json!({ "alg": "ES256", "typ": "passport", "x5u": x5u }).to_string().as_bytes());
+    let payload = base64url(json!({ "dest": { "tn": [dest] }, "iat": iat, "orig": { "tn": orig } }).to_string().as_bytes());
+    invite(orig, dest, &[("Identity", &format!("{header}.{payload}.{};info=<{x5u}>", base64url(&[0; 64])))])
+}
+
+/// Base64url without padding (RFC 4648, section 5).
+fn base64url(bytes: &[u8]) -> String {
+    openssl::base64::encode_block(bytes).trim_end_matches('=').replace('+', "-").replace('/', "_")
 }
 
 /// The values of the Identity fields (RFC 3261, sections 7.3.1 and 20; RFC 8224, section 4, has the compact name `y`), with their continuations
@@ -74,6 +89,17 @@ mod tests {
         let fields = "Identity: a..b;info=<https://a.example/1>;alg=ES256\r\nX: e;info=<other>\r\ny: c;INFO=<https://b.example/2>\r\n";
         assert_eq!(found(fields), ["https://a.example/1", "https://b.example/2"]);
         assert!(found("").is_empty());
+    }
+
+    #[test]
+    fn an_unsigned_message_names_its_certificates() {
+        // The token by Python: json.dumps with sorted keys and without blanks, base64.urlsafe_b64encode, rstrip("=").
+        let token = "eyJhbGciOiJFUzI1NiIsInR5cCI6InBhc3Nwb3J0IiwieDV1IjoiaHR0cHM6Ly9hLmV4YW1wbGUvPz8_fn5-In0\
+                     .eyJkZXN0Ijp7InRuIjpbIjEyMTI1NTUxMjEzIl19LCJpYXQiOjcsIm9yaWciOnsidG4iOiIxMjE1NTU1MTIxMiJ9fQ\
+                     .AAAAAAAAAAAAAAAAAAAAAAAAAAAAAAAAAAAAAAAAAAAAAAAAAAAAAAAAAAAAAAAAAAAAAAAAAAAAAAAAAAAAAA";
+        let message = unsigned("https://a.example/???~~~", 7);
+        assert_eq!(x5us_of(&message), [b"https://a.example/???~~~"]);
+        assert_eq!(values_of(&message), [format!("{token};info=<https://a.example/???~~~>").into_bytes()]);
     }
 
     #[test]

@@ -142,7 +142,7 @@ impl Judge {
         let mut answers = Vec::new();
         let mut all = true;
         for line in lines_of(&room) {
-            if es256::question(line).map_or(false, |question| self.verifier.confirms(&question)) {
+            if es256::question(line).map_or(false, |question| world.has_confirmed(&question) || self.verifier.confirms(&question)) {
                 answers.extend_from_slice(line);
                 answers.push(b'\n');
             } else {

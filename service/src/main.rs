@@ -36,8 +36,9 @@ fn start(settings: settings::Settings) -> Result<(), String> {
     if door::abi() != door::ABI {
         return Err(format!("the library's declarations are of version {}, and {} is wanted", door::abi(), door::ABI));
     }
-    let world = world::World::read(&settings.rules, &settings.chains, &settings.anchors, &settings.table)?;
+    let mut world = world::World::read(&settings.rules, &settings.chains, &settings.anchors, &settings.table)?;
     let verifier = es256::Verifier::new().map_err(|error| error.to_string())?;
+    world.confirm(&settings.rules, &verifier, None);
     let blocks = blocks_of(&settings)?;
     let (past, greatest) = past_of(&settings)?;
     let listener = TcpListener::bind(&settings.listen).map_err(|error| format!("{}: {error}", settings.listen))?;

@@ -75,14 +75,14 @@ impl Metrics {
         if done { &self.reloads } else { &self.failed_reloads }.fetch_add(1, Relaxed);
     }
 
-    /// The text, with how many tickets and chains are held, and how many connections there are.
-    pub fn text(&self, tickets: usize, chains: usize, connections: usize) -> String {
+    /// The text, with how many tickets, chains and confirmed certificates are held, and how many connections there are.
+    pub fn text(&self, held: [usize; 4]) -> String {
         let mut text = String::new();
-        let _ = self.write(&mut text, tickets, chains, connections);
+        let _ = self.write(&mut text, held);
         text
     }
 
-    fn write(&self, text: &mut String, tickets: usize, chains: usize, connections: usize) -> std::fmt::Result {
+    fn write(&self, text: &mut String, [tickets, chains, confirmed, connections]: [usize; 4]) -> std::fmt::Result {
         writeln!(text, "# HELP stir_calls_total Calls that were judged, by what came of them.\n# TYPE stir_calls_total counter")?;
         for (outcome, count) in [("valid", &self.valid), ("replay", &self.replays), ("unjudged", &self.unjudged)] {
             writeln!(text, "stir_calls_total{{outcome=\"{outcome}\",rule=\"\"}} {}", count.load(Relaxed))?;
@@ -115,6 +115,7 @@ impl Metrics {
         for (name, help, value) in [
             ("stir_tickets", "Tickets that are held in memory.", tickets),
             ("stir_chains", "Chains of certificates that are listed and there.", chains),
+            ("stir_confirmed", "Signatures of listed certificates that were confirmed when the files were read.", confirmed),
             ("stir_connections", "Connections that are open.", connections),
         ] {
             writeln!(text, "# HELP {name} {help}\n# TYPE {name} gauge\n{name} {value}")?;

@@ -134,12 +134,9 @@ impl Service {
     }
 
     fn metrics(&self) -> Answer {
-        let chains = self.judge.world.read().expect("world").chains();
-        Answer {
-            status: 200,
-            kind: "text/plain; version=0.0.4",
-            body: self.judge.metrics.text(self.judge.past.count(), chains, self.connections.load(Ordering::SeqCst)),
-        }
+        let world = self.judge.world.read().expect("world").clone();
+        let held = [self.judge.past.count(), world.chains(), world.confirmed(), self.connections.load(Ordering::SeqCst)];
+        Answer { status: 200, kind: "text/plain; version=0.0.4", body: self.judge.metrics.text(held) }
     }
 
     /// Looks at the files from time to time, and takes what changed if it can be read; else what was read before stays.
@@ -150,7 +147,10 @@ impl Service {
             if world.is_stale() {
                 let files = &self.settings;
                 let read = World::read(&files.rules, &files.chains, &files.anchors, &files.table);
-                let done = read.map(|world| *self.judge.world.write().expect("world") = Arc::new(world));
+                let done = read.map(|mut new| {
+                    new.confirm(&files.rules, &self.judge.verifier, Some(&world));
+                    *self.judge.world.write().expect("world") = Arc::new(new);
+                });
                 self.tell(done);
             }
             self.reload_blocks();

@@ -1,13 +1,18 @@
 //! What calls are judged by: the chain map with its chains, the trust anchors and the code table, read from files and read again if one changes.
 use crate::door::{self, Materials, Rules};
+use crate::es256::{self, Question, Verifier};
+use crate::identity;
 use crate::lines::lines_of;
-use std::collections::{BTreeSet, HashMap};
+use std::collections::{BTreeSet, HashMap, HashSet};
 use std::path::{Path, PathBuf};
-use std::time::SystemTime;
+use std::time::{Duration, Instant, SystemTime};
 
 /// The most bytes of a chain, and the most chains of a call.
 const MOST_CHAIN: usize = 49_152;
 const MOST_CHAINS: usize = 9;
+
+/// How long certificates are confirmed when the files are read. What isn't confirmed by then is when a call asks for it.
+const PATIENCE: Duration = Duration::from_secs(1);
 
 /// A chain of certificates, and the codes of the code table that may be in it.
 struct Chain {
@@ -23,6 +28,8 @@ pub struct World {
     table: HashMap<Vec<u8>, Vec<u8>>,
     anchors_codes: Vec<Vec<u8>>,
     pub anchors: Vec<u8>,
+    /// The questions of the chains' certificates whose signatures are good.
+    confirmed: HashSet<Question>,
     stamps: Vec<(PathBuf, Stamp)>,
 }
 
@@ -68,7 +75,43 @@ impl World {
             }
         }
         let anchors_codes = codes_in(&anchors, &table);
-        Ok(World { chains, table, anchors_codes, anchors, stamps })
+        Ok(World { chains, table, anchors_codes, anchors, confirmed: HashSet::new(), stamps })
+    }
+
+    /// Confirms the signatures of the chains' certificates before a call asks for them, as far as the time reaches. What another world has confirmed
+    /// isn't confirmed again.
+    pub fn confirm(&mut self, rules: &Rules, verifier: &Verifier, before: Option<&World>) {
+        let until = Instant::now() + PATIENCE;
+        let mut confirmed = HashSet::new();
+        for x5u in self.chains.keys().take_while(|_| Instant::now() < until) {
+            for question in self.questions(rules, x5u) {
+                let known = confirmed.contains(&question) || before.map_or(false, |before| before.has_confirmed(&question));
+                if known || verifier.checks(&question) {
+                    confirmed.insert(question);
+                }
+            }
+        }
+        self.confirmed = confirmed;
+    }
+
+    /// What is asked for the certificates of a chain. The library tells it for a call that brings the chain; at second 0 no certificate is valid,
+    /// so nothing is asked for the call's own PASSporT.
+    fn questions(&self, rules: &Rules, x5u: &[u8]) -> Vec<Question> {
+        let Some(message) = std::str::from_utf8(x5u).ok().map(|x5u| identity::unsigned(x5u, 0)) else { return Vec::new() };
+        let by = self.materials(std::iter::once(x5u)).unwrap_or_default();
+        let mut lines = Vec::new();
+        door::ask(rules, 0, &message, &by, &self.anchors, &mut lines);
+        lines_of(&lines).filter_map(es256::question).collect()
+    }
+
+    /// Whether this was asked for a certificate of the chains and is good.
+    pub fn has_confirmed(&self, question: &Question) -> bool {
+        self.confirmed.contains(question)
+    }
+
+    /// How many signatures of certificates are confirmed.
+    pub fn confirmed(&self) -> usize {
+        self.confirmed.len()
     }
 
     /// Whether a file isn't what it was when it was read.
@@ -168,7 +211,7 @@ mod tests {
         let table = by_code(b"1 11\n2 22\n3 33\n4 44\n");
         let chain = |code: &[u8]| Chain { der: code.to_vec(), codes: vec![code.to_vec()] };
         let chains = (0..10).map(|n| (vec![b'a' + n], chain(if n < 2 { b"2" } else { b"4" }))).collect();
-        let world = World { chains, table, anchors_codes: vec![b"1".to_vec()], anchors: Vec::new(), stamps: Vec::new() };
+        let world = World { chains, table, anchors_codes: vec![b"1".to_vec()], anchors: Vec::new(), confirmed: HashSet::new(), stamps: Vec::new() };
         let by = world.materials([b"a".as_slice(), b"none", b"b", b"a"].into_iter()).expect("two are listed");
         assert_eq!((by.listed.as_slice(), by.sizes.as_slice()), (b"a 1\nb 2\n".as_slice(), [1, 1].as_slice()));
         assert_eq!(by.table, b"1 11\n2 22\n");
