@@ -48,20 +48,26 @@ impl Answer {
 pub struct Connection {
     stream: TcpStream,
     bytes: Vec<u8>,
+    room: Vec<u8>,
     request: Duration,
     idle: Duration,
+    /// How long the socket waits for bytes, and for room for them.
+    reads: Duration,
+    writes: Duration,
 }
 
 impl Connection {
     pub fn new(stream: TcpStream, request: Duration, idle: Duration) -> io::Result<Connection> {
         stream.set_nodelay(true)?;
-        Ok(Connection { stream, bytes: Vec::new(), request, idle })
+        stream.set_read_timeout(Some(idle))?;
+        stream.set_write_timeout(Some(request))?;
+        Ok(Connection { stream, bytes: Vec::new(), room: vec![0; MOST_HEAD], request, idle, reads: idle, writes: request })
     }
 
     /// The next request. From its first byte on the whole has to come within the time for a request.
     pub fn next(&mut self) -> Result<Request, Fault> {
-        if self.bytes.is_empty() {
-            self.read_more(Instant::now() + self.idle, Fault::Closed)?;
+        while self.bytes.is_empty() {
+            self.read_more(Some(self.idle), Fault::Closed)?;
         }
         let until = Instant::now() + self.request;
         let head = loop {
@@ -71,20 +77,21 @@ impl Connection {
             if self.bytes.len() >= MOST_HEAD {
                 return Err(Fault::Status(431));
             }
-            self.read_more(until, Fault::Status(408))?;
+            self.read_more(left(until), Fault::Status(408))?;
         };
         if head > MOST_HEAD {
             return Err(Fault::Status(431));
         }
         let (mut request, size, expects) = read_head(&self.bytes[..head])?;
-        self.bytes.drain(..head);
-        if expects && self.bytes.len() < size {
+        let end = head + size;
+        if expects && self.bytes.len() < end {
             self.write(b"HTTP/1.1 100 Continue\r\n\r\n").map_err(|_| Fault::Closed)?;
         }
-        while self.bytes.len() < size {
-            self.read_more(until, Fault::Status(408))?;
+        while self.bytes.len() < end {
+            self.read_more(left(until), Fault::Status(408))?;
         }
-        request.body = self.bytes.drain(..size).collect();
+        request.body = self.bytes[head..end].to_vec();
+        self.bytes.drain(..end);
         Ok(request)
     }
 
@@ -99,34 +106,41 @@ impl Connection {
 
     fn write(&mut self, mut bytes: &[u8]) -> io::Result<()> {
         let until = Instant::now() + self.request;
+        let mut time = Some(self.request);
         while !bytes.is_empty() {
-            self.stream.set_write_timeout(Some(left(until).ok_or(io::ErrorKind::TimedOut)?))?;
+            let given = time.ok_or(io::ErrorKind::TimedOut)?;
+            if self.writes != given {
+                self.stream.set_write_timeout(Some(given))?;
+                self.writes = given;
+            }
             match self.stream.write(bytes) {
                 Ok(0) => return Err(io::ErrorKind::WriteZero.into()),
                 Ok(count) => bytes = &bytes[count..],
                 Err(error) if error.kind() == io::ErrorKind::Interrupted => {}
                 Err(error) => return Err(error),
             }
+            time = left(until);
         }
         Ok(())
     }
 
-    /// Reads what comes until then; if nothing does it is this fault.
-    fn read_more(&mut self, until: Instant, late: Fault) -> Result<(), Fault> {
-        let mut room = [0; 16_384];
-        loop {
-            let Some(left) = left(until) else { return Err(late) };
+    /// Reads what comes within the time that is left; if nothing does it is this fault.
+    fn read_more(&mut self, left: Option<Duration>, late: Fault) -> Result<(), Fault> {
+        let Some(left) = left else { return Err(late) };
+        // A connection waits for each of its requests as long, so the system isn't told it anew.
+        if self.reads != left {
             self.stream.set_read_timeout(Some(left)).map_err(|_| Fault::Closed)?;
-            match self.stream.read(&mut room) {
-                Ok(0) => return Err(Fault::Closed),
-                Ok(count) => {
-                    self.bytes.extend_from_slice(&room[..count]);
-                    return Ok(());
-                }
-                Err(error) if error.kind() == io::ErrorKind::Interrupted => {}
-                Err(error) if matches!(error.kind(), io::ErrorKind::WouldBlock | io::ErrorKind::TimedOut) => return Err(late),
-                Err(_) => return Err(Fault::Closed),
+            self.reads = left;
+        }
+        match self.stream.read(&mut self.room) {
+            Ok(0) => Err(Fault::Closed),
+            Ok(count) => {
+                self.bytes.extend_from_slice(&self.room[..count]);
+                Ok(())
             }
+            Err(error) if error.kind() == io::ErrorKind::Interrupted => Ok(()),
+            Err(error) if matches!(error.kind(), io::ErrorKind::WouldBlock | io::ErrorKind::TimedOut) => Err(late),
+            Err(_) => Err(Fault::Closed),
         }
     }
 }

@@ -175,26 +175,41 @@ impl Service {
     }
 }
 
-/// What came of a call, as JSON.
+/// What came of a call, as JSON: its members in the order of their names. No text in it has a character that would be escaped.
 fn told(judged: &Judged) -> String {
     let outcome = &judged.outcome;
-    let mut told = serde_json::json!({
-        "call": judged.call,
-        "outcome": outcome.name(),
-        "code": outcome.code(),
-        "reason": outcome.reason(),
-        "rule": outcome.rule(),
-        "verstat": outcome.verstat(),
-    });
-    match outcome {
-        Outcome::Refused { field, part, .. } => told["place"] = format!("{field}.{part}").into(),
-        Outcome::Replay { winner } => told["winner"] = (*winner).into(),
-        Outcome::Valid | Outcome::Unjudged => {}
-    }
-    told.to_string() + "\n"
+    let (place, winner) = match outcome {
+        Outcome::Refused { field, part, .. } => (format!(r#""place":"{field}.{part}","#), String::new()),
+        Outcome::Replay { winner } => (String::new(), format!(r#","winner":{winner}"#)),
+        Outcome::Valid | Outcome::Unjudged => Default::default(),
+    };
+    format!(
+        r#"{{"call":{},"code":{},"outcome":"{}",{place}"reason":"{}","rule":{},"verstat":"{}"{winner}}}"#,
+        judged.call, outcome.code(), outcome.name(), outcome.reason(), outcome.rule(), outcome.verstat()
+    ) + "\n"
 }
 
 /// What came of a call, on one line for a proxy without JSON: the code (0 if there is none), the verstat and the reason phrase.
 fn line(judged: &Judged) -> String {
     format!("{} {} {}", judged.outcome.code(), judged.outcome.verstat(), judged.outcome.reason())
+}
+
+#[cfg(test)]
+mod tests {
+    use super::*;
+    use serde_json::json;
+
+    #[test]
+    fn what_came_of_a_call_is_json() {
+        let (valid, replay, unjudged) = (Outcome::Valid, Outcome::Replay { winner: u64::MAX }, Outcome::Unjudged);
+        let refused = Outcome::Refused { rule: 9, code: 403, field: 1, part: 0 };
+        for (outcome, told_by_json) in [
+            (valid, json!({ "call": 1, "outcome": "valid", "code": 0, "reason": "", "rule": 0, "verstat": "TN-Validation-Passed" })),
+            (refused, json!({ "call": 1, "outcome": "refused", "code": 403, "reason": "Stale Date", "rule": 9, "verstat": "TN-Validation-Failed", "place": "1.0" })),
+            (replay, json!({ "call": 1, "outcome": "replay", "code": 438, "reason": "Invalid Identity Header", "rule": 18, "verstat": "TN-Validation-Failed", "winner": u64::MAX })),
+            (unjudged, json!({ "call": 1, "outcome": "unjudged", "code": 0, "reason": "", "rule": 0, "verstat": "No-TN-Validation" })),
+        ] {
+            assert_eq!(told(&Judged { call: 1, outcome }), format!("{told_by_json}\n"));
+        }
+    }
 }
