@@ -23,26 +23,36 @@ const MOST_KEYS: usize = 16_384;
 /// A line `confirm KEY DIGEST SIGNATURE`, as `stir_ask` writes it.
 pub fn question(line: &[u8]) -> Option<Question> {
     let mut question = [0; 161];
-    let mut words = line.strip_prefix(b"confirm ")?.split(|byte| *byte == b' ');
+    let mut rest = line.strip_prefix(b"confirm")?;
     for part in [KEY, DIGEST, SIGNATURE] {
-        let (bytes, digits) = (&mut question[part], words.next()?);
-        if digits.len() != 2 * bytes.len() {
-            return None;
-        }
+        let bytes = &mut question[part];
+        rest = rest.strip_prefix(b" ")?;
+        let digits = rest.get(..2 * bytes.len())?;
+        rest = &rest[digits.len()..];
         for (byte, pair) in bytes.iter_mut().zip(digits.chunks_exact(2)) {
-            *byte = digit(pair[0])? << 4 | digit(pair[1])?;
+            let (high, low) = (DIGITS[usize::from(pair[0])], DIGITS[usize::from(pair[1])]);
+            if high | low == NO_DIGIT {
+                return None;
+            }
+            *byte = high << 4 | low;
         }
     }
-    words.next().is_none().then_some(question)
+    rest.is_empty().then_some(question)
 }
 
-fn digit(digit: u8) -> Option<u8> {
-    match digit {
-        b'0'..=b'9' => Some(digit - b'0'),
-        b'a'..=b'f' => Some(digit - b'a' + 10),
-        b'A'..=b'F' => Some(digit - b'A' + 10),
-        _ => None,
+/// What a character is as a hex digit. The digits of keys and signatures are random, so a branch for each would be foretold wrongly half the time.
+const DIGITS: [u8; 256] = digits();
+const NO_DIGIT: u8 = 0xff;
+
+const fn digits() -> [u8; 256] {
+    let mut digits = [NO_DIGIT; 256];
+    let mut digit = 0;
+    while digit < 16 {
+        digits[b"0123456789abcdef"[digit] as usize] = digit as u8;
+        digits[b"0123456789ABCDEF"[digit] as usize] = digit as u8;
+        digit += 1;
     }
+    digits
 }
 
 /// Whether the signature is good; what it isn't for whatever reason, it isn't.

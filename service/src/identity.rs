@@ -1,5 +1,6 @@
 //! The x5us of a message: the quick look by which chains are picked. What comes of a call is decided by the proved library alone.
 use crate::atis::invite;
+use crate::lines::{first, split};
 use serde_json::json;
 
 /// The x5us of the Identity fields in the head of a message, in message order: the URI of each field whose value begins as it has to (RFC 8224,
@@ -26,8 +27,7 @@ fn base64url(bytes: &[u8]) -> String {
 fn values_of(message: &[u8]) -> Vec<Vec<u8>> {
     let mut values: Vec<Vec<u8>> = Vec::new();
     let mut is_identity = false;
-    let lines = message.split(|byte| *byte == b'\n').map(|line| line.strip_suffix(b"\r").unwrap_or(line));
-    for line in lines.skip(1).take_while(|line| !line.is_empty()) {
+    for line in split(message).skip(1).take_while(|line| !line.is_empty()) {
         if is_blank(&line[0]) {
             let more = trim(line);
             if let (true, false, Some(value)) = (is_identity, more.is_empty(), values.last_mut()) {
@@ -38,19 +38,26 @@ fn values_of(message: &[u8]) -> Vec<Vec<u8>> {
             }
             continue;
         }
-        let colon = line.iter().position(|byte| *byte == b':');
-        let (name, value) = colon.map_or((line, b"".as_slice()), |at| (trim(&line[..at]), trim(&line[at + 1..])));
-        is_identity = colon.is_some() && (name.eq_ignore_ascii_case(b"identity") || name.eq_ignore_ascii_case(b"y"));
-        if is_identity {
-            values.push(value.to_vec());
-        }
+        let value = identity_value(line);
+        is_identity = value.is_some();
+        values.extend(value.map(<[u8]>::to_vec));
     }
     values
 }
 
+/// The value in the first line of an Identity field; none in that of another.
+fn identity_value(line: &[u8]) -> Option<&[u8]> {
+    if !matches!(line[0], b'I' | b'i' | b'Y' | b'y') {
+        return None;
+    }
+    let colon = line.iter().position(|byte| *byte == b':')?;
+    let (name, value) = (trim(&line[..colon]), trim(&line[colon + 1..]));
+    (name.eq_ignore_ascii_case(b"identity") || name.eq_ignore_ascii_case(b"y")).then_some(value)
+}
+
 /// The URI in a value that begins with a digest, `;`, `info`, `=`, and the URI between `<` and `>`. Any blanks may stand around `;` and `=`.
 fn x5u_in(value: &[u8]) -> Option<&[u8]> {
-    let (digest, rest) = value.split_at(value.iter().position(|byte| !is_digest(byte))?);
+    let (digest, rest) = value.split_at(first(value, |byte| !is_digest(byte))?);
     let info = trim_start(trim_start(rest).strip_prefix(b";")?);
     let (name, rest) = (info.get(..4)?, &info[4..]);
     let uri = trim_start(trim_start(rest).strip_prefix(b"=")?).strip_prefix(b"<")?;
@@ -58,7 +65,7 @@ fn x5u_in(value: &[u8]) -> Option<&[u8]> {
     (!digest.is_empty() && name.eq_ignore_ascii_case(b"info")).then_some(x5u)
 }
 
-fn is_digest(byte: &u8) -> bool {
+fn is_digest(byte: u8) -> bool {
     byte.is_ascii_alphanumeric() || matches!(byte, b'-' | b'_' | b'.')
 }
 

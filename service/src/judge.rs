@@ -139,24 +139,22 @@ impl Judge {
         if if_all.kind != door::PASSES && if_all.kind != door::REFUSED {
             return if_all;
         }
-        let mut answers = Vec::new();
-        let mut all = true;
-        for line in lines_of(&room) {
-            if es256::question(line).map_or(false, |question| world.has_confirmed(&question) || self.verifier.confirms(&question)) {
-                answers.extend_from_slice(line);
-                answers.push(b'\n');
-            } else {
-                all = false;
-            }
-        }
+        let lines: Vec<&[u8]> = lines_of(&room).collect();
+        let good: Vec<&[u8]> = lines.iter().copied().filter(|line| self.confirms(world, line)).collect();
         let confirmed = Instant::now();
         self.metrics.spend(Part::Confirm, confirmed - asked);
-        if all {
+        if good.len() == lines.len() {
             return if_all;
         }
+        let answers = good.join(b"\n".as_slice());
         let said = door::judge(&self.rules, moment, message, &by, &world.anchors, &answers);
         self.metrics.spend(Part::Judge, confirmed.elapsed());
         said
+    }
+
+    /// Whether the signature of a line that is asked is good.
+    fn confirms(&self, world: &World, line: &[u8]) -> bool {
+        es256::question(line).map_or(false, |question| world.has_confirmed(&question) || self.verifier.confirms(&question))
     }
 }
 

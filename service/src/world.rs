@@ -142,7 +142,9 @@ impl World {
             by.sizes.push(chain.der.len());
             codes.extend(chain.codes.iter().map(Vec::as_slice));
         }
-        by.table = codes.iter().filter_map(|code| self.table.get(*code)).flatten().copied().collect();
+        for lines in codes.iter().filter_map(|code| self.table.get(*code)) {
+            by.table.extend_from_slice(lines);
+        }
         Some(by)
     }
 }
