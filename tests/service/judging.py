@@ -144,3 +144,23 @@ def reload(stird, world, folder):
         assert wait_until(lambda: service.metric("stir_reloads_total") >= 1), "the changed table wasn't taken"
         told = service.verify(world.call(0, START, 3), START)
         assert (told["outcome"], told["rule"]) == ("refused", 17), told
+
+
+def confirmed(stird, world, folder):
+    """Certificates are confirmed when the files are read; one whose signature is spoilt isn't, and refuses its calls until it is mended."""
+    other = folder / "spoilt"
+    other.mkdir()
+    leaf, chain = ((world.folder / f"{kind}-0.der").read_bytes() for kind in ("leaf", "chain"))
+    place = len(leaf) - 1
+    (other / "chain.der").write_bytes(chain[:place] + bytes([chain[place] ^ 1]) + chain[place + 1 :])
+    (other / "chains.txt").write_text((world.folder / "chains.txt").read_text().replace(f"{world.folder}/chain-0.der", f"{other}/chain.der"))
+    words = world.words()
+    words[words.index("--chains") + 1] = str(other / "chains.txt")
+    with Stird(stird, [*words, "--moments", "asked"]) as service:
+        assert service.metric("stir_confirmed") == world.count, "not all leaves but one and the certificate above them are confirmed"
+        told = [service.verify(world.call(n, START, n + 1), START) for n in (0, 1)]
+        assert [(one["outcome"], one["rule"]) for one in told] == [("refused", 15), ("valid", 0)], told
+        (other / "new.der").write_bytes(chain)
+        (other / "new.der").rename(other / "chain.der")
+        assert wait_until(lambda: service.metric("stir_confirmed") == world.count + 1), "the mended certificate isn't confirmed"
+        assert service.verify(world.call(0, START, 3), START)["outcome"] == "valid"

@@ -43,6 +43,7 @@ def main():
             ("four connections at once let each ticket pass once", lambda: judging.at_once(given.stird.resolve(), world, calls, report)),
             ("the requests of ATIS-1000082 and the line for proxies", lambda: judging.other_doors(given.stird.resolve(), world)),
             ("changed files are taken without a restart", lambda: judging.reload(given.stird.resolve(), world, folder)),
+            ("certificates are confirmed when the files are read", lambda: judging.confirmed(given.stird.resolve(), world, folder)),
             ("killed at twenty moments no ticket passes twice", lambda: holding.kills(given.stird.resolve(), world, folder)),
             ("several services over one Redis let a ticket pass once", lambda: holding.shared(given.stird.resolve(), world, folder)),
             ("calls are signed for the numbers of a table alone", lambda: signing.all(given.stird.resolve(), world, folder)),
