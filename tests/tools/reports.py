@@ -33,7 +33,7 @@ MESSAGES = [
                          DIVERTED, SHAKEN.replace('Identity', 'y'))),
     (1443211945, message(FROM, TO, 'Call-ID: =three\x1b[2J', 'Identity: ..x;info=<' + X5U + '>')),
     (1443211946, b'OPTIONS'),
-    (1443211947, message(FROM, TO, 'Call-ID: five', 'Identity: e30.W10.x;info=<a b>;ppt=shaken')),
+    (1443211947, message(FROM, TO, 'Call-ID: five', f'Identity: {token([])};info=<a b>;ppt=shaken')),
     (1443211948, message(FROM, TO, 'Call-ID: six', SHAKEN)),
 ]
 REPORT = '1 valid - - -\n2 refused 437 12 1.2\n3 replay 438 18 1\n4 refused 400 1 0.7\n5 refused 438 6 1.2\n6 unread - 10 1.0\n'
