@@ -47,7 +47,8 @@ impl<'a> DrillCommand<'a> {
             Ok(carried) => carried,
             Err(_) => return Err(AnswerError::Memory),
         };
-        let outcomes = carried.close();
+        let verifier = &mut self.verifier;
+        let outcomes = verifier.service.close(carried);
         self.counts.add(&outcomes);
         Ok(BatchAnswer::new(Vec::new(alloc), true))
     }

@@ -1,5 +1,5 @@
 //! What a round needs before its calls are judged: each call screened, and each chain that they need at hand.
-ghost use Rattle.std.specs.Prelude.{◌≡◌, ◌<◌, ◌≤◌, ◌+◌, ◌%◌, ℕ, [], None, get_or, length, vec_len, slice_index_or, IfOk};
+ghost use Rattle.std.specs.Prelude.{◌≡◌, ◌<◌, ◌≤◌, ◌+◌, ◌%◌, ℕ, [], None, true, get_or, length, vec_len, slice_index_or, IfOk};
 ghost use Rattle.std.specs.List.{list_any};
 ghost use Rattle.stir_outside.specs.Stays.{ProviderStays, ShelfStays};
 ghost use Rattle.verify_service.specs.Judging.{EachPair};
@@ -44,7 +44,9 @@ pub(crate) fn ready_calls<R: Threads + Sync>(
 }
 
 /// The place of a call that isn't screened yet.
-fn open_place() -> ReadyCall {
+fn open_place() -> ReadyCall
+    ensures { is_open result.screening ≡ true }
+{
     ReadyCall {
         number: 0,
         moment: 0,
