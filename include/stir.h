@@ -78,15 +78,16 @@ uint64_t stir_abi(void);
  * past           how many seconds the moment may be after the iat of a PASSporT, and
  * future         how many the iat may be after the moment; at most 86,400 each
  * country        the digits of the own country, 1 to 3, and
- * national       how many digits a number in it has, 1 to 14
+ * national       how many digits a number in it has, 1 to 14, and with those of the country 15 at most
  * moment         when the call came, in Unix seconds
- * message        the INVITE
+ * message        the INVITE; one of more than 65,535 bytes breaks rule 1
  * listed         lines `X5U FILE` of a chain map (docs/FORMATS.md). FILE is a digit: 1 for the first of the chains, 9 for the ninth
- * chains, sizes  the chains one after another, each certificate in DER from the leaf's on; the bytes of each, and how many chains there are
+ * chains, sizes  the chains one after another, each certificate in DER from the leaf's on; the bytes of each, and how many chains there are. A
+ *                chain of more than 49,152 bytes breaks rule 11. The last size may reach past the end; bytes after the sizes aren't looked at
  * anchors        the trust anchors one after another, in DER
  * table          lines of a code table (docs/FORMATS.md); those on the codes in the chains and in the trust anchors are enough (an anchor with codes
  *                is an issuer whose numbers a certificate below it can't go beyond: rule 14)
- * room           where the lines go
+ * room           where the lines go; 20,979 bytes are always enough, 63 lines of 333
  */
 stir_said stir_ask(uint64_t past, uint64_t future, const uint8_t *country, size_t country_size, uint8_t national, uint64_t moment,
                    const uint8_t *message, size_t message_size, const uint8_t *listed, size_t listed_size,

@@ -14,6 +14,10 @@ pub enum Part {
 
 const PARTS: [&str; 3] = ["ask", "confirm", "judge"];
 
+/// The greatest number of a rule, and that of the rule on replays, which are counted apart (docs/RULES.md).
+const LAST_RULE: usize = 19;
+const REPLAY: usize = 18;
+
 /// Upper bounds of the times of requests, in microseconds.
 const BOUNDS: [u64; 10] = [250, 500, 1_000, 2_000, 5_000, 10_000, 25_000, 100_000, 500_000, 2_500_000];
 
@@ -23,7 +27,7 @@ pub struct Metrics {
     valid: AtomicU64,
     replays: AtomicU64,
     unjudged: AtomicU64,
-    refused: [AtomicU64; 18],
+    refused: [AtomicU64; LAST_RULE + 1],
     nanoseconds: [AtomicU64; 3],
     times: [AtomicU64; 11],
     microseconds: AtomicU64,
@@ -87,7 +91,7 @@ impl Metrics {
         for (outcome, count) in [("valid", &self.valid), ("replay", &self.replays), ("unjudged", &self.unjudged)] {
             writeln!(text, "stir_calls_total{{outcome=\"{outcome}\",rule=\"\"}} {}", count.load(Relaxed))?;
         }
-        for (rule, count) in self.refused.iter().enumerate().skip(1) {
+        for (rule, count) in self.refused.iter().enumerate().skip(1).filter(|(rule, _)| *rule != REPLAY) {
             writeln!(text, "stir_calls_total{{outcome=\"refused\",rule=\"{rule}\"}} {}", count.load(Relaxed))?;
         }
         writeln!(text, "# HELP stir_work_seconds_total Time in the parts of the work on calls.\n# TYPE stir_work_seconds_total counter")?;
@@ -121,5 +125,24 @@ impl Metrics {
             writeln!(text, "# HELP {name} {help}\n# TYPE {name} gauge\n{name} {value}")?;
         }
         Ok(())
+    }
+}
+
+#[cfg(test)]
+mod tests {
+    use super::*;
+
+    #[test]
+    fn a_refused_call_is_counted_by_its_rule() {
+        let metrics = Metrics::default();
+        for rule in [1, 17, 19] {
+            metrics.count(&Outcome::Refused { rule, code: 400, field: 0, part: 0 });
+        }
+        let text = metrics.text([0; 4]);
+        for rule in [1, 17, 19] {
+            assert!(text.contains(&format!("stir_calls_total{{outcome=\"refused\",rule=\"{rule}\"}} 1\n")), "{rule}: {text}");
+        }
+        assert!(text.contains("stir_calls_total{outcome=\"unjudged\",rule=\"\"} 0\n"));
+        assert!(!text.contains("rule=\"18\""));
     }
 }

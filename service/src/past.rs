@@ -111,6 +111,13 @@ impl Past {
             Past::Shared(redis) => redis.is_well(),
         }
     }
+
+    /// Looks whether tickets can be kept again, if they couldn't be.
+    pub fn look(&self) {
+        if let Past::Shared(redis) = self {
+            redis.greet();
+        }
+    }
 }
 
 #[cfg(test)]

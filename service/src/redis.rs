@@ -18,6 +18,8 @@ pub struct Redis {
     count: AtomicU64,
     idle: Mutex<Vec<Connection>>,
     well: AtomicBool,
+    /// The latest moment of a claim.
+    latest: AtomicU64,
 }
 
 /// What a Redis answers to what is asked of it here.
@@ -39,6 +41,7 @@ impl Redis {
             count: AtomicU64::new(0),
             idle: Mutex::default(),
             well: AtomicBool::new(true),
+            latest: AtomicU64::new(0),
         };
         let mut connection = redis.connect()?;
         ask(&mut connection, &[b"PING"])?;
@@ -46,13 +49,24 @@ impl Redis {
         Ok(redis)
     }
 
+    /// Whether the last claim, or the last greeting after it, was answered.
     pub fn is_well(&self) -> bool {
         self.well.load(Ordering::SeqCst)
     }
 
+    /// Looks whether it answers again, if the last claim wasn't answered. So a host that is given no calls meanwhile is well again by itself.
+    pub fn greet(&self) {
+        if !self.is_well() && self.connect().and_then(|mut connection| ask(&mut connection, &[b"PING"])).is_ok() {
+            self.well.store(true, Ordering::SeqCst);
+        }
+    }
+
     /// Claims a ticket: it is this call's exactly if the value that stands there is this call's own. So an answer that was lost on its way can
-    /// be asked for again.
+    /// be asked for again. A ticket whose value may be gone there already, since the clock went back, can't be told from one that passed.
     pub fn claim(&self, ticket: Ticket, passed: Passed, moment: u64) -> Claim {
+        if passed.last + SLACK < self.latest.fetch_max(moment, Ordering::SeqCst) {
+            return Claim::Forgotten;
+        }
         let key = ticket.iter().fold(String::from("stir:"), |key, byte| key + &format!("{byte:02x}"));
         let value = format!("{} {} {}", passed.number, self.own, self.count.fetch_add(1, Ordering::SeqCst));
         let seconds = (passed.last.saturating_sub(moment) + 1 + SLACK).to_string();

@@ -139,10 +139,12 @@ impl Service {
         Answer { status: 200, kind: "text/plain; version=0.0.4", body: self.judge.metrics.text(held) }
     }
 
-    /// Looks at the files from time to time, and takes what changed if it can be read; else what was read before stays.
+    /// Looks at the files from time to time, and takes what changed if it can be read; else what was read before stays. Looks at a Redis that
+    /// didn't answer too.
     pub fn reload(&self) {
         loop {
             std::thread::sleep(self.settings.reload);
+            self.judge.past.look();
             let world = self.judge.world.read().expect("world").clone();
             if world.is_stale() {
                 let files = &self.settings;

@@ -2,11 +2,12 @@
 """Measures the service under a load.
 
     tests/service/load.py STIRD [--calls COUNT] [--chains COUNT] [--rate CALLS] [--connections COUNT] [--world FOLDER --report FILE] [--journal] [--repeat COUNT]
-        [--under COMMAND]
+        [--under COMMAND] [--light]
 
 Sends a log's calls, as fast as one connection goes or so many a second over several, and says how long the answers took and how much processor time the service
 needed for each. Calls and files are of a world that is made here, or those of FOLDER (`log`, `chains.txt`, `anchors.der`, `table.txt`), whose report is
-compared where one is named. `--under valgrind` and the like starts the service under another program.
+compared where one is named. `--under valgrind` and the like starts the service under another program. With `--light` a client in C sends the calls (load.c, by
+`cc`), over one connection as fast as it goes: Python's takes as much of a processor as the service, which slows it where two processors share a core.
 """
 import argparse
 import json
@@ -14,6 +15,7 @@ import os
 import pathlib
 import queue
 import socket
+import subprocess
 import sys
 import tempfile
 import threading
@@ -89,6 +91,20 @@ def send(port, calls, rate, connections):
     return answers, times, time.perf_counter() - start
 
 
+def send_light(port, calls, folder):
+    """The same by the client in C."""
+    client = folder / "load"
+    subprocess.run(["cc", "-O2", "-o", client, pathlib.Path(__file__).with_name("load.c")], check=True)
+    given, told = folder / "requests", folder / "answers"
+    given.write_bytes(b"".join(b"%010d" % len(one) + one for one in (request(*call) for call in calls)))
+    with given.open("rb") as requests, told.open("wb") as answers:
+        start = time.perf_counter()
+        subprocess.run([client, str(port)], stdin=requests, stdout=answers, check=True)
+        seconds = time.perf_counter() - start
+    lines = [line.split(b" ", 1) for line in told.read_bytes().splitlines()]
+    return [body for _, body in lines], [int(took) / 1e9 for took, _ in lines], seconds
+
+
 def main():
     words = argparse.ArgumentParser(description=__doc__, formatter_class=argparse.RawDescriptionHelpFormatter)
     words.add_argument("stird")
@@ -101,6 +117,7 @@ def main():
     words.add_argument("--under", default="", help="a command, as one word")
     words.add_argument("--journal", action="store_true")
     words.add_argument("--repeat", type=int, default=1, help="send the calls so often; what is sent again is a replay")
+    words.add_argument("--light", action="store_true")
     given = words.parse_args()
     with tempfile.TemporaryDirectory() as name:
         folder = given.world or pathlib.Path(name) / "world"
@@ -116,7 +133,10 @@ def main():
         program, *rest = [*given.under.split(), given.stird]
         with Stird(program, [*rest, *files, "--moments", "asked"]) as service:
             before = processor(service.process.pid)
-            answers, times, seconds = send(service.port, calls, given.rate, given.connections)
+            if given.light:
+                answers, times, seconds = send_light(service.port, calls, pathlib.Path(name))
+            else:
+                answers, times, seconds = send(service.port, calls, given.rate, given.connections)
             used = processor(service.process.pid) - before
     told = [json.loads(text) for text in answers]
     if given.report:
