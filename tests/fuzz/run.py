@@ -9,7 +9,8 @@ of a log is put back with its length, so that the readers below the log are reac
 
 Of each run it must hold that the status is 0 to 6, that nothing is on standard error, that it ended within 20 seconds and with 1.5 GB of memory, and that
 the output is in the grammar of docs/FORMATS.md: a line or more for each call whose entry is whole, as the log is read here by itself, and then the line of
-the fault, if there is one. `--only` writes the files of one case into a folder and runs nothing. Needs the standard library alone.
+the fault, if there is one. A state that is handed on keeps what it must of the state before, and what `once` says of tickets is what tests/vectors allows.
+`--only` writes the files of one case into a folder and runs nothing. Needs the standard library alone.
 """
 import argparse
 import base64
@@ -27,30 +28,37 @@ import tempfile
 
 HERE = pathlib.Path(__file__).resolve().parent
 TOP = HERE.parent.parent
-sys.path.insert(0, str(HERE.parent / 'cli'))
+sys.path[:0] = [str(HERE.parent / 'cli'), str(HERE.parent / 'vectors')]
 import run as cli  # noqa: E402
+import states  # noqa: E402
+import tickets  # noqa: E402
 
 SECONDS = 20
 MEMORY = 1_500_000_000
 
-# How a command's files are named: only these are spoilt and written anew.
-NAMED = re.compile(rb'--(?:chains|anchors|table|answers|leaf)(?:=(.+))?')
+# The options that name a command's files: only these are spoilt and written anew.
+NAMED = (b'--chains', b'--anchors', b'--table', b'--answers', b'--leaf', b'--state')
 LONGEST = 70_000
 
 # The commands of which it is said here what their output must be.
-COMMANDS = (b'verify', b'explain', b'ask', b'sign', b'divert', b'show', b'drill')
+COMMANDS = (b'verify', b'explain', b'ask', b'sign', b'divert', b'retarget', b'show', b'drill', b'once')
 
 # ---- what is spoilt ----
 
 
 def examples():
-    """Words, input and files of the runs of examples/, which start at the top of the repository."""
+    """Words, input and files of the runs of examples/, which start at the top of the repository, and of lists of tickets that tests/vectors draws."""
     files = {f'examples/files/{path.name}': path.read_bytes() for path in (TOP / 'examples/files').iterdir()}
+    files['state'] = states.text(*states.GOOD).encode()
     world = [b'--chains=examples/files/chains.txt', b'--anchors=examples/files/anchors.der', b'--table=examples/files/table.txt']
     answers = [b'--answers=examples/files/answers.txt']
     for log in sorted(TOP.glob('examples/*/*.log')):
-        for words in ([b'verify', *world, *answers], [b'verify', *world, *answers, b'--workers=3'], [b'explain', *world, *answers], [b'ask', *world]):
+        verify = [b'verify', *world, *answers]
+        for words in (verify, [*verify, b'--workers=3'], [*verify, b'--state=state'], [b'explain', *world, *answers], [b'ask', *world]):
             yield words, log.read_bytes(), files
+    for number in range(8):
+        size, drawn = tickets.drawn(number)
+        yield [b'once', b'--size=%d' % size, b'--workers=%d' % (1 + number)], ''.join(f'{ticket}\n' for ticket in drawn).encode(), {}
     yield [b'show'], (TOP / 'examples/chain/chain.der').read_bytes(), {}
     for path in sorted(TOP.glob('examples/files/*.der')):
         yield [b'show'], path.read_bytes(), {}
@@ -73,14 +81,19 @@ def seeds():
     return [(words, data, files) for words, data, files in [*examples(), *rows()] if words and words[0] in COMMANDS and len(data) <= LONGEST]
 
 
+def option(words, name, otherwise=''):
+    """The value of an option."""
+    for word, after in zip(words, [*words[1:], b'']):
+        if word == name:
+            return os.fsdecode(after)
+        if word.startswith(name + b'='):
+            return os.fsdecode(word[len(name) + 1:])
+    return otherwise
+
+
 def named_files(words, files):
     """The files that the words name and those that a chain map lists, as far as they are there."""
-    names = []
-    for at, word in enumerate(words):
-        found = NAMED.fullmatch(word)
-        if found:
-            name = found[1] or (words[at + 1] if at + 1 < len(words) else b'')
-            names.append(os.fsdecode(name))
+    names = [option(words, name) for name in NAMED]
     for name in [name for name in names if name in files]:
         names += [os.fsdecode(found) for found in re.findall(rb' (\S+)', files[name]) if len(files[name]) < 4096]
     return {name: files[name] for name in names if name in files}
@@ -217,9 +230,10 @@ def spoilt(rng, data, others):
     return data[:1 << 20]
 
 
-def entries(log):
-    """The whole entries of a log, each a moment and a message, and where the next one fails, or None at the end (docs/FORMATS.md)."""
-    found, at, last = [], 0, 0
+def entries(log, last=0):
+    """The whole entries of a log, each a moment and a message, and where the next one fails, or None at the end (docs/FORMATS.md). LAST is the moment
+    before them."""
+    found, at = [], 0
     while at < len(log):
         head = re.compile(rb'@(0|[1-9][0-9]*) (0|[1-9][0-9]*)\n').match(log, at)
         if not head or len(found) == 1_000_000:
@@ -265,6 +279,10 @@ CERTIFICATE = re.compile(
     r'authority (?:all\n|list\n(?:(?:code [!-~]{1,32}|range [0-9]{1,15} \d+|number [0-9*#]{1,15})\n){1,1000})(?:(?:required|permitted|constraints) [^\n]*\n)*')
 DRILLED = re.compile(r'calls (\d+)\nvalid (\d+)\nreplay (\d+)\nrefused 403 (\d+)\nrefused 428 (\d+)\nrefused 437 (\d+)\nrefused 438 (\d+)\n')
 SIGNED = re.compile(rb'Identity: [^\r\n]*\r\n')
+STOPPED = re.compile(rf'refused (\d+) (\d+) {PLACE}\n|unread - 10 {PLACE}\n|hop fault 2[1-5]\n|no signature [^\n]* [0-9a-f]{{64}}\n')
+STATE = re.compile(r'past 1\nwindow \d+\ncall \d+\nmoment \d+\n((?:kept [0-9a-f]{64} \d+ \d+\n)*)end \d+\n')
+TICKET = re.compile(rb'[0-9A-Fa-f]{64}')
+LONGEST_MESSAGE = 65_535
 
 
 def whole_lines(text, form):
@@ -276,56 +294,91 @@ def whole_lines(text, form):
     return found, text[at:]
 
 
-def reported(text):
-    """How many calls have their line, whether each is valid, and what is left; or why they can't be a report."""
+def begun(words, files):
+    """Where a log begins: the window, the last call, its moment and what was kept; or the line that is written of a state file that says nothing of this."""
+    name, window = option(words, b'--state'), int(option(words, b'--past', '60'))
+    if not name:
+        return window, 0, 0, []
+    if name not in files:
+        return f'missing {name}\n'
+    found = states.state(files[name], window)
+    if isinstance(found, tuple) and found[0] == window:
+        return found
+    line = found if isinstance(found, int) else files[name].split(b'\n').index(b'past 1') + 2
+    return f'refused {name} {line}\n'
+
+
+def reported(text, begin):
+    """How many calls have their line, which are valid, and what is left; or why they can't be a report."""
     found, rest = whole_lines(text, REPORT)
     valid = set()
-    for number, one in enumerate(found, 1):
+    for number, one in enumerate(found, begin[1] + 1):
         if int(one[1]) != number:
             raise ValueError(f'line {number} has another number')
         if one[3] and CODES.get(int(one[4])) != int(one[3]):
             raise ValueError(f'line {number}: rule {one[4]} has another code')
         if one[2]:
             valid.add(number)
-    for number, one in enumerate(found, 1):
-        if one[5] and int(one[5]) not in valid:
-            raise ValueError(f'line {number} is a replay of a call that isn\'t valid')
-    return len(found), len(valid) == len(found), rest
+    passed = valid | {call for _, call, _ in begin[3]}
+    for one in found:
+        if one[5] and int(one[5]) not in passed:
+            raise ValueError(f'call {one[1]} is a replay of a call that isn\'t valid')
+    return len(found), valid, rest
 
 
 def explained(text):
     """The same of what `explain` writes."""
     found, rest = whole_lines(text, EXPLAIN)
-    call, rule, good = 0, LAST, True
+    call, rule, valid = 0, LAST, set()
     for one in found:
         if rule == LAST:
             call, rule = call + 1, 0
+            valid.add(call)
         rule += 2 if rule == 17 else 1
         if (int(one[1]), int(one[2])) != (call, rule):
             raise ValueError(f'{one[0]!r} isn\'t the line of call {call} and rule {rule}')
         if not one[3]:
             if one[4] and CODES[rule] != int(one[4]) or not one[4] and rule != 10:
                 raise ValueError(f'{one[0]!r} has another code')
-            rule, good = LAST, False
+            rule = LAST
+            valid.remove(call)
     if rule != LAST:
         raise ValueError(f'call {call} ends at rule {rule}')
-    return call, good, rest
+    return call, valid, rest
 
 
-def judged(status, text, log):
-    """What is wrong with a run over a log, or None. A named file that is refused ends it before the log is read."""
-    form = explained if log[0] == b'explain' else reported
-    calls, good, rest = form(text)
-    if status in FAULTS and status != 5 and FAULTS[status].fullmatch(rest):
-        return None if calls == 0 else 'a fault after the lines of calls'
-    found, fault = entries(log[1])
-    if status == 5 and FAULTS[5].fullmatch(rest):
-        if calls == 0 and (fault is None or rest != f'refused input {fault}\n') and not rest.startswith('refused input '):
-            return None
-        if calls == len(found) and fault is not None and rest == f'refused input {fault}\n':
-            return None
-        return f'{calls} calls and {rest!r} of a log of {len(found)} that ends at {fault}'
-    if rest or status not in (0, 1) or (status == 0) != good or calls != len(found) or fault is not None:
+def handed_on(text, begin, moments, valid):
+    """What is left behind the state that is handed on after calls of these moments; or why it can't be their state."""
+    found = STATE.match(text)
+    if not found:
+        raise ValueError(f'{text[:80]!r} in the place of a state')
+    window, last, before, kept = begin
+    now = moments[-1] if moments else before
+    here = [(ticket, int(call), int(until)) for _, ticket, call, until in map(str.split, found[1].splitlines())]
+    if found[0] != states.state_text(window, last + len(moments), now, here) or any(until < now for _, _, until in here):
+        raise ValueError(f'{found[0][:200]!r} isn\'t the state after call {last + len(moments)}')
+    if [one for one in here if one[1] <= last] != [one for one in kept if one[2] >= now]:
+        raise ValueError('another past is handed on than was there')
+    passed = [call for _, call, _ in here if call > last]
+    fresh = {call for call, moment in enumerate(moments, last + 1) if moment == now and call in valid}
+    if len(passed) > len(set(passed)) or not fresh <= set(passed) <= valid:
+        raise ValueError(f'calls {passed} are handed on of the valid ones {sorted(valid)}')
+    return text[found.end():]
+
+
+def judged(status, text, words, log, files):
+    """What is wrong with a run over a log, or None. A named file that is refused ends it before the log is read, and the state is the last of them."""
+    begin, name = begun(words, files), option(words, b'--state')
+    if status in (3, 5) and FAULTS[status].fullmatch(text) and not text.startswith('refused input '):
+        return f'{text!r} of a state that begins at {begin!r}' if text.startswith(f'refused {name} ') and text != begin else None
+    if isinstance(begin, str):
+        return f'status {status} and {text[:80]!r} in the place of {begin!r}'
+    calls, valid, rest = explained(text) if words[0] == b'explain' else reported(text, begin)
+    found, fault = entries(log, begin[2])
+    if name and calls == len(found):
+        rest = handed_on(rest, begin, [moment for moment, _ in found], valid)
+    ended = (int(len(valid) < calls), '') if fault is None else (5, f'refused input {fault}\n')
+    if calls != len(found) or (status, rest) != ended:
         return f'status {status}, {calls} calls, then {rest[:80]!r}, of a log of {len(found)} that ends at {fault}'
     return None
 
@@ -342,12 +395,28 @@ def asked(status, text, log):
     return f'status {status} and {rest[:80]!r}'
 
 
+def unlike(said, message):
+    """What is wrong with a message that is to have one more Identity field than this one, or None."""
+    grown = any(said[:one.start()] + said[one.end():] == message for one in SIGNED.finditer(said))
+    return None if grown and len(said) <= LONGEST_MESSAGE else 'the output isn\'t the message with one more Identity field'
+
+
 def signed(status, said, message):
     if status == 0:
-        places = [one for one in SIGNED.finditer(said) if said[:one.start()] + said[one.end():] == message]
-        return None if places else 'the output isn\'t the message with one more Identity field'
+        return unlike(said, message)
     if status == 1:
         return None if re.fullmatch(rb'sign fault [123]\n|no signature [^\n]* [0-9a-f]{64}\n', said) else f'{said[:80]!r}'
+    return None if status in FAULTS and FAULTS[status].fullmatch(said.decode()) else f'status {status} and {said[:80]!r}'
+
+
+def sent_on(status, said, message, target):
+    """The same of `retarget`: the message has another request URI too."""
+    if status == 0:
+        return unlike(said, re.sub(rb'^([^ ]* )[^ ]*', lambda found: found[1] + os.fsencode(target), message, count=1))
+    if status == 1:
+        found = STOPPED.fullmatch(said.decode())
+        long = len(message) > LONGEST_MESSAGE and said != b'refused 400 1 0.65535\n'
+        return f'{said[:80]!r}' if long or not found or found[1] and CODES.get(int(found[2])) != int(found[1]) else None
     return None if status in FAULTS and FAULTS[status].fullmatch(said.decode()) else f'status {status} and {said[:80]!r}'
 
 
@@ -367,7 +436,30 @@ def drilled(status, text):
     return None if status == 0 and found and counts[0] == sum(counts[1:]) else f'status {status} and {text[:80]!r}'
 
 
-def wrong(words, given, status, said, errors):
+def listed(text):
+    """The tickets of a text, or the number of its first bad line (docs/FORMATS.md)."""
+    found = []
+    for number, line in enumerate(re.findall(rb'[^\n]*\n|[^\n]+', text), 1):
+        line = re.sub(rb'\r?\n\Z', b'', line)
+        if TICKET.fullmatch(line):
+            found.append(line.decode())
+        elif line and not line.startswith(b';'):
+            return number
+    return found
+
+
+def claimed(status, text, words, given):
+    """What is wrong with what is said of tickets, or None."""
+    found, said = listed(given), [line.partition(' ')[2] for line in text.splitlines()]
+    if isinstance(found, int):
+        holds = (status, text) == (5, f'refused input {found}\n')
+    else:
+        right = tickets.is_right(int(option(words, b'--size')), int(option(words, b'--workers', '1')), found, said)
+        holds = right and text.encode() == tickets.report(said) and status == int(any(one != 'won' for one in said))
+    return None if holds else f'status {status} and {text[:80]!r}'
+
+
+def wrong(words, given, files, status, said, errors):
     """What doesn't hold of a run, or None."""
     if not 0 <= status <= 6:
         return f'status {status}'
@@ -379,12 +471,16 @@ def wrong(words, given, status, said, errors):
     try:
         if words[0] in (b'sign', b'divert'):
             return signed(status, said, given)
+        if words[0] == b'retarget':
+            return sent_on(status, said, given, option(words, b'--target'))
         text = said.decode()
         if words[0] == b'show':
             return shown(status, text)
         if words[0] == b'drill':
             return drilled(status, text)
-        return asked(status, text, given) if words[0] == b'ask' else judged(status, text, (words[0], given))
+        if words[0] == b'once':
+            return claimed(status, text, words, given)
+        return asked(status, text, given) if words[0] == b'ask' else judged(status, text, words, given, files)
     except ValueError as fault:
         return str(fault)
 
@@ -401,10 +497,14 @@ def case(seed, number):
     files = named_files(words, files)
     pool = [given, *files.values()]
     if files and rng.random() < 0.35:
-        name = rng.choice(sorted(files))
+        # The state at least as often as all others, if there is one.
+        state = option(words, b'--state')
+        name = state if state in files and rng.random() < 0.5 else rng.choice(sorted(files))
         files = {**files, name: spoilt(rng, files[name], pool)}
     elif words[0] in (b'verify', b'explain', b'ask'):
         given = spoilt_log(rng, given, pool)
+    elif words[0] == b'once' and rng.random() < 0.5:
+        given = lines(rng, given)
     else:
         given = spoilt(rng, given, pool)
     if rng.random() < 0.03:
@@ -434,7 +534,7 @@ def tried(job):
                 faults.append((number, words, f'no end within {SECONDS} seconds'))
                 continue
         counts[done.returncode] += 1
-        fault = wrong(words, given, done.returncode, done.stdout, done.stderr)
+        fault = wrong(words, given, files, done.returncode, done.stdout, done.stderr)
         if fault:
             faults.append((number, words, fault))
     return counts, faults

@@ -19,6 +19,24 @@ import calls  # noqa: E402
 import logs  # noqa: E402
 import runs as vectors  # noqa: E402
 import signing  # noqa: E402
+import states  # noqa: E402
+
+# The call that an earlier run let pass as its seventh, and the diverted one as it passes here: each a ticket, a number and the last second.
+PASSED = signing.digest(signing.SHAKEN), 7, calls.IAT + 60
+LINKED = signing.digest(signing.DIV), 8, calls.IAT + 60
+
+# The diversion of the diverted call.
+AGAIN = calls.signing_input("OWN_SECOND")
+
+
+def signatures(*texts):
+    return "".join(f"sign k1 {signing.digest(text)} {128 * '0'}\n" for text in texts)
+
+
+def state(call, *kept):
+    """The state after a call of this number."""
+    return states.state_text(60, call, calls.IAT, sorted(kept))
+
 
 WORLD = {
     "c": "".join(f"{calls.X5U % name} {name}.cer\n" for name in ("passport", "div")).encode(),
@@ -27,9 +45,12 @@ WORLD = {
     "a": calls.WORLD["ROOT"],
     "t": b"709J 12155551000 1000\n",
     "w": calls.answers().encode(),
-    "s": "".join(f"sign k1 {signing.digest(text)} {128 * '0'}\n" for text in (signing.SHAKEN, signing.DIV)).encode(),
+    "s": signatures(signing.SHAKEN, signing.DIV).encode(),
+    "b": (calls.answers() + signatures(signing.DIV, AGAIN)).encode(),
     "l": calls.WORLD["LEAF"],
     "d": calls.WORLD["DIV"],
+    "v": calls.CERTIFICATES["SECOND_DIV"],
+    "p": state(7, PASSED).encode(),
 }
 
 CALL = signing.START % 3 + signing.FIELDS + signing.QUOTED + signing.LENGTH + b"\r\n"
@@ -37,8 +58,9 @@ DIVERTED = signing.START % 4 + signing.FIELDS + signing.QUOTED + signing.line_of
 TO_DIVERT = signing.HOP + b"\r\n"
 
 # A run: its words, its input, its whole output and status, the named files in the order in which they are read, what comes of a chain's file that can't be
-# read (by the PASSporT, in the order of the call), and after how many bytes of the input its lines are written, however the run ends.
-Run = collections.namedtuple("Run", "name words given said status named unread at")
+# read (by the PASSporT, in the order of the call), after how many bytes of the input its lines are written, however the run ends, and what is written
+# of a state before the line of the fault if none of the input can be read.
+Run = collections.namedtuple("Run", "name words given said status named unread at handed", defaults=[""])
 
 # How many calls are judged before their lines are written.
 ROUND = 256
@@ -48,6 +70,7 @@ EXPLAIN = VERIFY.replace("verify", "explain")
 ASK = "ask --chains=c --anchors=a --table=t"
 SIGN = vectors.SIGN.replace("--answers=w", "--answers=s")
 DIVERT = vectors.DIVERT.replace("--answers=w", "--answers=s").replace("--leaf=l", "--leaf=d")
+RETARGET = f"retarget --chains=c --anchors=a --table=t --answers=b --key=k1 --iat={calls.IAT} --moment={calls.IAT}"
 
 
 def entry(message):
@@ -58,15 +81,17 @@ def runs():
     """Each run."""
     valid = "1 valid - - -\n"
     leaf, link = calls.answers(("LEAF", "INT")), calls.answers(("DIV",))
-    for name, message, asked, broken in (
-        ("call", CALL, leaf + calls.answers(("CALL",)), [""]),
-        ("diverted call", DIVERTED, leaf + link + calls.answers(("CALL", "FIRST")), ["", leaf]),
+    for name, message, asked, broken, after, status in (
+        ("call", CALL, leaf + calls.answers(("CALL",)), [""], "8 replay 438 18 7\n" + state(8, PASSED), 1),
+        ("diverted call", DIVERTED, leaf + link + calls.answers(("CALL", "FIRST")), ["", leaf], "8 valid - - -\n" + state(8, PASSED, LINKED), 0),
     ):
         given = entry(message)
         fields = range(1, len(broken) + 1)
         for words in (VERIFY, f"{VERIFY} --workers=2"):
             unread = [(1, f"1 unread - 10 {field}.0\n") for field in fields]
             yield Run(f"{words.split()[0]}{words[len(VERIFY):]}, {name}", words, given, valid, 0, "catw", unread, len(given))
+        unread = [(1, f"8 unread - 10 {field}.0\n" + state(8, PASSED)) for field in fields]
+        yield Run(f"verify --state, {name}", f"{VERIFY} --state=p", given, after, status, "catwp", unread, len(given), state(7, PASSED))
         unread = [(1, vectors.holding(9) + f"1 10 unread {field}.0\n") for field in fields]
         yield Run(f"explain, {name}", EXPLAIN, given, vectors.holding(19), 0, "catw", unread, len(given))
         files = ("passport.cer", "div.cer")
@@ -77,7 +102,23 @@ def runs():
     yield Run("divert", DIVERT, TO_DIVERT, (signing.ONCE + b"\r\n").decode(), 0, "sdt", [], None)
     shown = vectors.shown(1, 3, ("authority list", "code 709J"), True) + vectors.shown(2, 2, ("authority all",), False)
     yield Run("show", "show", WORLD["passport.cer"], shown, 0, "", [], None)
+    yield from retargeted()
+    for words, digits, said, status in (
+        ("once --size=1", "00f", "1 won\n2 lost\n3 full 1\n", 1),
+        ("once --size=3 --workers=2", "0f8", "1 won\n2 won\n3 won\n", 0),
+    ):
+        yield Run(words, words, "".join(digit * 64 + "\n" for digit in digits).encode(), said, status, "", [], None)
     yield from longer()
+
+
+def retargeted():
+    """The call and the diverted call, each sent on to the next number."""
+    for name, message, number, text, by, leaf in (("call", CALL, 4, signing.DIV, "div", "d"), ("diverted call", DIVERTED, 5, AGAIN, "second", "v")):
+        words = f"{RETARGET} --x5u={calls.X5U % by} --leaf={leaf} --target=sip:+1212555121{number}@example.net"
+        start = signing.START % number
+        said = start + message[len(start):-2] + signing.line_of(text, by, "div", signing.ZEROS) + b"\r\n"
+        unread = [(1, f"unread - 10 {field}.0\n") for field in range(1, number - 2)]
+        yield Run(f"retarget, {name}", words, message, said.decode(), 0, f"catb{leaf}", unread, None)
 
 
 def longer():

@@ -176,15 +176,21 @@ WRITTEN = (
 )
 
 
-def written(window, call, moment, kept):
-    """The text of a state, if it breaks no rule."""
+def state_text(window, call, moment, kept):
+    """The text of a state; None if it breaks a rule."""
     tickets = [ticket for ticket, _, _ in kept]
     if window > DAY or moment > LAST_MOMENT or sorted(set(tickets)) != tickets:
-        return "none"
+        return None
     if any(not 1 <= one <= call or last > LAST_SECOND for _, one, last in kept):
-        return "none"
+        return None
     lines = [f"kept {ticket} {one} {last}" for ticket, one, last in kept]
-    return escaped(text("past 1", f"window {window}", f"call {call}", f"moment {moment}", *lines, f"end {len(kept)}").encode())
+    return text("past 1", f"window {window}", f"call {call}", f"moment {moment}", *lines, f"end {len(kept)}")
+
+
+def written(*parts):
+    """The text of a state as it is answered, if it breaks no rule."""
+    found = state_text(*parts)
+    return "none" if found is None else escaped(found.encode())
 
 
 # What is added to a past, one after another.

@@ -58,13 +58,17 @@ def may_say(size, tickets, said):
     won = [ticket for ticket, text in lines if text == "won"]
     if len(won) != len(set(won)) or not {ticket for ticket, text in lines if text == "lost"} <= set(won):
         return False
-    for ticket, text in lines:
-        level = level_of(text)
-        own = pieces(ticket)[:level]
-        others = {tuple(pieces(other)[:level]) for other, said_of in lines if level_of(said_of) > level}
-        if level <= LEVELS and len(others - {tuple(own)}) < size:
+    for level in range(1, LEVELS + 1):
+        held = {tuple(pieces(ticket)[:level]) for ticket, text in lines if level_of(text) > level}
+        full = {tuple(pieces(ticket)[:level]) for ticket, text in lines if level_of(text) == level}
+        if any(len(held) - (one in held) < size for one in full):
             return False
     return True
+
+
+def is_right(size, workers, tickets, said):
+    """Whether this may come of the tickets on this number of workers."""
+    return said == claims(size, tickets) if workers == 1 else may_say(size, tickets, said)
 
 
 def drawn(seed):
