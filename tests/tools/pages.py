@@ -1,5 +1,6 @@
 """The pages that people read: each command that they show is run, in a copy of the tree in which the program stands as the proved one, and what it
-writes is compared; no sentence is too long; man/stir.1 is what tools/man makes; what docs/PROVED.md names is there; and its part on refusals is what tools/refusals makes.
+writes is compared; no sentence is too long; man/stir.1 is what tools/man makes; what docs/PROVED.md names is there; and docs/REFUSALS.md is what
+tools/refusals makes.
 
     pages.py    counts the long sentences of these pages, and names them
 
@@ -25,7 +26,8 @@ SHOWN = {'README.md': False, 'docs/COMMANDS.md': False, 'docs/DAY.md': True}
 NOT_RUN = ('rt ci', './stir --prove')
 
 # The pages whose sentences are counted, and how many words a sentence has at most.
-READ = ('README.md', 'docs/OPERATING.md', 'docs/DAY.md', 'docs/COMMANDS.md')
+READ = ('README.md', 'CONTRIBUTING.md', 'CHANGELOG.md', 'service/kamailio/README.md', 'python/README.md', 'examples/cluster/README.md',
+        *sorted(f'docs/{page.name}' for page in (TOP / 'docs').glob('*.md')))
 MOST_WORDS = 40
 
 
@@ -139,7 +141,7 @@ def results(program, has_library):
     done = subprocess.run([sys.executable, TOP / 'tools' / 'man', '--check'], stderr=subprocess.PIPE, text=True)
     yield 'tools/man --check', (0, ''), (done.returncode, done.stderr)
     done = subprocess.run([sys.executable, TOP / 'tools' / 'refusals', '--check'], stdout=subprocess.PIPE, text=True)
-    yield 'tools/refusals --check', (0, 'refusals: docs/PROVED.md has what the sources say\n'), (done.returncode, done.stdout)
+    yield 'tools/refusals --check', (0, 'refusals: docs/REFUSALS.md has what the sources say\n'), (done.returncode, done.stdout)
 
 
 def main():
