@@ -91,7 +91,8 @@ def runs():
             unread = [(1, f"1 unread - 10 {field}.0\n") for field in fields]
             yield Run(f"{words.split()[0]}{words[len(VERIFY):]}, {name}", words, given, valid, 0, "catw", unread, len(given))
         unread = [(1, f"8 unread - 10 {field}.0\n" + state(8, PASSED)) for field in fields]
-        yield Run(f"verify --state, {name}", f"{VERIFY} --state=p", given, after, status, "catwp", unread, len(given), state(7, PASSED))
+        for words in (f"{VERIFY} --state=p", f"{VERIFY} --state=p --workers=2"):
+            yield Run(f"verify{words[len(VERIFY):]}, {name}", words, given, after, status, "catwp", unread, len(given), state(7, PASSED))
         unread = [(1, vectors.holding(9) + f"1 10 unread {field}.0\n") for field in fields]
         yield Run(f"explain, {name}", EXPLAIN, given, vectors.holding(19), 0, "catw", unread, len(given))
         files = ("passport.cer", "div.cer")
