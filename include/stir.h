@@ -84,7 +84,7 @@ uint64_t stir_abi(void);
  * listed         lines `X5U FILE` of a chain map (docs/FORMATS.md). FILE is a digit: 1 for the first of the chains, 9 for the ninth
  * chains, sizes  the chains one after another, each certificate in DER from the leaf's on; the bytes of each, and how many chains there are. A
  *                chain of more than 49,152 bytes breaks rule 11. The last size may reach past the end; bytes after the sizes aren't looked at
- * anchors        the trust anchors one after another, in DER
+ * anchors        the trust anchors one after another, in DER; those whose subject stands in the chains are enough, in their order
  * table          lines of a code table (docs/FORMATS.md); those on the codes in the chains and in the trust anchors are enough (an anchor with codes
  *                is an issuer whose numbers a certificate below it can't go beyond: rule 14)
  * room           where the lines go; 20,979 bytes are always enough, 63 lines of 333

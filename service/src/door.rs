@@ -81,6 +81,7 @@ pub struct Materials {
     pub listed: Vec<u8>,
     pub chains: Vec<u8>,
     pub sizes: Vec<usize>,
+    pub anchors: Vec<u8>,
     pub table: Vec<u8>,
 }
 
@@ -102,25 +103,25 @@ pub fn abi() -> u64 {
 }
 
 /// The lines of what a verifier of signatures is asked for a call, and what comes of the call if it confirms all of them.
-pub fn ask(rules: &Rules, moment: u64, message: &[u8], by: &Materials, anchors: &[u8], out: &mut Vec<u8>) -> Said {
+pub fn ask(rules: &Rules, moment: u64, message: &[u8], by: &Materials, out: &mut Vec<u8>) -> Said {
     with_room(out, |at, room| unsafe {
         stir_ask(
             rules.past, rules.future, rules.country.as_ptr(), rules.country.len(), rules.national, moment,
             message.as_ptr(), message.len(), by.listed.as_ptr(), by.listed.len(),
             by.chains.as_ptr(), by.chains.len(), by.sizes.as_ptr(), by.sizes.len(),
-            anchors.as_ptr(), anchors.len(), by.table.as_ptr(), by.table.len(), at, room,
+            by.anchors.as_ptr(), by.anchors.len(), by.table.as_ptr(), by.table.len(), at, room,
         )
     })
 }
 
 /// What comes of a call, by the lines of what was confirmed.
-pub fn judge(rules: &Rules, moment: u64, message: &[u8], by: &Materials, anchors: &[u8], answers: &[u8]) -> Said {
+pub fn judge(rules: &Rules, moment: u64, message: &[u8], by: &Materials, answers: &[u8]) -> Said {
     unsafe {
         stir_judge(
             rules.past, rules.future, rules.country.as_ptr(), rules.country.len(), rules.national, moment,
             message.as_ptr(), message.len(), by.listed.as_ptr(), by.listed.len(),
             by.chains.as_ptr(), by.chains.len(), by.sizes.as_ptr(), by.sizes.len(),
-            anchors.as_ptr(), anchors.len(), by.table.as_ptr(), by.table.len(), answers.as_ptr(), answers.len(),
+            by.anchors.as_ptr(), by.anchors.len(), by.table.as_ptr(), by.table.len(), answers.as_ptr(), answers.len(),
         )
     }
 }

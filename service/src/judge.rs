@@ -133,7 +133,7 @@ impl Judge {
         let mut room = Vec::with_capacity(8192);
         let by = self.materials(world, message, moment, &mut room);
         let start = Instant::now();
-        let if_all = door::ask(&self.rules, moment, message, &by, &world.anchors, &mut room);
+        let if_all = door::ask(&self.rules, moment, message, &by, &mut room);
         let asked = Instant::now();
         self.metrics.spend(Part::Ask, asked - start);
         if if_all.kind != door::PASSES && if_all.kind != door::REFUSED {
@@ -147,7 +147,7 @@ impl Judge {
             return if_all;
         }
         let answers = good.join(b"\n".as_slice());
-        let said = door::judge(&self.rules, moment, message, &by, &world.anchors, &answers);
+        let said = door::judge(&self.rules, moment, message, &by, &answers);
         self.metrics.spend(Part::Judge, confirmed.elapsed());
         said
     }

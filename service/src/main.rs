@@ -1,5 +1,6 @@
 //! `stird`: a STIR/SHAKEN service over HTTP. It judges calls by the proved library of `stir` (`include/stir.h`), with ES256 by OpenSSL.
 //! docs/SERVICE.md tells how to run it.
+mod anchors;
 mod atis;
 mod door;
 mod es256;
@@ -16,12 +17,21 @@ mod settings;
 mod signing;
 mod world;
 
+use std::env;
 use std::net::TcpListener;
+use std::os::unix::process::CommandExt;
+use std::process::Command;
 use std::sync::atomic::AtomicUsize;
 use std::sync::{Arc, Mutex, RwLock};
 
+/// The settings of the C library, and how many freed blocks of each size a thread keeps for itself (mallopt(3), "Environment variables"). A call gives
+/// back more than the seven that are usual, and each further one takes a lock.
+const TUNABLES: &str = "GLIBC_TUNABLES";
+const KEPT_BLOCKS: &str = "glibc.malloc.tcache_count=64";
+
 fn main() {
-    let words: Vec<String> = std::env::args().skip(1).collect();
+    keep_blocks();
+    let words: Vec<String> = env::args().skip(1).collect();
     let settings = settings::read(&words).unwrap_or_else(|fault| {
         eprint!("stird: {fault}\n{}", settings::USAGE);
         std::process::exit(2)
@@ -29,6 +39,14 @@ fn main() {
     if let Err(fault) = start(settings) {
         eprintln!("stird: {fault}");
         std::process::exit(1);
+    }
+}
+
+/// Starts the program anew with these settings, which the C library reads before `main`, unless there are some. If that fails it goes on without.
+fn keep_blocks() {
+    let mut words = env::args_os();
+    if let (None, Some(name), Ok(program)) = (env::var_os(TUNABLES), words.next(), env::current_exe()) {
+        let _ = Command::new(program).arg0(name).args(words).env(TUNABLES, KEPT_BLOCKS).exec();
     }
 }
 

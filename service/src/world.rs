@@ -1,4 +1,5 @@
 //! What calls are judged by: the chain map with its chains, the trust anchors and the code table, read from files and read again if one changes.
+use crate::anchors;
 use crate::door::{self, Materials, Rules};
 use crate::es256::{self, Question, Verifier};
 use crate::identity;
@@ -14,20 +15,22 @@ const MOST_CHAINS: usize = 9;
 /// How long certificates are confirmed when the files are read. What isn't confirmed by then is when a call asks for it.
 const PATIENCE: Duration = Duration::from_secs(1);
 
-/// A chain of certificates, and the codes of the code table that may be in it.
+/// A chain of certificates, the places of the trust anchors that may be its own, and the codes of the code table that may be in it and in these.
 struct Chain {
     der: Vec<u8>,
+    anchors: Vec<usize>,
     codes: Vec<Vec<u8>>,
 }
 
 /// What calls are judged by.
 pub struct World {
     chains: HashMap<Vec<u8>, Chain>,
-    /// The lines of the code table by their code. Rules 14 and 17 ask for the codes in a call's chains and in the trust anchors alone, so a call is
+    /// The trust anchors. Rule 12 asks for one that is the last certificate of a chain or the issuer of that one, so a call is judged by those of its
+    /// chains as by all.
+    anchors: Vec<Vec<u8>>,
+    /// The lines of the code table by their code. Rules 14 and 17 ask for the codes in a call's chains and in their trust anchors alone, so a call is
     /// judged by the lines on these as by the whole table.
     table: HashMap<Vec<u8>, Vec<u8>>,
-    anchors_codes: Vec<Vec<u8>>,
-    pub anchors: Vec<u8>,
     /// The questions of the chains' certificates whose signatures are good.
     confirmed: HashSet<Question>,
     stamps: Vec<(PathBuf, Stamp)>,
@@ -51,8 +54,8 @@ impl World {
             std::fs::read(path).map_err(|error| format!("{}: {error}", path.display()))
         };
         let (map_text, anchors, table_text) = (read(map)?, read(anchors_path)?, read(table)?);
-        let whole = Materials { listed: map_text.clone(), table: table_text.clone(), ..Materials::default() };
-        let said = door::judge(rules, 0, b"", &whole, &anchors, b"");
+        let whole = Materials { listed: map_text.clone(), anchors: anchors.clone(), table: table_text.clone(), ..Materials::default() };
+        let said = door::judge(rules, 0, b"", &whole, b"");
         if said.kind == door::BAD_INPUT {
             let name = match said.input {
                 2 => map.display().to_string(),
@@ -63,6 +66,7 @@ impl World {
             return Err(format!("{name}: outside its grammar"));
         }
         let table = by_code(&table_text);
+        let anchors: Vec<Vec<u8>> = anchors::split(&anchors).into_iter().map(<[u8]>::to_vec).collect();
         let mut chains = HashMap::new();
         for line in lines_of(&map_text) {
             let Some(space) = line.iter().position(|byte| *byte == b' ') else { continue };
@@ -70,12 +74,10 @@ impl World {
             let path = PathBuf::from(name);
             stamps.push((path.clone(), stamp(&path)));
             if let Some(der) = read_chain(&path)? {
-                let codes = codes_in(&der, &table);
-                chains.insert(x5u.to_vec(), Chain { der, codes });
+                chains.insert(x5u.to_vec(), Chain::new(der, &anchors, &table));
             }
         }
-        let anchors_codes = codes_in(&anchors, &table);
-        Ok(World { chains, table, anchors_codes, anchors, confirmed: HashSet::new(), stamps })
+        Ok(World { chains, anchors, table, confirmed: HashSet::new(), stamps })
     }
 
     /// Confirms the signatures of the chains' certificates before a call asks for them, as far as the time reaches. What another world has confirmed
@@ -100,7 +102,7 @@ impl World {
         let Some(message) = std::str::from_utf8(x5u).ok().map(|x5u| identity::unsigned(x5u, 0)) else { return Vec::new() };
         let by = self.materials(std::iter::once(x5u)).unwrap_or_default();
         let mut lines = Vec::new();
-        door::ask(rules, 0, &message, &by, &self.anchors, &mut lines);
+        door::ask(rules, 0, &message, &by, &mut lines);
         lines_of(&lines).filter_map(es256::question).collect()
     }
 
@@ -127,7 +129,7 @@ impl World {
     /// What a call with these x5us is judged by: those that aren't listed are passed over. None if more than nine are.
     pub fn materials<'a>(&self, x5us: impl Iterator<Item = &'a [u8]>) -> Option<Materials> {
         let mut by = Materials::default();
-        let mut codes: BTreeSet<&[u8]> = self.anchors_codes.iter().map(Vec::as_slice).collect();
+        let (mut anchors, mut codes) = (BTreeSet::new(), BTreeSet::<&[u8]>::new());
         for x5u in x5us {
             let Some(chain) = self.chains.get(x5u) else { continue };
             if is_listed(&by.listed, x5u) {
@@ -140,12 +142,26 @@ impl World {
             by.listed.extend_from_slice(&[b' ', b'1' + by.sizes.len() as u8, b'\n']);
             by.chains.extend_from_slice(&chain.der);
             by.sizes.push(chain.der.len());
+            anchors.extend(chain.anchors.iter().copied());
             codes.extend(chain.codes.iter().map(Vec::as_slice));
+        }
+        // In the order of the file, since the first that fits is a chain's anchor.
+        for anchor in anchors {
+            by.anchors.extend_from_slice(&self.anchors[anchor]);
         }
         for lines in codes.iter().filter_map(|code| self.table.get(*code)) {
             by.table.extend_from_slice(lines);
         }
         Some(by)
+    }
+}
+
+impl Chain {
+    fn new(der: Vec<u8>, all: &[Vec<u8>], table: &HashMap<Vec<u8>, Vec<u8>>) -> Chain {
+        let anchors: Vec<usize> = (0..all.len()).filter(|at| anchors::may_be_of(&all[*at], &der)).collect();
+        let with = anchors.iter().map(|at| all[*at].as_slice()).chain([der.as_slice()]);
+        let codes: BTreeSet<Vec<u8>> = with.flat_map(|der| codes_in(der, table)).collect();
+        Chain { der, anchors, codes: codes.into_iter().collect() }
     }
 }
 
@@ -209,15 +225,19 @@ mod tests {
     }
 
     #[test]
-    fn a_call_is_judged_by_its_chains_and_by_the_codes_in_them_and_in_the_anchors() {
+    fn a_call_is_judged_by_its_chains_with_their_anchors_and_by_the_codes_in_them() {
         let table = by_code(b"1 11\n2 22\n3 33\n4 44\n");
-        let chain = |code: &[u8]| Chain { der: code.to_vec(), codes: vec![code.to_vec()] };
-        let chains = (0..10).map(|n| (vec![b'a' + n], chain(if n < 2 { b"2" } else { b"4" }))).collect();
-        let world = World { chains, table, anchors_codes: vec![b"1".to_vec()], anchors: Vec::new(), confirmed: HashSet::new(), stamps: Vec::new() };
+        let chain = |code: &[u8], anchors: &[usize]| Chain { der: code.to_vec(), anchors: anchors.to_vec(), codes: vec![code.to_vec()] };
+        let chains = (0..10).map(|n| (vec![b'a' + n], if n < 2 { chain(b"2", &[2 - usize::from(n), 0]) } else { chain(b"4", &[]) })).collect();
+        let anchors = [b"A", b"B", b"C"].map(|it| it.to_vec()).to_vec();
+        let world = World { chains, anchors, table, confirmed: HashSet::new(), stamps: Vec::new() };
+        let by = world.materials([b"b".as_slice(), b"none", b"b"].into_iter()).expect("one is listed");
+        assert_eq!((by.listed.as_slice(), by.anchors.as_slice()), (b"b 1\n".as_slice(), b"AB".as_slice()));
         let by = world.materials([b"a".as_slice(), b"none", b"b", b"a"].into_iter()).expect("two are listed");
         assert_eq!((by.listed.as_slice(), by.sizes.as_slice()), (b"a 1\nb 2\n".as_slice(), [1, 1].as_slice()));
-        assert_eq!(by.table, b"1 11\n2 22\n");
-        assert_eq!(world.materials(std::iter::empty()).expect("none is listed").table, b"1 11\n");
+        assert_eq!((by.table.as_slice(), by.anchors.as_slice()), (b"2 22\n".as_slice(), b"ABC".as_slice()));
+        let none = world.materials(std::iter::empty()).expect("none is listed");
+        assert!(none.table.is_empty() && none.anchors.is_empty());
         let names: Vec<Vec<u8>> = (0..10).map(|n| vec![b'a' + n]).collect();
         assert!(world.materials(names[..9].iter().map(Vec::as_slice)).is_some());
         assert!(world.materials(names.iter().map(Vec::as_slice)).is_none());
