@@ -192,10 +192,11 @@ ROUND = 256
 
 
 def worker_cases(program):
-    """Calls of two tickets by turns, over three rounds, judged by each number of workers: one of each ticket is valid."""
+    """Calls of two tickets by turns, over six rounds, of which several workers read four at once, judged by each number of workers: one of each ticket is
+    valid, in the first round."""
     file = Rows()
     file.named('NAMED IN verify.rows')
-    tickets = [number % 2 for number in range(2 * ROUND + 10)]
+    tickets = [number % 2 for number in range(5 * ROUND + 10)]
     log = file.log([piece for ticket in tickets for piece in ('@1443208345', '$OTHER_CALL' if ticket else '$CALL')])
     half = len(tickets) // 2 - 1
     for workers in range(1, 9):

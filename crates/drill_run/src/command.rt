@@ -73,6 +73,14 @@ impl<'a> LogCommand for DrillCommand<'a> {
         256
     }
 
+    fn stretch(&self) -> u32 {
+        self.verifier.rounds_at_once()
+    }
+
+    fn look_ahead<R: Threads + Sync>(&mut self, rt: &R, alloc: Global, calls: &[Call]) {
+        self.verifier.screen_ahead(rt, alloc, calls);
+    }
+
     fn answer<R: Threads + Sync, S: Shelf>(
         &mut self,
         rt: &R,

@@ -2,7 +2,9 @@ pub mod ReadLaws
 pub mod BatchLaws
 pub mod StaysLaws
 pub mod RunLaws
-pub mod OneBatch
+pub mod PartLaws
+pub mod StretchLaws
+pub mod StretchRan
 pub mod JoinLaws
 pub mod EndLaws
 pub mod WordsLaws

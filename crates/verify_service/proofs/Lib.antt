@@ -54,3 +54,4 @@ mod HandingLaws
 mod SeatingLaws
 mod PreparedLaws
 mod PrepareLaws
+mod AheadLaws

@@ -37,6 +37,8 @@ impl Service {
             moment: state.moment(),
             begun: false,
             places: Vec::new(alloc),
+            ahead_calls: Vec::new(alloc),
+            ahead: Vec::new(alloc),
         })
     }
 

@@ -15,6 +15,7 @@
 //! - [`Service::new`] takes the settings and the [`World`] (chain map, anchors, code table). [`Service::round`] is `prepare` and then `carry`.
 //! - A [`Worker`] is a provider of signatures and a gate. Their providers say the same. Those of [`Worker::prompt`] answer at once; if all do, one thread
 //!   judges the calls.
+//! - [`Service::look_ahead`] screens the calls of rounds that come later, of several at once; `prepare` takes over what was screened.
 //! - [`Service::judge`] judges a call of a prepared round, for a caller with threads of its own.
 //! - [`judge_call`] judges a call by itself, without the calls around it, and gives a [`Finding`]; [`chain_in`] reads one chain, and
 //!   [`read_chains`] those of a call.
@@ -45,6 +46,7 @@
 //! Sections `rounds` and `workers` of `crates/vectors/stdin`; whole logs in `tests/cli/verify.rows`.
 #![tactic(auto)]
 
+mod ahead;
 mod carried;
 mod carrying;
 mod chains;

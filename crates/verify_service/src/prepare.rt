@@ -17,16 +17,15 @@ use crate::classing::class_calls;
 use crate::laws::{stored_law, texts_law};
 use crate::outcome::Outcome;
 use crate::prepared::Prepared;
-use crate::preparing::{ready_calls, ready_chains};
+use crate::preparing::ready_chains;
 use crate::ready::Round;
-use crate::screening::{ReadyCall, screening_threads};
+use crate::screening::ReadyCall;
 use crate::seating::desk_for;
 use crate::service::Service;
 use crate::worker::Worker;
 use call_log::Call;
 use cert_store::{Cache, World, cache_law, use_law};
 use std::alloc::{AllocError, Global};
-use std::mem;
 use std::thread::Threads;
 use stir_outside::{Gate, Provider, Shelf};
 use verify_rules::{Settings, screened_law};
@@ -86,8 +85,8 @@ impl Service {
             → ProviderStays P.Provider (slice_index_or workers.old w d).provider (slice_index_or workers.new w d).provider }
     {
         self.begin(calls);
+        let ready = self.screened(rt, alloc, workers.len(), calls)?;
         self.past.reserve(calls.len())?;
-        let places = mem::replace(&mut self.places, Vec::new(alloc));
         let prepared = prepare_round(
             rt,
             alloc,
@@ -96,7 +95,7 @@ impl Service {
             shelf,
             workers,
             calls,
-            places,
+            ready,
             &mut self.cache,
         )?;
         Ok(prepared)
@@ -125,8 +124,8 @@ impl Service {
     }
 }
 
-/// Prepares a round by these settings, over these materials and these chains that are held, in these places. `AllocError` is the only error; what is held
-/// of chains is right then.
+/// Prepares a round of these calls, which were screened by these settings, over these materials and these chains that are held. `AllocError` is the only
+/// error; what is held of chains is right then.
 fn prepare_round<R: Threads + Sync, S: Shelf, P: Provider + Send, G: Gate + Send>(
     rt: &R,
     alloc: Global,
@@ -135,13 +134,14 @@ fn prepare_round<R: Threads + Sync, S: Shelf, P: Provider + Send, G: Gate + Send
     shelf: &mut S,
     workers: &mut [Worker<P, G>],
     calls: &[Call],
-    places: Vec<ReadyCall>,
+    mut ready: Vec<ReadyCall>,
     cache: &mut Cache,
 ) -> Result<Prepared, AllocError>
     requires some { 0 < length workers.old }
     requires few { length workers.old ≤ 8 }
     requires agree { (w : ℕ) (d : _) → w < length workers.old → P.says (slice_index_or workers.old w d).provider ≡ P.says (slice_index_or workers.old 0 d).provider }
     requires follow { AreOfRound calls.now }
+    requires ready { EachPair (IsReady settings.now) calls.now ready.items }
     requires capacity { cache.old.capacity ≡ 4096 }
     ensures calls { IfOk result (λ prepared. EachPair (IsReady settings.now) calls.now prepared.calls) }
     ensures classes { IfOk result (λ prepared. AreClasses settings.now calls.now (classes_of prepared.calls)) }
@@ -171,8 +171,6 @@ fn prepare_round<R: Threads + Sync, S: Shelf, P: Provider + Send, G: Gate + Send
     stored_law();
     cache_law();
     use_law();
-    let threads = screening_threads(workers.len());
-    let mut ready = ready_calls(rt, alloc, settings, calls, threads, places)?;
     let classes = class_calls(alloc, &mut ready)?;
     let (desk, seats) = desk_for(alloc, classes, workers.len())?;
     let outcomes = vec![in alloc; Outcome::Valid; calls.len()]?;

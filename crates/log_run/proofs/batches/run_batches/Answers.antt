@@ -1,4 +1,4 @@
--- A batch joins those before it.
+-- The batches that were read at once join those before them.
 use Rattle.std.proofs.Common.{Ok, refl, ◌∙◌, ap}
 use Rattle.log_run.proofs.JoinLaws.{on_joined, out_joined}
 use Rattle.log_run.proofs.RunLaws.{on_none}

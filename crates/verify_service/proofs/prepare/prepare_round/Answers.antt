@@ -15,73 +15,73 @@ use Rattle.verify_service.proofs.prepare.prepare_round.Goals as goal
 
 pub class_calls-requires : goal.class_calls-requires
 class_calls-requires g c =
-    let size = ap length c.deref_mut.ensures.value ∙ each_length _ c.args.calls.now c.in_ok-ready.ready.items c.in_ok-ready.ensures.ready in
+    let size = ap length c.deref_mut.ensures.value ∙ each_length _ c.args.calls.now c.args.ready.items c.requires.ready in
     let few = c.requires.follow.follow.few in
     record { few = omega arith }
 
 pub returns-in_err-kept-clause-most : goal.returns-in_err-kept-clause-most
 returns-in_err-kept-clause-most g c =
-    let olds = c.in_ok-ready.ready.items in
+    let olds = c.args.ready.items in
     let now = c.class_calls.new.calls in
-    let back = written_back olds now c.in_ok-ready.ready.len c.in_ok-ready.ready.ok.0 (c.in_ok-classes.ensures.counted ∙ ap length c.deref_mut.ensures.value) in
+    let back = written_back olds now c.args.ready.len c.args.ready.ok.0 (c.in_ok-classes.ensures.counted ∙ ap length c.deref_mut.ensures.value) in
     let given = subst (λ (cs : List ReadyCall). AreGivenClasses c.in_ok-classes.classes cs c.class_calls.new.calls) c.deref_mut.ensures.value c.in_ok-classes.ensures.classes in
     let most = c.ready_chains.ensures.most in
     let texts = ap (λ (cs : List ReadyCall). length (texts_of c.args.world.now c.args.cache.now.entries cs)) c.deref.ensures.value in
     let names = ap (λ ts. length (round_texts c.args.world.now.chains c.args.cache.now.entries ts))
-    (c.texts_law.ensures.named c.args.settings.now c.args.calls.now _ (placed_ready c.args.settings.now c.args.calls.now c.in_ok-classes.classes olds now _ back c.in_ok-ready.ensures.ready given)) in
+    (c.texts_law.ensures.named c.args.settings.now c.args.calls.now _ (placed_ready c.args.settings.now c.args.calls.now c.in_ok-classes.classes olds now _ back c.requires.ready given)) in
     omega arith
 
 pub returns-clause-most : goal.returns-clause-most
 returns-clause-most g c =
-    let olds = c.in_ok-ready.ready.items in
+    let olds = c.args.ready.items in
     let now = c.class_calls.new.calls in
-    let back = written_back olds now c.in_ok-ready.ready.len c.in_ok-ready.ready.ok.0 (c.in_ok-classes.ensures.counted ∙ ap length c.deref_mut.ensures.value) in
+    let back = written_back olds now c.args.ready.len c.args.ready.ok.0 (c.in_ok-classes.ensures.counted ∙ ap length c.deref_mut.ensures.value) in
     let given = subst (λ (cs : List ReadyCall). AreGivenClasses c.in_ok-classes.classes cs c.class_calls.new.calls) c.deref_mut.ensures.value c.in_ok-classes.ensures.classes in
     let most = c.ready_chains.ensures.most in
     let texts = ap (λ (cs : List ReadyCall). length (texts_of c.args.world.now c.args.cache.now.entries cs)) c.deref.ensures.value in
     let names = ap (λ ts. length (round_texts c.args.world.now.chains c.args.cache.now.entries ts))
-    (c.texts_law.ensures.named c.args.settings.now c.args.calls.now _ (placed_ready c.args.settings.now c.args.calls.now c.in_ok-classes.classes olds now _ back c.in_ok-ready.ensures.ready given)) in
+    (c.texts_law.ensures.named c.args.settings.now c.args.calls.now _ (placed_ready c.args.settings.now c.args.calls.now c.in_ok-classes.classes olds now _ back c.requires.ready given)) in
     omega arith
 
 pub invariant_of-result : goal.invariant_of-result
 invariant_of-result g c =
-    let olds = c.in_ok-ready.ready.items in
+    let olds = c.args.ready.items in
     let now = c.class_calls.new.calls in
-    let back = written_back olds now c.in_ok-ready.ready.len c.in_ok-ready.ready.ok.0 (c.in_ok-classes.ensures.counted ∙ ap length c.deref_mut.ensures.value) in
+    let back = written_back olds now c.args.ready.len c.args.ready.ok.0 (c.in_ok-classes.ensures.counted ∙ ap length c.deref_mut.ensures.value) in
     let given = subst (λ (cs : List ReadyCall). AreGivenClasses c.in_ok-classes.classes cs c.class_calls.new.calls) c.deref_mut.ensures.value c.in_ok-classes.ensures.classes in
     let d = head_of c.args.workers.now c.requires.some in
     let reads = c.in_ok-kept.ensures.reads d in (
-      (let size = each_length _ c.args.calls.now olds c.in_ok-ready.ensures.ready in
+      (let size = each_length _ c.args.calls.now olds c.requires.ready in
           let len = c.in_ok-outcomes.ensures.len in
-          let ok = c.in_ok-ready.ready.ok.0 in omega arith),
-      placed_prepared c.args.settings.now c.args.calls.now c.in_ok-classes.classes olds now _ back c.in_ok-ready.ensures.ready given c.in_ok-desk.desk c.in_ok-desk.seats.items c.in_ok-kept.kept
+          let ok = c.args.ready.ok.0 in omega arith),
+      placed_prepared c.args.settings.now c.args.calls.now c.in_ok-classes.classes olds now _ back c.requires.ready given c.in_ok-desk.desk c.in_ok-desk.seats.items c.in_ok-kept.kept
           c.requires.follow c.in_ok-desk.ensures.classes c.in_ok-desk.ensures.words
           (kept_questions _ _ _ _ reads.states _ c.ready_chains.new.cache c.in_ok-kept.kept reads.known.knows.right reads.stores) c.in_ok-desk.ensures.seats,
     )
 
 pub returns-clause-calls : goal.returns-clause-calls
 returns-clause-calls g c =
-    let olds = c.in_ok-ready.ready.items in
+    let olds = c.args.ready.items in
     let now = c.class_calls.new.calls in
-    let back = written_back olds now c.in_ok-ready.ready.len c.in_ok-ready.ready.ok.0 (c.in_ok-classes.ensures.counted ∙ ap length c.deref_mut.ensures.value) in
+    let back = written_back olds now c.args.ready.len c.args.ready.ok.0 (c.in_ok-classes.ensures.counted ∙ ap length c.deref_mut.ensures.value) in
     let given = subst (λ (cs : List ReadyCall). AreGivenClasses c.in_ok-classes.classes cs c.class_calls.new.calls) c.deref_mut.ensures.value c.in_ok-classes.ensures.classes in
-    placed_ready c.args.settings.now c.args.calls.now c.in_ok-classes.classes olds now _ back c.in_ok-ready.ensures.ready given
+    placed_ready c.args.settings.now c.args.calls.now c.in_ok-classes.classes olds now _ back c.requires.ready given
 
 pub returns-clause-room : goal.returns-clause-room
 returns-clause-room g c =
-    let olds = c.in_ok-ready.ready.items in
+    let olds = c.args.ready.items in
     let now = c.class_calls.new.calls in
-    let back = written_back olds now c.in_ok-ready.ready.len c.in_ok-ready.ready.ok.0 (c.in_ok-classes.ensures.counted ∙ ap length c.deref_mut.ensures.value) in
+    let back = written_back olds now c.args.ready.len c.args.ready.ok.0 (c.in_ok-classes.ensures.counted ∙ ap length c.deref_mut.ensures.value) in
     let given = subst (λ (cs : List ReadyCall). AreGivenClasses c.in_ok-classes.classes cs c.class_calls.new.calls) c.deref_mut.ensures.value c.in_ok-classes.ensures.classes in
-    placed_room c.args.settings.now c.args.calls.now c.in_ok-classes.classes olds now _ back c.in_ok-ready.ensures.ready given
+    placed_room c.args.settings.now c.args.calls.now c.in_ok-classes.classes olds now _ back c.requires.ready given
 
 pub returns-clause-there : goal.returns-clause-there
 returns-clause-there g c =
-    let olds = c.in_ok-ready.ready.items in
+    let olds = c.args.ready.items in
     let now = c.class_calls.new.calls in
-    let back = written_back olds now c.in_ok-ready.ready.len c.in_ok-ready.ready.ok.0 (c.in_ok-classes.ensures.counted ∙ ap length c.deref_mut.ensures.value) in
+    let back = written_back olds now c.args.ready.len c.args.ready.ok.0 (c.in_ok-classes.ensures.counted ∙ ap length c.deref_mut.ensures.value) in
     let given = subst (λ (cs : List ReadyCall). AreGivenClasses c.in_ok-classes.classes cs c.class_calls.new.calls) c.deref_mut.ensures.value c.in_ok-classes.ensures.classes in
-    let few = placed_named c.args.settings.now c.args.calls.now c.in_ok-classes.classes olds now _ back c.in_ok-ready.ensures.ready given c.requires.follow.follow.few in
+    let few = placed_named c.args.settings.now c.args.calls.now c.in_ok-classes.classes olds now _ back c.requires.ready given c.requires.follow.follow.few in
     let capacity = c.requires.capacity in
     let size = ap (λ (cs : List ReadyCall). length (all_named cs)) c.deref.ensures.value in
     let reads = c.in_ok-kept.ensures.reads (head_of c.args.workers.now c.requires.some) in
@@ -105,9 +105,9 @@ returns-clause-known g c = λ d right.
 
 pub returns-clause-classes : goal.returns-clause-classes
 returns-clause-classes g c =
-    let olds = c.in_ok-ready.ready.items in
+    let olds = c.args.ready.items in
     let now = c.class_calls.new.calls in
-    let back = written_back olds now c.in_ok-ready.ready.len c.in_ok-ready.ready.ok.0 (c.in_ok-classes.ensures.counted ∙ ap length c.deref_mut.ensures.value) in
+    let back = written_back olds now c.args.ready.len c.args.ready.ok.0 (c.in_ok-classes.ensures.counted ∙ ap length c.deref_mut.ensures.value) in
     let given = subst (λ (cs : List ReadyCall). AreGivenClasses c.in_ok-classes.classes cs c.class_calls.new.calls) c.deref_mut.ensures.value c.in_ok-classes.ensures.classes in
-    placed_classes c.args.settings.now c.args.calls.now c.in_ok-classes.classes olds now _ back c.in_ok-ready.ensures.ready given
+    placed_classes c.args.settings.now c.args.calls.now c.in_ok-classes.classes olds now _ back c.requires.ready given
     (record { ticket = c.screened_law.ensures.ticket; last = c.screened_law.ensures.last }) c.in_ok-desk.desk c.requires.follow c.in_ok-desk.ensures.classes c.in_ok-desk.ensures.words
