@@ -44,12 +44,12 @@ struct Element<'a> {
 
 fn element(der: &[u8]) -> Option<Element<'_>> {
     let (tag, first) = (*der.first()?, usize::from(*der.get(1)?));
-    let more = if first < 0x80 { 0 } else { first - 0x80 };
-    let digits = der.get(2..2 + more)?;
-    if more > 3 {
+    // A length below 128 is itself, and a longer one says how many bytes it takes. Without any it would be indefinite, which DER has not.
+    let (more, short) = if first < 0x80 { (0, first) } else { (first - 0x80, 0) };
+    if first == 0x80 || more > 3 {
         return None;
     }
-    let size = if more == 0 { first } else { digits.iter().fold(0, |size, digit| size << 8 | usize::from(*digit)) };
+    let size = der.get(2..2 + more)?.iter().fold(short, |size, digit| size << 8 | usize::from(*digit));
     let content = der.get(2 + more..)?.get(..size)?;
     Some(Element { tag, content, whole: &der[..2 + more + size] })
 }
@@ -93,7 +93,8 @@ mod tests {
 
     #[test]
     fn one_without_a_subject_may_be_of_any_chain() {
-        for anchor in [&b""[..], b"\x30", b"\x30\x03\x30\x01\x02", b"\x02\x01\x05", b"\x30\x84\xff\xff\xff\xff"] {
+        let indefinite = [&[0x30, 0x80][..], &[0; 200]].concat();
+        for anchor in [&b""[..], b"\x30", b"\x30\x03\x30\x01\x02", b"\x02\x01\x05", b"\x30\x84\xff\xff\xff\xff", &indefinite] {
             assert!(may_be_of(anchor, b"a chain"), "{anchor:?}");
         }
     }

@@ -28,13 +28,14 @@ one entry of a call log with that message. A line that can't be read fails the r
 
 The program runs in a folder of its own and must write nothing to standard error. Needs the standard
 library alone. The last line counts the cases. More cases stand elsewhere: the words of
-tests/vectors/words.py, logs that are made here, one of 100,000 calls, and one of replays on each number of workers, and lists of tickets
-that tests/vectors/tickets.py draws, on each number of workers.
+tests/vectors/words.py, logs that are made here, one of 100,000 calls, one that comes slowly, and one of replays on each number of workers, and
+lists of tickets that tests/vectors/tickets.py draws, on each number of workers.
 """
 import contextlib
 import os
 import pathlib
 import re
+import select
 import subprocess
 import sys
 import tempfile
@@ -176,6 +177,34 @@ def long_log_case(program):
     return (1, wanted, b''), got
 
 
+def read_until(stream, size):
+    """So many bytes of a stream, or those that came before twenty seconds passed without one."""
+    said = b''
+    while len(said) < size and select.select([stream], [], [], 20)[0]:
+        piece = os.read(stream.fileno(), size - len(said))
+        if not piece:
+            break
+        said += piece
+    return said
+
+
+def slow_log_case(program):
+    """A log that comes a round at a time: one worker writes the lines of each round before it waits for the next."""
+    words = [b'verify', b'--chains=c', b'--anchors=a', b'--table=t', b'--answers=w']
+    rounds = [b''.join(b'%d refused 400 1 0.0\n' % number for number in range(first, first + ROUND)) for first in range(1, 3 * ROUND, ROUND)]
+    with tempfile.TemporaryDirectory() as folder:
+        for name in 'catw':
+            pathlib.Path(folder, name).write_bytes(b'')
+        with subprocess.Popen([program, *words], stdin=subprocess.PIPE, stdout=subprocess.PIPE, stderr=subprocess.PIPE, cwd=folder) as started:
+            said = []
+            for lines in rounds:
+                started.stdin.write(b'@1 0\n' * ROUND)
+                started.stdin.flush()
+                said.append(read_until(started.stdout, len(lines)))
+            rest, errors = started.communicate(timeout=60)
+    return (1, rounds, b'', b''), (started.returncode, said, rest, errors)
+
+
 def winners_told(report, tickets):
     """A report of calls that break no rule, in which no winner is named: how often each ticket is valid, whether that is in the first round, and
     how many calls are replays of the valid one. Which call of a ticket wins is nobody's promise with several workers."""
@@ -229,6 +258,7 @@ def cases(program):
         yield from rows(program, path)
     yield from word_cases(program)
     yield 'long log', *long_log_case(program)
+    yield 'slow log', *slow_log_case(program)
     yield from worker_cases(program)
     yield from ticket_cases(program)
 
