@@ -17,7 +17,7 @@ use Rattle.stir_outside.specs.Told.{AppendsFront}
 use Rattle.verify_rules.specs.World.{World}
 use Rattle.verify_rules.specs.declared.settings.Settings.{Settings}
 use Rattle.verify_service.specs.Causes.{NoneUnasked, NoneUnread}
-use Rattle.verify_service.specs.Chains.{world_by}
+use Rattle.call_judging.specs.Chains.{world_by}
 use Rattle.verify_service.specs.declared.outcome.Outcome.{Outcome}
 
 -- a PASSporT may be 60 seconds old and 5 ahead, the country is 1, and a national number has ten digits

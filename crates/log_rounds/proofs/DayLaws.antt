@@ -12,10 +12,11 @@ use Rattle.verify_rules.specs.World.{World, First}
 use Rattle.verify_rules.specs.declared.refusal.Refusal.{Refusal}
 use Rattle.verify_rules.specs.declared.settings.Settings.{Settings}
 use Rattle.verify_service.specs.Causes.{NoneUnasked, NoneUnread, is_unasked, is_unread}
-use Rattle.verify_service.specs.Judging.{ComesOf, EachPair, IsFound, call_in}
+use Rattle.call_judging.specs.Judging.{IsFound}
+use Rattle.verify_service.specs.Judging.{ComesOf, EachPair, call_in}
 use Rattle.verify_service.specs.Rows.{answer_of, passes, row_of, rows_of}
-use Rattle.verify_service.specs.declared.finding.Finding.{Finding}
-use Rattle.verify_service.specs.declared.finding.Finding.TheVariants as found
+use Rattle.call_judging.specs.declared.finding.Finding.{Finding}
+use Rattle.call_judging.specs.declared.finding.Finding.TheVariants as found
 use Rattle.verify_service.specs.declared.outcome.Outcome.{Outcome}
 use Rattle.verify_service.specs.declared.outcome.Outcome.TheVariants.{Valid, Refused, Replay, Unread, Unasked}
 

@@ -14,7 +14,8 @@ use Rattle.verify_rules.specs.Signed.{IsKnownAgain, last_by}
 use Rattle.verify_rules.specs.World.{First, World, late_rules}
 use Rattle.verify_rules.specs.declared.refusal.Refusal.{Refusal}
 use Rattle.verify_rules.specs.declared.settings.Settings.{Settings}
-use Rattle.verify_service.specs.Judging.{EachPair, call_in, last_second, ticket_or_none}
+use Rattle.call_judging.specs.Judging.{last_second, ticket_or_none}
+use Rattle.verify_service.specs.Judging.{EachPair, call_in}
 use Rattle.verify_service.specs.Rows.{IsOwed, passes}
 use Rattle.verify_service.specs.declared.outcome.Outcome.{Outcome}
 use Rattle.verify_service.specs.declared.outcome.Outcome.TheVariants.{Valid, Refused, Replay, Unread, Unasked}

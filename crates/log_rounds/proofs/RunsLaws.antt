@@ -17,7 +17,8 @@ use Rattle.replay_law.specs.Row.{Row}
 use Rattle.replay_law.specs.Runs.{LegalInRuns, rounds_in}
 use Rattle.verify_rules.specs.Signed.{IsKnownAgain, last_by}
 use Rattle.verify_rules.specs.declared.settings.Settings.{Settings}
-use Rattle.verify_service.specs.Judging.{call_in, last_second, ticket_or_none}
+use Rattle.call_judging.specs.Judging.{last_second, ticket_or_none}
+use Rattle.verify_service.specs.Judging.{call_in}
 use Rattle.verify_service.specs.Rows.{IsOwed, rows_of}
 use Rattle.verify_service.specs.declared.outcome.Outcome.{Outcome}
 use Rattle.log_rounds.proofs.FollowLaws.{moment_same}

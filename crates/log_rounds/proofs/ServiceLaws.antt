@@ -13,7 +13,7 @@ use Rattle.verify_rules.specs.Call.{Call, call_of}
 use Rattle.verify_rules.specs.World.{HoldsBytes, VerdictOf, World}
 use Rattle.verify_rules.specs.declared.settings.Settings.{Settings}
 use Rattle.verify_rules.specs.declared.verdict.Verdict.{Verdict}
-use Rattle.verify_service.specs.Chains.{world_by}
+use Rattle.call_judging.specs.Chains.{world_by}
 use Rattle.verify_service.specs.Causes.{NoneUnasked, NoneUnread, UnreadIsCounted}
 use Rattle.verify_service.specs.Judging.{EachPair, IsJudged, call_in}
 use Rattle.verify_service.specs.Reads.{ReadsFew}

@@ -7,9 +7,10 @@ use Rattle.replay_law.specs.ByFirst.{AnsweredByFirst}
 use Rattle.verify_rules.specs.World.{World}
 use Rattle.verify_rules.specs.declared.settings.Settings.{Settings}
 use Rattle.verify_service.specs.Causes.{NoneUnasked, NoneUnread}
-use Rattle.verify_service.specs.Judging.{ComesOf, EachPair, IsFound, IsJudged, call_in}
+use Rattle.call_judging.specs.Judging.{IsFound}
+use Rattle.verify_service.specs.Judging.{ComesOf, EachPair, IsJudged, call_in}
 use Rattle.verify_service.specs.Rows.{rows_of}
-use Rattle.verify_service.specs.declared.finding.Finding.{Finding}
+use Rattle.call_judging.specs.declared.finding.Finding.{Finding}
 use Rattle.verify_service.specs.declared.outcome.Outcome.{Outcome}
 
 -- the outcome is what the rules say of the call by itself; if it passes, the call is valid or a replay

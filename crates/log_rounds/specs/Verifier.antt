@@ -8,7 +8,7 @@ use Rattle.log_rounds.specs.declared.verifier.LogVerifier.{LogVerifier}
 use Rattle.stir_outside.specs.Files.{Counts, Files}
 use Rattle.stir_outside.specs.Held.{Held, held_says}
 use Rattle.verify_rules.specs.declared.settings.Settings.{Settings}
-use Rattle.verify_service.specs.Chains.{world_by}
+use Rattle.call_judging.specs.Chains.{world_by}
 use Rattle.verify_service.specs.Rows.{held}
 use Rattle.verify_service.specs.Service.{HoldsRight, ServiceView, held_texts, materials_of}
 use Rattle.verify_service.specs.declared.outcome.Outcome.{Outcome}

@@ -16,8 +16,8 @@ use Rattle.verify_rules.specs.States.{State, have, unread}
 use Rattle.verify_rules.specs.Verdict.{IsLeftOpen}
 use Rattle.verify_rules.specs.declared.refusal.Place.{Place}
 use Rattle.verify_rules.specs.declared.verdict.Verdict.TheVariants as verdicts
-use Rattle.verify_service.specs.Causes.{HasCauseIf}
-use Rattle.verify_service.specs.Chains.{AreRightWhere, is_unasked, is_unread}
+use Rattle.call_judging.specs.Causes.{HasCauseIf}
+use Rattle.call_judging.specs.Chains.{AreRightWhere, is_unasked, is_unread}
 use Rattle.retarget.specs.Answer.{names_provider}
 use Rattle.retarget.specs.Hop.{HopView}
 use Rattle.retarget.specs.NextHop.{BreaksNone}

@@ -14,8 +14,8 @@ use Rattle.verify_rules.specs.declared.refusal.Refusal.{Refusal}
 use Rattle.verify_rules.specs.declared.settings.Settings.{Settings}
 use Rattle.verify_rules.specs.declared.verdict.Verdict.{Verdict}
 use Rattle.verify_rules.specs.declared.verdict.Verdict.TheVariants as verdicts
-use Rattle.verify_service.specs.Causes.{HasCauseIf}
-use Rattle.verify_service.specs.Chains.{AreRightWhere, is_unasked, is_unread}
+use Rattle.call_judging.specs.Causes.{HasCauseIf}
+use Rattle.call_judging.specs.Chains.{AreRightWhere, is_unasked, is_unread}
 use Rattle.retarget.specs.Hop.{HopView}
 use Rattle.retarget.specs.NextHop.{BreaksNone}
 use Rattle.retarget.specs.Outcome.{IsRetargeted, TellsOfDiversion}

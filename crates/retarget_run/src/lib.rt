@@ -11,7 +11,7 @@
 //! }
 //! ```
 //!
-//! It reads no message and writes no line: `stir_cmd` does. The steps are those of `verify_rules`, `verify_service` and `retarget`.
+//! It reads no message and writes no line: `stir_cmd` does. The steps are those of `verify_rules`, `call_judging` and `retarget`.
 //!
 //! Proved: the answer is that of the rules on the bytes, or that of `retarget` over chain states each of which is unknown, for a read that failed and
 //! was counted, or what there is to know over the files of the shelf. `docs/PROVED.md`, "The retarget gateway", has the clauses.

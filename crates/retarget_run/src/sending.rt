@@ -7,13 +7,13 @@ ghost use Rattle.retarget.specs.Hop.{hop_of, is_hop};
 ghost use Rattle.retarget_run.specs.Sending.{IsSentOn, IsSentScreened, MayCome, call_at, place_of};
 
 use auth_service::Holder;
+use call_judging::{CallChains, read_chains};
 use cert_store::World;
 use retarget::{Hop, HopFault, retarget};
 use std::alloc::{AllocError, Global};
 use stir_outside::{Answers, Shelf};
 use tn_auth_list::AuthList;
 use verify_rules::{ScreenFault, Screened, Settings, Verdict, screen};
-use verify_service::{CallChains, read_chains};
 
 /// Where a message goes through the gateway.
 #[derive(Clone, Copy)]

@@ -15,7 +15,7 @@ use Rattle.verify_rules.specs.States.{State}
 use Rattle.verify_rules.specs.World.{AreRight, IsJudgedBy, VerdictOf, World, certificate_rules, truths}
 use Rattle.verify_rules.specs.declared.refusal.Refusal.{Refusal}
 use Rattle.verify_rules.specs.declared.verdict.Verdict.{Verdict}
-use Rattle.verify_service.specs.Chains.{AreRightWhere}
+use Rattle.call_judging.specs.Chains.{AreRightWhere}
 use Rattle.cert_store.specs.declared.world.World.{World as Materials}
 use Rattle.single_calls.specs.AlwaysYes.{always_yes}
 use Rattle.single_calls.specs.Asker.{asking_world}

@@ -10,8 +10,8 @@ use Rattle.verify_rules.specs.declared.refusal.Place.{Place}
 use Rattle.verify_rules.specs.declared.refusal.Refusal.{Refusal}
 use Rattle.verify_service.specs.Report.{place_text}
 use Rattle.verify_service.specs.ReportLine.{PlaceFits}
-use Rattle.verify_service.specs.declared.finding.Finding.{Finding}
-use Rattle.verify_service.specs.declared.finding.Finding.TheVariants.{Refused, Unread, Unasked, Passes}
+use Rattle.call_judging.specs.declared.finding.Finding.{Finding}
+use Rattle.call_judging.specs.declared.finding.Finding.TheVariants.{Refused, Unread, Unasked, Passes}
 use Rattle.verify_service.proofs.ReadBack.{code_fits, first_digit, no_text, refusal_is, same_place, same_then}
 use Rattle.single_calls.specs.Explain.{broken_line, explained, lines_before, ok_line, ok_lines, unread_line}
 use Rattle.single_calls.specs.ToldApart.{AreToldAlike, FindingFits, IsBrokenLine, line_of}

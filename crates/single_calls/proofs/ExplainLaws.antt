@@ -11,7 +11,7 @@ use Rattle.verify_rules.specs.Rules.{Rule, early_rules, first, or_later, refusal
 use Rattle.verify_rules.specs.World.{First, MayBeUnasked, MayBeUnread, World, certificate_rules, late_rules}
 use Rattle.verify_rules.specs.declared.refusal.Place.{Place}
 use Rattle.verify_rules.specs.declared.refusal.Refusal.{Refusal}
-use Rattle.verify_service.specs.declared.finding.Finding.TheVariants.{Unasked, Unread}
+use Rattle.call_judging.specs.declared.finding.Finding.TheVariants.{Unasked, Unread}
 use Rattle.single_calls.specs.Explain.{Explain, broken_line, broken_text, explain_rules, explained, line_or_more, lines_before, met_text, ok_line, ok_lines, unread_line}
 
 not_none : {A : Type 0} → (a : A) → ◌≡◌ {A = Option A} (Some a) None → ⊥

@@ -8,11 +8,12 @@ use Rattle.stir_outside.specs.Files.{Files}
 use Rattle.stir_outside.specs.Held.{held_says}
 use Rattle.verify_rules.specs.World.{World}
 use Rattle.verify_rules.specs.declared.settings.Settings.{Settings}
-use Rattle.verify_service.specs.Causes.{HasCauseIf, found_unasked, found_unread}
-use Rattle.verify_service.specs.Chains.{world_by}
-use Rattle.verify_service.specs.Judging.{IsFound, IsFoundWhere, call_in}
-use Rattle.verify_service.specs.declared.finding.Finding.{Finding}
-use Rattle.verify_service.specs.declared.finding.Finding.TheVariants as found
+use Rattle.call_judging.specs.Causes.{HasCauseIf, found_unasked, found_unread}
+use Rattle.call_judging.specs.Chains.{world_by}
+use Rattle.call_judging.specs.Judging.{IsFound, IsFoundWhere}
+use Rattle.verify_service.specs.Judging.{call_in}
+use Rattle.call_judging.specs.declared.finding.Finding.{Finding}
+use Rattle.call_judging.specs.declared.finding.Finding.TheVariants as found
 use Rattle.single_calls.specs.Answer.{AnswerView, unread_lines, written_of}
 use Rattle.single_calls.specs.Explainer.{BehindAny, ExplainedBatches, ExplainedBy, ExplainerView, IsExplained, explanation, sign_by}
 use Rattle.single_calls.specs.Singly.{OneAnswer}

@@ -11,7 +11,7 @@ use Rattle.stir_outside.specs.Files.{Files}
 use Rattle.passport_claims.specs.Passport.{ClaimsView}
 use Rattle.verify_rules.specs.Call.{Reading, passport_in}
 use Rattle.verify_rules.specs.States.{State}
-use Rattle.verify_service.specs.Chains.{AreRightWhere, IsRightWhere, is_unread}
+use Rattle.call_judging.specs.Chains.{AreRightWhere, IsRightWhere, is_unread}
 use Rattle.cert_store.specs.declared.world.World.{World as Materials}
 use Rattle.stir_outside.proofs.CountLaws.{then_rose}
 use Rattle.single_calls.specs.AlwaysYes.{always_yes}

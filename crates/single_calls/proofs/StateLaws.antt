@@ -7,7 +7,7 @@ use Rattle.cert_store.specs.Rules.{QuestionView}
 use Rattle.verify_rules.specs.Call.{Reading}
 use Rattle.verify_rules.specs.States.{State, have, no_chain, long, unread}
 use Rattle.verify_rules.specs.World.{AreRight, IsRight, World, truth_of, truths}
-use Rattle.verify_service.specs.Chains.{is_unread}
+use Rattle.call_judging.specs.Chains.{is_unread}
 use Rattle.single_calls.specs.CallQuestions.{chain_questions, chains_questions, judged_questions, own_question, own_questions}
 
 -- both say the same of a chain, but for how its signatures were answered for

@@ -16,7 +16,7 @@ use Rattle.verify_rules.specs.declared.refusal.Place.{Place}
 use Rattle.verify_rules.specs.declared.refusal.Refusal.{Refusal}
 use Rattle.verify_rules.specs.declared.verdict.Verdict.{Verdict}
 use Rattle.verify_rules.specs.declared.verdict.Verdict.TheVariants.{Passed, Refused, Unread, Unasked}
-use Rattle.verify_service.specs.Chains.{is_unread}
+use Rattle.call_judging.specs.Chains.{is_unread}
 use Rattle.single_calls.specs.Verdicts.{asks_own}
 
 -- ---- some rules and then others

@@ -9,7 +9,7 @@ use Rattle.verify_rules.specs.Call.{Reading, in_call_order}
 use Rattle.verify_rules.specs.Rules.{early_rules, first}
 use Rattle.verify_rules.specs.World.{World, truths}
 use Rattle.verify_rules.specs.declared.settings.Settings.{Settings}
-use Rattle.verify_service.specs.Chains.{world_by}
+use Rattle.call_judging.specs.Chains.{world_by}
 use Rattle.verify_service.specs.Judging.{call_in}
 use Rattle.cert_store.specs.declared.world.World.{World as Materials}
 use Rattle.single_calls.specs.AlwaysYes.{always_yes}

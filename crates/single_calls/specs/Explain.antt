@@ -9,8 +9,8 @@ use Rattle.verify_rules.specs.World.{World, late_rules}
 use Rattle.verify_rules.specs.declared.refusal.Place.{Place}
 use Rattle.verify_rules.specs.declared.refusal.Refusal.{Refusal}
 use Rattle.verify_service.specs.Report.{place_text}
-use Rattle.verify_service.specs.declared.finding.Finding.{Finding}
-use Rattle.verify_service.specs.declared.finding.Finding.TheVariants as found
+use Rattle.call_judging.specs.declared.finding.Finding.{Finding}
+use Rattle.call_judging.specs.declared.finding.Finding.TheVariants as found
 
 -- ---- a line
 

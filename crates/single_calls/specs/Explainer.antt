@@ -8,10 +8,10 @@ use Rattle.verify_rules.specs.World.{First, MayBeUnread, World}
 use Rattle.verify_rules.specs.declared.refusal.Place.{Place}
 use Rattle.verify_rules.specs.declared.refusal.Refusal.{Refusal}
 use Rattle.verify_rules.specs.declared.settings.Settings.{Settings}
-use Rattle.verify_service.specs.Chains.{world_by}
+use Rattle.call_judging.specs.Chains.{world_by}
 use Rattle.verify_service.specs.Judging.{call_in}
-use Rattle.verify_service.specs.declared.finding.Finding.{Finding}
-use Rattle.verify_service.specs.declared.finding.Finding.TheVariants as found
+use Rattle.call_judging.specs.declared.finding.Finding.{Finding}
+use Rattle.call_judging.specs.declared.finding.Finding.TheVariants as found
 use Rattle.cert_store.specs.declared.world.World.{World as Materials}
 use Rattle.single_calls.specs.Answer.{AnswerView, CallStatus, Well, Broken, Unread}
 use Rattle.single_calls.specs.Explain.{Explain, explained, unread_text}

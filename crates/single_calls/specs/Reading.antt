@@ -9,7 +9,7 @@ use Rattle.verify_rules.specs.Call.{Call, Reading, in_call_order}
 use Rattle.verify_rules.specs.Rules.{early_rules, first}
 use Rattle.verify_rules.specs.States.{State}
 use Rattle.verify_rules.specs.World.{truths}
-use Rattle.verify_service.specs.Chains.{AreRightWhere, is_unread}
+use Rattle.call_judging.specs.Chains.{AreRightWhere, is_unread}
 use Rattle.cert_store.specs.declared.world.World.{World as Materials}
 use Rattle.single_calls.specs.AlwaysYes.{always_yes}
 use Rattle.single_calls.specs.Asker.{asking_world}

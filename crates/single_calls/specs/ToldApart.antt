@@ -5,8 +5,8 @@ use Rattle.std.specs.List.{join_with_byte}
 use Rattle.verify_rules.specs.Code.{HasCode}
 use Rattle.verify_rules.specs.declared.refusal.Refusal.{Refusal}
 use Rattle.verify_service.specs.ReportLine.{PlaceFits}
-use Rattle.verify_service.specs.declared.finding.Finding.{Finding}
-use Rattle.verify_service.specs.declared.finding.Finding.TheVariants.{Refused, Unread, Unasked, Passes}
+use Rattle.call_judging.specs.declared.finding.Finding.{Finding}
+use Rattle.call_judging.specs.declared.finding.Finding.TheVariants.{Refused, Unread, Unasked, Passes}
 
 -- ---- the words of a line
 

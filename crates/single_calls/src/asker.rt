@@ -16,14 +16,16 @@ use crate::always_yes::AlwaysYes;
 use crate::own::add_own;
 use crate::reading::{ChainError, ask_chains};
 use crate::written::Written;
+use call_judging::CallChains;
 use call_log::Call;
+use cert_store::World;
 use log_run::{AnswerError, BatchAnswer, LogCommand};
 use std::alloc::{AllocError, Global};
 use std::marker::Model;
 use std::thread::Threads;
 use stir_outside::Shelf;
 use verify_rules::{ScreenFault, Screened, Settings, Verdict, finish, screen, screened_law};
-use verify_service::{CallChains, World, call_law};
+use verify_service::call_law;
 
 /// The last rule that is tried before a signature is asked for.
 const LAST_UNSIGNED: u8 = 14;

@@ -3,27 +3,27 @@ ghost use Rattle.std.specs.Prelude.{◌≡◌, ◌≤◌, length, option_to_list
 ghost use Rattle.cert_store.specs.Questions.{question_at, questions_of};
 ghost use Rattle.single_calls.specs.CallQuestions.{chain_questions, has_authority, judged_questions};
 ghost use Rattle.single_calls.specs.Written.{Writes};
-ghost use Rattle.verify_service.specs.Chains.{state_of};
+ghost use Rattle.call_judging.specs.Chains.{state_of};
 
 use crate::written::Written;
+use call_judging::ChainStatus;
 use cert_store::Judged;
 use std::alloc::{AllocError, Global};
-use verify_service::CallChain;
 
 /// Writes the lines of the questions of a chain, from the leaf's on, if rules 10, 11, 12 and 14 hold for it.
 pub(crate) fn add_chain(
     alloc: Global,
-    chain: &CallChain,
+    chain: &ChainStatus,
     written: &mut Written,
     text: &mut String,
 ) -> Result<(), AllocError>
     ensures { OnOk result (Writes written.old written.new (string_bytes text.old) (string_bytes text.new) (chain_questions (state_of chain.now))) }
 {
     match chain {
-        CallChain::Have(judged) => add_judged(alloc, judged, written, text),
-        CallChain::NoChain => Ok(()),
-        CallChain::Long => Ok(()),
-        CallChain::Unread => Ok(()),
+        ChainStatus::Judged(judged) => add_judged(alloc, judged, written, text),
+        ChainStatus::Missing => Ok(()),
+        ChainStatus::TooLong => Ok(()),
+        ChainStatus::Unread => Ok(()),
     }
 }
 

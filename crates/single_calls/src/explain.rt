@@ -3,9 +3,9 @@ ghost use Rattle.std.specs.Prelude.{◌≡◌, ◌++◌, ◌-◌, codes, IfOk, s
 ghost use Rattle.verify_service.specs.Report.{place_text};
 ghost use Rattle.single_calls.specs.Explain.{broken_line, broken_text, explained, lines_before, met_text, ok_line, ok_lines, unread_line, unread_text};
 
+use call_judging::Finding;
 use std::alloc::{AllocError, Global};
 use verify_rules::{Place, Refusal, code};
-use verify_service::Finding;
 
 /// How many rules there are before the one on replay, which has no line.
 const RULES: u8 = 17;

@@ -6,14 +6,16 @@ ghost use Rattle.single_calls.specs.Explainer.{BehindAny, ExplainedBy, explanati
 ghost use Rattle.single_calls.specs.Singly.{OneAnswer};
 
 use crate::explain::explained;
+use call_judging::{CallChains, Finding, judge_call};
 use call_log::Call;
+use cert_store::World;
 use log_run::{AnswerError, BatchAnswer, LogCommand};
 use std::alloc::{AllocError, Global};
 use std::marker::Model;
 use std::thread::Threads;
 use stir_outside::{Answers, Shelf};
 use verify_rules::Settings;
-use verify_service::{CallChains, Finding, World, judge_call};
+use verify_service::call_law;
 
 /// Explains calls, each by itself: over a chain map, trust anchors, a code table and the files of a shelf, with an answers file as the
 /// provider of signatures.
@@ -56,6 +58,7 @@ impl<'a> Explainer<'a> {
         ensures explained { IfOk result (OneAnswer BehindAny BehindAny (ExplainedBy self.now (S.files shelf.old)) (S.counts shelf.old).faults (S.counts shelf.new).faults call.now) }
         ensures shelf { ShelfStays S.Shelf shelf.old shelf.new }
     {
+        call_law();
         let mut chains = CallChains::new(alloc);
         let mut provider = self.answers.steady();
         let finding = judge_call(
@@ -65,7 +68,8 @@ impl<'a> Explainer<'a> {
             shelf,
             &mut provider,
             &mut chains,
-            call,
+            call.message(),
+            call.moment(),
         )?;
         explanation(alloc, call.number(), &finding)
     }

@@ -20,8 +20,8 @@ ghost use Rattle.verify_rules.specs.declared.refusal.Place.{Place};
 ghost use Rattle.verify_rules.specs.declared.refusal.Refusal.{Refusal};
 ghost use Rattle.verify_rules.specs.declared.settings.Settings.{Settings};
 ghost use Rattle.verify_service.specs.Report.{place_text};
-ghost use Rattle.verify_service.specs.declared.finding.Finding.{Finding};
-ghost use Rattle.verify_service.specs.declared.finding.Finding.TheVariants.{Unasked, Unread};
+ghost use Rattle.call_judging.specs.declared.finding.Finding.{Finding};
+ghost use Rattle.call_judging.specs.declared.finding.Finding.TheVariants.{Unasked, Unread};
 
 use cert_store::questions_law;
 use verify_rules::{code_law, provider_law};

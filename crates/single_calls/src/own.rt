@@ -8,10 +8,10 @@ ghost use Rattle.verify_rules.specs.Call.{Reading};
 ghost use Rattle.verify_rules.specs.States.{seen};
 
 use crate::written::Written;
+use call_judging::CallChains;
 use cert_store::Question;
 use std::alloc::{AllocError, Global};
 use verify_rules::{ChainState, Chains, Screened};
-use verify_service::CallChains;
 use x509_profile::Certificate;
 
 /// Writes the lines of the questions for the signatures of a call's PASSporTs, in call order, under the keys of their leaves.

@@ -7,15 +7,16 @@ ghost use Rattle.single_calls.specs.CallQuestions.{chain_questions, chains_quest
 ghost use Rattle.single_calls.specs.Reading.{AreAsked, IsNamed, Stopped, StopsFor, lines};
 ghost use Rattle.single_calls.specs.Written.{Writes};
 ghost use Rattle.stir_outside.specs.Files.{CountsGoOn};
-ghost use Rattle.verify_service.specs.Chains.{IsRightWhere, is_unread, state_of};
+ghost use Rattle.call_judging.specs.Chains.{IsRightWhere, is_unread, state_of};
 
 use crate::always_yes::AlwaysYes;
 use crate::asking::add_chain;
 use crate::written::Written;
+use call_judging::{CallChains, ChainStatus, chain_in, chains_law};
+use cert_store::World;
 use std::alloc::Global;
 use stir_outside::Shelf;
 use verify_rules::{Screened, right_law};
-use verify_service::{CallChain, CallChains, World, chain_in, chains_law};
 
 /// What stops the reading of a call's chains.
 #[derive(Drop)]
@@ -71,7 +72,7 @@ fn known_chain<S: Shelf>(
     shelf: &mut S,
     provider: &mut AlwaysYes,
     x5u: &[u8],
-) -> Result<CallChain, ChainError>
+) -> Result<ChainStatus, ChainError>
     ensures right { IfOk result (λ chain. IsRightWhere (S.files shelf.old) world.now always_yes x5u.now (state_of chain)) }
     ensures known { IfOk result (λ chain. is_unread (state_of chain) ≡ false) }
     ensures stopped { IfErr result (StopsFor world.now x5u.now (S.counts shelf.old).faults (S.counts shelf.new).faults) }
@@ -79,7 +80,7 @@ fn known_chain<S: Shelf>(
 {
     right_law();
     let Some(name) = world.chains.file(x5u) else {
-        return Ok(CallChain::NoChain);
+        return Ok(ChainStatus::Missing);
     };
     match chain_in(alloc, world, shelf, provider, name) {
         Ok(chain) => unless_unread(alloc, chain, name),
@@ -88,7 +89,7 @@ fn known_chain<S: Shelf>(
 }
 
 /// The chain, unless the file of this name couldn't be read.
-fn unless_unread(alloc: Global, chain: CallChain, name: &str) -> Result<CallChain, ChainError>
+fn unless_unread(alloc: Global, chain: ChainStatus, name: &str) -> Result<ChainStatus, ChainError>
     ensures same { IfOk result (λ known. known ≡ chain) }
     ensures known { IfOk result (λ known. is_unread (state_of known) ≡ false) }
     ensures unread { OnErr result (is_unread (state_of chain) ≡ true) }
@@ -101,14 +102,14 @@ fn unless_unread(alloc: Global, chain: CallChain, name: &str) -> Result<CallChai
 }
 
 /// Whether a file couldn't be read.
-fn is_unread(chain: &CallChain) -> bool
+fn is_unread(chain: &ChainStatus) -> bool
     ensures { result ≡ is_unread (state_of chain.now) }
 {
     match chain {
-        CallChain::Have(_) => false,
-        CallChain::NoChain => false,
-        CallChain::Long => false,
-        CallChain::Unread => true,
+        ChainStatus::Judged(_) => false,
+        ChainStatus::Missing => false,
+        ChainStatus::TooLong => false,
+        ChainStatus::Unread => true,
     }
 }
 

@@ -23,7 +23,7 @@ use Rattle.verify_rules.specs.declared.refusal.Refusal.{Refusal}
 use Rattle.verify_rules.specs.declared.settings.Settings.{Settings}
 use Rattle.verify_rules.specs.declared.verdict.Verdict.{Verdict}
 use Rattle.verify_rules.specs.declared.verdict.Verdict.TheVariants as verdicts
-use Rattle.verify_service.specs.Chains.{is_unread, world_by}
+use Rattle.call_judging.specs.Chains.{is_unread, world_by}
 use Rattle.verify_service.specs.Judging.{call_in}
 use Rattle.stir_c.specs.Asked.{Confirms, IsAsked, IsAskedFirst, asked_for, lines_for}
 use Rattle.stir_c.specs.Found.{IsDecided, IsFound}

@@ -5,8 +5,8 @@ use Rattle.single_calls.specs.Explain.{Explain, broken_text, explained}
 use Rattle.verify_rules.specs.Call.{Call}
 use Rattle.verify_rules.specs.World.{First, World}
 use Rattle.verify_rules.specs.declared.refusal.Refusal.{Refusal}
-use Rattle.verify_service.specs.declared.finding.Finding.TheVariants as findings
-use Rattle.verify_service.specs.declared.finding.Pass.{Pass}
+use Rattle.call_judging.specs.declared.finding.Finding.TheVariants as findings
+use Rattle.call_judging.specs.declared.finding.Pass.{Pass}
 use Rattle.stir_c.specs.Explaining.{ExplainedInto, ExplainedOf, HasNoRoomFor, finding_of}
 use Rattle.stir_c.specs.Found.{IsFound}
 use Rattle.stir_c.specs.Handing.{FoundBy}

@@ -14,8 +14,8 @@ use Rattle.verify_rules.specs.Screened.{ScreenedView, digest_in, last_of, last_o
 use Rattle.verify_rules.specs.States.{State, have, unread}
 use Rattle.verify_rules.specs.declared.verdict.Verdict.{Verdict}
 use Rattle.verify_rules.specs.declared.verdict.Verdict.TheVariants as verdicts
-use Rattle.verify_service.specs.Chains.{is_unasked, is_unread}
-use Rattle.verify_service.specs.Judging.{IsKnownBy, last_second, ticket_or_none}
+use Rattle.call_judging.specs.Chains.{is_unasked, is_unread}
+use Rattle.call_judging.specs.Judging.{IsKnownBy, last_second, ticket_or_none}
 use Rattle.stir_c.specs.Found.{IsDecided}
 
 pub none_more : (test : State → Bool) (states : List State) (state : State) → list_any test states ≡ false → test state ≡ false → list_any test (states ++ state ∷ []) ≡ false

@@ -5,7 +5,7 @@ use Rattle.std.specs.List.{slice_get}
 use Rattle.verify_rules.specs.Call.{Call, Reading, in_call_order}
 use Rattle.verify_rules.specs.Rules.{early_rules, first}
 use Rattle.verify_rules.specs.Screened.{ScreenedView, screened_by, screened_of}
-use Rattle.verify_service.specs.Judging.{IsKnownBy}
+use Rattle.call_judging.specs.Judging.{IsKnownBy}
 use Rattle.verify_rules.specs.declared.settings.Settings.{Settings}
 use Rattle.stir_c.specs.Inputs.{AreNoSettings, AreSettings, IsFaultFor}
 use Rattle.stir_c.specs.Steps.{ListedUpTo}

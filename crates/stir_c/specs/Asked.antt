@@ -8,7 +8,7 @@ use Rattle.single_calls.specs.CallQuestions.{call_questions, questions_over}
 use Rattle.stir_outside.specs.Files.{Files}
 use Rattle.verify_rules.specs.Call.{Call, Reading}
 use Rattle.verify_rules.specs.States.{State}
-use Rattle.verify_service.specs.Chains.{world_by}
+use Rattle.call_judging.specs.Chains.{world_by}
 use Rattle.stir_c.specs.Found.{IsFound}
 use Rattle.stir_c.specs.declared.found.Found.{Found}
 

@@ -4,8 +4,8 @@ use Rattle.cert_store.specs.declared.world.World.{World as Materials}
 use Rattle.single_calls.specs.Explain.{Explain}
 use Rattle.stir_outside.specs.Held.{AnswersOf, Held, held_says}
 use Rattle.verify_rules.specs.declared.settings.Settings.{Settings}
-use Rattle.verify_service.specs.declared.finding.Finding.{Finding}
-use Rattle.verify_service.specs.declared.finding.Finding.TheVariants as findings
+use Rattle.call_judging.specs.declared.finding.Finding.{Finding}
+use Rattle.call_judging.specs.declared.finding.Finding.TheVariants as findings
 use Rattle.stir_c.specs.Handing.{FoundBy}
 use Rattle.stir_c.specs.Inputs.{Handed, IsRead, call_in, world_in}
 use Rattle.stir_c.specs.Told.{JudgedBy}

@@ -4,7 +4,7 @@ use Rattle.verify_rules.specs.Call.{Call}
 use Rattle.verify_rules.specs.World.{First, World}
 use Rattle.verify_rules.specs.declared.verdict.Verdict.{Verdict}
 use Rattle.verify_rules.specs.declared.verdict.Verdict.TheVariants as verdicts
-use Rattle.verify_service.specs.Judging.{IsKnownBy}
+use Rattle.call_judging.specs.Judging.{IsKnownBy}
 use Rattle.stir_c.specs.declared.found.Found.{Found}
 use Rattle.stir_c.specs.declared.found.Found.TheVariants.{Refused, Passes}
 

@@ -11,7 +11,7 @@ use Rattle.tn_values.specs.Local.{local_of}
 use Rattle.verify_rules.specs.Call.{Call, call_of}
 use Rattle.verify_rules.specs.World.{World}
 use Rattle.verify_rules.specs.declared.settings.Settings.{Settings}
-use Rattle.verify_service.specs.Chains.{world_by}
+use Rattle.call_judging.specs.Chains.{world_by}
 use Rattle.stir_c.specs.Files.{files_of}
 use Rattle.stir_c.specs.declared.inputs.Inputs.{Inputs}
 use Rattle.stir_c.specs.declared.inputs.Fault.{Fault}

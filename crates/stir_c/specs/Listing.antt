@@ -4,7 +4,7 @@ use Rattle.verify_rules.specs.Call.{Call, Reading, call_of, in_call_order}
 use Rattle.verify_rules.specs.Rules.{early_rules, first}
 use Rattle.verify_rules.specs.World.{First, World}
 use Rattle.verify_rules.specs.declared.settings.Settings.{Settings}
-use Rattle.verify_service.specs.Judging.{IsKnownBy}
+use Rattle.call_judging.specs.Judging.{IsKnownBy}
 use Rattle.stir_c.specs.Claims.{claims_line}
 use Rattle.stir_c.specs.Inputs.{AreSettings}
 use Rattle.stir_c.specs.Told.{Broken}

@@ -8,7 +8,7 @@ use Rattle.verify_rules.specs.Code.{code_of}
 use Rattle.verify_rules.specs.Rules.{place, refusal}
 use Rattle.verify_rules.specs.World.{First, World}
 use Rattle.verify_rules.specs.declared.settings.Settings.{Settings}
-use Rattle.verify_service.specs.Judging.{IsKnownBy}
+use Rattle.call_judging.specs.Judging.{IsKnownBy}
 use Rattle.cert_store.specs.Rules.{Says}
 use Rattle.stir_c.specs.Asked.{Confirms, asked_for}
 use Rattle.stir_c.specs.Files.{files_of}

@@ -15,11 +15,11 @@ use crate::chains::ChainFiles;
 use crate::found::{Found, found_of};
 use crate::judging::{decide, judge_chains};
 use crate::own::add_own;
+use call_judging::CallChains;
 use cert_store::{Judged, Question, World};
 use single_calls::AlwaysYes;
 use std::alloc::{AllocError, Global};
 use verify_rules::{ChainState, Chains, Screened, Verdict, screened_law};
-use verify_service::CallChains;
 
 /// The last rule that is tried before a signature is asked for.
 const LAST_UNSIGNED: u8 = 14;

@@ -4,12 +4,12 @@ ghost use Rattle.verify_rules.specs.Call.{Call as RuledCall};
 ghost use Rattle.verify_rules.specs.Rules.{early_rules};
 ghost use Rattle.verify_rules.specs.Screened.{IsScreenedBy};
 ghost use Rattle.verify_rules.specs.World.{VerdictOf, World as Judges};
-ghost use Rattle.verify_service.specs.Judging.{IsKnownBy};
+ghost use Rattle.call_judging.specs.Judging.{IsKnownBy};
 ghost use Rattle.stir_c.specs.Explaining.{finding_of};
 ghost use Rattle.stir_c.specs.Found.{IsDecided, IsFound};
 
+use call_judging::{Finding, Pass};
 use verify_rules::{Refusal, Screened, Verdict, screened_law};
-use verify_service::{Finding, Pass};
 
 /// What comes of a call by all rules but the one on replay.
 #[derive(Clone, Copy)]

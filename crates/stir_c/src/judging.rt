@@ -8,17 +8,17 @@ ghost use Rattle.verify_rules.specs.Call.{Call as RuledCall};
 ghost use Rattle.verify_rules.specs.Rules.{early_rules};
 ghost use Rattle.verify_rules.specs.Screened.{IsScreenedBy};
 ghost use Rattle.verify_rules.specs.World.{AreRight, IsJudgedBy, IsRight, VerdictOf, World as Judges};
-ghost use Rattle.verify_service.specs.Chains.{is_unasked, is_unread, state_of, world_by};
+ghost use Rattle.call_judging.specs.Chains.{is_unasked, is_unread, state_of, world_by};
 ghost use Rattle.stir_c.specs.Files.{files_of};
 ghost use Rattle.stir_c.specs.Found.{IsDecided, IsFound};
 
 use crate::chains::{ChainFiles, find};
 use crate::found::{Found, found_of};
+use call_judging::{CallChains, ChainStatus, chains_law};
 use cert_store::{World, judge_chain};
 use std::alloc::{AllocError, Global};
 use stir_outside::Provider;
 use verify_rules::{Screened, Verdict, finish, right_law, screened_law};
-use verify_service::{CallChain, CallChains, chains_law};
 use x509_profile::MOST_CHAIN_BYTES;
 
 /// What comes of a call that was screened. `AllocError` is the only error.
@@ -93,7 +93,7 @@ fn chain_of<P: Provider>(
     files: &ChainFiles<'_>,
     x5u: &[u8],
     provider: &mut P,
-) -> Result<CallChain, AllocError>
+) -> Result<ChainStatus, AllocError>
     requires few { length files.now.sizes.now ≤ 9 }
     requires never_fails { (p : P) → P.faults p ≡ 0 }
     ensures read { IfOk result (λ chain. is_unread (state_of chain) ≡ false) }
@@ -104,7 +104,7 @@ fn chain_of<P: Provider>(
     right_law();
     match world.chains.file(x5u) {
         Some(name) => chain_in(alloc, world, files, name.as_bytes(), provider),
-        None => Ok(CallChain::NoChain),
+        None => Ok(ChainStatus::Missing),
     }
 }
 
@@ -115,7 +115,7 @@ fn chain_in<P: Provider>(
     files: &ChainFiles<'_>,
     name: &[u8],
     provider: &mut P,
-) -> Result<CallChain, AllocError>
+) -> Result<ChainStatus, AllocError>
     requires few { length files.now.sizes.now ≤ 9 }
     requires never_fails { (p : P) → P.faults p ≡ 0 }
     ensures read { IfOk result (λ chain. is_unread (state_of chain) ≡ false) }
@@ -127,7 +127,7 @@ fn chain_in<P: Provider>(
     right_law();
     match find(files.sizes, files.chains, name) {
         Some(bytes) => judge_file(alloc, world, bytes, provider),
-        None => Ok(CallChain::NoChain),
+        None => Ok(ChainStatus::Missing),
     }
 }
 
@@ -137,7 +137,7 @@ fn judge_file<P: Provider>(
     world: &World,
     bytes: &[u8],
     provider: &mut P,
-) -> Result<CallChain, AllocError>
+) -> Result<ChainStatus, AllocError>
     requires never_fails { (p : P) → P.faults p ≡ 0 }
     ensures read { IfOk result (λ chain. is_unread (state_of chain) ≡ false) }
     ensures answered { IfOk result (λ chain. is_unasked (state_of chain) ≡ false) }
@@ -147,8 +147,8 @@ fn judge_file<P: Provider>(
 {
     right_law();
     if bytes.len() > MOST_CHAIN_BYTES {
-        return Ok(CallChain::Long);
+        return Ok(ChainStatus::TooLong);
     }
     let judged = judge_chain(alloc, bytes, &world.anchors, &world.table, provider)?;
-    Ok(CallChain::Have(judged))
+    Ok(ChainStatus::Judged(judged))
 }

@@ -16,7 +16,7 @@ use Rattle.replay_desk.proofs.Shared.{among_threads}
 use Rattle.replay_desk.specs.contracts.past.Past as past
 use Rattle.verify_rules.specs.contracts.refusal.Refusal as refusal
 use Rattle.verify_rules.specs.contracts.screened.Screened as screened
-use Rattle.verify_service.specs.contracts.chains.CallChain as chain
+use Rattle.call_judging.specs.contracts.chains.ChainStatus as chain
 use Rattle.verify_service.specs.contracts.kept.KeptChains as kept
 use Rattle.verify_service.specs.contracts.outcome.Outcome as outcome
 use Rattle.verify_service.specs.contracts.prepared.Prepared as prepared

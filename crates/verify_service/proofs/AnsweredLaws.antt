@@ -8,14 +8,15 @@ use Rattle.stir_outside.specs.Count.{AtMost}
 use Rattle.stir_outside.specs.Stays.{ProviderStays}
 use Rattle.stir_outside.specs.declared.provider.Provider.{Ghosts as ProviderOf}
 use Rattle.stir_outside.proofs.CountLaws.{at_most_of_rose, both_at_most, none_at, rose_then, then_rose}
-use Rattle.verify_service.proofs.CountLaws.{cause_then, then_cause}
+use Rattle.call_judging.proofs.CauseLaws.{cause_then, then_cause}
 use Rattle.verify_rules.specs.Call.{Reading}
 use Rattle.verify_rules.specs.States.{State}
 use Rattle.verify_rules.specs.Verdict.{IsVerdict}
 use Rattle.verify_rules.specs.declared.verdict.Verdict.{Verdict}
 use Rattle.verify_rules.specs.declared.verdict.Verdict.TheVariants as verdicts
 use Rattle.verify_service.specs.Carrying.{Answered, one_if, out_at, own_open, own_passports, passports_at}
-use Rattle.verify_service.specs.Causes.{HasCauseIf, is_unasked_passport}
+use Rattle.call_judging.specs.Causes.{HasCauseIf}
+use Rattle.verify_service.specs.Causes.{is_unasked_passport}
 use Rattle.verify_service.specs.Claiming.{IsRuled, OutcomeSays, verdict_of}
 use Rattle.verify_service.specs.Kept.{states_for}
 use Rattle.verify_service.specs.Ready.{Basis, Provided, provided}

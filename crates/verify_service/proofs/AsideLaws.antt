@@ -1,19 +1,18 @@
 -- A call is set aside only for a chain that the round keeps: for at most as many different texts as there are such chains.
-use Rattle.std.proofs.Common.{◌≡◌, ℕ, zero, suc, ◌+◌, ◌≤◌, ◌==◌, ◌||◌, ◌⊎◌, inl, inr, Bool, true, false, cond, List, [], ◌∷◌, length, filter, map, Option, Some, None, refl, sym, ap, ◌∙◌, subst, arith}
+use Rattle.std.proofs.Common.{◌≡◌, ℕ, zero, suc, ◌+◌, ◌≤◌, ◌==◌, ◌||◌, ◌⊎◌, inl, inr, Bool, true, false, cond, List, [], ◌∷◌, length, filter, Option, Some, None, refl, sym, ap, ◌∙◌, subst, arith}
 use Rattle.std.proofs.lemmas.Bool.Decides.{nat_tests}
-use Rattle.std.specs.Cmp.Lexicographic.{bytes_decides, nat_list_eq_equiv}
+use Rattle.std.specs.Cmp.Lexicographic.{bytes_decides}
 use Rattle.std.specs.List.{list_any, slice_get}
 use Rattle.std.specs.Str.{bytes_eq}
 use Rattle.call_log.specs.Entry.{Entry}
 use Rattle.cert_store.specs.Asking.{is_failed}
 use Rattle.cert_store.specs.Holding.{AreAnswered, Chains, chain_of}
 use Rattle.cert_store.specs.Judged.{JudgedView}
-use Rattle.cert_store.specs.Using.{AreAmong, IsOnce, has}
-use Rattle.cert_store.specs.declared.judged.Asked.TheVariants.{Failed}
+use Rattle.cert_store.specs.Using.{IsOnce, has}
 use Rattle.verify_rules.specs.Call.{Call, Reading, in_call_order}
 use Rattle.verify_rules.specs.Causes.{IsUnknownAt}
 use Rattle.verify_rules.specs.Screened.{ScreenedView, screened_by}
-use Rattle.verify_rules.specs.States.{State, have, no_chain, unread}
+use Rattle.verify_rules.specs.States.{State, have, unread}
 use Rattle.verify_rules.specs.Verdict.{IsLeftOpen}
 use Rattle.verify_rules.specs.declared.refusal.Place.{Place}
 use Rattle.verify_rules.specs.declared.settings.Settings.{Settings}

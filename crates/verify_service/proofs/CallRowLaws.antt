@@ -13,7 +13,8 @@ use Rattle.verify_rules.specs.Rules.{early_rules}
 use Rattle.verify_rules.specs.Screened.{IsScreenedBy, ScreenedView, digest_in, last_of, last_of_call, ticket_of}
 use Rattle.verify_rules.specs.declared.settings.Settings.{Settings}
 use Rattle.verify_service.specs.Carrying.{out_at}
-use Rattle.verify_service.specs.Judging.{EachPair, last_second, ticket_or_none}
+use Rattle.call_judging.specs.Judging.{last_second, ticket_or_none}
+use Rattle.verify_service.specs.Judging.{EachPair}
 use Rattle.verify_service.specs.Ready.{is_passed, ticket_in}
 use Rattle.verify_service.specs.Rows.{answer_of, held, kept_of_past, passes, row_of, rows_of}
 use Rattle.verify_service.specs.Screening.{IsReady, IsScreening, last_in}

@@ -30,8 +30,9 @@ use Rattle.verify_rules.specs.World.{AreRight, IsJudgedBy, IsRight, VerdictOf, W
 use Rattle.verify_rules.specs.declared.refusal.Place.{Place}
 use Rattle.verify_rules.specs.declared.verdict.Verdict.{Verdict}
 use Rattle.verify_service.specs.Aside.{IsAsideFor}
-use Rattle.verify_service.specs.Causes.{HasCauseIf, is_unasked_passport}
-use Rattle.verify_service.specs.Chains.{IsRightWhere, world_by}
+use Rattle.call_judging.specs.Causes.{HasCauseIf}
+use Rattle.verify_service.specs.Causes.{is_unasked_passport}
+use Rattle.call_judging.specs.Chains.{IsRightWhere, world_by}
 use Rattle.verify_service.specs.Claiming.{Claims, HasWon, IsAnswer, OutcomeSays, verdict_of}
 use Rattle.verify_service.specs.Judging.{IsJudged, IsJudgedWhere}
 use Rattle.verify_service.specs.Kept.{Kept, kept_state, state_at, state_by, state_for, states_for}
@@ -41,7 +42,7 @@ use Rattle.verify_service.specs.RightChains.{AreRightHeld, AreThere, FailAtQuest
 use Rattle.verify_service.specs.declared.outcome.Outcome.{Outcome}
 use Rattle.verify_service.specs.declared.outcome.Outcome.TheVariants as outcomes
 use Rattle.verify_service.specs.declared.screening.ReadyCall.{ReadyCall}
-use Rattle.verify_service.proofs.ReadLaws.{right_unlisted}
+use Rattle.call_judging.proofs.ReadLaws.{right_unlisted}
 
 false_is_not_true : false ≡ true → ⊥
 false_is_not_true e = cc

@@ -1,20 +1,12 @@
 -- How the counts of shelf and provider add up over the chains of a call, over calls, and over a round.
-use Rattle.std.proofs.Common.{◌≡◌, ℕ, suc, ◌+◌, ◌≤◌, ◌||◌, inl, inr, Bool, true, false, cond, List, [], ◌∷◌, ◌++◌, length, filter, zero-add, refl, ap, sym, ◌∙◌, subst, arith}
+use Rattle.std.proofs.Common.{◌≡◌, ℕ, ◌+◌, ◌≤◌, Bool, true, false, cond, List, [], ◌∷◌, ◌++◌, length, filter, zero-add, refl, sym, ◌∙◌, subst, arith}
 use Rattle.std.specs.List.{list_any}
-use Rattle.std.specs.Str.{bytes_eq}
-use Rattle.std.proofs.Math.Bool.{or-false}
-use Rattle.std.proofs.lemmas.List.Folds.{list_any-append}
-use Rattle.call_log.specs.Entry.{Entry}
-use Rattle.stir_outside.specs.Count.{AtMost, GoesOn, NotRisen}
-use Rattle.stir_outside.proofs.CountLaws.{at_most_of_rose, both_at_most, none_at, not_rose, rose_then, then_rose}
+use Rattle.stir_outside.specs.Count.{AtMost, GoesOn}
+use Rattle.stir_outside.proofs.CountLaws.{at_most_of_rose, both_at_most, none_at}
 use Rattle.stir_outside.specs.Files.{Counts, CountsGoOn}
-use Rattle.verify_rules.specs.declared.settings.Settings.{Settings}
-use Rattle.verify_service.specs.Causes.{AreCounted, HasCauseIf, NoneUnasked, NoneUnread, UnaskedIsCounted, UnreadIsCounted, found_unasked, found_unread, is_passport, is_unasked, is_unasked_passport, is_unread, joined, unasked_texts, unread_texts, x5u_at}
-use Rattle.verify_service.specs.Judging.{ComesOf, EachComesOf, call_in}
-use Rattle.verify_service.specs.declared.finding.Finding.{Finding}
-use Rattle.verify_service.specs.declared.finding.Finding.TheVariants as found
-use Rattle.verify_service.specs.declared.outcome.Outcome.{Outcome}
-use Rattle.verify_service.specs.declared.outcome.Outcome.TheVariants.{Valid, Refused, Replay, Unread, Unasked}
+use Rattle.call_judging.proofs.CauseLaws.{cause_more, cause_none}
+use Rattle.call_judging.specs.Causes.{HasCauseIf}
+use Rattle.verify_service.specs.Causes.{AreCounted}
 
 -- ---- one count after the other
 
@@ -23,33 +15,6 @@ stays count = record { never_falls = omega arith; within = omega arith }
 
 pub stay : (counts : Counts) → CountsGoOn counts counts
 stay counts = record { reads = stays counts.reads; misses = stays counts.misses; longs = stays counts.longs; faults = stays counts.faults }
-
-false_is_not_true : false ≡ true → ⊥
-false_is_not_true e = cc
-
--- ---- a cause in one of two calls
-
-pub cause_then : (set_aside : Bool) (before mid now : ℕ) → before ≤ mid → HasCauseIf set_aside before mid → mid ≤ now → HasCauseIf set_aside before now
-cause_then set_aside before mid now stayed cause further = λ is. rose_then before mid now stayed (cause is) further
-
-pub then_cause : (set_aside : Bool) (before mid now : ℕ) → before ≤ mid → HasCauseIf set_aside mid now → HasCauseIf set_aside before now
-then_cause set_aside before mid now stayed cause = λ is. then_rose before mid now stayed (cause is)
-
-either_cause : (one other : Bool) (before mid now : ℕ) → before ≤ mid → mid ≤ now → HasCauseIf one before mid → HasCauseIf other mid now → HasCauseIf (one || other) before now
-either_cause true other before mid now stayed further first second = λ is. rose_then before mid now stayed (first refl) further
-either_cause false other before mid now stayed further first second = λ is. then_rose before mid now stayed (second is)
-
-pub any_more : {A : Type 0} → (p : A → Bool) (xs : List A) (x : A) → list_any p (xs ++ x ∷ []) ≡ (list_any p xs || p x)
-any_more p xs x = list_any-append p xs (x ∷ []) ∙ ap (λ b. list_any p xs || b) (or-false (p x))
-
--- one more of those that may have a cause
-pub cause_more : {A : Type 0} → (p : A → Bool) (xs : List A) (x : A) (before mid now : ℕ) → before ≤ mid → mid ≤ now
-    → HasCauseIf (list_any p xs) before mid → HasCauseIf (p x) mid now → HasCauseIf (list_any p (xs ++ x ∷ [])) before now
-cause_more p xs x before mid now stayed further first second =
-    subst (λ b. HasCauseIf b before now) (sym (any_more p xs x)) (either_cause (list_any p xs) (p x) before mid now stayed further first second)
-
-pub cause_none : {A : Type 0} → (p : A → Bool) (before : ℕ) → HasCauseIf (list_any p []) before before
-cause_none p before = λ is. absurd (false_is_not_true is)
 
 -- ---- counted
 

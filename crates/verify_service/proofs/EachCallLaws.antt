@@ -15,7 +15,7 @@ use Rattle.verify_service.specs.Screening.{IsReady}
 use Rattle.verify_service.specs.declared.outcome.Outcome.{Outcome}
 use Rattle.verify_service.specs.declared.screening.ReadyCall.{ReadyCall}
 use Rattle.verify_service.proofs.AsideLaws.{IsAsideIn}
-use Rattle.verify_service.proofs.JudgeLaws.{moment_in}
+use Rattle.verify_service.proofs.CallLaws.{moment_in}
 use Rattle.verify_service.proofs.EntryClassLaws.{Beside, beside, out_some}
 
 each_of : {A B : Type 0} → (R : A → B → Type 0) (xs : List A) (ys : List B) → length ys ≡ length xs

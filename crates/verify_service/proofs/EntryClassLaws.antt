@@ -9,7 +9,8 @@ use Rattle.verify_rules.specs.declared.refusal.Refusal.{Refusal}
 use Rattle.verify_rules.specs.declared.settings.Settings.{Settings}
 use Rattle.verify_service.specs.Carried.{AreClasses}
 use Rattle.verify_service.specs.Carrying.{out_at}
-use Rattle.verify_service.specs.Judging.{EachPair, call_in, ticket_or_none}
+use Rattle.call_judging.specs.Judging.{ticket_or_none}
+use Rattle.verify_service.specs.Judging.{EachPair, call_in}
 use Rattle.verify_service.specs.Ready.{AreClassed, class_in, is_passed, ticket_in}
 use Rattle.verify_service.specs.Screening.{IsReady, IsScreening, is_open}
 use Rattle.verify_service.specs.declared.outcome.Outcome.{Outcome}

@@ -1,5 +1,5 @@
 -- The chains that a round judged, from what is known of its texts.
-use Rattle.std.proofs.Common.{◌≡◌, ℕ, ◌+◌, ◌≤◌, ◌||◌, ◌⊎◌, inl, inr, Bool, true, false, cond, List, [], ◌∷◌, filter, length, is_some, Option, Some, None, refl, sym, ap, ◌∙◌, subst, arith}
+use Rattle.std.proofs.Common.{◌≡◌, ℕ, ◌||◌, inl, inr, Bool, true, false, cond, List, [], ◌∷◌, filter, length, Option, Some, None, refl, sym, ap, ◌∙◌, arith}
 use Rattle.std.proofs.lemmas.Option.{same_Some}
 use Rattle.std.specs.Cmp.Lexicographic.{bytes_decides}
 use Rattle.std.specs.Str.{bytes_eq}
@@ -7,7 +7,6 @@ use Rattle.cert_store.specs.Holding.{Chains, chain_of}
 use Rattle.cert_store.specs.Judged.{JudgedView}
 use Rattle.cert_store.specs.Using.{AreAmong, IsOnce, has, names}
 use Rattle.verify_rules.specs.States.{State, have, long, no_chain, unread}
-use Rattle.verify_service.specs.Judging.{EachPair}
 use Rattle.verify_service.specs.Reads.{certificates_in}
 use Rattle.verify_service.specs.RoundRead.{all_certificates, is_judged}
 use Rattle.verify_service.proofs.StoreAllLaws.{IsPair}

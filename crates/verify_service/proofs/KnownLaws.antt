@@ -1,17 +1,17 @@
 -- What a round knows of the chains of its texts, from the files that were fetched and what each worker judged.
-use Rattle.std.proofs.Common.{◌≡◌, ◌≢◌, ℕ, zero, suc, ◌+◌, ◌<◌, ◌≤◌, ◌%◌, ◌==◌, ◌||◌, Bool, true, false, cond, List, [], ◌∷◌, ◌++◌, filter, length, map, get_or, take, Option, Some, None, refl, sym, ap, ◌∙◌, subst, arith, mod-lt, zero-add}
+use Rattle.std.proofs.Common.{◌≡◌, ℕ, zero, suc, ◌+◌, ◌<◌, ◌≤◌, ◌%◌, ◌==◌, ◌||◌, Bool, true, false, cond, List, [], ◌∷◌, filter, length, get_or, Option, Some, None, refl, sym, ap, ◌∙◌, subst, arith, mod-lt, zero-add}
 use Rattle.std.specs.List.{list_any, slice_get}
 use Rattle.std.proofs.lemmas.Bool.Decides.{nat_tests}
-use Rattle.cert_store.specs.Judged.{JudgedAs, JudgedView, judged_of}
+use Rattle.cert_store.specs.Judged.{JudgedView}
 use Rattle.cert_store.specs.Rules.{Says}
 use Rattle.cert_store.specs.declared.world.World.{World as Materials}
 use Rattle.stir_outside.specs.Files.{Counts, Files}
-use Rattle.verify_rules.specs.States.{State, have, long, no_chain, unread}
+use Rattle.verify_rules.specs.States.{State}
 use Rattle.verify_service.specs.Causes.{AreCounted}
-use Rattle.verify_service.specs.Chains.{is_unasked, is_unread}
+use Rattle.call_judging.specs.Chains.{is_unasked, is_unread}
 use Rattle.verify_service.specs.Fetched.{IsFetched, is_read_file, is_unread_file}
 use Rattle.verify_service.specs.Judging.{EachPair}
-use Rattle.verify_service.specs.RoundRead.{HasAskedOwn, IsKnownRight, KnownBy, KnowsChains, all_certificates, certificates_of, file_state, is_judged, own_of, states_from}
+use Rattle.verify_service.specs.RoundRead.{HasAskedOwn, IsKnownRight, KnownBy, all_certificates, certificates_of, file_state, is_judged, own_of, states_from}
 use Rattle.verify_service.specs.WorkerChains.{ChainsCounted, CountedUnless, EachOwn, EachOwnUnless, IsOwn, certificates, certificates_in, has_failed}
 use Rattle.verify_service.specs.declared.fetching.Fetched.{Fetched}
 use Rattle.verify_service.specs.declared.fetching.Fetched.TheVariants as fetched

@@ -3,17 +3,9 @@ use Rattle.std.proofs.Common.{◌≡◌, ℕ, ◌+◌, ◌-◌, ◌≤◌, List,
 use Rattle.std.specs.List.{slice_get}
 use Rattle.std.specs.Option.{option_map}
 use Rattle.passport_claims.specs.Passport.{ClaimsView}
-use Rattle.verify_rules.specs.Call.{Call, Reading, passport_in}
-use Rattle.verify_rules.specs.LastSecond.{IsLastSecond}
-use Rattle.verify_rules.specs.Rules.{early_rules, first}
-use Rattle.verify_rules.specs.Screened.{ScreenedView, iat_or_none, last_of, last_of_call, screened_by}
+use Rattle.verify_rules.specs.Call.{Reading, passport_in}
+use Rattle.verify_rules.specs.Screened.{ScreenedView, iat_or_none, last_of, screened_by}
 use Rattle.verify_rules.specs.declared.settings.Settings.{Settings}
-use Rattle.verify_service.specs.Judging.{last_second}
-
-pub known_until : ((call : Call) → first early_rules call ≡ None → IsLastSecond call (last_of_call call)) → (call : Call) → first early_rules call ≡ None
-    → IsLastSecond call (last_second call)
-unfolding last_second
-known_until fresh = fresh
 
 iat_by : (o : Option Reading) (p : ClaimsView) → option_map passport_in o ≡ Some p → p.iat ≡ iat_or_none o
 iat_by None p e = absurd cc

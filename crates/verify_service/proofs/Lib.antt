@@ -1,11 +1,10 @@
 pub mod CountLaws
 pub mod FollowLaws
-pub mod JudgeLaws
+pub mod CallLaws
 pub mod LastLaws
 pub mod LineLaws
 pub mod ListLaws
 pub mod ReadBack
-pub mod ReadLaws
 pub mod RoundLaws
 pub mod PastLaws
 mod TextLaws

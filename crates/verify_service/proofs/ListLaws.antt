@@ -2,25 +2,13 @@
 use Rattle.std.proofs.Common.{◌≡◌, ℕ, zero, suc, ◌+◌, ◌<◌, Some, List, [], ◌∷◌, ◌++◌, length, map, take, get_or, ap, sym, ◌∙◌, refl, arith}
 use Rattle.std.specs.List.{slice_get}
 use Rattle.std.proofs.lemmas.Option.{same_Some}
-use Rattle.std.proofs.lemmas.List.{take_more, length-map, map_push}
+use Rattle.std.proofs.lemmas.List.{take_more}
 use Rattle.verify_service.specs.Judging.{EachPair}
 
 -- ---- one element more
 
 pub take_item : {X : Type 0} → (xs : List X) (i : ℕ) (x d : X) → i < length xs → x ≡ get_or xs i d → take (i + 1) xs ≡ take i xs ++ x ∷ []
 take_item xs i x d within is = take_more xs i d within ∙ ap (λ y. take i xs ++ y ∷ []) (sym is)
-
-pub mapped_more : {X Y : Type 0} → (f : X → Y) (xs : List X) (x : X) → map f (xs ++ x ∷ []) ≡ map f xs ++ f x ∷ []
-mapped_more f xs x = map_push f xs x
-
-pub mapped_length : {X Y : Type 0} → (f : X → Y) (xs : List X) → length (map f xs) ≡ length xs
-mapped_length f xs = length-map xs f
-
--- the element that is read at an index, as the function sees it
-pub mapped_at : {X Y : Type 0} → (f : X → Y) (xs : List X) (i : ℕ) (x : X) → i < length xs → x ≡ get_or xs i x → slice_get (map f xs) i ≡ Some (f x)
-mapped_at f [] i x within is = absurd (omega arith)
-mapped_at f (y ∷ ys) zero x within is = ap (λ v. Some (f v)) (sym is)
-mapped_at f (y ∷ ys) (suc i) x within is = mapped_at f ys i x (omega arith) is
 
 pub map_at : {X Y : Type 0} → (f : X → Y) (xs : List X) (i : ℕ) (x : X) (y : Y) → slice_get xs i ≡ Some x → slice_get (map f xs) i ≡ Some y → y ≡ f x
 map_at f [] i x y is at = absurd cc

@@ -18,8 +18,9 @@ use Rattle.verify_service.specs.Screening.{IsReady, IsScreening, is_open}
 use Rattle.verify_service.specs.declared.screening.Screening.{Screening}
 use Rattle.verify_service.specs.declared.screening.Screening.TheVariants.{Open, Refused, Passed}
 use Rattle.verify_service.specs.declared.screening.ReadyCall.{ReadyCall}
-use Rattle.verify_service.proofs.ListLaws.{mapped_more, take_item}
-use Rattle.verify_service.proofs.ReadLaws.{StandsAt, stands_at}
+use Rattle.call_judging.proofs.ListLaws.{mapped_more}
+use Rattle.verify_service.proofs.ListLaws.{take_item}
+use Rattle.call_judging.proofs.ReadLaws.{StandsAt, stands_at}
 
 true_is_not_false : true ≡ false → ⊥
 true_is_not_false e = cc

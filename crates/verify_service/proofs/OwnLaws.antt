@@ -1,5 +1,5 @@
 -- What is at a worker's own places of a round's texts, calls and answers.
-use Rattle.std.proofs.Common.{◌≡◌, ℕ, zero, suc, ◌+◌, ◌<◌, ◌≤◌, ◌%◌, ◌==◌, ◌&&◌, ◌||◌, ◌⊎◌, inl, inr, Bool, true, false, cond, List, [], ◌∷◌, filter, length, Option, Some, mod-lt, refl, sym, ap, ◌∙◌, subst, arith, length-append}
+use Rattle.std.proofs.Common.{◌≡◌, ℕ, suc, ◌+◌, ◌<◌, ◌%◌, ◌==◌, ◌&&◌, ◌||◌, inl, inr, Bool, true, false, cond, List, [], ◌∷◌, filter, length, Option, Some, mod-lt, refl, sym, ap, ◌∙◌, arith, length-append}
 use Rattle.std.proofs.lemmas.Bool.Decides.{nat_tests}
 use Rattle.std.specs.Cmp.Lexicographic.{bytes_decides, nat_list_eq_equiv}
 use Rattle.std.specs.List.{list_any, slice_get}
@@ -19,7 +19,7 @@ use Rattle.verify_service.specs.declared.screening.ReadyCall.{ReadyCall}
 use Rattle.verify_service.specs.declared.screening.Screening.{Screening}
 use Rattle.verify_service.specs.declared.screening.Screening.TheVariants.{Open, Refused, Passed}
 use Rattle.verify_service.proofs.JudgedChainLaws.{judged_chains, judged_first}
-use Rattle.verify_service.proofs.ListLaws.{mapped_length}
+use Rattle.call_judging.proofs.ListLaws.{mapped_length}
 use Rattle.verify_service.proofs.StoreAllLaws.{IsPair}
 
 false_is_not_true : false ≡ true → ⊥

@@ -1,31 +1,27 @@
 -- The seat of a round that was carried out, and the classes of its calls, as those see them who know the calls of the log.
-use Rattle.std.proofs.Common.{◌≡◌, ◌≢◌, ℕ, zero, suc, ◌<◌, ◌⊎◌, inl, inr, true, false, List, [], ◌∷◌, is_some, length, map, unwrap_or, Option, Some, None, refl, sym, ap, ◌∙◌, subst, arith}
+use Rattle.std.proofs.Common.{◌≡◌, ℕ, zero, suc, ◌<◌, ◌⊎◌, inl, inr, true, false, List, [], ◌∷◌, length, map, unwrap_or, Option, Some, None, refl, sym, ap, ◌∙◌, subst, arith}
 use Rattle.std.proofs.lemmas.Option.{same_Some}
 use Rattle.std.specs.List.{slice_get}
 use Rattle.call_log.specs.Entry.{Entry}
 use Rattle.replay_desk.specs.Holder.{Holder}
 use Rattle.replay_desk.specs.Pairs.{In}
 use Rattle.replay_desk.specs.Past.{PastView, found}
-use Rattle.verify_rules.specs.Call.{Call}
-use Rattle.verify_rules.specs.Rules.{early_rules, first}
-use Rattle.verify_rules.specs.declared.refusal.Refusal.{Refusal}
 use Rattle.verify_rules.specs.declared.settings.Settings.{Settings}
 use Rattle.verify_service.specs.Carried.{Carries, HasPairs, IsReplayPair, IsValidPair}
 use Rattle.verify_service.specs.Carrying.{IsInTurn, IsLoss, IsWin, Placed, out_at}
 use Rattle.verify_service.specs.Claiming.{ReplaysKept, loss_of, pair_of}
-use Rattle.verify_service.specs.Judging.{EachPair, call_in, ticket_or_none}
+use Rattle.call_judging.specs.Judging.{ticket_or_none}
+use Rattle.verify_service.specs.Judging.{EachPair, call_in}
 use Rattle.verify_service.specs.Ready.{class_in, is_passed, ticket_in}
 use Rattle.verify_service.specs.Rows.{held, kept_of_past, passes}
 use Rattle.state_text.specs.declared.kept.Kept.{Kept as Passed}
 use Rattle.std.specs.Option.{option_map}
-use Rattle.verify_service.specs.Screening.{IsReady, IsScreening, is_open}
+use Rattle.verify_service.specs.Screening.{IsReady}
 use Rattle.verify_service.specs.declared.outcome.Outcome.{Outcome}
 use Rattle.verify_service.specs.declared.outcome.Outcome.TheVariants as outcomes
 use Rattle.verify_service.specs.declared.screening.ReadyCall.{ReadyCall}
-use Rattle.verify_service.specs.declared.screening.Screening.{Screening}
-use Rattle.verify_service.specs.declared.screening.Screening.TheVariants as screenings
 use Rattle.verify_service.proofs.CallRowLaws.{apart_passed, ticket_is}
-use Rattle.verify_service.proofs.EntryClassLaws.{Beside, ClassedCall, OfLog, are_classes, beside, class_at, of_log, out_some, some_at, some_out}
+use Rattle.verify_service.proofs.EntryClassLaws.{Beside, ClassedCall, are_classes, beside, class_at, of_log, out_some, some_at, some_out}
 use Rattle.verify_service.proofs.CarriedLaws.{IsCarried, carried_settled, first_wins}
 
 false_is_not_true : false ≡ true → ⊥

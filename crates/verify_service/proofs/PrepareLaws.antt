@@ -1,5 +1,5 @@
 -- A round that is prepared, from the calls that were screened and the classes that they were given.
-use Rattle.std.proofs.Common.{◌≡◌, ℕ, ◌+◌, ◌*◌, ◌≤◌, List, length, sym, ap, ◌∙◌, subst, arith}
+use Rattle.std.proofs.Common.{◌≡◌, ℕ, ◌≤◌, List, length, sym, subst, arith}
 use Rattle.call_log.specs.Entry.{Entry}
 use Rattle.replay_desk.specs.Holder.{DeskId, Holder}
 use Rattle.verify_rules.specs.declared.settings.Settings.{Settings}

@@ -1,5 +1,5 @@
 -- The chains of a round, from its steps.
-use Rattle.std.proofs.Common.{◌≡◌, ℕ, zero, suc, ◌<◌, List, [], ◌∷◌, length, take, Option, Some, None, refl, sym, ap, ◌∙◌, subst}
+use Rattle.std.proofs.Common.{◌≡◌, ℕ, zero, suc, ◌<◌, List, [], ◌∷◌, take, Option, Some, None, sym, ◌∙◌, subst}
 use Rattle.cert_store.specs.Holding.{Chains, Holding, chain_of}
 use Rattle.cert_store.specs.Rules.{Says}
 use Rattle.cert_store.specs.declared.world.World.{World as Materials}

@@ -9,7 +9,7 @@ use Rattle.cert_store.specs.Asking.{is_failed}
 use Rattle.cert_store.specs.Holding.{Chains, Holding, chain_of, put_in}
 use Rattle.stir_outside.specs.Files.{Files}
 use Rattle.verify_rules.specs.States.{State, have, long, no_chain, unread}
-use Rattle.verify_service.specs.Chains.{IsRightWhere}
+use Rattle.call_judging.specs.Chains.{IsRightWhere}
 use Rattle.verify_service.specs.Kept.{HoldsChain, KeepsChain, Kept, StoresChain, StoresJudged, kept_state}
 use Rattle.verify_service.specs.RightChains.{AreRightHeld}
 use Rattle.cert_store.specs.declared.world.World.{World as Materials}

@@ -1,5 +1,5 @@
 -- All that a round says of its calls and its chains, from what it prepared and carried out.
-use Rattle.std.proofs.Common.{◌≡◌, ℕ, ◌+◌, ◌*◌, ◌≤◌, ◌<◌, ◌%◌, Bool, true, false, ◌||◌, List, [], ◌∷◌, ◌++◌, length, Option, Some, None, mod-lt, refl, sym, ap, ◌∙◌, subst, arith, length-append}
+use Rattle.std.proofs.Common.{◌≡◌, ℕ, ◌*◌, ◌≤◌, ◌<◌, ◌%◌, Bool, true, false, ◌||◌, List, [], ◌∷◌, length, Option, Some, mod-lt, refl, sym, ap, ◌∙◌, subst, arith, length-append}
 use Rattle.std.specs.List.{list_any}
 use Rattle.call_log.specs.Entry.{Entry}
 use Rattle.cert_store.specs.Holding.{AreAnswered, Holding}
@@ -14,7 +14,8 @@ use Rattle.stir_outside.proofs.CountLaws.{not_risen_before, not_risen_behind, no
 use Rattle.verify_rules.specs.declared.settings.Settings.{Settings}
 use Rattle.verify_service.specs.Carrying.{AreSaid, HasAnswered, out_at, own_open}
 use Rattle.verify_service.specs.Carried.{AreRuled}
-use Rattle.verify_service.specs.Causes.{HasCauseIf, NoneUnasked, NoneUnread, UnaskedIsCounted, UnreadIsCounted, is_unasked_passport, unasked_texts}
+use Rattle.call_judging.specs.Causes.{HasCauseIf}
+use Rattle.verify_service.specs.Causes.{NoneUnasked, NoneUnread, UnaskedIsCounted, UnreadIsCounted, is_unasked_passport, unasked_texts}
 use Rattle.verify_service.specs.Judging.{EachPair, IsJudgedWhere, call_in}
 use Rattle.verify_service.specs.Kept.{Kept}
 use Rattle.verify_service.specs.Needed.{all_named, named, named_by, round_texts, x5u_of}
@@ -31,7 +32,8 @@ use Rattle.verify_service.specs.declared.screening.Screening.{Screening}
 use Rattle.verify_service.specs.declared.screening.Screening.TheVariants.{Open, Refused, Passed}
 use Rattle.verify_service.proofs.AsideLaws.{FieldLaw, IsAsideIn}
 use Rattle.verify_service.proofs.EachCallLaws.{each_aside}
-use Rattle.verify_service.proofs.ListLaws.{each_length, mapped_length}
+use Rattle.call_judging.proofs.ListLaws.{mapped_length}
+use Rattle.verify_service.proofs.ListLaws.{each_length}
 use Rattle.verify_service.proofs.RoundAsideLaws.{JoinedLaw, NoMoreLaw, none_failed, none_unasked, none_unread, unasked_among, unasked_counted, unread_counted}
 use Rattle.verify_service.proofs.RoundHeldLaws.{NamedLaw, has_judged, reads_few, stays_held}
 use Rattle.verify_service.proofs.RoundLaws.{all_judged, materials_same}

@@ -1,5 +1,5 @@
 -- A call of a round is set aside only for a fault outside that was counted: of the shelf, or of the provider of the worker whose text or call it is.
-use Rattle.std.proofs.Common.{◌≡◌, ℕ, zero, suc, ◌+◌, ◌≤◌, ◌<◌, ◌||◌, inl, inr, Bool, true, false, cond, List, [], ◌∷◌, filter, length, Option, refl, sym, ap, ◌∙◌, subst, arith}
+use Rattle.std.proofs.Common.{◌≡◌, ℕ, suc, ◌≤◌, ◌<◌, ◌||◌, inl, inr, Bool, true, false, cond, List, [], ◌∷◌, filter, length, Option, refl, sym, ap, ◌∙◌, subst, arith}
 use Rattle.std.specs.List.{list_any}
 use Rattle.call_log.specs.Entry.{Entry}
 use Rattle.cert_store.specs.Holding.{AreAnswered, Holding}
@@ -14,10 +14,10 @@ use Rattle.stir_outside.proofs.CountLaws.{both_at_most, not_rose}
 use Rattle.verify_rules.specs.States.{State, have, unread}
 use Rattle.verify_rules.specs.declared.settings.Settings.{Settings}
 use Rattle.verify_service.specs.Carrying.{out_at, own_open}
-use Rattle.verify_service.specs.Causes.{HasCauseIf, NoneUnasked, NoneUnread, UnaskedIsCounted, UnreadIsCounted, is_unasked as outcome_unasked, is_unasked_passport, is_unread as outcome_unread, joined, unasked_texts, unread_texts}
-use Rattle.verify_service.specs.Chains.{is_unasked, is_unread}
+use Rattle.verify_service.specs.Causes.{NoneUnasked, NoneUnread, UnaskedIsCounted, UnreadIsCounted, is_unasked as outcome_unasked, is_unasked_passport, is_unread as outcome_unread, joined, unasked_texts, unread_texts}
+use Rattle.call_judging.specs.Chains.{is_unasked, is_unread}
 use Rattle.verify_service.specs.Judging.{EachPair}
-use Rattle.verify_service.specs.Kept.{Kept, kept_state}
+use Rattle.verify_service.specs.Kept.{Kept}
 use Rattle.verify_service.specs.Needed.{all_named, needed}
 use Rattle.verify_service.specs.RoundRead.{HasAskedOwn, IsKnownRight, RoundReads, own_of, texts_of, used_in}
 use Rattle.verify_service.specs.Screening.{IsReady}

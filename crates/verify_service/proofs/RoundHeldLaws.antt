@@ -1,22 +1,21 @@
 -- What a round has read, asked and held, from what is known of it.
-use Rattle.std.proofs.Common.{◌≡◌, ℕ, ◌+◌, ◌≤◌, ◌<◌, ◌||◌, ◌⊎◌, inl, inr, Bool, true, false, not, List, [], ◌∷◌, filter, length, is_some, Option, Some, None, refl, sym, ap, ◌∙◌, subst, arith}
+use Rattle.std.proofs.Common.{◌≡◌, ℕ, ◌+◌, ◌≤◌, ◌<◌, ◌||◌, Bool, true, false, not, List, [], filter, length, is_some, Option, refl, sym, ap, ◌∙◌, subst, arith}
 use Rattle.std.specs.List.{list_any}
 use Rattle.call_log.specs.Entry.{Entry}
 use Rattle.cert_store.specs.ChainMap.{listed}
 use Rattle.cert_store.specs.Files.{Files as ChainFiles}
 use Rattle.cert_store.specs.Holding.{Chains, Holding, chain_of}
-use Rattle.cert_store.specs.Judged.{JudgedView}
 use Rattle.cert_store.specs.Rules.{Says}
 use Rattle.cert_store.specs.Using.{AreAmong, HeldUnless, IsOnce, has, names}
 use Rattle.cert_store.specs.declared.world.World.{World as Materials}
 use Rattle.stir_outside.specs.Files.{Counts, Files}
 use Rattle.verify_rules.specs.States.{State, have}
 use Rattle.verify_rules.specs.declared.settings.Settings.{Settings}
-use Rattle.verify_service.specs.Chains.{is_unasked}
+use Rattle.call_judging.specs.Chains.{is_unasked}
 use Rattle.verify_service.specs.Judging.{EachPair}
-use Rattle.verify_service.specs.Needed.{all_named, named, needed, once, round_texts, touch_all}
+use Rattle.verify_service.specs.Needed.{all_named, named, needed, round_texts, touch_all}
 use Rattle.verify_service.specs.Carrying.{own_passports}
-use Rattle.verify_service.specs.Reads.{AreTexts, AreUsed, HasAsked, HasJudged, ReadOnce, ReadsFew, StaysHeld, certificates_in, unheld}
+use Rattle.verify_service.specs.Reads.{AreUsed, HasAsked, HasJudged, ReadsFew, StaysHeld, certificates_in, unheld}
 use Rattle.verify_service.specs.Kept.{Kept}
 use Rattle.verify_service.specs.RoundRead.{HasAskedOwn, IsKnownRight, RoundReads, StoresAll, own_of, texts_of, used_in}
 use Rattle.verify_service.specs.Screening.{IsReady}

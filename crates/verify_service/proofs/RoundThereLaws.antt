@@ -1,5 +1,5 @@
 -- The chains of a round are right, and there.
-use Rattle.std.proofs.Common.{◌≡◌, ℕ, ◌≤◌, ◌<◌, Bool, true, false, not, ◌&&◌, List, [], length, is_some, inr, Option, refl, sym, ap, ◌∙◌, subst, arith}
+use Rattle.std.proofs.Common.{◌≡◌, ℕ, ◌≤◌, Bool, true, false, not, ◌&&◌, List, [], length, is_some, inr, Option, refl, sym, ◌∙◌, subst, arith}
 use Rattle.cert_store.specs.ChainMap.{listed}
 use Rattle.cert_store.specs.Files.{Files as ChainFiles}
 use Rattle.cert_store.specs.Holding.{Chains, Holding, chain_of}
@@ -17,7 +17,7 @@ use Rattle.verify_service.specs.RoundRead.{RoundReads, StoresAll, texts_of, used
 use Rattle.verify_service.specs.declared.screening.ReadyCall.{ReadyCall}
 use Rattle.verify_service.proofs.ReadyChainLaws.{right_same}
 use Rattle.verify_service.proofs.StoreAllLaws.{HereLaw, OthersLaw, RightLaw, all_capacity, all_here, all_others, all_right}
-use Rattle.verify_service.proofs.TouchLaws.{SameLaw, TouchedLaw, TouchedOthersLaw, named_needed, needed_named, needed_parts, touch_chains, touch_here}
+use Rattle.verify_service.proofs.TouchLaws.{SameLaw, TouchedLaw, TouchedOthersLaw, named_needed, needed_named, touch_chains, touch_here}
 
 false_is_not_true : false ≡ true → ⊥
 false_is_not_true e = cc

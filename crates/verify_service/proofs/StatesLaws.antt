@@ -1,5 +1,5 @@
 -- What is known by files, one file more.
-use Rattle.std.proofs.Common.{◌≡◌, ℕ, zero, suc, ◌+◌, ◌<◌, ◌%◌, List, [], ◌∷◌, ◌++◌, length, get_or, take, Option, None, refl, sym, ap, ◌∙◌, subst, arith, zero-add}
+use Rattle.std.proofs.Common.{◌≡◌, ℕ, zero, suc, ◌+◌, ◌<◌, ◌%◌, List, [], ◌∷◌, ◌++◌, length, get_or, take, Option, None, refl, sym, ap, ◌∙◌, arith, zero-add}
 use Rattle.cert_store.specs.Judged.{JudgedView}
 use Rattle.verify_rules.specs.States.{State}
 use Rattle.verify_service.specs.RoundRead.{file_state, states_from}

@@ -1,19 +1,19 @@
 -- Chains that are stored in turn: what is right stays right, what is there stays there, and what is kept is one of them.
-use Rattle.std.proofs.Common.{◌≡◌, ℕ, ◌≤◌, ◌||◌, ◌⊎◌, inl, inr, Bool, true, false, cond, List, [], ◌∷◌, ◌++◌, filter, length, is_some, Option, Some, None, refl, sym, ap, ◌∙◌, subst, arith}
+use Rattle.std.proofs.Common.{◌≡◌, ℕ, ◌||◌, ◌⊎◌, inl, inr, Bool, true, false, cond, List, [], ◌∷◌, ◌++◌, filter, length, Option, Some, None, refl, sym, ap, ◌∙◌, subst, arith}
 use Rattle.std.proofs.lemmas.Option.{same_Some}
 use Rattle.std.specs.Cmp.Lexicographic.{bytes_decides, nat_list_eq_equiv}
 use Rattle.std.specs.Str.{bytes_eq}
 use Rattle.cert_store.specs.Asking.{is_failed}
-use Rattle.cert_store.specs.Holding.{Holding, put_in}
+use Rattle.cert_store.specs.Holding.{Holding}
 use Rattle.cert_store.specs.Judged.{JudgedView}
 use Rattle.cert_store.specs.Rules.{Says}
 use Rattle.cert_store.specs.Using.{AreAmong, IsOnce, has, names}
 use Rattle.cert_store.specs.declared.world.World.{World as Materials}
 use Rattle.stir_outside.specs.Files.{Files}
 use Rattle.verify_rules.specs.States.{State, have, long, no_chain, unread}
-use Rattle.verify_service.specs.Chains.{IsRightWhere}
+use Rattle.call_judging.specs.Chains.{IsRightWhere}
 use Rattle.verify_service.specs.Judging.{EachPair}
-use Rattle.verify_service.specs.Kept.{HoldsChain, KeepsChain, Kept, StoresChain, StoresJudged, kept_state}
+use Rattle.verify_service.specs.Kept.{KeepsChain, Kept, StoresChain, StoresJudged, kept_state}
 use Rattle.verify_service.specs.RightChains.{AreRightHeld, FailAtQuestions, IsThereUnless}
 use Rattle.verify_service.specs.RoundRead.{IsKnownRight, StoresAll, StoresFirst}
 

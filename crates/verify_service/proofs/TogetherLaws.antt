@@ -15,7 +15,7 @@ use Rattle.verify_service.specs.declared.screening.ReadyCall.{ReadyCall}
 use Rattle.verify_service.proofs.AnsweredLaws.{answered_as}
 use Rattle.verify_service.proofs.GainLaws.{placed_on}
 use Rattle.verify_service.proofs.JoinLaws.{OneHas, desk_from, first_has, gives, joined_share, shares_given, shares_same, some_joined}
-use Rattle.verify_service.proofs.ListLaws.{mapped_length}
+use Rattle.call_judging.proofs.ListLaws.{mapped_length}
 use Rattle.verify_service.proofs.OutLaws.{in_bounds}
 
 -- ---- what one of them left

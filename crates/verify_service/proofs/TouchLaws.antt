@@ -1,7 +1,6 @@
 -- What is held when a round has used it, and what becomes of it when others are stored.
-use Rattle.std.proofs.Common.{◌≡◌, ℕ, ◌≤◌, ◌||◌, ◌⊎◌, inl, inr, Bool, true, false, cond, not, ◌&&◌, List, [], ◌∷◌, filter, length, is_some, Option, Some, None, refl, sym, ap, ◌∙◌, subst, arith}
+use Rattle.std.proofs.Common.{◌≡◌, ℕ, ◌||◌, inl, inr, Bool, true, false, cond, not, ◌&&◌, List, [], ◌∷◌, is_some, refl, sym, ap, ◌∙◌, subst}
 use Rattle.std.specs.Cmp.Lexicographic.{bytes_decides, nat_list_eq_equiv}
-use Rattle.std.specs.List.{list_any}
 use Rattle.std.specs.Str.{bytes_eq}
 use Rattle.cert_store.specs.Asking.{is_failed}
 use Rattle.cert_store.specs.ChainMap.{listed}
@@ -10,10 +9,9 @@ use Rattle.cert_store.specs.Holding.{Chains, Holding, chain_of, touched}
 use Rattle.cert_store.specs.Judged.{JudgedView}
 use Rattle.cert_store.specs.Using.{AreAmong, HeldUnless, IsHeldSince, IsOnce, has, names}
 use Rattle.verify_rules.specs.States.{State, have, long, no_chain, unread}
-use Rattle.verify_service.specs.Kept.{HoldsChain, KeepsChain, Kept, StoresChain, StoresJudged}
+use Rattle.verify_service.specs.Kept.{KeepsChain, Kept, StoresChain, StoresJudged}
 use Rattle.verify_service.specs.Needed.{is_needed, needed, touch_all}
-use Rattle.verify_service.specs.Reads.{AreUsed}
-use Rattle.verify_service.specs.RoundRead.{StoresAll, StoresFirst}
+use Rattle.verify_service.specs.RoundRead.{StoresAll}
 use Rattle.verify_service.proofs.StoreAllLaws.{IsPair, one_capacity}
 use Rattle.verify_service.proofs.UnheldLaws.{CacheLaws}
 

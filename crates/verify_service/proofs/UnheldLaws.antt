@@ -8,8 +8,8 @@ use Rattle.cert_store.specs.Holding.{Chains, Holding, chain_of, put_in}
 use Rattle.cert_store.specs.Judged.{JudgedView}
 use Rattle.cert_store.specs.Using.{AreAmong, HeldUnless, IsHeldSince, IsOnce, has, names}
 use Rattle.verify_rules.specs.States.{State, have, long, no_chain, unread}
-use Rattle.verify_service.specs.Chains.{is_unasked}
-use Rattle.verify_service.specs.Kept.{HoldsChain, KeepsChain, Kept, StoresChain, StoresJudged}
+use Rattle.call_judging.specs.Chains.{is_unasked}
+use Rattle.verify_service.specs.Kept.{KeepsChain, Kept, StoresChain, StoresJudged}
 use Rattle.verify_service.specs.Reads.{unheld}
 use Rattle.verify_service.specs.RoundRead.{StoresAll, is_judged}
 use Rattle.verify_service.proofs.StoreAllLaws.{one_capacity}

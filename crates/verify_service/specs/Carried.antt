@@ -12,7 +12,8 @@ use Rattle.replay_law.specs.Turn.{FirstWins}
 use Rattle.stir_outside.specs.Files.{Files}
 use Rattle.verify_rules.specs.Rules.{early_rules, first}
 use Rattle.verify_rules.specs.declared.settings.Settings.{Settings}
-use Rattle.verify_service.specs.Judging.{EachPair, IsJudgedWhere, call_in, ticket_or_none}
+use Rattle.call_judging.specs.Judging.{ticket_or_none}
+use Rattle.verify_service.specs.Judging.{EachPair, IsJudgedWhere, call_in}
 use Rattle.verify_service.specs.Ready.{Basis}
 use Rattle.verify_service.specs.RightChains.{AreRightHeld}
 use Rattle.verify_service.specs.Rows.{EachOwed, held, rows_of}

@@ -5,7 +5,8 @@ use Rattle.replay_desk.specs.Holder.{DeskId, Holder, both_of}
 use Rattle.replay_desk.specs.Pairs.{In, whole}
 use Rattle.replay_desk.specs.Past.{PastView, found}
 use Rattle.stir_outside.specs.Count.{AtMost}
-use Rattle.verify_service.specs.Causes.{HasCauseIf, is_unasked_passport}
+use Rattle.call_judging.specs.Causes.{HasCauseIf}
+use Rattle.verify_service.specs.Causes.{is_unasked_passport}
 use Rattle.verify_service.specs.Claiming.{OutcomeSays, ReplaysKept, loss_of, pair_of}
 use Rattle.verify_service.specs.Ready.{Basis, IsFresh, Provided, class_in, ticket_in}
 use Rattle.verify_service.specs.Screening.{readings_in}

@@ -4,13 +4,12 @@ use Rattle.std.specs.List.{list_any}
 use Rattle.cert_store.specs.Using.{has}
 use Rattle.std.specs.Str.{bytes_eq}
 use Rattle.call_log.specs.Entry.{Entry}
-use Rattle.stir_outside.specs.Count.{AtMost, Rose}
+use Rattle.stir_outside.specs.Count.{AtMost}
 use Rattle.verify_rules.specs.Call.{Call, Reading, in_call_order}
 use Rattle.verify_rules.specs.declared.refusal.Place.{Place}
 use Rattle.verify_rules.specs.declared.settings.Settings.{Settings}
 use Rattle.verify_service.specs.Judging.{call_in}
-use Rattle.verify_service.specs.declared.finding.Finding.{Finding}
-use Rattle.verify_service.specs.declared.finding.Finding.TheVariants as found
+use Rattle.call_judging.specs.Causes.{HasCauseIf}
 use Rattle.verify_service.specs.declared.outcome.Outcome.{Outcome}
 use Rattle.verify_service.specs.declared.outcome.Outcome.TheVariants.{Valid, Refused, Replay, Unread, Unasked}
 
@@ -100,23 +99,7 @@ NoneUnread outcomes = list_any is_unread outcomes ≡ false
 abbrev pub NoneUnasked : List Outcome → Type 0
 NoneUnasked outcomes = list_any is_unasked outcomes ≡ false
 
--- ---- of calls by themselves
-
-abbrev pub found_unread : Finding → Bool
-found_unread (found.Refused refused) = false
-found_unread (found.Unread bad) = true
-found_unread (found.Unasked bad) = false
-found_unread (found.Passes pass) = false
-
-abbrev pub found_unasked : Finding → Bool
-found_unasked (found.Refused refused) = false
-found_unasked (found.Unread bad) = false
-found_unasked (found.Unasked bad) = true
-found_unasked (found.Passes pass) = false
-
--- it is set aside only if a count of faults rose
-abbrev pub HasCauseIf : Bool → ℕ → ℕ → Type 0
-HasCauseIf set_aside faults faults_now = set_aside ≡ true → Rose faults faults_now
+-- ---- of calls by themselves, or of files
 
 -- At most as many of these are set aside as faults were counted, and one only if the count rose.
 pub record AreCounted {X : Type 0} (set_aside : X → Bool) (xs : List X) (faults faults_now : ℕ) : Type 0 where

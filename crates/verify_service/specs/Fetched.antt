@@ -5,7 +5,7 @@ use Rattle.cert_store.specs.Rules.{Says}
 use Rattle.cert_store.specs.declared.world.World.{World as Materials}
 use Rattle.stir_outside.specs.Files.{Files}
 use Rattle.verify_rules.specs.States.{have, no_chain, long, unread}
-use Rattle.verify_service.specs.Chains.{IsRightWhere}
+use Rattle.call_judging.specs.Chains.{IsRightWhere}
 use Rattle.verify_service.specs.declared.fetching.Fetched.{Fetched}
 use Rattle.verify_service.specs.declared.fetching.Fetched.TheVariants as fetched
 

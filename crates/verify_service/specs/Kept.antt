@@ -10,21 +10,21 @@ use Rattle.cert_store.specs.Holding.{Chains, Holding, chain_of, put_in}
 use Rattle.cert_store.specs.Judged.{JudgedView}
 use Rattle.verify_rules.specs.Call.{Reading}
 use Rattle.verify_rules.specs.States.{State, have, long, no_chain, unread}
-use Rattle.verify_service.specs.Chains.{state_of}
-use Rattle.verify_service.specs.declared.chains.CallChain.{CallChain}
+use Rattle.call_judging.specs.Chains.{state_of}
+use Rattle.call_judging.specs.declared.chains.ChainStatus.{ChainStatus}
 
 -- what is known for which x5u
 abbrev pub Kept : Type 0
 Kept = List (List ℕ × State)
 
-abbrev pub kept_in : {Y : Type 0} → List (Vec ℕ Y × CallChain) → Kept
+abbrev pub kept_in : {Y : Type 0} → List (Vec ℕ Y × ChainStatus) → Kept
 kept_in entries = map (λ entry. (vec_items entry.0, state_of entry.1)) entries
 
 abbrev pub kept_state : List ℕ → Kept → Option State
 kept_state x5u kept = lookup (bytes_eq x5u) kept
 
 -- what was looked up is what is kept
-abbrev pub IsKeptState : Option (Bor CallChain) → Option State → Type 0
+abbrev pub IsKeptState : Option (Bor ChainStatus) → Option State → Type 0
 IsKeptState found kept = option_map (λ one. state_of one.now) found ≡ kept
 
 -- this is known of the chain of this x5u, and of the others what was

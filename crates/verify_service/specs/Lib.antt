@@ -1,5 +1,4 @@
 pub mod Causes
-pub mod Chains
 pub mod Judging
 pub mod Report
 pub mod ReportLine

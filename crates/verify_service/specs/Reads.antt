@@ -12,7 +12,7 @@ use Rattle.cert_store.specs.declared.world.World.{World as Materials}
 use Rattle.stir_outside.specs.Files.{Files as ShelfFiles}
 use Rattle.verify_rules.specs.States.{have}
 use Rattle.verify_rules.specs.declared.settings.Settings.{Settings}
-use Rattle.verify_service.specs.Chains.{IsRightWhere}
+use Rattle.call_judging.specs.Chains.{IsRightWhere}
 use Rattle.verify_service.specs.Needed.{named, round_texts}
 
 -- how many of these texts have no chain that is held

@@ -10,7 +10,7 @@ use Rattle.cert_store.specs.Using.{HeldUnless, has}
 use Rattle.cert_store.specs.declared.world.World.{World as Materials}
 use Rattle.stir_outside.specs.Files.{Files}
 use Rattle.verify_rules.specs.States.{State, have}
-use Rattle.verify_service.specs.Chains.{IsRightWhere}
+use Rattle.call_judging.specs.Chains.{IsRightWhere}
 use Rattle.verify_service.specs.Kept.{Kept, kept_state}
 
 -- Each chain that is held or kept is what the rules say of it, over the files that a shelf tells, as far as its questions were answered.

@@ -9,7 +9,7 @@ use Rattle.cert_store.specs.declared.world.World.{World as Materials}
 use Rattle.stir_outside.specs.Files.{Counts, Files}
 use Rattle.verify_rules.specs.States.{State, have, long, no_chain, unread}
 use Rattle.verify_service.specs.Causes.{AreCounted}
-use Rattle.verify_service.specs.Chains.{IsRightWhere, is_unasked, is_unread}
+use Rattle.call_judging.specs.Chains.{IsRightWhere, is_unasked, is_unread}
 use Rattle.verify_service.specs.Judging.{EachPair}
 use Rattle.verify_service.specs.Kept.{Kept, StoresChain}
 use Rattle.verify_service.specs.Needed.{all_named, round_texts, touch_all}

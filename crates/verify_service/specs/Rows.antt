@@ -10,7 +10,8 @@ use Rattle.replay_law.specs.Row.{Answer, valid, replay, neither, Row}
 use Rattle.verify_rules.specs.Signed.{IsKnownAgain}
 use Rattle.verify_rules.specs.World.{World}
 use Rattle.verify_rules.specs.declared.settings.Settings.{Settings}
-use Rattle.verify_service.specs.Judging.{EachJudged, EachPair, call_in, last_second, ticket_or_none}
+use Rattle.call_judging.specs.Judging.{last_second, ticket_or_none}
+use Rattle.verify_service.specs.Judging.{EachJudged, EachPair, call_in}
 use Rattle.verify_service.specs.declared.outcome.Outcome.{Outcome}
 use Rattle.verify_service.specs.declared.outcome.Outcome.TheVariants.{Valid, Refused, Replay, Unread, Unasked}
 

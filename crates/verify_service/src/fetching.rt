@@ -2,7 +2,8 @@
 ghost use Rattle.std.specs.Prelude.{◌≡◌, ◌≤◌, ◌+◌, ℕ, List, length, vec_len, filter, Some, IfOk};
 ghost use Rattle.cert_store.specs.ChainMap.{listed};
 ghost use Rattle.stir_outside.specs.Stays.{ShelfStays};
-ghost use Rattle.verify_service.specs.Causes.{AreCounted, HasCauseIf};
+ghost use Rattle.call_judging.specs.Causes.{HasCauseIf};
+ghost use Rattle.verify_service.specs.Causes.{AreCounted};
 ghost use Rattle.verify_service.specs.Fetched.{IsFetched, is_read_file, is_unread_file, read_count};
 ghost use Rattle.verify_service.specs.Judging.{EachPair};
 

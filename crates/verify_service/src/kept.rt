@@ -3,10 +3,10 @@ ghost use Rattle.std.specs.Prelude.{◌≡◌, ℕ, List, [], OnOk, OnErr};
 ghost use Rattle.std.specs.Option.{option_copied};
 ghost use Rattle.cert_store.specs.Asking.{is_failed};
 ghost use Rattle.verify_rules.specs.States.{have};
-ghost use Rattle.verify_service.specs.Chains.{state_of};
+ghost use Rattle.call_judging.specs.Chains.{state_of};
 ghost use Rattle.verify_service.specs.Kept.{IsKeptState, Keeps, StoresChain, kept_state};
 
-use crate::chains::CallChain;
+use call_judging::ChainStatus;
 use cert_store::{Asked, Cache, Judged};
 use std::alloc::{AllocError, Global};
 use std::collections::HashMap;
@@ -16,7 +16,7 @@ use std::marker::Model;
 /// or a question of it failed. A contract sees what is known for which x5u, in no order that it names.
 #[derive(Drop)]
 pub(crate) struct KeptChains {
-    chains: HashMap<Vec<u8>, CallChain>,
+    chains: HashMap<Vec<u8>, ChainStatus>,
 }
 
 impl Model for KeptChains {
@@ -38,14 +38,14 @@ impl KeptChains {
     }
 
     /// What is known of the chain of this x5u.
-    pub(crate) fn get(&self, x5u: &[u8]) -> Option<&CallChain>
+    pub(crate) fn get(&self, x5u: &[u8]) -> Option<&ChainStatus>
         ensures { IsKeptState result (kept_state x5u.now self.now) }
     {
         self.chains.get(x5u)
     }
 
     /// Keeps what is known of the chain of this x5u, in place of what was. `AllocError` is the only error.
-    pub(crate) fn keep(&mut self, x5u: Vec<u8>, chain: CallChain) -> Result<(), AllocError>
+    pub(crate) fn keep(&mut self, x5u: Vec<u8>, chain: ChainStatus) -> Result<(), AllocError>
         ensures { OnOk result (Keeps x5u.items (state_of chain) self.old self.new) }
     {
         match self.chains.insert(x5u, chain) {
@@ -60,7 +60,7 @@ impl KeptChains {
 pub(crate) fn store_chain(
     alloc: Global,
     x5u: &[u8],
-    chain: CallChain,
+    chain: ChainStatus,
     cache: &mut Cache,
     kept: &mut KeptChains,
 ) -> Result<(), AllocError>
@@ -69,10 +69,10 @@ pub(crate) fn store_chain(
 {
     let x5u = Vec::from_slice(alloc, x5u)?;
     match chain {
-        CallChain::Have(judged) => store_judged(x5u, judged, cache, kept),
-        CallChain::NoChain => kept.keep(x5u, CallChain::NoChain),
-        CallChain::Long => kept.keep(x5u, CallChain::Long),
-        CallChain::Unread => kept.keep(x5u, CallChain::Unread),
+        ChainStatus::Judged(judged) => store_judged(x5u, judged, cache, kept),
+        ChainStatus::Missing => kept.keep(x5u, ChainStatus::Missing),
+        ChainStatus::TooLong => kept.keep(x5u, ChainStatus::TooLong),
+        ChainStatus::Unread => kept.keep(x5u, ChainStatus::Unread),
     }
 }
 
@@ -87,7 +87,7 @@ fn store_judged(
     ensures refused { OnErr result (cache.new ≡ cache.old) }
 {
     if is_failed(judged.asked()) {
-        return kept.keep(x5u, CallChain::Have(judged));
+        return kept.keep(x5u, ChainStatus::Judged(judged));
     }
     cache.put(x5u, judged)
 }

@@ -13,8 +13,9 @@ ghost use Rattle.verify_rules.specs.Screened.{IsScreenedBy, ScreenedView};
 ghost use Rattle.verify_rules.specs.States.{State};
 ghost use Rattle.verify_rules.specs.declared.refusal.ScreenFault.{ScreenFault};
 ghost use Rattle.verify_rules.specs.declared.settings.Settings.{Settings};
-ghost use Rattle.verify_service.specs.Chains.{AreRightWhere, IsRightWhere};
-ghost use Rattle.verify_service.specs.Judging.{EachPair, call_in, last_second};
+ghost use Rattle.call_judging.specs.Chains.{AreRightWhere, IsRightWhere};
+ghost use Rattle.call_judging.specs.Judging.{last_second};
+ghost use Rattle.verify_service.specs.Judging.{EachPair, call_in};
 ghost use Rattle.verify_service.specs.Report.{report, report_text};
 ghost use Rattle.verify_service.specs.ReportLine.{AllFit, Fits, IsLine};
 ghost use Rattle.verify_service.specs.declared.outcome.Outcome.{Outcome};
@@ -34,29 +35,12 @@ use verify_rules::{code_law, last_second_law, right_law};
 
 /// A call of a log is judged as what its message and its moment are.
 pub fn call_law()
+    ensures same { (settings : Settings) (entry : Entry) (moment : ℕ) (message : List ℕ) → message ≡ entry.message → moment ≡ entry.moment
+        → call_of settings moment message ≡ call_in settings entry }
     ensures screened { (settings : Settings) (entry : Entry) (moment : ℕ) (message : List ℕ) (result : Result ScreenedView ScreenFault) → message ≡ entry.message
         → moment ≡ entry.moment → IsScreenedBy early_rules (call_of settings moment message) result → IsScreenedBy early_rules (call_in settings entry) result }
     ensures same_moment { (settings : Settings) (entry : Entry) (moment : ℕ) → moment ≡ entry.moment → moment ≡ (call_in settings entry).moment }
 {}
-
-/// What is known of the chains of a call's PASSporTs, one after another, is right: of none yet, and of one PASSporT more if it is right of the
-/// chain of that one's x5u (RFC 7515, section 4.1.5).
-pub fn chains_law()
-    ensures none { (told : Option Files) (materials : Materials) (says : Says) → AreRightWhere told materials says [] [] }
-    ensures next { (told told_now : Option Files) (materials : Materials) (says says_now : Says) (readings : List Reading) (states : List State) (i : ℕ)
-        (passport : ClaimsView) (x5u : List ℕ) (state : State) → told_now ≡ told → says_now ≡ says → AreRightWhere told materials says (take i readings) states
-        → i < length readings → option_map passport_in (slice_get readings i) ≡ Some passport → x5u ≡ passport.x5u → IsRightWhere told_now materials says_now x5u state
-        → AreRightWhere told materials says (take (i + 1) readings) (states ++ state ∷ []) }
-{
-    right_law();
-}
-
-/// A call that breaks none of rules 1 to 9 is known again up to the `iat` of its last PASSporT plus `past`.
-pub fn fresh_law()
-    ensures { (call : Call) → first early_rules call ≡ None → IsLastSecond call (last_second call) }
-{
-    last_second_law();
-}
 
 /// A line of the report has the words of its row, and the report can be read back. Lines are the same only if the number of the call and what
 /// came of it are, and reports only if all that came of their calls is.

@@ -17,8 +17,6 @@
 //!   judges the calls.
 //! - [`Service::look_ahead`] screens the calls of rounds that come later, of several at once; `prepare` takes over what was screened.
 //! - [`Service::judge`] judges a call of a prepared round, for a caller with threads of its own.
-//! - [`judge_call`] judges a call by itself, without the calls around it, and gives a [`Finding`]; [`chain_in`] reads one chain, and
-//!   [`read_chains`] those of a call.
 //!
 //! ```rust
 //! let mut service = Service::new(alloc, settings, world)?;
@@ -49,21 +47,17 @@
 mod ahead;
 mod carried;
 mod carrying;
-mod chains;
 mod claiming;
 mod classing;
 mod closing;
 mod fetching;
-mod finding;
 mod handing;
-mod judge;
 mod kept;
 mod laws;
 mod outcome;
 mod prepare;
 mod prepared;
 mod preparing;
-mod reading;
 mod ready;
 mod report;
 mod round;
@@ -80,13 +74,9 @@ mod working;
 pub use call_log::{Call, LogFault, LogReader};
 pub use carried::Carried;
 pub use cert_store::World;
-pub use chains::{CallChain, CallChains};
-pub use finding::{Finding, Pass};
-pub use judge::judge_call;
-pub use laws::{call_law, chains_law, fresh_law, report_law};
+pub use laws::{call_law, report_law};
 pub use outcome::Outcome;
 pub use prepared::Prepared;
-pub use reading::{chain_in, read_chains};
 pub use replay_desk::State;
 pub use report::{report_line, said};
 pub use service::Service;

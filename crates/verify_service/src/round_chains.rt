@@ -4,7 +4,6 @@ ghost use Rattle.std.specs.List.{slice_get};
 ghost use Rattle.verify_rules.specs.States.{seen};
 ghost use Rattle.verify_service.specs.Kept.{state_for, states_for};
 
-use crate::chains::state_of;
 use crate::kept::KeptChains;
 use cert_store::Cache;
 use verify_rules::{ChainState, Chains, Screened};
@@ -21,7 +20,7 @@ pub(crate) struct RoundChains<'a> {
 impl<'a> Chains for RoundChains<'a> {
     ghost states = { λ c. states_for c.kept.now c.held.now.entries c.screened.now.readings };
 
-    #[tactic(auto, using(crate::proofs::ListLaws::mapped_length))]
+    #[tactic(auto, using(call_judging::proofs::ListLaws::mapped_length))]
     fn count(&self) -> usize {
         self.screened.count()
     }
@@ -36,7 +35,7 @@ fn state_for<'a>(kept: &'a KeptChains, held: &'a Cache, x5u: &[u8]) -> ChainStat
     ensures { seen result ≡ state_for kept.now held.now.entries x5u.now }
 {
     if let Some(chain) = kept.get(x5u) {
-        return state_of(chain);
+        return chain.state();
     }
     match held.peek(x5u) {
         Some(judged) => ChainState::Have(judged),

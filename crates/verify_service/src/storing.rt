@@ -1,13 +1,13 @@
 //! Storing the chains of a round's texts: in the cache, or for the round alone.
 ghost use Rattle.std.specs.Prelude.{◌≡◌, ◌≢◌, ◌<◌, ◌%◌, ℕ, None, length, get_or, slice_index_or, OnOk};
-ghost use Rattle.verify_service.specs.Chains.{state_of};
+ghost use Rattle.call_judging.specs.Chains.{state_of};
 ghost use Rattle.verify_service.specs.RoundRead.{StoresAll, StoresSome, file_state, states_from};
 
-use crate::chains::CallChain;
 use crate::fetching::Fetched;
 use crate::kept::{KeptChains, store_chain};
 use crate::texts::Texts;
 use crate::worker::Worker;
+use call_judging::ChainStatus;
 use cert_store::{Cache, Judged};
 use std::alloc::{AllocError, Global};
 
@@ -54,16 +54,16 @@ fn take_judged<P, G>(worker: &mut Worker<P, G>, place: usize) -> Option<Judged>
 }
 
 /// What is known of a chain by its file, and what was judged of the bytes.
-fn chain_by(file: &Fetched, judged: Option<Judged>) -> CallChain
+fn chain_by(file: &Fetched, judged: Option<Judged>) -> ChainStatus
     ensures { state_of result ≡ file_state file.now judged }
 {
     match file {
         Fetched::Bytes(_) => match judged {
-            Some(judged) => CallChain::Have(judged),
-            None => CallChain::NoChain,
+            Some(judged) => ChainStatus::Judged(judged),
+            None => ChainStatus::Missing,
         },
-        Fetched::NoChain => CallChain::NoChain,
-        Fetched::Long => CallChain::Long,
-        Fetched::Unread => CallChain::Unread,
+        Fetched::NoChain => ChainStatus::Missing,
+        Fetched::Long => ChainStatus::TooLong,
+        Fetched::Unread => ChainStatus::Unread,
     }
 }

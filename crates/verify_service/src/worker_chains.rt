@@ -1,7 +1,7 @@
 //! Judging the chains of a round's texts, each by the worker whose text it is.
 ghost use Rattle.std.specs.Prelude.{◌≡◌, ◌<◌, ◌≤◌, ◌==◌, ◌%◌, ◌+◌, ℕ, [], length, slice_index_or, IfOk, OnOk};
 ghost use Rattle.stir_outside.specs.Stays.{ProviderStays};
-ghost use Rattle.verify_service.specs.Causes.{HasCauseIf};
+ghost use Rattle.call_judging.specs.Causes.{HasCauseIf};
 ghost use Rattle.verify_service.specs.WorkerChains.{ChainsCounted, CountedUnless, EachOwn, EachOwnUnless, IsChainOf, IsOwn, certificates_in, has_failed};
 
 use crate::fetching::Fetched;

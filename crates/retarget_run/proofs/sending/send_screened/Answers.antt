@@ -3,7 +3,7 @@ use Rattle.std.proofs.Common.{◌≡◌, inl, ap, ◌∙◌, subst}
 use Rattle.stir_outside.specs.Held.{Held, held_says, held_signs}
 use Rattle.stir_outside.specs.Provided.{SteadyState}
 use Rattle.retarget.specs.Hop.{hop_of}
-use Rattle.verify_service.specs.Chains.{AreRightWhere}
+use Rattle.call_judging.specs.Chains.{AreRightWhere}
 use Rattle.retarget_run.specs.Sending.{place_of}
 use Rattle.retarget_run.proofs.SendingLaws.{may_come, over_chains}
 use Rattle.retarget_run.proofs.sending.send_screened.Goals as goal

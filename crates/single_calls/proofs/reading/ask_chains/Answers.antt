@@ -2,7 +2,7 @@
 use Rattle.std.proofs.Common.{◌+◌, ◌<◌, ◌∙◌, length, ap, string_bytes, arith}
 use Rattle.std.proofs.lemmas.List.{length_push}
 use Rattle.verify_rules.specs.States.{State}
-use Rattle.verify_service.specs.Chains.{state_of}
+use Rattle.call_judging.specs.Chains.{state_of}
 use Rattle.stir_outside.proofs.CountLaws.{go_on}
 use Rattle.single_calls.specs.Reading.{lines}
 use Rattle.single_calls.proofs.ReadSteps.{one_more}

@@ -2,7 +2,7 @@
 use Rattle.std.proofs.Common.{refl}
 use Rattle.single_calls.specs.AlwaysYes.{always_yes}
 use Rattle.verify_rules.specs.World.{World}
-use Rattle.verify_service.specs.Chains.{world_by}
+use Rattle.call_judging.specs.Chains.{world_by}
 use Rattle.stir_c.specs.Files.{files_of}
 use Rattle.stir_c.proofs.AskedLaws.{asked_screened}
 use Rattle.stir_c.proofs.asking.ask_screened.Goals as goal

@@ -1,6 +1,6 @@
 -- What is known of the chain in a file is right.
 use Rattle.std.proofs.Common.{sym}
-use Rattle.verify_service.specs.Chains.{world_by}
+use Rattle.call_judging.specs.Chains.{world_by}
 use Rattle.stir_c.specs.Files.{files_of}
 use Rattle.stir_c.proofs.judging.chain_in.Goals as goal
 

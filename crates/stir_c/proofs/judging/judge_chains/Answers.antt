@@ -3,7 +3,7 @@ use Rattle.std.proofs.Common.{◌≡◌, ◌+◌, ◌<◌, [], ◌∷◌, ◌++�
 use Rattle.std.specs.List.{list_any}
 use Rattle.std.proofs.lemmas.List.{length_push}
 use Rattle.verify_rules.specs.States.{State}
-use Rattle.verify_service.specs.Chains.{AreRightWhere, is_unasked, is_unread, state_of}
+use Rattle.call_judging.specs.Chains.{AreRightWhere, is_unasked, is_unread, state_of}
 use Rattle.stir_c.specs.Files.{files_of}
 use Rattle.stir_c.proofs.FoundLaws.{none_more}
 use Rattle.stir_c.proofs.judging.judge_chains.Goals as goal

@@ -1,7 +1,7 @@
 -- The chains judged so far are right, and all is known of them.
 use Rattle.std.proofs.Common.{◌≡◌, ◌≤◌, false, length, take, Some}
 use Rattle.std.specs.List.{list_any}
-use Rattle.verify_service.specs.Chains.{AreRightWhere, is_unasked, is_unread}
+use Rattle.call_judging.specs.Chains.{AreRightWhere, is_unasked, is_unread}
 use Rattle.stir_c.specs.Files.{files_of}
 use Rattle.stir_c.proofs.judging.judge_chains.Given as goal
 

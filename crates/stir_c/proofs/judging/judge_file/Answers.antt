@@ -1,7 +1,7 @@
 -- What is known of the bytes of a chain is right.
 use Rattle.std.proofs.Common.{◌≤◌, length, sym, subst, arith}
 use Rattle.stir_outside.specs.Files.{IsLonger}
-use Rattle.verify_service.specs.Chains.{world_by}
+use Rattle.call_judging.specs.Chains.{world_by}
 use Rattle.stir_c.proofs.FoundLaws.{never_failed}
 use Rattle.stir_c.proofs.judging.judge_file.Goals as goal
 

@@ -1,7 +1,7 @@
 -- What is found of the call, from its verdict.
 use Rattle.std.proofs.Common.{refl}
 use Rattle.verify_rules.specs.World.{World}
-use Rattle.verify_service.specs.Chains.{world_by}
+use Rattle.call_judging.specs.Chains.{world_by}
 use Rattle.stir_c.specs.Files.{files_of}
 use Rattle.stir_c.proofs.judging.judge_screened.Goals as goal
 

@@ -1,7 +1,7 @@
 -- What the shelf gave is right.
 use Rattle.std.proofs.Common.{◌≤◌, Err, length, ap, arith}
 use Rattle.stir_outside.specs.declared.shelf.ShelfFault.{ShelfFault}
-use Rattle.verify_service.proofs.ReadLaws.{right_judged, right_long, right_missing}
+use Rattle.call_judging.proofs.ReadLaws.{right_judged, right_long, right_missing}
 use Rattle.verify_service.proofs.fetching.fetch_file.Goals as goal
 
 pub returns-in-Ok-clause-fetched : goal.returns-in-Ok-clause-fetched

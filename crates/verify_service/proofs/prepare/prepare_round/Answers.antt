@@ -1,5 +1,5 @@
 -- A round is prepared: its calls are screened and classed, and its chains at hand.
-use Rattle.std.proofs.Common.{◌≡◌, ◌≤◌, ◌<◌, ◌+◌, ℕ, List, get_or, length, sym, ap, ◌∙◌, subst, arith}
+use Rattle.std.proofs.Common.{◌<◌, ℕ, List, get_or, length, ap, ◌∙◌, subst, arith}
 use Rattle.verify_service.specs.Classes.{AreGivenClasses}
 use Rattle.verify_service.specs.Needed.{all_named, round_texts}
 use Rattle.verify_service.specs.RightChains.{AreThere}

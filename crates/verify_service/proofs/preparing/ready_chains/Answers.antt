@@ -1,7 +1,6 @@
 -- The chains of a round are held or kept, and stay right.
 use Rattle.std.proofs.Common.{ℕ, ◌<◌, ◌%◌, List, [], None, get_or, length, sym, ap, ◌∙◌, subst}
 use Rattle.stir_outside.specs.Stays.{ProviderStays}
-use Rattle.verify_service.specs.declared.worker.Worker.{Worker}
 use Rattle.verify_service.specs.Needed.{all_named, needed, once}
 use Rattle.verify_service.specs.RoundRead.{states_from}
 use Rattle.verify_service.proofs.ReadyChainLaws.{own_after, right_same, round_reads, some_right}

@@ -1,5 +1,5 @@
 -- A round from which a seat was taken stays the newest.
-use Rattle.std.proofs.Common.{sym, ap}
+use Rattle.std.proofs.Common.{ap}
 use Rattle.verify_service.specs.Prepared.{PreparedView}
 use Rattle.verify_service.proofs.PreparedLaws.{newest_as}
 use Rattle.verify_service.proofs.prepared.Prepared.seat.Goals as goal

@@ -1,7 +1,6 @@
 -- What is answered to a call of a prepared round, as a contract sees it.
-use Rattle.std.proofs.Common.{◌≡◌, ◌≤◌, ◌+◌, ◌↔◌, length, sym, ap, ◌∙◌}
+use Rattle.std.proofs.Common.{◌≡◌, ◌≤◌, ◌+◌, ◌↔◌, length}
 use Rattle.verify_service.specs.Claiming.{Claims, HasWon, OutcomeSays}
-use Rattle.verify_service.specs.Prepared.{PreparedView}
 use Rattle.verify_service.specs.Ready.{provided}
 use Rattle.verify_service.specs.Screening.{readings_in}
 use Rattle.verify_service.specs.declared.outcome.Outcome.TheVariants.{Valid}

@@ -1,5 +1,5 @@
 -- A round, from what was prepared and carried out.
-use Rattle.std.proofs.Common.{◌≡◌, ◌<◌, ◌≤◌, ℕ, List, get_or, length, refl, sym, ap, ◌∙◌, subst}
+use Rattle.std.proofs.Common.{◌≡◌, ◌<◌, ℕ, get_or, length, refl, sym, ◌∙◌, subst}
 use Rattle.cert_store.specs.Holding.{Holding}
 use Rattle.cert_store.specs.Using.{names}
 use Rattle.replay_law.specs.Held.{Held, purged}

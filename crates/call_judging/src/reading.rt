@@ -4,10 +4,10 @@ ghost use Rattle.std.specs.Prelude.{◌≡◌, ◌≤◌, ℕ, List, length, tru
 ghost use Rattle.std.specs.List.{list_any};
 ghost use Rattle.cert_store.specs.ChainMap.{listed};
 ghost use Rattle.stir_outside.specs.Files.{CountsGoOn};
-ghost use Rattle.verify_service.specs.Causes.{HasCauseIf};
-ghost use Rattle.verify_service.specs.Chains.{AreRightWhere, IsOfBytes, IsRightWhere, is_unasked, is_unread, state_of};
+ghost use Rattle.call_judging.specs.Causes.{HasCauseIf};
+ghost use Rattle.call_judging.specs.Chains.{AreRightWhere, IsOfBytes, IsRightWhere, is_unasked, is_unread, state_of};
 
-use crate::chains::{CallChain, CallChains};
+use crate::chains::{CallChains, ChainStatus};
 use cert_store::{World, judge_chain};
 use std::alloc::{AllocError, Global};
 use stir_outside::{Provider, Shelf, ShelfFault};
@@ -50,7 +50,7 @@ fn chain_of<S: Shelf, P: Provider>(
     shelf: &mut S,
     provider: &mut P,
     x5u: &[u8],
-) -> Result<CallChain, AllocError>
+) -> Result<ChainStatus, AllocError>
     ensures right { IfOk result (λ chain. IsRightWhere (S.files shelf.old) world.now (P.says provider.old) x5u.now (state_of chain)) }
     ensures unread { IfOk result (λ chain. HasCauseIf (is_unread (state_of chain)) (S.counts shelf.old).faults (S.counts shelf.new).faults) }
     ensures unasked { IfOk result (λ chain. HasCauseIf (is_unasked (state_of chain)) (P.faults provider.old) (P.faults provider.new)) }
@@ -60,7 +60,7 @@ fn chain_of<S: Shelf, P: Provider>(
     right_law();
     match world.chains.file(x5u) {
         Some(name) => chain_in(alloc, world, shelf, provider, name),
-        None => Ok(CallChain::NoChain),
+        None => Ok(ChainStatus::Missing),
     }
 }
 
@@ -71,7 +71,7 @@ pub fn chain_in<S: Shelf, P: Provider>(
     shelf: &mut S,
     provider: &mut P,
     name: &str,
-) -> Result<CallChain, AllocError>
+) -> Result<ChainStatus, AllocError>
     ensures right { (x5u : List ℕ) → listed world.now.chains x5u ≡ Some name.now
         → IfOk result (λ chain. IsRightWhere (S.files shelf.old) world.now (P.says provider.old) x5u (state_of chain)) }
     ensures unread { IfOk result (λ chain. HasCauseIf (is_unread (state_of chain)) (S.counts shelf.old).faults (S.counts shelf.new).faults) }
@@ -83,9 +83,9 @@ pub fn chain_in<S: Shelf, P: Provider>(
     match shelf.read(alloc, name, MOST_CHAIN_BYTES) {
         Ok(bytes) => judged(alloc, world, provider, bytes.as_slice()),
         Err(fault) => match fault {
-            ShelfFault::Missing => Ok(CallChain::NoChain),
-            ShelfFault::Long => Ok(CallChain::Long),
-            ShelfFault::Failed => Ok(CallChain::Unread),
+            ShelfFault::Missing => Ok(ChainStatus::Missing),
+            ShelfFault::Long => Ok(ChainStatus::TooLong),
+            ShelfFault::Failed => Ok(ChainStatus::Unread),
             ShelfFault::Memory => Err(AllocError),
         },
     }
@@ -97,11 +97,11 @@ fn judged<P: Provider>(
     world: &World,
     provider: &mut P,
     bytes: &[u8],
-) -> Result<CallChain, AllocError>
+) -> Result<ChainStatus, AllocError>
     ensures judged { IfOk result (IsOfBytes world.now (P.says provider.old) bytes.now) }
     ensures unasked { IfOk result (λ chain. HasCauseIf (is_unasked (state_of chain)) (P.faults provider.old) (P.faults provider.new)) }
     ensures provider { ProviderStays P.Provider provider.old provider.new }
 {
     let judged = judge_chain(alloc, bytes, &world.anchors, &world.table, provider)?;
-    Ok(CallChain::Have(judged))
+    Ok(ChainStatus::Judged(judged))
 }

@@ -1,8 +1,8 @@
 -- What is known of the chain is right, by what the shelf answered.
 use Rattle.std.proofs.Common.{◌≤◌, Err, length, ap, arith}
 use Rattle.stir_outside.specs.declared.shelf.ShelfFault.{ShelfFault}
-use Rattle.verify_service.proofs.ReadLaws.{judged_right, right_long, right_missing}
-use Rattle.verify_service.proofs.reading.chain_in.Goals as goal
+use Rattle.call_judging.proofs.ReadLaws.{judged_right, right_long, right_missing}
+use Rattle.call_judging.proofs.reading.chain_in.Goals as goal
 
 pub returns-in-Ok-clause-right : goal.returns-in-Ok-clause-right
 returns-in-Ok-clause-right g c =

@@ -7,15 +7,15 @@ use Rattle.cert_store.specs.Rules.{Says}
 use Rattle.verify_rules.specs.Call.{Reading}
 use Rattle.verify_rules.specs.States.{State, have, no_chain, long, unread}
 use Rattle.verify_rules.specs.World.{World, AreRight, IsRight}
-use Rattle.verify_service.specs.declared.chains.CallChain.{CallChain}
-use Rattle.verify_service.specs.declared.chains.CallChain.TheVariants as kept
+use Rattle.call_judging.specs.declared.chains.ChainStatus.{ChainStatus}
+use Rattle.call_judging.specs.declared.chains.ChainStatus.TheVariants as status
 use Rattle.cert_store.specs.declared.world.World.{World as Materials}
 
-abbrev pub state_of : CallChain → State
-state_of (kept.Have judged) = have judged
-state_of kept.NoChain = no_chain
-state_of kept.Long = long
-state_of kept.Unread = unread
+abbrev pub state_of : ChainStatus → State
+state_of (status.Judged judged) = have judged
+state_of status.Missing = no_chain
+state_of status.TooLong = long
+state_of status.Unread = unread
 
 -- ---- the world
 
@@ -42,11 +42,11 @@ AreRightWhere None materials says readings states = ⊤
 AreRightWhere (Some files) materials says readings states = AreRight (world_by materials files says) readings states
 
 -- it is what the rules on a chain say of these bytes, as far as the provider answered
-abbrev pub IsOfBytes : Materials → Says → List ℕ → CallChain → Type 0
-IsOfBytes materials says bytes (kept.Have judged) = JudgedAs (judged_of materials.anchors materials.table says bytes) judged
-IsOfBytes materials says bytes kept.NoChain = ⊥
-IsOfBytes materials says bytes kept.Long = ⊥
-IsOfBytes materials says bytes kept.Unread = ⊥
+abbrev pub IsOfBytes : Materials → Says → List ℕ → ChainStatus → Type 0
+IsOfBytes materials says bytes (status.Judged judged) = JudgedAs (judged_of materials.anchors materials.table says bytes) judged
+IsOfBytes materials says bytes status.Missing = ⊥
+IsOfBytes materials says bytes status.TooLong = ⊥
+IsOfBytes materials says bytes status.Unread = ⊥
 
 -- ---- what wasn't answered
 

@@ -1,6 +1,6 @@
 -- The laws of the chains of a call.
-use Rattle.verify_service.proofs.ReadLaws.{right_next, right_none}
-use Rattle.verify_service.proofs.laws.chains_law.Goals as goal
+use Rattle.call_judging.proofs.ReadLaws.{right_next, right_none}
+use Rattle.call_judging.proofs.laws.chains_law.Goals as goal
 
 pub returns-clause-none : goal.returns-clause-none
 returns-clause-none c = right_none

@@ -2,9 +2,9 @@
 use Rattle.std.proofs.Common.{◌≡◌, ◌≤◌, length, take}
 use Rattle.std.specs.List.{list_any}
 use Rattle.stir_outside.specs.Files.{CountsGoOn}
-use Rattle.verify_service.specs.Causes.{HasCauseIf}
-use Rattle.verify_service.specs.Chains.{AreRightWhere, is_unasked, is_unread}
-use Rattle.verify_service.proofs.reading.read_chains.Given as goal
+use Rattle.call_judging.specs.Causes.{HasCauseIf}
+use Rattle.call_judging.specs.Chains.{AreRightWhere, is_unasked, is_unread}
+use Rattle.call_judging.proofs.reading.read_chains.Given as goal
 
 abbrev pub invariant-passports : goal.invariant-passports
 invariant-passports g l = record {

@@ -1,16 +1,15 @@
 //! Judging a call by itself.
 ghost use Rattle.stir_outside.specs.Stays.{ProviderStays, ShelfStays};
 ghost use Rattle.std.specs.Prelude.{◌≡◌, Ok, IfOk};
-ghost use Rattle.verify_rules.specs.Call.{Call as RuledCall};
+ghost use Rattle.verify_rules.specs.Call.{Call, call_of};
 ghost use Rattle.verify_rules.specs.Rules.{early_rules};
 ghost use Rattle.verify_rules.specs.Screened.{IsScreenedBy};
-ghost use Rattle.verify_service.specs.Causes.{HasCauseIf, found_unasked, found_unread};
-ghost use Rattle.verify_service.specs.Judging.{HasSigned, HasTicket, IsFoundWhere, IsOfVerdict, call_in};
+ghost use Rattle.call_judging.specs.Causes.{HasCauseIf, found_unasked, found_unread};
+ghost use Rattle.call_judging.specs.Judging.{HasSigned, HasTicket, IsFoundWhere, IsOfVerdict};
 
 use crate::chains::CallChains;
 use crate::finding::{Finding, Pass};
 use crate::reading::read_chains;
-use call_log::Call;
 use cert_store::World;
 use std::alloc::{AllocError, Global};
 use stir_outside::{Provider, Shelf};
@@ -18,8 +17,8 @@ use verify_rules::{
     ScreenFault, Screened, Settings, Verdict, finish, screen, screened_law, signed_law,
 };
 
-/// Judges a call by itself, by all rules but the one on replay: its chains are read from the shelf and judged for it, in place of those that
-/// are handed in. `AllocError` is the only error.
+/// Judges the call of this message, which came at this moment (Unix time, in seconds), by itself: by all rules but the one on replay. Its chains are
+/// read from the shelf and judged for it, in place of those that are handed in. `AllocError` is the only error.
 pub fn judge_call<S: Shelf, P: Provider>(
     alloc: Global,
     settings: &Settings,
@@ -27,27 +26,20 @@ pub fn judge_call<S: Shelf, P: Provider>(
     shelf: &mut S,
     provider: &mut P,
     chains: &mut CallChains,
-    call: &Call,
+    message: &[u8],
+    moment: u64,
 ) -> Result<Finding, AllocError>
-    ensures ticket { IfOk result (HasTicket (call_in settings.now call.now)) }
-    ensures signed { IfOk result (HasSigned (call_in settings.now call.now)) }
-    ensures found { IfOk result (IsFoundWhere (S.files shelf.old) world.now (P.says provider.old) (call_in settings.now call.now)) }
+    ensures ticket { IfOk result (HasTicket (call_of settings.now moment message.now)) }
+    ensures signed { IfOk result (HasSigned (call_of settings.now moment message.now)) }
+    ensures found { IfOk result (IsFoundWhere (S.files shelf.old) world.now (P.says provider.old) (call_of settings.now moment message.now)) }
     ensures unread { IfOk result (λ finding. HasCauseIf (found_unread finding) (S.counts shelf.old).faults (S.counts shelf.new).faults) }
     ensures unasked { IfOk result (λ finding. HasCauseIf (found_unasked finding) (P.faults provider.old) (P.faults provider.new)) }
     ensures shelf { ShelfStays S.Shelf shelf.old shelf.new }
     ensures provider { ProviderStays P.Provider provider.old provider.new }
 {
     screened_law();
-    match screen(alloc, call.message(), call.moment(), settings) {
-        Ok(screened) => judge_screened(
-            alloc,
-            world,
-            shelf,
-            provider,
-            chains,
-            call.moment(),
-            &screened,
-        ),
+    match screen(alloc, message, moment, settings) {
+        Ok(screened) => judge_screened(alloc, world, shelf, provider, chains, moment, &screened),
         Err(fault) => match fault {
             ScreenFault::Refused(refusal) => Ok(Finding::Refused(refusal)),
             ScreenFault::Memory => Err(AllocError),
@@ -65,9 +57,9 @@ fn judge_screened<S: Shelf, P: Provider>(
     moment: u64,
     screened: &Screened,
 ) -> Result<Finding, AllocError>
-    ensures ticket { (call : RuledCall) → IsScreenedBy early_rules call (Ok screened.now) → IfOk result (HasTicket call) }
-    ensures signed { (call : RuledCall) → IsScreenedBy early_rules call (Ok screened.now) → IfOk result (HasSigned call) }
-    ensures found { (call : RuledCall) → IsScreenedBy early_rules call (Ok screened.now) → moment ≡ call.moment
+    ensures ticket { (call : Call) → IsScreenedBy early_rules call (Ok screened.now) → IfOk result (HasTicket call) }
+    ensures signed { (call : Call) → IsScreenedBy early_rules call (Ok screened.now) → IfOk result (HasSigned call) }
+    ensures found { (call : Call) → IsScreenedBy early_rules call (Ok screened.now) → moment ≡ call.moment
         → IfOk result (IsFoundWhere (S.files shelf.old) world.now (P.says provider.old) call) }
     ensures unread { IfOk result (λ finding. HasCauseIf (found_unread finding) (S.counts shelf.old).faults (S.counts shelf.new).faults) }
     ensures unasked { IfOk result (λ finding. HasCauseIf (found_unasked finding) (P.faults provider.old) (P.faults provider.new)) }
@@ -83,8 +75,8 @@ fn judge_screened<S: Shelf, P: Provider>(
 /// What comes of a call by this verdict.
 pub(crate) fn finding_of(verdict: Verdict, screened: &Screened) -> Finding
     ensures same { IsOfVerdict verdict result }
-    ensures ticket { (call : RuledCall) → IsScreenedBy early_rules call (Ok screened.now) → HasTicket call result }
-    ensures signed { (call : RuledCall) → IsScreenedBy early_rules call (Ok screened.now) → HasSigned call result }
+    ensures ticket { (call : Call) → IsScreenedBy early_rules call (Ok screened.now) → HasTicket call result }
+    ensures signed { (call : Call) → IsScreenedBy early_rules call (Ok screened.now) → HasSigned call result }
 {
     screened_law();
     signed_law();

@@ -11,9 +11,9 @@ use Rattle.passport_claims.specs.Passport.{ClaimsView}
 use Rattle.verify_rules.specs.Call.{Reading, passport_in}
 use Rattle.verify_rules.specs.States.{State, have, no_chain, long, unread}
 use Rattle.verify_rules.specs.World.{World, AreRight, IsRight}
-use Rattle.verify_service.specs.Chains.{AreRightWhere, IsOfBytes, IsRightWhere, state_of, world_by}
-use Rattle.verify_service.specs.declared.chains.CallChain.{CallChain}
-use Rattle.verify_service.specs.declared.chains.CallChain.TheVariants as kept
+use Rattle.call_judging.specs.Chains.{AreRightWhere, IsOfBytes, IsRightWhere, state_of, world_by}
+use Rattle.call_judging.specs.declared.chains.ChainStatus.{ChainStatus}
+use Rattle.call_judging.specs.declared.chains.ChainStatus.TheVariants as status
 use Rattle.cert_store.specs.declared.world.World.{World as Materials}
 
 pub right_unlisted : (told : Option Files) (materials : Materials) (says : Says) (x5u : List ℕ)
@@ -102,14 +102,14 @@ right_next told told_now materials says says_now readings states i passport x5u 
 
 -- ---- a file that was read and judged
 
-pub judged_right : {E : Type 0} → (told : Option Files) (materials : Materials) (says : Says) (x5u name content bytes : List ℕ) (result : Result CallChain E)
+pub judged_right : {E : Type 0} → (told : Option Files) (materials : Materials) (says : Says) (x5u name content bytes : List ℕ) (result : Result ChainStatus E)
     → ((world : World) (x5u name bytes : List ℕ) (judged : JudgedView) → listed world.chains x5u ≡ Some name → file name world.files ≡ Some bytes
     → length bytes ≤ 49152 → JudgedAs (judged_of world.anchors world.table world.says bytes) judged → IsRight world x5u (have judged))
     → listed materials.chains x5u ≡ Some name → OfFile told name (λ held. held ≡ Some content) → bytes ≡ content → length bytes ≤ 49152
     → IfOk result (IsOfBytes materials says bytes) → IfOk result (λ chain. IsRightWhere told materials says x5u (state_of chain))
-judged_right told materials says x5u name content bytes (Ok (kept.Have judged)) law is found same short so =
+judged_right told materials says x5u name content bytes (Ok (status.Judged judged)) law is found same short so =
     right_judged told materials says x5u name bytes judged law is (subst (λ (b : List ℕ). OfFile told name (λ held. held ≡ Some b)) (sym same) found) short so
-judged_right told materials says x5u name content bytes (Ok kept.NoChain) law is found same short so = absurd so
-judged_right told materials says x5u name content bytes (Ok kept.Long) law is found same short so = absurd so
-judged_right told materials says x5u name content bytes (Ok kept.Unread) law is found same short so = absurd so
+judged_right told materials says x5u name content bytes (Ok status.Missing) law is found same short so = absurd so
+judged_right told materials says x5u name content bytes (Ok status.TooLong) law is found same short so = absurd so
+judged_right told materials says x5u name content bytes (Ok status.Unread) law is found same short so = absurd so
 judged_right told materials says x5u name content bytes (Err fault) law is found same short so = tt

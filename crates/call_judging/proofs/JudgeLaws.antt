@@ -1,5 +1,5 @@
 -- What comes of a call by itself, from its verdict.
-use Rattle.std.proofs.Common.{◌≡◌, ℕ, ◌≤◌, Bool, true, false, ◌⊎◌, inl, inr, List, [], Option, Some, None, Result, Ok, Err, unwrap_or, refl, ap, sym, ◌∙◌, subst}
+use Rattle.std.proofs.Common.{◌≡◌, ℕ, ◌≤◌, Bool, true, false, ◌⊎◌, inl, inr, List, [], Option, Some, None, Ok, Err, unwrap_or, refl, ap, sym, ◌∙◌, subst}
 use Rattle.std.specs.List.{list_any}
 use Rattle.std.specs.Option.{option_map}
 use Rattle.std.proofs.lemmas.Map.Keys.{any_passes_from_place}
@@ -8,8 +8,7 @@ use Rattle.cert_store.specs.Rules.{Says}
 use Rattle.delegation.specs.Coverage.{Table}
 use Rattle.stir_outside.specs.Count.{Rose}
 use Rattle.stir_outside.specs.Files.{Files}
-use Rattle.call_log.specs.Entry.{Entry}
-use Rattle.verify_rules.specs.Call.{Call, Reading, call_of}
+use Rattle.verify_rules.specs.Call.{Call, Reading}
 use Rattle.verify_rules.specs.Causes.{HasFailed, IsCaused, IsUnknownAt}
 use Rattle.verify_rules.specs.Rules.{early_rules}
 use Rattle.verify_rules.specs.Screened.{IsScreenedBy, ScreenedView, digest_in, last_of, last_of_call, ticket_of}
@@ -18,15 +17,13 @@ use Rattle.verify_rules.specs.Verdict.{IsLeftOpen}
 use Rattle.verify_rules.specs.World.{AreRight, First, IsJudgedBy, VerdictOf, World}
 use Rattle.verify_rules.specs.declared.refusal.Place.{Place}
 use Rattle.verify_rules.specs.declared.refusal.Refusal.{Refusal}
-use Rattle.verify_rules.specs.declared.refusal.ScreenFault.{ScreenFault}
 use Rattle.verify_rules.specs.declared.refusal.ScreenFault.TheVariants as faults
-use Rattle.verify_rules.specs.declared.settings.Settings.{Settings}
 use Rattle.verify_rules.specs.declared.verdict.Verdict.{Verdict}
-use Rattle.verify_service.specs.Causes.{HasCauseIf, found_unasked, found_unread}
-use Rattle.verify_service.specs.Chains.{AreRightWhere, is_unasked, is_unread, world_by}
-use Rattle.verify_service.specs.Judging.{IsFound, IsFoundWhere, IsKnownBy, IsOfVerdict, call_in, last_second, ticket_or_none}
-use Rattle.verify_service.specs.declared.finding.Finding.{Finding}
-use Rattle.verify_service.specs.declared.finding.Finding.TheVariants as found
+use Rattle.call_judging.specs.Causes.{HasCauseIf, found_unasked, found_unread}
+use Rattle.call_judging.specs.Chains.{AreRightWhere, is_unasked, is_unread, world_by}
+use Rattle.call_judging.specs.Judging.{IsFound, IsFoundWhere, IsKnownBy, IsOfVerdict, last_second, ticket_or_none}
+use Rattle.call_judging.specs.declared.finding.Finding.{Finding}
+use Rattle.call_judging.specs.declared.finding.Finding.TheVariants as found
 use Rattle.cert_store.specs.declared.world.World.{World as Materials}
 use Rattle.stir_outside.proofs.CountLaws.{rose_then, then_rose}
 
@@ -118,16 +115,3 @@ known_by screened call ticket last digest is last_of_it last_is = record {
   ticket_is = ap (λ (o : Option (List ℕ)). unwrap_or o []) (sym is ∙ digest);
   last_is = last_is ∙ last_of_it;
 }
-
--- ---- a call of the log, from its parts
-
-pub screened_call : (settings : Settings) (entry : Entry) (moment : ℕ) (message : List ℕ) (result : Result ScreenedView ScreenFault) → message ≡ entry.message → moment ≡ entry.moment
-    → IsScreenedBy early_rules (call_of settings moment message) result → IsScreenedBy early_rules (call_in settings entry) result
-unfolding call_in
-screened_call settings entry moment message result message_is moment_is screened =
-    subst (λ (m : List ℕ). IsScreenedBy early_rules (call_of settings entry.moment m) result) message_is
-    (subst (λ t. IsScreenedBy early_rules (call_of settings t message) result) moment_is screened)
-
-pub moment_in : (settings : Settings) (entry : Entry) (moment : ℕ) → moment ≡ entry.moment → moment ≡ (call_in settings entry).moment
-unfolding call_in
-moment_in settings entry moment is = is

@@ -1,6 +1,6 @@
 -- A call that passes is known again by its last PASSporT.
-use Rattle.verify_service.proofs.JudgeLaws.{known_by}
-use Rattle.verify_service.proofs.judge.finding_of.Goals as goal
+use Rattle.call_judging.proofs.JudgeLaws.{known_by}
+use Rattle.call_judging.proofs.judge.finding_of.Goals as goal
 
 pub returns-in-Passed-clause-ticket : goal.returns-in-Passed-clause-ticket
 returns-in-Passed-clause-ticket c = λ call passed. known_by c.args.screened.now call c.ticket.result.now c.last.result (c.screened_law.ensures.ticket call c.args.screened.now passed)

@@ -2,8 +2,8 @@
 use Rattle.std.proofs.Common.{sym, subst}
 use Rattle.cert_store.specs.Rules.{Says}
 use Rattle.verify_rules.specs.World.{IsJudgedBy}
-use Rattle.verify_service.proofs.JudgeLaws.{found_where, unasked_cause, unread_cause}
-use Rattle.verify_service.proofs.judge.judge_screened.Goals as goal
+use Rattle.call_judging.proofs.JudgeLaws.{found_where, unasked_cause, unread_cause}
+use Rattle.call_judging.proofs.judge.judge_screened.Goals as goal
 
 pub returns-clause-found : goal.returns-clause-found
 returns-clause-found g c = λ call passed now.

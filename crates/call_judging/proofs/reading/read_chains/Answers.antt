@@ -3,12 +3,12 @@ use Rattle.std.proofs.Common.{◌≡◌, ◌+◌, ◌<◌, [], ◌∷◌, ◌++�
 use Rattle.std.specs.List.{list_any}
 use Rattle.std.proofs.lemmas.List.{length_push}
 use Rattle.verify_rules.specs.States.{State}
-use Rattle.verify_service.specs.Causes.{HasCauseIf}
-use Rattle.verify_service.specs.Chains.{AreRightWhere, is_unasked, is_unread, state_of}
+use Rattle.call_judging.specs.Causes.{HasCauseIf}
+use Rattle.call_judging.specs.Chains.{AreRightWhere, is_unasked, is_unread, state_of}
 use Rattle.stir_outside.proofs.CountLaws.{go_on}
-use Rattle.verify_service.proofs.CountLaws.{cause_more}
-use Rattle.verify_service.proofs.ReadLaws.{right_next}
-use Rattle.verify_service.proofs.reading.read_chains.Goals as goal
+use Rattle.call_judging.proofs.CauseLaws.{cause_more}
+use Rattle.call_judging.proofs.ReadLaws.{right_next}
+use Rattle.call_judging.proofs.reading.read_chains.Goals as goal
 
 pub passports-preserved : goal.passports-preserved
 passports-preserved g c =

@@ -1,0 +1,54 @@
+//! A call judged by itself: by all rules but the one on replay, over the chains of its PASSporTs.
+//!
+//! # The way through
+//!
+//! ```text
+//! a message and its moment
+//!    | verify_rules::screen   rules 1 to 9
+//!    v
+//! Screened
+//!    | read_chains            for each PASSporT: x5u -> chain map -> file -> judged chain, as far as there is one: a ChainStatus
+//!    v
+//! CallChains
+//!    | verify_rules::finish   rules 10 to 17 and 19
+//!    v
+//! Finding                     Passes(pass), Refused(refusal), Unread(place) or Unasked(place)
+//! ```
+//!
+//! - [`judge_call`] goes the whole way. [`read_chains`] reads and judges the chains of a call that was screened, and [`chain_in`] one chain.
+//! - The files come from a `stir_outside::Shelf`, and the answers about signatures from a `stir_outside::Provider`.
+//!
+//! ```rust
+//! let mut chains = CallChains::new(alloc);
+//! match judge_call(alloc, &settings, &world, &mut shelf, &mut provider, &mut chains, message, moment)? {
+//!     Finding::Passes(pass) => .., // known again by pass.ticket, until pass.last
+//!     other => ..,
+//! }
+//! ```
+//!
+//! # What it isn't
+//!
+//! It looks at no other call: replay is a matter of `verify_service`. It keeps nothing, starts no thread, and reads no log. The rules themselves are in
+//! `verify_rules`, and those on a chain in `cert_store`.
+//!
+//! # What is proved
+//!
+//! What is found is what the rules say of the call in the world of the files and the signatures. A call is set aside only if a read or a question
+//! failed and was counted. `docs/PROVED.md` has the clauses.
+//!
+//! # Cases
+//!
+//! `tests/cli/explain.rows` and `tests/cli/retarget.rows`.
+#![tactic(auto)]
+
+mod chains;
+mod finding;
+mod judge;
+mod laws;
+mod reading;
+
+pub use chains::{CallChains, ChainStatus};
+pub use finding::{Finding, Pass};
+pub use judge::judge_call;
+pub use laws::{chains_law, fresh_law};
+pub use reading::{chain_in, read_chains};
