@@ -1,3 +1,13 @@
 pub mod Causes
 pub mod Chains
 pub mod Judging
+pub mod AlwaysYes
+pub mod AskLines
+pub mod CallQuestions
+pub mod AskedFor
+pub mod Verdicts
+pub mod PlaceText
+pub mod RuleNumbers
+pub mod Explain
+pub mod ToldApart
+pub mod Steps

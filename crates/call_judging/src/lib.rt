@@ -41,14 +41,25 @@
 //! `tests/cli/explain.rows` and `tests/cli/retarget.rows`.
 #![tactic(auto)]
 
+mod always_yes;
 mod chains;
+mod explaining;
 mod finding;
 mod judge;
 mod laws;
+mod questions;
 mod reading;
+mod rule_numbers;
 
+pub use always_yes::AlwaysYes;
 pub use chains::{CallChains, ChainStatus};
+pub use explaining::explained;
 pub use finding::{Finding, Pass};
 pub use judge::judge_call;
-pub use laws::{chains_law, fresh_law};
+pub use laws::{
+    call_agreement_law, call_questions_law, chains_law, explain_law, fresh_law, lines_law,
+    rule_numbers_law,
+};
+pub use questions::{asks_own, chain_questions, own_questions, question_line};
 pub use reading::{chain_in, read_chains};
+pub use rule_numbers::{FIRST_ON_FILES, FIRST_ON_SIGNATURES, RULES};

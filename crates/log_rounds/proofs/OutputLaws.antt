@@ -10,7 +10,8 @@ use Rattle.log_rounds.specs.Handed.{OutputIsState}
 use Rattle.state_text.specs.StateText.{AreOthers, IsOther, state_text, with_ends}
 use Rattle.verify_rules.specs.Code.{code_of}
 use Rattle.verify_rules.specs.declared.refusal.Place.{Place}
-use Rattle.verify_service.specs.Report.{place_text, report, report_text, said_text, unasked_rule}
+use Rattle.call_judging.specs.PlaceText.{place_text}
+use Rattle.verify_service.specs.Report.{report, report_text, said_text, unasked_rule}
 use Rattle.verify_service.specs.declared.outcome.Outcome.{Outcome}
 use Rattle.verify_service.specs.declared.outcome.Outcome.TheVariants.{Valid, Refused, Replay, Unread, Unasked}
 

@@ -14,7 +14,7 @@ use Rattle.verify_rules.specs.declared.settings.Settings.{Settings}
 use Rattle.verify_service.specs.Judging.{call_in}
 use Rattle.single_calls.specs.Asker.{AskedBatches, AskedBy, AskerView, BehindAsked, StopsAsking, asking_world}
 use Rattle.single_calls.specs.Asks.{calls_questions}
-use Rattle.single_calls.specs.CallQuestions.{call_questions}
+use Rattle.call_judging.specs.CallQuestions.{call_questions}
 use Rattle.single_calls.specs.Reading.{Lines, StopsCallAt, WritesCall}
 use Rattle.single_calls.specs.Singly.{OneAnswer, SinglyStopped}
 use Rattle.single_calls.specs.Written.{Holds}

@@ -17,7 +17,7 @@ use Rattle.call_judging.specs.declared.finding.Finding.TheVariants as found
 use Rattle.single_calls.specs.Answer.{AnswerView, unread_lines, written_of}
 use Rattle.single_calls.specs.Explainer.{BehindAny, ExplainedBatches, ExplainedBy, ExplainerView, IsExplained, explanation, sign_by}
 use Rattle.single_calls.specs.Singly.{OneAnswer}
-use Rattle.single_calls.proofs.ExplainLaws.{explains_broken, explains_met}
+use Rattle.call_judging.proofs.ExplainLaws.{explains_broken, explains_met}
 use Rattle.single_calls.proofs.SinglyLaws.{one_more}
 
 -- what is found of a call is explained, if no question failed

@@ -1,15 +1,9 @@
 pub mod SinglyLaws
-pub mod ExplainBack
-pub mod ExplainSteps
-pub mod ExplainLaws
 pub mod ExplainerLaws
 pub mod FreshLaws
 pub mod WriteLaws
 pub mod AskSteps
 pub mod AskedLaws
-pub mod OwnSteps
-pub mod StateLaws
-pub mod VerdictLaws
 pub mod ReadSteps
 pub mod CallLaws
 pub mod AskerLaws

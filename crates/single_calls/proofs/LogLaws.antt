@@ -7,8 +7,9 @@ use Rattle.cert_store.specs.Rules.{QuestionView}
 use Rattle.stir_outside.specs.Files.{Files}
 use Rattle.verify_service.specs.Judging.{call_in}
 use Rattle.single_calls.specs.Asker.{AskedBy, AskerView, asking_world}
-use Rattle.single_calls.specs.Asks.{Asks, ask_lines, calls_questions, fresh}
-use Rattle.single_calls.specs.CallQuestions.{call_questions}
+use Rattle.call_judging.specs.AskLines.{ask_lines}
+use Rattle.single_calls.specs.Asks.{Asks, calls_questions, fresh}
+use Rattle.call_judging.specs.CallQuestions.{call_questions}
 use Rattle.single_calls.proofs.AskerLaws.{calls_more}
 use Rattle.single_calls.proofs.FreshLaws.{fresh_lines}
 

@@ -14,8 +14,8 @@ use Rattle.verify_rules.specs.States.{State}
 use Rattle.call_judging.specs.Chains.{AreRightWhere, IsRightWhere, is_unread}
 use Rattle.cert_store.specs.declared.world.World.{World as Materials}
 use Rattle.stir_outside.proofs.CountLaws.{then_rose}
-use Rattle.single_calls.specs.AlwaysYes.{always_yes}
-use Rattle.single_calls.specs.CallQuestions.{chain_questions, chains_questions}
+use Rattle.call_judging.specs.AlwaysYes.{always_yes}
+use Rattle.call_judging.specs.CallQuestions.{chain_questions, chains_questions}
 use Rattle.single_calls.specs.Reading.{AreAsked, Lines, Stopped, StopsFor}
 use Rattle.single_calls.specs.Written.{Writes}
 use Rattle.single_calls.specs.declared.reading.ChainError.{ChainError}

@@ -4,7 +4,8 @@ use Rattle.std.specs.List.{list_any}
 use Rattle.lists.proofs.Tests.{or_more}
 use Rattle.std.proofs.lemmas.List.Folds.{list_any-append}
 use Rattle.cert_store.specs.Rules.{QuestionView}
-use Rattle.single_calls.specs.Asks.{ask_line, ask_lines, fresh, is_same, unless_asked, was_asked}
+use Rattle.call_judging.specs.AskLines.{ask_line, ask_lines}
+use Rattle.single_calls.specs.Asks.{fresh, is_same, unless_asked, was_asked}
 use Rattle.single_calls.specs.Written.{Holds, Writes, is_held, same_triple, triple_of}
 use Rattle.single_calls.specs.declared.written.Triple.{Triple}
 use Rattle.single_calls.proofs.FreshLaws.{fresh_lines}

@@ -12,10 +12,11 @@ use Rattle.verify_rules.specs.declared.settings.Settings.{Settings}
 use Rattle.call_judging.specs.Chains.{world_by}
 use Rattle.verify_service.specs.Judging.{call_in}
 use Rattle.cert_store.specs.declared.world.World.{World as Materials}
-use Rattle.single_calls.specs.AlwaysYes.{always_yes}
+use Rattle.call_judging.specs.AlwaysYes.{always_yes}
 use Rattle.single_calls.specs.Answer.{AnswerView, Well}
-use Rattle.single_calls.specs.Asks.{ask_lines, calls_questions, fresh}
-use Rattle.single_calls.specs.CallQuestions.{call_questions, chains_questions}
+use Rattle.call_judging.specs.AskLines.{ask_lines}
+use Rattle.single_calls.specs.Asks.{calls_questions, fresh}
+use Rattle.call_judging.specs.CallQuestions.{call_questions, chains_questions}
 use Rattle.single_calls.specs.Singly.{AnsweredSingly}
 use Rattle.single_calls.specs.Written.{Holds}
 use Rattle.single_calls.specs.declared.written.Triple.{Triple}

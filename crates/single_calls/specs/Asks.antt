@@ -1,26 +1,15 @@
 -- What is asked of a provider of signatures for the calls of a log, each question once (this project's own format): the lines of an answers
 -- file that confirms all of them.
-use Rattle.std.specs.Prelude.{Bool, true, false, ◌&&◌, ℕ, List, [], ◌∷◌, ◌++◌, codes}
+use Rattle.std.specs.Prelude.{Bool, true, false, ◌&&◌, ℕ, List, [], ◌∷◌, ◌++◌}
 use Rattle.std.specs.List.{list_any}
 use Rattle.std.specs.Str.{bytes_eq}
-use Rattle.hex.specs.Hex.{encode_lower}
 use Rattle.call_log.specs.Entry.{Entry}
 use Rattle.cert_store.specs.Rules.{QuestionView}
 use Rattle.verify_rules.specs.World.{World}
 use Rattle.verify_rules.specs.declared.settings.Settings.{Settings}
 use Rattle.verify_service.specs.Judging.{call_in}
-use Rattle.single_calls.specs.CallQuestions.{call_questions}
-
--- ---- the lines
-
--- key, digest and signature in lower case hex digits
-unfoldable pub ask_line : QuestionView → List ℕ
-ask_line asked =
-    codes "confirm " ++ (encode_lower asked.key ++ (codes " " ++ (encode_lower asked.digest ++ (codes " " ++ (encode_lower asked.signature ++ codes "\n")))))
-
-abbrev pub ask_lines : List QuestionView → List ℕ
-ask_lines [] = []
-ask_lines (asked ∷ others) = ask_line asked ++ ask_lines others
+use Rattle.call_judging.specs.AskLines.{ask_lines}
+use Rattle.call_judging.specs.CallQuestions.{call_questions}
 
 -- ---- each once
 

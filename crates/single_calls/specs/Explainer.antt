@@ -14,7 +14,7 @@ use Rattle.call_judging.specs.declared.finding.Finding.{Finding}
 use Rattle.call_judging.specs.declared.finding.Finding.TheVariants as found
 use Rattle.cert_store.specs.declared.world.World.{World as Materials}
 use Rattle.single_calls.specs.Answer.{AnswerView, CallStatus, Well, Broken, Unread}
-use Rattle.single_calls.specs.Explain.{Explain, explained, unread_text}
+use Rattle.call_judging.specs.Explain.{Explain, explained, unread_text}
 use Rattle.single_calls.specs.Singly.{AnsweredSingly}
 
 -- by what calls are explained

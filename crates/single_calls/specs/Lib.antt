@@ -1,16 +1,11 @@
 pub mod Answer
 pub mod Answering
 pub mod Singly
-pub mod AlwaysYes
-pub mod Explain
-pub mod CallQuestions
 pub mod Asked
 pub mod Asks
-pub mod ToldApart
 pub mod Written
 pub mod Explainer
 pub mod Asker
-pub mod Verdicts
 pub mod Reading
-pub mod Steps
 pub mod Agreement
+pub mod Steps

@@ -11,9 +11,9 @@ use Rattle.verify_rules.specs.States.{State}
 use Rattle.verify_rules.specs.World.{truths}
 use Rattle.call_judging.specs.Chains.{AreRightWhere, is_unread}
 use Rattle.cert_store.specs.declared.world.World.{World as Materials}
-use Rattle.single_calls.specs.AlwaysYes.{always_yes}
+use Rattle.call_judging.specs.AlwaysYes.{always_yes}
 use Rattle.single_calls.specs.Asker.{asking_world}
-use Rattle.single_calls.specs.CallQuestions.{call_questions, chains_questions}
+use Rattle.call_judging.specs.CallQuestions.{call_questions, chains_questions}
 use Rattle.single_calls.specs.Written.{Writes}
 use Rattle.single_calls.specs.declared.reading.ChainError.{ChainError}
 use Rattle.single_calls.specs.declared.reading.ChainError.TheVariants.{Unread, Memory}

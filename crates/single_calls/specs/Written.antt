@@ -3,7 +3,8 @@ use Rattle.std.specs.Prelude.{◌≡◌, ℕ, Bool, ◌&&◌, List, ◌++◌}
 use Rattle.std.specs.List.{list_any}
 use Rattle.std.specs.Str.{bytes_eq}
 use Rattle.cert_store.specs.Rules.{QuestionView}
-use Rattle.single_calls.specs.Asks.{ask_lines, fresh, was_asked}
+use Rattle.call_judging.specs.AskLines.{ask_lines}
+use Rattle.single_calls.specs.Asks.{fresh, was_asked}
 use Rattle.single_calls.specs.declared.written.Triple.{Triple}
 
 abbrev pub same_triple : Triple → Triple → Bool

@@ -5,18 +5,16 @@ ghost use Rattle.single_calls.specs.Answering.{StopsBy};
 ghost use Rattle.single_calls.specs.Asker.{AskedBy, BehindAsked, StopsAsking};
 ghost use Rattle.single_calls.specs.Reading.{StopsCall, WritesCall, lines};
 ghost use Rattle.single_calls.specs.Singly.{OneAnswer};
-ghost use Rattle.single_calls.specs.Verdicts.{asks_own};
 ghost use Rattle.stir_outside.specs.Files.{CountsGoOn};
 ghost use Rattle.verify_rules.specs.Call.{Call as RuledCall};
 ghost use Rattle.verify_rules.specs.Rules.{early_rules};
 ghost use Rattle.verify_rules.specs.Screened.{IsScreenedBy};
 ghost use Rattle.verify_service.specs.Judging.{call_in};
 
-use crate::always_yes::AlwaysYes;
-use crate::own::add_own;
+use crate::asking::ask_own;
 use crate::reading::{ChainError, ask_chains};
 use crate::written::Written;
-use call_judging::CallChains;
+use call_judging::{AlwaysYes, CallChains, asks_own, call_questions_law};
 use call_log::Call;
 use cert_store::World;
 use log_run::{AnswerError, BatchAnswer, LogCommand};
@@ -24,11 +22,8 @@ use std::alloc::{AllocError, Global};
 use std::marker::Model;
 use std::thread::Threads;
 use stir_outside::Shelf;
-use verify_rules::{ScreenFault, Screened, Settings, Verdict, finish, screen, screened_law};
+use verify_rules::{ScreenFault, Screened, Settings, finish, screen, screened_law};
 use verify_service::call_law;
-
-/// The last rule that is tried before a signature is asked for.
-const LAST_UNSIGNED: u8 = 14;
 
 /// Says which questions a provider of signatures would be asked for calls, each by itself: over a chain map, trust anchors, a code table and
 /// the files of a shelf. A question that was asked for an earlier call isn't asked again; of the calls before, only these questions are kept.
@@ -155,6 +150,7 @@ fn ask_call<S: Shelf>(
     ensures shelf { ShelfStays S.Shelf shelf.old shelf.new }
 {
     call_law();
+    call_questions_law();
     match screen(alloc, call.message(), call.moment(), settings) {
         Ok(screened) => ask_screened(alloc, world, shelf, call.moment(), &screened, written, text),
         Err(fault) => match fault {
@@ -183,6 +179,7 @@ fn ask_screened<S: Shelf>(
     ensures shelf { ShelfStays S.Shelf shelf.old shelf.new }
 {
     screened_law();
+    call_questions_law();
     let mut chains = CallChains::new(alloc);
     let mut provider = AlwaysYes::new();
     match ask_chains(
@@ -202,20 +199,8 @@ fn ask_screened<S: Shelf>(
     if !asks_own(verdict) {
         return Ok(());
     }
-    match add_own(alloc, screened, &chains, written, text) {
+    match ask_own(alloc, screened, &chains, written, text) {
         Ok(()) => Ok(()),
         Err(_) => Err(ChainError::Memory),
-    }
-}
-
-/// Whether the signatures of the PASSporTs are asked for: no rule before the first that asks for a signature is broken, nor left open.
-fn asks_own(verdict: Verdict) -> bool
-    ensures { result ≡ asks_own verdict }
-{
-    match verdict {
-        Verdict::Passed => true,
-        Verdict::Refused(refusal) => refusal.rule > LAST_UNSIGNED,
-        Verdict::Unread(_) => false,
-        Verdict::Unasked(_) => true,
     }
 }

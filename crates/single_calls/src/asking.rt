@@ -1,17 +1,16 @@
-//! The questions of a chain of certificates.
-ghost use Rattle.std.specs.Prelude.{◌≡◌, ◌≤◌, length, option_to_list, OnOk, string_bytes};
-ghost use Rattle.cert_store.specs.Questions.{question_at, questions_of};
-ghost use Rattle.single_calls.specs.CallQuestions.{chain_questions, has_authority, judged_questions};
-ghost use Rattle.single_calls.specs.Written.{Writes};
+//! Writing the lines of what is asked for a chain, and for the PASSporTs of a call.
+ghost use Rattle.std.specs.Prelude.{◌≡◌, length, OnOk, string_bytes};
+ghost use Rattle.call_judging.specs.CallQuestions.{chain_questions, own_questions};
 ghost use Rattle.call_judging.specs.Chains.{state_of};
+ghost use Rattle.single_calls.specs.Written.{Writes};
 
 use crate::written::Written;
-use call_judging::ChainStatus;
-use cert_store::Judged;
+use call_judging::{CallChains, ChainStatus, chain_questions, own_questions};
 use std::alloc::{AllocError, Global};
+use verify_rules::Screened;
 
 /// Writes the lines of the questions of a chain, from the leaf's on, if rules 10, 11, 12 and 14 hold for it.
-pub(crate) fn add_chain(
+pub(crate) fn ask_chain(
     alloc: Global,
     chain: &ChainStatus,
     written: &mut Written,
@@ -19,66 +18,21 @@ pub(crate) fn add_chain(
 ) -> Result<(), AllocError>
     ensures { OnOk result (Writes written.old written.new (string_bytes text.old) (string_bytes text.new) (chain_questions (state_of chain.now))) }
 {
-    match chain {
-        ChainStatus::Judged(judged) => add_judged(alloc, judged, written, text),
-        ChainStatus::Missing => Ok(()),
-        ChainStatus::TooLong => Ok(()),
-        ChainStatus::Unread => Ok(()),
-    }
+    let questions = chain_questions(alloc, chain.state())?;
+    written.add_all(alloc, questions.as_slice(), text)
 }
 
-/// Writes those of a chain that was judged.
-fn add_judged(
+/// Writes those of the questions for the signatures of a call's PASSporTs.
+pub(crate) fn ask_own(
     alloc: Global,
-    judged: &Judged,
+    screened: &Screened,
+    chains: &CallChains,
     written: &mut Written,
     text: &mut String,
 ) -> Result<(), AllocError>
-    ensures { OnOk result (Writes written.old written.new (string_bytes text.old) (string_bytes text.new) (judged_questions judged.now)) }
+    requires one_each { length chains.now ≡ length screened.now.readings }
+    ensures { OnOk result (Writes written.old written.new (string_bytes text.old) (string_bytes text.new) (own_questions screened.now.readings chains.now)) }
 {
-    if !has_authority(judged) {
-        return Ok(());
-    }
-    add_all(alloc, judged, written, text)
-}
-
-/// Whether rules 11, 12 and 14 hold for a chain.
-fn has_authority(judged: &Judged) -> bool
-    ensures { result ≡ has_authority judged.now }
-{
-    judged.profile().is_none() && judged.shape().is_none() && judged.authority().is_none()
-}
-
-/// Writes the lines of all questions of a chain.
-#[tactic(auto, using(crate::proofs::AskSteps::none_yet, crate::proofs::AskSteps::one_more, crate::proofs::AskSteps::all_written))]
-fn add_all(
-    alloc: Global,
-    judged: &Judged,
-    written: &mut Written,
-    text: &mut String,
-) -> Result<(), AllocError>
-    ensures { OnOk result (Writes written.old written.new (string_bytes text.old) (string_bytes text.new) (questions_of judged.now)) }
-{
-    'certificates: for before in 0..judged.length() {
-        add_at(alloc, judged, before + 1, written, text)?;
-    }
-    Ok(())
-}
-
-/// Writes the line of the question of a certificate, if there is one.
-fn add_at(
-    alloc: Global,
-    judged: &Judged,
-    number: u8,
-    written: &mut Written,
-    text: &mut String,
-) -> Result<(), AllocError>
-    requires some { 1 ≤ number }
-    requires within { number ≤ length judged.now.certificates }
-    ensures { OnOk result (Writes written.old written.new (string_bytes text.old) (string_bytes text.new) (option_to_list (question_at judged.now number))) }
-{
-    match judged.question(number) {
-        Some(question) => written.add(alloc, &question, text),
-        None => Ok(()),
-    }
+    let questions = own_questions(alloc, screened, chains)?;
+    written.add_all(alloc, questions.as_slice(), text)
 }

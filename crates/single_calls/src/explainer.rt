@@ -5,8 +5,7 @@ ghost use Rattle.single_calls.specs.Answer.{found_well, written_of};
 ghost use Rattle.single_calls.specs.Explainer.{BehindAny, ExplainedBy, explanation, status_of};
 ghost use Rattle.single_calls.specs.Singly.{OneAnswer};
 
-use crate::explain::explained;
-use call_judging::{CallChains, Finding, judge_call};
+use call_judging::{CallChains, Finding, explained, judge_call};
 use call_log::Call;
 use cert_store::World;
 use log_run::{AnswerError, BatchAnswer, LogCommand};

@@ -3,17 +3,16 @@
 //! # The way through
 //!
 //! - An [`Explainer`] says of each rule whether a call meets it, up to the first that it breaks. [`explain_log`] writes these lines for each call of
-//!   a log, and [`explained`] those of one call by what was found of it.
+//!   a log.
 //! - An [`Asker`] says which questions a provider would be asked for a call: those of certificates, and those of PASSporTs. [`ask_log`] writes them
 //!   for a log, each question once.
-//! - [`AlwaysYes`] is the provider that the asker judges by: it confirms all, so that each question is seen.
 //!
 //! ```rust
 //! let mut explainer = Explainer::new(settings, world, &answers);
 //! let status = explain_log(&rt, alloc, &mut explainer, &mut shelf, &mut input, &mut sink);
 //! ```
 //!
-//! Both judge a call by the rules of `verify_rules`, over the files that a shelf gives, without the calls around it. They are commands of `log_run`
+//! Both judge a call by itself, as `call_judging` does, over the files that a shelf gives. They are commands of `log_run`
 //! with batches of one call: the lines of each are written before the next is read, so memory is taken for one call at a time.
 //!
 //! # What it isn't
@@ -23,29 +22,23 @@
 //!
 //! # What is proved
 //!
-//! The lines of a call are those of the rules before the first broken one, and its own ([`explain_law`], [`lines_law`]). A question is listed
-//! exactly if a call of the log asks it ([`asked_law`], [`asks_law`]), and providers that agree on the listed questions let each call be judged
-//! alike ([`agreement_law`]). `docs/PROVED.md`, "A log", has the clauses.
+//! The lines of a call are those of the rules before the first broken one, and its own. A question is listed exactly if a call of the log asks it
+//! ([`asked_law`], [`asks_law`]), and providers that agree on the listed questions let each call be judged alike ([`agreement_law`]). `docs/PROVED.md`, "A log", has the clauses.
 //!
 //! # Cases
 //!
 //! `tests/cli/explain.rows` and `tests/cli/ask.rows`; `crates/vectors_runs/stdin` for reads and writes that fail.
 #![tactic(auto)]
 
-mod always_yes;
 mod asker;
 mod asking;
-mod explain;
 mod explainer;
 mod laws;
-mod own;
 mod reading;
 mod run;
 mod written;
 
-pub use always_yes::AlwaysYes;
 pub use asker::Asker;
-pub use explain::explained;
 pub use explainer::Explainer;
-pub use laws::{agreement_law, asked_law, asks_law, explain_law, lines_law};
+pub use laws::{agreement_law, asked_law, asks_law};
 pub use run::{ask_log, explain_log};

@@ -2,17 +2,16 @@
 ghost use Rattle.stir_outside.specs.Stays.{ShelfStays};
 ghost use Rattle.std.specs.Prelude.{◌≡◌, ◌≤◌, ℕ, [], List, false, length, true, IfOk, IfErr, OnErr, OnOk, string_bytes};
 ghost use Rattle.std.specs.List.{list_any};
-ghost use Rattle.single_calls.specs.AlwaysYes.{always_yes};
-ghost use Rattle.single_calls.specs.CallQuestions.{chain_questions, chains_questions};
+ghost use Rattle.call_judging.specs.AlwaysYes.{always_yes};
+ghost use Rattle.call_judging.specs.CallQuestions.{chain_questions, chains_questions};
 ghost use Rattle.single_calls.specs.Reading.{AreAsked, IsNamed, Stopped, StopsFor, lines};
 ghost use Rattle.single_calls.specs.Written.{Writes};
 ghost use Rattle.stir_outside.specs.Files.{CountsGoOn};
 ghost use Rattle.call_judging.specs.Chains.{IsRightWhere, is_unread, state_of};
 
-use crate::always_yes::AlwaysYes;
-use crate::asking::add_chain;
+use crate::asking::ask_chain;
 use crate::written::Written;
-use call_judging::{CallChains, ChainStatus, chain_in, chains_law};
+use call_judging::{AlwaysYes, CallChains, ChainStatus, chain_in, chains_law};
 use cert_store::World;
 use std::alloc::Global;
 use stir_outside::Shelf;
@@ -53,7 +52,7 @@ pub(crate) fn ask_chains<S: Shelf>(
             Ok(chain) => chain,
             Err(stop) => return Err(stop),
         };
-        match add_chain(alloc, &chain, written, text) {
+        match ask_chain(alloc, &chain, written, text) {
             Ok(()) => {}
             Err(_) => return Err(ChainError::Memory),
         }

@@ -1,9 +1,9 @@
 //! The questions whose lines were written.
-ghost use Rattle.std.specs.Prelude.{◌≡◌, [], ◌∷◌, IfOk, OnOk, string_bytes};
+ghost use Rattle.std.specs.Prelude.{◌≡◌, [], ◌∷◌, map, OnOk, string_bytes};
 ghost use Rattle.cert_store.specs.Questions.{seen};
-ghost use Rattle.single_calls.specs.Asks.{ask_line};
 ghost use Rattle.single_calls.specs.Written.{Writes};
 
+use call_judging::question_line;
 use cert_store::Question;
 use std::alloc::{AllocError, Global};
 use std::collections::HashSet;
@@ -59,19 +59,23 @@ impl Written {
         if !self.triples.insert(triple)? {
             return Ok(());
         }
-        let line = ask_line(alloc, question)?;
+        let line = question_line(alloc, question)?;
         text.push_str(line.as_str())?;
         Ok(())
     }
-}
-
-/// The line of a question, as an answers file confirms it.
-#[tactic(auto, unfolding(crate::specs::Asks::ask_line))]
-fn ask_line(alloc: Global, question: &Question<'_>) -> Result<String, AllocError>
-    ensures { IfOk result (λ line. string_bytes line ≡ ask_line (seen question.now)) }
-{
-    let key = hex::encode(alloc, question.key.as_slice())?;
-    let digest = hex::encode(alloc, question.digest.as_slice())?;
-    let signature = hex::encode(alloc, question.signature.as_slice())?;
-    format!(in alloc; "confirm {key} {digest} {signature}\n")
+    /// Writes those of several, in their order.
+    #[tactic(auto, using(crate::proofs::AskSteps::none_yet, crate::proofs::AskSteps::all_written))]
+    pub(crate) fn add_all(
+        &mut self,
+        alloc: Global,
+        questions: &[Question<'_>],
+        text: &mut String,
+    ) -> Result<(), AllocError>
+        ensures { OnOk result (Writes self.old self.new (string_bytes text.old) (string_bytes text.new) (map seen questions.now)) }
+    {
+        'questions: for question in questions {
+            self.add(alloc, question, text)?;
+        }
+        Ok(())
+    }
 }

@@ -3,8 +3,8 @@ use Rattle.std.proofs.Common.{◌≡◌, ℕ, zero, suc, ◌+◌, ◌≤◌, Lis
 use Rattle.std.specs.List.{slice_get}
 use Rattle.std.proofs.lemmas.List.{drop_all}
 use Rattle.std.proofs.lemmas.Option.{same_Some}
-use Rattle.single_calls.specs.Asks.{ask_lines}
-use Rattle.single_calls.specs.CallQuestions.{chain_questions, chains_questions}
+use Rattle.call_judging.specs.AskLines.{ask_lines}
+use Rattle.call_judging.specs.CallQuestions.{chain_questions, chains_questions}
 use Rattle.verify_rules.specs.States.{State}
 use Rattle.stir_c.specs.Steps.{ChainsUpTo}
 use Rattle.stir_c.proofs.LineLaws.{more_lines, no_more}

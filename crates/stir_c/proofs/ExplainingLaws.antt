@@ -1,7 +1,7 @@
 -- What explains a call, from what is found of it; and what is told of it.
 use Rattle.std.proofs.Common.{◌≡◌, ℕ, ◌≤◌, List, length, Result, IfOk, None, Some, sym, ◌∙◌, ap}
 use Rattle.stir_outside.specs.Held.{held_says}
-use Rattle.single_calls.specs.Explain.{Explain, broken_text, explained}
+use Rattle.call_judging.specs.Explain.{Explain, broken_text, explained}
 use Rattle.verify_rules.specs.Call.{Call}
 use Rattle.verify_rules.specs.World.{First, World}
 use Rattle.verify_rules.specs.declared.refusal.Refusal.{Refusal}

@@ -1,7 +1,7 @@
 -- What comes of a call that is handed in, from what its inputs are read as.
 use Rattle.std.proofs.Common.{ℕ, List, Result, Ok, Err, IfOk}
 use Rattle.stir_outside.specs.Files.{Files}
-use Rattle.verify_rules.specs.Call.{call_of}
+use Rattle.verify_rules.specs.Call.{Call}
 use Rattle.cert_store.specs.declared.world.World.{World as Materials}
 use Rattle.stir_outside.specs.Held.{AnswersOf, Held, held_says}
 use Rattle.verify_rules.specs.declared.settings.Settings.{Settings}
@@ -34,8 +34,7 @@ asked_by given lines found settings materials set read asked = record {
   asked = asked;
 }
 
-pub if_ok_asked : {E : Type 0} (materials : Materials) (files : Files) (settings : Settings) (moment : ℕ) (bytes : List ℕ) (result : Result Asked E) → Alike
-    → IfOk result (λ asked. IsAskedFirst materials files (call_of settings moment bytes) asked.lines.items asked.found)
-    → IfOk result (λ asked. IsAsked materials files (call_of settings moment bytes) asked.lines.items asked.found)
-if_ok_asked materials files settings moment bytes (Ok asked) law one = asked_whole materials files settings moment bytes asked.lines.items asked.found law one
-if_ok_asked materials files settings moment bytes (Err fault) law one = tt
+pub if_ok_asked : {E : Type 0} (materials : Materials) (files : Files) (call : Call) (result : Result Asked E) → Alike
+    → IfOk result (λ asked. IsAskedFirst materials files call asked.lines.items asked.found) → IfOk result (λ asked. IsAsked materials files call asked.lines.items asked.found)
+if_ok_asked materials files call (Ok asked) law one = asked_whole materials files call asked.lines.items asked.found law one
+if_ok_asked materials files call (Err fault) law one = tt

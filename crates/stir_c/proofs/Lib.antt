@@ -2,9 +2,7 @@ pub mod FileLaws
 pub mod InputLaws
 pub mod FoundLaws
 pub mod LineLaws
-pub mod ChainLaws
 pub mod ChainsLaws
-pub mod OwnLaws
 pub mod AskedLaws
 pub mod HandingLaws
 pub mod ToldLaws

@@ -1,25 +1,15 @@
--- Lines of no question, of one, and of one list of questions after another.
-use Rattle.std.proofs.Common.{◌≡◌, ℕ, Bool, true, false, cond, List, [], ◌∷◌, ◌++◌, append_assoc, append-nil, refl, sym, ◌∙◌, ap}
+-- Lines of one list of questions after another.
+use Rattle.std.proofs.Common.{◌≡◌, ℕ, zero, suc, ◌+◌, ◌<◌, ◌≤◌, Bool, true, false, cond, List, [], ◌∷◌, ◌++◌, drop, get_or, length, map, append_assoc, append-nil, refl, sym, ◌∙◌, ap, arith}
+use Rattle.std.proofs.lemmas.List.{drop_all}
+use Rattle.cert_store.specs.Questions.{seen}
+use Rattle.cert_store.specs.declared.judged.Question.{Question}
 use Rattle.cert_store.specs.Rules.{QuestionView}
-use Rattle.single_calls.specs.Asks.{ask_line, ask_lines}
-use Rattle.single_calls.specs.CallQuestions.{chains_questions, own_questions}
+use Rattle.call_judging.proofs.AskLineLaws.{lines_append}
+use Rattle.call_judging.specs.AskLines.{ask_line, ask_lines}
+use Rattle.call_judging.specs.CallQuestions.{chains_questions, own_questions}
 use Rattle.verify_rules.specs.Call.{Reading}
 use Rattle.verify_rules.specs.States.{State}
 use Rattle.stir_c.specs.Asked.{lines_for}
-
-pub lines_append : (xs ys : List QuestionView) → ask_lines (xs ++ ys) ≡ ask_lines xs ++ ask_lines ys
-lines_append [] ys = refl
-lines_append (x ∷ xs) ys = ap (λ (l : List ℕ). ask_line x ++ l) (lines_append xs ys) ∙ sym (append_assoc (ask_line x) (ask_lines xs) (ask_lines ys))
-
-pub no_line : (text : List ℕ) → text ≡ text ++ []
-no_line text = sym (append-nil text)
-
--- if a test leaves no question
-pub no_lines : (text : List ℕ) (test : Bool) (questions : List QuestionView) → test ≡ false → text ≡ text ++ ask_lines (cond test questions [])
-no_lines text test questions is = sym (append-nil text) ∙ ap (λ t. text ++ ask_lines (cond t questions [])) (sym is)
-
-pub one_line : (text line now : List ℕ) (asked : QuestionView) → line ≡ ask_line asked → now ≡ text ++ line → now ≡ text ++ ask_lines (asked ∷ [])
-one_line text line now asked is pushed = pushed ∙ ap (λ (l : List ℕ). text ++ l) (is ∙ sym (append-nil (ask_line asked)))
 
 -- one list of questions more
 pub more_lines : (mid now all : List ℕ) (this rest whole : List QuestionView) → whole ≡ this ++ rest → mid ++ ask_lines whole ≡ all → now ≡ mid ++ ask_lines this
@@ -30,6 +20,25 @@ more_lines mid now all this rest whole split left pushed =
 
 pub no_more : (now all : List ℕ) (rest : List QuestionView) → rest ≡ [] → now ++ ask_lines rest ≡ all → now ≡ all
 no_more now all rest none left = sym (append-nil now) ∙ sym (ap (λ (q : List QuestionView). now ++ ask_lines q) none) ∙ left
+
+-- ---- of a list, question by question
+
+step : (questions : List Question) (i : ℕ) (d : Question) → i < length questions → map seen (drop i questions) ≡ seen (get_or questions i d) ∷ map seen (drop (suc i) questions)
+step [] i d within = absurd (omega arith)
+step (question ∷ questions) zero d within = refl
+step (question ∷ questions) (suc i) d within = step questions i d (omega arith)
+
+pub one_more : (questions : List Question) (i : ℕ) (question d : Question) (mid now all : List ℕ) → mid ++ ask_lines (map seen (drop i questions)) ≡ all → i < length questions
+    → question ≡ get_or questions i d → now ≡ mid ++ ask_line (seen question) → now ++ ask_lines (map seen (drop (i + 1) questions)) ≡ all
+one_more questions i question d mid now all left within is pushed =
+    let next : suc i ≡ i + 1 = omega arith in
+    let split : map seen (drop i questions) ≡ (seen question ∷ []) ++ map seen (drop (i + 1) questions) =
+    step questions i d within ∙ ap (λ q. seen q ∷ map seen (drop (suc i) questions)) (sym is) ∙ ap (λ n. seen question ∷ map seen (drop n questions)) next in
+    more_lines mid now all (seen question ∷ []) (map seen (drop (i + 1) questions)) (map seen (drop i questions)) split left
+    (pushed ∙ ap (λ (l : List ℕ). mid ++ l) (sym (append-nil (ask_line (seen question)))))
+
+pub all_added : (questions : List Question) (i : ℕ) (now all : List ℕ) → now ++ ask_lines (map seen (drop i questions)) ≡ all → length questions ≤ i → now ≡ all
+all_added questions i now all left past = no_more now all (map seen (drop i questions)) (ap (map seen) (drop_all i questions past)) left
 
 -- ---- those of a call
 

@@ -2,9 +2,9 @@
 use Rattle.std.specs.Prelude.{◌≡◌, ⊤, ℕ, Bool, true, List, [], ◌∷◌}
 use Rattle.cert_store.specs.Rules.{QuestionView, Says, is_good}
 use Rattle.cert_store.specs.declared.world.World.{World as Materials}
-use Rattle.single_calls.specs.AlwaysYes.{always_yes}
-use Rattle.single_calls.specs.Asks.{ask_lines}
-use Rattle.single_calls.specs.CallQuestions.{call_questions, questions_over}
+use Rattle.call_judging.specs.AlwaysYes.{always_yes}
+use Rattle.call_judging.specs.AskLines.{ask_lines}
+use Rattle.call_judging.specs.CallQuestions.{call_questions, questions_over}
 use Rattle.stir_outside.specs.Files.{Files}
 use Rattle.verify_rules.specs.Call.{Call, Reading}
 use Rattle.verify_rules.specs.States.{State}

@@ -1,7 +1,7 @@
 -- What is explained of a call that is handed in.
 use Rattle.std.specs.Prelude.{◌≡◌, ℕ, ◌<◌, List, ◌++◌, drop, length}
 use Rattle.cert_store.specs.declared.world.World.{World as Materials}
-use Rattle.single_calls.specs.Explain.{Explain}
+use Rattle.call_judging.specs.Explain.{Explain}
 use Rattle.stir_outside.specs.Held.{AnswersOf, Held, held_says}
 use Rattle.verify_rules.specs.declared.settings.Settings.{Settings}
 use Rattle.call_judging.specs.declared.finding.Finding.{Finding}

@@ -1,7 +1,7 @@
 -- What a call to the library says, in the numbers that C sees.
 use Rattle.std.specs.Prelude.{◌≡◌, ℕ, ◌<◌, Bool, true, false, List, ◌++◌, drop, length, Option, Some, None, Result, Ok, Err, replicate}
 use Rattle.cert_store.specs.declared.world.World.{World as Materials}
-use Rattle.single_calls.specs.Asks.{ask_lines}
+use Rattle.call_judging.specs.AskLines.{ask_lines}
 use Rattle.stir_outside.specs.Held.{AnswersOf, Held, held_says}
 use Rattle.verify_rules.specs.Call.{Call}
 use Rattle.verify_rules.specs.Code.{code_of}

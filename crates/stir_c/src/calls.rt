@@ -11,8 +11,8 @@ use crate::asking::{Asked, ask_screened};
 use crate::found::Found;
 use crate::inputs::{Fault, Inputs, read_answers};
 use crate::judging::judge_screened;
+use call_judging::{call_agreement_law, call_questions_law, explain_law, explained};
 use cert_store::World;
-use single_calls::{agreement_law, explain_law, explained};
 use std::alloc::{AllocError, Global};
 use stir_outside::Provider;
 use verify_rules::{ScreenFault, Settings, screen, screened_law};
@@ -121,7 +121,8 @@ fn ask_call(
         asked.lines.items asked.found) }
 {
     screened_law();
-    agreement_law();
+    call_agreement_law();
+    call_questions_law();
     let moment = inputs.setting.moment;
     match screen(alloc, inputs.message, moment, settings) {
         Ok(screened) => ask_screened(alloc, world, &inputs.files, moment, &screened),

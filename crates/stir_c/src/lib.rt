@@ -53,7 +53,6 @@ mod inputs;
 mod judging;
 mod listing;
 mod order;
-mod own;
 mod said;
 mod showing;
 mod signer;

@@ -3,7 +3,8 @@ use Rattle.std.proofs.Common.{◌≡◌, inl, inr, if◌then◌else◌, ℕ, ◌
 use Rattle.std.specs.Fmt.{decimal}
 use Rattle.std.proofs.lemmas.Bool.Decides.{nat_tests}
 use Rattle.verify_rules.specs.Code.{HasCode, code_of}
-use Rattle.verify_service.specs.Report.{place_text, report_text, said_text, unasked_rule}
+use Rattle.call_judging.specs.PlaceText.{place_text}
+use Rattle.verify_service.specs.Report.{report_text, said_text, unasked_rule}
 use Rattle.verify_service.specs.ReportLine.{IsLine, IsOpenRule}
 use Rattle.verify_service.specs.declared.outcome.Outcome.{Outcome}
 use Rattle.verify_service.specs.declared.outcome.Outcome.TheVariants.{Valid, Refused, Replay, Unread, Unasked}

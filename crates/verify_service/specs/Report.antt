@@ -5,12 +5,9 @@ use Rattle.std.specs.Fmt.{decimal}
 use Rattle.verify_rules.specs.Code.{code_of}
 use Rattle.verify_rules.specs.declared.refusal.Place.{Place}
 use Rattle.verify_rules.specs.declared.refusal.Refusal.{Refusal}
+use Rattle.call_judging.specs.PlaceText.{place_text}
 use Rattle.verify_service.specs.declared.outcome.Outcome.{Outcome}
 use Rattle.verify_service.specs.declared.outcome.Outcome.TheVariants.{Valid, Refused, Replay, Unread, Unasked}
-
--- a field, counted from 1, and a part of it
-abbrev pub place_text : Place → List ℕ
-place_text bad = decimal bad.field ++ (codes "." ++ decimal bad.part)
 
 abbrev pub refused_text : Refusal → List ℕ
 refused_text refused = codes "refused " ++ (decimal (code_of refused.rule) ++ (codes " " ++ (decimal refused.rule ++ (codes " " ++ place_text refused.place))))

@@ -4,6 +4,7 @@ use Rattle.std.specs.Fmt.{decimal}
 use Rattle.std.specs.List.{join_with_byte}
 use Rattle.verify_rules.specs.Code.{HasCode}
 use Rattle.verify_rules.specs.declared.refusal.Place.{Place}
+use Rattle.call_judging.specs.PlaceText.{PlaceFits}
 use Rattle.verify_service.specs.declared.outcome.Outcome.{Outcome}
 use Rattle.verify_service.specs.declared.outcome.Outcome.TheVariants.{Valid, Refused, Replay, Unread, Unasked}
 
@@ -53,10 +54,6 @@ pub record IsLine (number : ℕ) (outcome : Outcome) (line : List ℕ) : Type 0 
 -- ---- what can be read back
 
 -- the numbers are below 2 to the power of 32
-pub record PlaceFits (bad : Place) : Type 0 where
-  pub field : bad.field < 4294967296
-  pub part : bad.part < 4294967296
-
 abbrev pub Fits : Outcome → Type 0
 Fits Valid = ⊤
 Fits (Refused refused) = (refused.rule < 256) × PlaceFits refused.place

@@ -1,6 +1,7 @@
 //! The line of a call in the report.
 ghost use Rattle.std.specs.Prelude.{◌≡◌, ◌++◌, codes, IfOk, string_bytes};
-ghost use Rattle.verify_service.specs.Report.{place_text, refused_text, report_text, said_text, unasked_rule, unasked_text};
+ghost use Rattle.call_judging.specs.PlaceText.{place_text};
+ghost use Rattle.verify_service.specs.Report.{refused_text, report_text, said_text, unasked_rule, unasked_text};
 
 use crate::outcome::Outcome;
 use std::alloc::{AllocError, Global};

@@ -20,7 +20,7 @@ returns-in-Ok-clause-stopped g c = c.ask_screened.ensures.stopped (call_in c.arg
     (c.call_law.ensures.screened c.args.settings.now c.args.call.now c.moment.result c.message.result.now (Ok c.in-Ok.screened) c.message.ensures c.moment.ensures c.in-Ok.ensures.exact)
 
 pub returns-in-Refused-clause-writes : goal.returns-in-Refused-clause-writes
-returns-in-Refused-clause-writes g c = writes_refused (g.S.Shelf.files c.args.shelf.now) c.args.world.now (call_in c.args.settings.now c.args.call.now) c.in-Refused.field-0
+returns-in-Refused-clause-writes g c = writes_refused c.call_questions_law.ensures.refused (g.S.Shelf.files c.args.shelf.now) c.args.world.now (call_in c.args.settings.now c.args.call.now) c.in-Refused.field-0
     (lines c.args.written.now (string_bytes c.args.text.now))
     (c.call_law.ensures.screened c.args.settings.now c.args.call.now c.moment.result c.message.result.now (Err (faults.Refused c.in-Refused.field-0)) c.message.ensures c.moment.ensures
     (subst (λ (fault : ScreenFault). IsScreenedBy early_rules (call_of c.args.settings.now c.moment.result c.message.result.now) (Err fault)) c.in-Refused.is c.in-Err.ensures.exact))

@@ -1,10 +1,8 @@
--- The questions of the certificates so far are written.
-use Rattle.std.proofs.Common.{◌≡◌, length}
-use Rattle.stir_c.specs.Steps.{ChainUpTo}
+-- The lines of the questions so far and of those that are left are the lines of all.
+use Rattle.std.proofs.Common.{◌≡◌, ◌++◌, drop, map}
+use Rattle.cert_store.specs.Questions.{seen}
+use Rattle.call_judging.specs.AskLines.{ask_lines}
 use Rattle.stir_c.proofs.asking.add_all.Given as goal
 
-abbrev pub invariant-certificates : goal.invariant-certificates
-invariant-certificates l = record {
-  end : l.before-end ≡ length l.judged.certificates;
-  so : ChainUpTo l.judged l.fn.text.items l.text.items l.before;
-}
+abbrev pub invariant-questions : goal.invariant-questions
+invariant-questions l = l.text.items ++ ask_lines (map seen (drop l.question-index l.questions)) ≡ l.fn.text.items ++ ask_lines (map seen l.questions)

@@ -1,6 +1,6 @@
 -- What is asked for the call, and what is found of it if all is confirmed.
 use Rattle.std.proofs.Common.{refl}
-use Rattle.single_calls.specs.AlwaysYes.{always_yes}
+use Rattle.call_judging.specs.AlwaysYes.{always_yes}
 use Rattle.verify_rules.specs.World.{World}
 use Rattle.call_judging.specs.Chains.{world_by}
 use Rattle.stir_c.specs.Files.{files_of}
@@ -14,7 +14,7 @@ returns c = λ call passed now.
     let by = c.screened_law.ensures.judged world call c.args.world.now.table always_yes c.args.moment c.args.screened.now passed now refl refl in
     let verdict = c.decide-verdict.ensures.right world call by c.in_ok-chains.ensures.right in
     record {
-      asks = asked_screened c.args.world.now files call c.args.screened.now.readings c.in_ok-chains.chains c.decide-verdict.result c.in_ok-lines.lines.items by.early by.in_order
+      asks = asked_screened c.call_questions_law.ensures.whole c.args.world.now files call c.args.screened.now.readings c.in_ok-chains.chains c.decide-verdict.result c.in_ok-lines.lines.items by.early by.in_order
           c.in_ok-chains.ensures.right c.in_ok-chains.ensures.read c.decide-verdict.ensures.decided verdict c.in_ok-lines.ensures;
       finds = c.found_of-found.ensures world call passed verdict;
     }

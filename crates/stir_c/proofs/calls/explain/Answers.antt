@@ -1,6 +1,6 @@
 -- The lines that explain the call are those of what is found of it.
 use Rattle.std.proofs.Common.{rules, ◌≡◌, ◌∙◌, ap, string_bytes}
-use Rattle.single_calls.specs.Explain.{explained}
+use Rattle.call_judging.specs.Explain.{explained}
 use Rattle.stir_c.specs.Inputs.{handed}
 use Rattle.stir_c.proofs.ExplainingLaws.{explained_of}
 use Rattle.stir_c.proofs.calls.explain.Goals as goal
