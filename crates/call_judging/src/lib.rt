@@ -15,7 +15,8 @@
 //! Finding                     Passes(pass), Refused(refusal), Unread(place) or Unasked(place)
 //! ```
 //!
-//! - [`judge_call`] goes the whole way. [`read_chains`] reads and judges the chains of a call that was screened, and [`chain_in`] one chain.
+//! - [`judge_call`] goes the whole way, and [`judge_screened`] from the second step on. [`read_chains`] reads and judges the chains of a call that was
+//!   screened, and [`chain_in`] one chain. [`pass_of`] tells by what a screened call is known again.
 //! - The files come from a `stir_outside::Shelf`, and the answers about signatures from a `stir_outside::Provider`.
 //!
 //! ```rust
@@ -55,7 +56,7 @@ pub use always_yes::AlwaysYes;
 pub use chains::{CallChains, ChainStatus};
 pub use explaining::explained;
 pub use finding::{Finding, Pass};
-pub use judge::judge_call;
+pub use judge::{judge_call, judge_screened, pass_of};
 pub use laws::{
     call_agreement_law, call_questions_law, chains_law, explain_law, fresh_law, lines_law,
     rule_numbers_law,

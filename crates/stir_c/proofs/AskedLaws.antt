@@ -17,7 +17,9 @@ use Rattle.verify_rules.specs.States.{State}
 use Rattle.verify_rules.specs.World.{AreRight, First, VerdictOf, World, with_says}
 use Rattle.verify_rules.specs.declared.refusal.Refusal.{Refusal}
 use Rattle.verify_rules.specs.declared.verdict.Verdict.{Verdict}
-use Rattle.verify_rules.specs.declared.verdict.Verdict.TheVariants as verdicts
+use Rattle.call_judging.specs.Judging.{IsFound as IsFinding, IsOfVerdict}
+use Rattle.call_judging.specs.declared.finding.Finding.{Finding}
+use Rattle.call_judging.specs.declared.finding.Finding.TheVariants as findings
 use Rattle.stir_c.specs.Asked.{Confirms, IsAsked, IsAskedFirst, asked_for, lines_for}
 use Rattle.stir_c.specs.Found.{IsDecided, IsFound}
 use Rattle.stir_c.specs.declared.found.Found.{Found}
@@ -25,11 +27,18 @@ use Rattle.stir_c.specs.declared.found.Found.TheVariants.{Refused, Passes}
 
 -- ---- a call that was screened
 
-caused : (readings : List Reading) (states : List State) (verdict : Verdict) → IsDecided verdict → IsCaused readings states 0 0 verdict
-caused readings states verdicts.Passed decided = tt
-caused readings states (verdicts.Refused refused) decided = tt
-caused readings states (verdicts.Unread bad) decided = absurd decided
-caused readings states (verdicts.Unasked bad) decided = absurd decided
+-- its verdict is that of what is found of it, which nothing sets aside
+caused : (readings : List Reading) (states : List State) (finding : Finding) (verdict : Verdict) → IsDecided finding → IsOfVerdict verdict finding → IsCaused readings states 0 0 verdict
+caused readings states (findings.Refused refused) verdict decided is = subst (IsCaused readings states 0 0) (sym is) tt
+caused readings states (findings.Unread bad) verdict decided is = absurd decided
+caused readings states (findings.Unasked bad) verdict decided is = absurd decided
+caused readings states (findings.Passes pass) verdict decided is = subst (IsCaused readings states 0 0) (sym is) tt
+
+says_so : (world : World) (call : Call) (finding : Finding) (verdict : Verdict) → IsFinding world call finding → IsOfVerdict verdict finding → VerdictOf world call verdict
+says_so world call (findings.Refused refused) verdict found is = subst (VerdictOf world call) (sym is) found
+says_so world call (findings.Unread bad) verdict found is = subst (VerdictOf world call) (sym is) found
+says_so world call (findings.Unasked bad) verdict found is = subst (VerdictOf world call) (sym is) found
+says_so world call (findings.Passes pass) verdict found is = subst (VerdictOf world call) (sym is) found
 
 -- the law of what is asked over chains by a verdict
 abbrev pub WholeAsks : Type 0
@@ -37,12 +46,13 @@ WholeAsks = (world : World) (call : Call) (readings : List Reading) (states : Li
     → readings ≡ in_call_order call → AreRight world readings states → list_any is_unread states ≡ false → VerdictOf world call verdict
     → IsCaused readings states faults faults_now verdict → questions_over (asks_own verdict) readings states ≡ call_questions world call
 
-pub asked_screened : WholeAsks → (materials : Materials) (files : Files) (call : Call) (readings : List Reading) (states : List State) (verdict : Verdict) (lines : List ℕ)
+pub asked_screened : WholeAsks → (materials : Materials) (files : Files) (call : Call) (readings : List Reading) (states : List State) (finding : Finding) (verdict : Verdict) (lines : List ℕ)
     → first early_rules call ≡ None → readings ≡ in_call_order call → AreRight (world_by materials files always_yes) readings states → list_any is_unread states ≡ false
-    → IsDecided verdict → VerdictOf (world_by materials files always_yes) call verdict → lines ≡ lines_for (asks_own verdict) readings states
+    → IsDecided finding → IsFinding (world_by materials files always_yes) call finding → IsOfVerdict verdict finding → lines ≡ lines_for (asks_own verdict) readings states
     → lines ≡ ask_lines (asked_for materials files call)
-asked_screened law materials files call readings states verdict lines early in_order right read decided says is =
-    is ∙ ap ask_lines (law (world_by materials files always_yes) call readings states 0 0 verdict early in_order right read says (caused readings states verdict decided))
+asked_screened law materials files call readings states finding verdict lines early in_order right read decided found of is =
+    let world : World = world_by materials files always_yes in
+    is ∙ ap ask_lines (law world call readings states 0 0 verdict early in_order right read (says_so world call finding verdict found of) (caused readings states finding verdict decided of))
 
 -- ---- one that rules 1 to 9 refuse
 

@@ -2,9 +2,9 @@
 use Rattle.std.specs.Prelude.{◌≡◌, ⊤, None, Some}
 use Rattle.verify_rules.specs.Call.{Call}
 use Rattle.verify_rules.specs.World.{First, World}
-use Rattle.verify_rules.specs.declared.verdict.Verdict.{Verdict}
-use Rattle.verify_rules.specs.declared.verdict.Verdict.TheVariants as verdicts
 use Rattle.call_judging.specs.Judging.{IsKnownBy}
+use Rattle.call_judging.specs.declared.finding.Finding.{Finding}
+use Rattle.call_judging.specs.declared.finding.Finding.TheVariants as findings
 use Rattle.stir_c.specs.declared.found.Found.{Found}
 use Rattle.stir_c.specs.declared.found.Found.TheVariants.{Refused, Passes}
 
@@ -13,14 +13,9 @@ abbrev pub IsFound : World → Call → Found → Type 0
 IsFound world call (Refused refused) = First world call ≡ Some refused
 IsFound world call (Passes pass) = (First world call ≡ None) × IsKnownBy call pass.ticket pass.last
 
--- by a verdict
-abbrev pub IsOfVerdict : Verdict → Found → Type 0
-IsOfVerdict verdict (Refused refused) = verdict ≡ verdicts.Refused refused
-IsOfVerdict verdict (Passes pass) = verdict ≡ verdicts.Passed
-
 -- nothing sets the call aside
-abbrev pub IsDecided : Verdict → Type 0
-IsDecided verdicts.Passed = ⊤
-IsDecided (verdicts.Refused refused) = ⊤
-IsDecided (verdicts.Unread bad) = ⊥
-IsDecided (verdicts.Unasked bad) = ⊥
+abbrev pub IsDecided : Finding → Type 0
+IsDecided (findings.Refused refused) = ⊤
+IsDecided (findings.Unread bad) = ⊥
+IsDecided (findings.Unasked bad) = ⊥
+IsDecided (findings.Passes pass) = ⊤

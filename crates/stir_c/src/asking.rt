@@ -12,11 +12,10 @@ ghost use Rattle.stir_c.specs.Asked.{IsAskedFirst, lines_for};
 ghost use Rattle.stir_c.specs.Files.{files_of};
 
 use crate::chains::ChainFiles;
-use crate::found::{Found, found_of};
-use crate::judging::{decide, judge_chains};
+use crate::found::Found;
 use call_judging::{
-    AlwaysYes, CallChains, asks_own, call_questions_law, chain_questions, own_questions,
-    question_line,
+    AlwaysYes, CallChains, asks_own, call_questions_law, chain_questions, judge_screened,
+    own_questions, question_line,
 };
 use cert_store::{Question, World};
 use std::alloc::{AllocError, Global};
@@ -43,11 +42,20 @@ pub(crate) fn ask_screened(
 {
     screened_law();
     call_questions_law();
+    let mut shelf = files.shelf();
     let mut provider = AlwaysYes::new();
-    let chains = judge_chains(alloc, world, files, screened, &mut provider)?;
-    let verdict = decide(screened, &chains, moment, world, &mut provider);
-    let lines = lines_for(alloc, screened, &chains, verdict)?;
-    let found = found_of(verdict, screened);
+    let mut chains = CallChains::new(alloc);
+    let finding = judge_screened(
+        alloc,
+        world,
+        &mut shelf,
+        &mut provider,
+        &mut chains,
+        moment,
+        screened,
+    )?;
+    let found = Found::decided(finding);
+    let lines = lines_for(alloc, screened, &chains, finding.verdict())?;
     Ok(Asked { lines, found })
 }
 

@@ -10,8 +10,7 @@ ghost use Rattle.stir_c.specs.Inputs.{IsFaulty, call_in, handed, world_in};
 use crate::asking::{Asked, ask_screened};
 use crate::found::Found;
 use crate::inputs::{Fault, Inputs, read_answers};
-use crate::judging::judge_screened;
-use call_judging::{call_agreement_law, call_questions_law, explain_law, explained};
+use call_judging::{CallChains, call_agreement_law, call_questions_law, explain_law, explained};
 use cert_store::World;
 use std::alloc::{AllocError, Global};
 use stir_outside::Provider;
@@ -98,15 +97,19 @@ fn judge_call<P: Provider>(
     requires never_fails { (p : P) → P.faults p ≡ 0 }
     ensures { IfOk result (IsFound (world_in (handed inputs.now) world.now (P.says provider.old)) (call_in (handed inputs.now) settings.now)) }
 {
-    screened_law();
-    let moment = inputs.setting.moment;
-    match screen(alloc, inputs.message, moment, settings) {
-        Ok(screened) => judge_screened(alloc, world, &inputs.files, moment, &screened, provider),
-        Err(fault) => match fault {
-            ScreenFault::Refused(refusal) => Ok(Found::Refused(refusal)),
-            ScreenFault::Memory => Err(AllocError),
-        },
-    }
+    let mut shelf = inputs.files.shelf();
+    let mut chains = CallChains::new(alloc);
+    let finding = call_judging::judge_call(
+        alloc,
+        settings,
+        world,
+        &mut shelf,
+        provider,
+        &mut chains,
+        inputs.message,
+        inputs.setting.moment,
+    )?;
+    Ok(Found::decided(finding))
 }
 
 /// What is asked for a call in a world. `AllocError` is the only error.

@@ -1,8 +1,13 @@
 //! The chains of certificates that are handed in.
-ghost use Rattle.std.specs.Prelude.{◌≡◌, ◌≤◌, drop, length, take};
+ghost use Rattle.std.specs.Prelude.{◌≡◌, ◌≤◌, ℕ, drop, if◌then◌else◌, is_ok, length, take, vec_len, Err, IfOk, None, Option, Some};
 ghost use Rattle.std.specs.Option.{option_copied};
-ghost use Rattle.stir_outside.specs.Files.{file};
+ghost use Rattle.stir_outside.specs.Count.{Rose, one_more};
+ghost use Rattle.stir_outside.specs.Files.{AreBytes, CountsGoOn, HoldBytesWhere, IsLonger, OfFile, file};
 ghost use Rattle.stir_c.specs.Files.{files_of};
+
+use std::alloc::Global;
+use std::marker::Model;
+use stir_outside::{Shelf, ShelfFault};
 
 /// The name of the first chain: the digit 1.
 const FIRST_NAME: u8 = b'1';
@@ -16,6 +21,77 @@ pub(crate) struct ChainFiles<'a> {
     pub(crate) sizes: &'a [usize],
     pub(crate) chains: &'a [u8],
 }
+
+impl<'a> ChainFiles<'a> {
+    /// The chains as a shelf of files.
+    pub(crate) fn shelf(&self) -> ChainShelf<'a>
+        requires few { length self.now.sizes.now ≤ 9 }
+        ensures { result.files ≡ files_of self.now.sizes.now self.now.chains.now }
+    {
+        ChainShelf {
+            files: *self,
+            reads: 0,
+            misses: 0,
+            longs: 0,
+        }
+    }
+}
+
+/// The chains as a shelf of files, of which no read fails. It counts how many files were read, missing, and too long.
+#[derive(Drop)]
+pub(crate) struct ChainShelf<'a> {
+    files: ChainFiles<'a>,
+    reads: u64,
+    misses: u64,
+    longs: u64,
+}
+
+impl<'a> Model for ChainShelf<'a> {
+    ghost use Rattle.std.specs.Prelude.{◌≤◌, length};
+    ghost use Rattle.stir_c.specs.Files.{ShelfView, files_of};
+
+    ghost Value = { ShelfView };
+
+    ghost view = { λ s. record {
+      files = files_of s.files.sizes.now s.files.chains.now;
+      counts = record { reads = s.reads; misses = s.misses; longs = s.longs; faults = 0 };
+    } };
+
+    ghost invariant = { λ s. length s.files.sizes.now ≤ 9 };
+}
+
+impl<'a> Shelf for ChainShelf<'a> {
+    ghost files = { λ s. Some s.files };
+
+    ghost counts = { λ s. record s.counts { faults = 0 } };
+
+    fn read(&mut self, alloc: Global, name: &str, limit: usize) -> Result<Vec<u8>, ShelfFault> {
+        let files = self.files;
+        let Some(chain) = find(files.sizes, files.chains, name.as_bytes()) else {
+            self.misses = self.misses.saturating_add(1);
+            return Err(ShelfFault::Missing);
+        };
+        if chain.len() > limit {
+            self.longs = self.longs.saturating_add(1);
+            return Err(ShelfFault::Long);
+        }
+        let Ok(bytes) = Vec::from_slice(alloc, chain) else {
+            return Err(ShelfFault::Memory);
+        };
+        self.reads = self.reads.saturating_add(1);
+        Ok(bytes)
+    }
+
+    #[tactic(auto, using(crate::proofs::FileLaws::hold_bytes))]
+    fn holds_bytes(&self) {
+        is_bytes(self.files.chains);
+    }
+}
+
+/// Does nothing: that what a slice holds are bytes is known of a parameter alone.
+fn is_bytes(content: &[u8])
+    ensures { AreBytes content.now }
+{}
 
 /// The chain of this name.
 #[tactic(auto, using(crate::proofs::FileLaws::goes_on, crate::proofs::FileLaws::is_here, crate::proofs::FileLaws::is_absent))]

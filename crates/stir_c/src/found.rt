@@ -1,15 +1,10 @@
-//! What comes of a call by itself.
-ghost use Rattle.std.specs.Prelude.{◌≡◌, Ok};
-ghost use Rattle.verify_rules.specs.Call.{Call as RuledCall};
-ghost use Rattle.verify_rules.specs.Rules.{early_rules};
-ghost use Rattle.verify_rules.specs.Screened.{IsScreenedBy};
-ghost use Rattle.verify_rules.specs.World.{VerdictOf, World as Judges};
-ghost use Rattle.call_judging.specs.Judging.{IsKnownBy};
+//! What comes of a call by itself, if nothing sets it aside: neither a chain in memory nor an answer that is handed in can fail.
+ghost use Rattle.std.specs.Prelude.{◌≡◌};
 ghost use Rattle.stir_c.specs.Explaining.{finding_of};
-ghost use Rattle.stir_c.specs.Found.{IsDecided, IsFound};
+ghost use Rattle.stir_c.specs.Found.{IsDecided};
 
 use call_judging::{Finding, Pass};
-use verify_rules::{Refusal, Screened, Verdict, screened_law};
+use verify_rules::Refusal;
 
 /// What comes of a call by all rules but the one on replay.
 #[derive(Clone, Copy)]
@@ -21,7 +16,20 @@ pub(crate) enum Found {
 }
 
 impl Found {
-    /// What was found, for whoever explains it.
+    /// What was found, if nothing sets the call aside.
+    pub(crate) fn decided(finding: Finding) -> Found
+        requires { IsDecided finding }
+        ensures { finding_of result ≡ finding }
+    {
+        match finding {
+            Finding::Refused(refusal) => Found::Refused(refusal),
+            Finding::Unread(_) => unreachable!(),
+            Finding::Unasked(_) => unreachable!(),
+            Finding::Passes(pass) => Found::Passes(pass),
+        }
+    }
+
+    /// The same, for whoever explains it.
     pub(crate) fn finding(&self) -> Finding
         ensures { result ≡ finding_of self.now }
     {
@@ -29,29 +37,5 @@ impl Found {
             Found::Refused(refusal) => Finding::Refused(*refusal),
             Found::Passes(pass) => Finding::Passes(*pass),
         }
-    }
-}
-
-/// By what a call that was screened is known again, if it passes.
-pub(crate) fn pass_of(screened: &Screened) -> Pass
-    ensures { (call : RuledCall) → IsScreenedBy early_rules call (Ok screened.now) → IsKnownBy call result.ticket result.last }
-{
-    screened_law();
-    Pass {
-        ticket: *screened.ticket(),
-        last: screened.last(),
-    }
-}
-
-/// What comes of a call that was screened, by a verdict that nothing sets aside.
-pub(crate) fn found_of(verdict: Verdict, screened: &Screened) -> Found
-    requires { IsDecided verdict }
-    ensures { (world : Judges) (call : RuledCall) → IsScreenedBy early_rules call (Ok screened.now) → VerdictOf world call verdict → IsFound world call result }
-{
-    match verdict {
-        Verdict::Passed => Found::Passes(pass_of(screened)),
-        Verdict::Refused(refusal) => Found::Refused(refusal),
-        Verdict::Unread(_) => unreachable!(),
-        Verdict::Unasked(_) => unreachable!(),
     }
 }

@@ -50,7 +50,6 @@ mod exports_showing;
 mod exports_signing;
 mod found;
 mod inputs;
-mod judging;
 mod listing;
 mod order;
 mod said;

@@ -10,8 +10,9 @@ ghost use Rattle.stir_c.specs.X5us.{x5u_line};
 
 use crate::asking::Asked;
 use crate::claims::add_claims;
-use crate::found::{Found, pass_of};
+use crate::found::Found;
 use crate::inputs::{Fault, Setting};
+use call_judging::pass_of;
 use std::alloc::{AllocError, Global};
 use verify_rules::{ScreenFault, Screened, Settings, screen, screened_law};
 

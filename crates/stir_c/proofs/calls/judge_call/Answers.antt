@@ -1,15 +1,22 @@
--- What is found of a call, refused by rules 1 to 9 or judged on.
-use Rattle.std.proofs.Common.{Err, refl, subst}
-use Rattle.verify_rules.specs.Rules.{early_rules}
-use Rattle.verify_rules.specs.Screened.{IsScreenedBy}
-use Rattle.verify_rules.specs.declared.refusal.ScreenFault.{ScreenFault}
+-- What is found of a call over its chains in memory, which nothing sets aside.
+use Rattle.std.proofs.Common.{◌≡◌, Some, subst}
+use Rattle.call_judging.specs.Causes.{HasCauseIf, found_unasked, found_unread}
+use Rattle.call_judging.specs.Judging.{IsFoundWhere}
+use Rattle.stir_outside.specs.Files.{Files}
+use Rattle.stir_c.specs.Files.{files_of}
 use Rattle.stir_c.specs.Inputs.{call_in, handed, world_in}
+use Rattle.stir_c.proofs.FoundLaws.{decided, is_found}
 use Rattle.stir_c.proofs.calls.judge_call.Goals as goal
 
-pub returns-in-Ok : goal.returns-in-Ok
-returns-in-Ok g c = c.judge_screened.ensures (call_in (handed c.args.inputs.now) c.args.settings.now) c.in-Ok.ensures.exact refl
+pub decided-requires : goal.decided-requires
+decided-requires g c =
+    decided c.in_ok-finding.finding c.in_ok-finding.ensures.unread
+    (subst (λ n. HasCauseIf (found_unasked c.in_ok-finding.finding) n 0) (c.requires.never_fails c.args.provider.now)
+    (subst (λ n. HasCauseIf (found_unasked c.in_ok-finding.finding) (g.P.Provider.faults c.args.provider.now) n) (c.requires.never_fails c.judge_call.new.provider) c.in_ok-finding.ensures.unasked))
 
-pub returns-in-Refused : goal.returns-in-Refused
-returns-in-Refused g c = c.screened_law.ensures.refused (world_in (handed c.args.inputs.now) c.args.world.now (g.P.Provider.says c.args.provider.now))
-    (call_in (handed c.args.inputs.now) c.args.settings.now) _
-    (subst (λ (fault : ScreenFault). IsScreenedBy early_rules (call_in (handed c.args.inputs.now) c.args.settings.now) (Err fault)) c.in-Refused.is c.in-Err.ensures.exact)
+pub returns : goal.returns
+returns g c =
+    let call = call_in (handed c.args.inputs.now) c.args.settings.now in
+    is_found (world_in (handed c.args.inputs.now) c.args.world.now (g.P.Provider.says c.args.provider.now)) call c.in_ok-finding.finding c.decided.result c.decided.ensures
+    (subst (λ (files : Files). IsFoundWhere (Some files) c.args.world.now (g.P.Provider.says c.args.provider.now) call c.in_ok-finding.finding) c.shelf-shelf.ensures c.in_ok-finding.ensures.found)
+    c.in_ok-finding.ensures.ticket

@@ -5,4 +5,4 @@ use Rattle.stir_c.proofs.listing.list_screened.Goals as goal
 
 pub returns : goal.returns
 returns c = λ call passed.
-    screened_lists (line_of c.args.listed) call c.args.screened.now c.in_ok-lines.lines.items c.pass_of.result.ticket c.pass_of.result.last passed.0 passed.1 c.in_ok-lines.ensures (c.pass_of.ensures call passed)
+    screened_lists (line_of c.args.listed) call c.args.screened.now c.in_ok-lines.lines.items c.pass_of.result.ticket c.pass_of.result.last passed.0 passed.1 c.in_ok-lines.ensures (c.pass_of.ensures.ticket call passed)
