@@ -6,10 +6,13 @@ use Rattle.stir_outside.proofs.CountLaws.{at_most_of_rose, never_rose, none_at}
 use Rattle.stir_outside.specs.Count.{AtMost}
 use Rattle.stir_outside.specs.Files.{Files}
 use Rattle.stir_outside.specs.Held.{held_says}
-use Rattle.verify_rules.specs.World.{World}
+use Rattle.verify_rules.specs.Call.{Call}
+use Rattle.verify_rules.specs.World.{First, World}
+use Rattle.verify_rules.specs.declared.refusal.Refusal.{Refusal}
 use Rattle.verify_rules.specs.declared.settings.Settings.{Settings}
 use Rattle.call_judging.specs.Causes.{HasCauseIf, found_unasked, found_unread}
 use Rattle.call_judging.specs.Chains.{world_by}
+use Rattle.call_judging.specs.Explain.{Explain, broken_text, met_text}
 use Rattle.call_judging.specs.Judging.{IsFound, IsFoundWhere}
 use Rattle.verify_service.specs.Judging.{call_in}
 use Rattle.call_judging.specs.declared.finding.Finding.{Finding}
@@ -17,35 +20,41 @@ use Rattle.call_judging.specs.declared.finding.Finding.TheVariants as found
 use Rattle.single_calls.specs.Answer.{AnswerView, unread_lines, written_of}
 use Rattle.single_calls.specs.Explainer.{BehindAny, ExplainedBatches, ExplainedBy, ExplainerView, IsExplained, explanation, sign_by}
 use Rattle.single_calls.specs.Singly.{OneAnswer}
-use Rattle.call_judging.proofs.ExplainLaws.{explains_broken, explains_met}
 use Rattle.single_calls.proofs.SinglyLaws.{one_more}
 
+-- the laws of what is explained: of a call that breaks no rule, and of one that does
+abbrev pub MetLaw : Type 0
+MetLaw = (world : World) (number : ℕ) (call : Call) → First world call ≡ None → Explain world number call ≡ met_text number
+
+abbrev pub BrokenLaw : Type 0
+BrokenLaw = (world : World) (number : ℕ) (call : Call) (refused : Refusal) → First world call ≡ Some refused → Explain world number call ≡ broken_text number refused
+
 -- what is found of a call is explained, if no question failed
-found_explained : (world : World) (settings : Settings) (entry : Entry) (finding : Finding) → HasCauseIf (found_unasked finding) 0 0 → IsFound world (call_in settings entry) finding
+found_explained : MetLaw → BrokenLaw → (world : World) (settings : Settings) (entry : Entry) (finding : Finding) → HasCauseIf (found_unasked finding) 0 0 → IsFound world (call_in settings entry) finding
     → IsExplained world settings entry (explanation entry.number finding)
-found_explained world settings entry (found.Refused refused) cause is = inl (record {
-  lines = sym (explains_broken world entry.number (call_in settings entry) refused is);
+found_explained met broken world settings entry (found.Refused refused) cause is = inl (record {
+  lines = sym (broken world entry.number (call_in settings entry) refused is);
   sign = ap sign_by (sym is);
 })
-found_explained world settings entry (found.Unread bad) cause is = inr (record { bad = bad; may_be = is; lines = refl; sign = refl })
-found_explained world settings entry (found.Unasked bad) cause is = absurd (never_rose (cause refl))
-found_explained world settings entry (found.Passes pass) cause is = inl (record {
-  lines = sym (explains_met world entry.number (call_in settings entry) is);
+found_explained met broken world settings entry (found.Unread bad) cause is = inr (record { bad = bad; may_be = is; lines = refl; sign = refl })
+found_explained met broken world settings entry (found.Unasked bad) cause is = absurd (never_rose (cause refl))
+found_explained met broken world settings entry (found.Passes pass) cause is = inl (record {
+  lines = sym (met world entry.number (call_in settings entry) is);
   sign = ap sign_by (sym is);
 })
 
-explained_where : (explainer : ExplainerView) (told : Option Files) (before : List Entry) (entry : Entry) (finding : Finding) → HasCauseIf (found_unasked finding) 0 0
+explained_where : MetLaw → BrokenLaw → (explainer : ExplainerView) (told : Option Files) (before : List Entry) (entry : Entry) (finding : Finding) → HasCauseIf (found_unasked finding) 0 0
     → IsFoundWhere told explainer.materials (held_says explainer.answers) (call_in explainer.settings entry) finding
     → ExplainedBy explainer told before entry (explanation entry.number finding)
-explained_where explainer None before entry finding cause is = record { finding = finding; is = refl }
-explained_where explainer (Some files) before entry finding cause is =
-    found_explained (world_by explainer.materials files (held_says explainer.answers)) explainer.settings entry finding cause is
+explained_where met broken explainer None before entry finding cause is = record { finding = finding; is = refl }
+explained_where met broken explainer (Some files) before entry finding cause is =
+    found_explained met broken (world_by explainer.materials files (held_says explainer.answers)) explainer.settings entry finding cause is
 
-pub explained_by : (explainer : ExplainerView) (told : Option Files) (before : List Entry) (entry : Entry) (finding : Finding) (answer : AnswerView)
+pub explained_by : MetLaw → BrokenLaw → (explainer : ExplainerView) (told : Option Files) (before : List Entry) (entry : Entry) (finding : Finding) (answer : AnswerView)
     → HasCauseIf (found_unasked finding) 0 0 → IsFoundWhere told explainer.materials (held_says explainer.answers) (call_in explainer.settings entry) finding
     → answer ≡ explanation entry.number finding → ExplainedBy explainer told before entry answer
-explained_by explainer told before entry finding answer cause is same =
-    subst (λ (a : AnswerView). ExplainedBy explainer told before entry a) (sym same) (explained_where explainer told before entry finding cause is)
+explained_by met broken explainer told before entry finding answer cause is same =
+    subst (λ (a : AnswerView). ExplainedBy explainer told before entry a) (sym same) (explained_where met broken explainer told before entry finding cause is)
 
 -- ---- how often a line says that a file couldn't be read
 
@@ -59,18 +68,18 @@ unread_where number faults faults_now (found.Passes pass) cause stay = none_at f
 -- ---- of a call
 
 -- of what was written of it
-pub one_explained : {E : Type 0} → (result : Result BatchAnswerView E) (explainer : ExplainerView) (told : Option Files) (entry : Entry) (number : ℕ) (finding : Finding) (faults faults_now : ℕ)
+pub one_explained : {E : Type 0} → MetLaw → BrokenLaw → (result : Result BatchAnswerView E) (explainer : ExplainerView) (told : Option Files) (entry : Entry) (number : ℕ) (finding : Finding) (faults faults_now : ℕ)
     → HasCauseIf (found_unasked finding) 0 0 → HasCauseIf (found_unread finding) faults faults_now → faults ≤ faults_now
     → IsFoundWhere told explainer.materials (held_says explainer.answers) (call_in explainer.settings entry) finding → number ≡ entry.number
     → IfOk result (λ written. written ≡ written_of (explanation number finding)) → IfOk result (OneAnswer BehindAny BehindAny (ExplainedBy explainer told) faults faults_now entry)
-one_explained (Ok written) explainer told entry number finding faults faults_now unasked unread stay found same is = record {
+one_explained met broken (Ok written) explainer told entry number finding faults faults_now unasked unread stay found same is = record {
   answer = explanation number finding;
   is = is;
-  may = λ before any. explained_by explainer told before entry finding (explanation number finding) unasked found (ap (λ n. explanation n finding) same);
+  may = λ before any. explained_by met broken explainer told before entry finding (explanation number finding) unasked found (ap (λ n. explanation n finding) same);
   adds = λ before any. tt;
   unread = unread_where number faults faults_now finding unread stay;
 }
-one_explained (Err stop) explainer told entry number finding faults faults_now unasked unread stay found same is = tt
+one_explained met broken (Err stop) explainer told entry number finding faults faults_now unasked unread stay found same is = tt
 
 -- ---- of the batches before
 

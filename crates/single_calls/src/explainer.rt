@@ -5,7 +5,7 @@ ghost use Rattle.single_calls.specs.Answer.{found_well, written_of};
 ghost use Rattle.single_calls.specs.Explainer.{BehindAny, ExplainedBy, explanation, status_of};
 ghost use Rattle.single_calls.specs.Singly.{OneAnswer};
 
-use call_judging::{CallChains, Finding, explained, judge_call};
+use call_judging::{CallChains, Finding, explain_law, explained, judge_call};
 use call_log::Call;
 use cert_store::World;
 use log_run::{AnswerError, BatchAnswer, LogCommand};
@@ -58,6 +58,7 @@ impl<'a> Explainer<'a> {
         ensures shelf { ShelfStays S.Shelf shelf.old shelf.new }
     {
         call_law();
+        explain_law();
         let mut chains = CallChains::new(alloc);
         let mut provider = self.answers.steady();
         let finding = judge_call(

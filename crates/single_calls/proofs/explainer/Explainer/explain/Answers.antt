@@ -22,5 +22,5 @@ returns-clause-explained g c =
     subst
     (λ (x : ExplainerView). IfOk c.explanation.result (OneAnswer BehindAny BehindAny (ExplainedBy x (g.S.Shelf.files c.args.shelf.now)) (g.S.Shelf.counts c.args.shelf.now).faults (g.S.Shelf.counts c.judge_call.new.shelf).faults c.args.call.now))
     c.self.view_is
-    (one_explained c.explanation.result e (g.S.Shelf.files c.args.shelf.now) c.args.call.now c.number.result c.in_ok-finding.finding (g.S.Shelf.counts c.args.shelf.now).faults (g.S.Shelf.counts c.judge_call.new.shelf).faults
+    (one_explained c.explain_law.ensures.met c.explain_law.ensures.broken c.explanation.result e (g.S.Shelf.files c.args.shelf.now) c.args.call.now c.number.result c.in_ok-finding.finding (g.S.Shelf.counts c.args.shelf.now).faults (g.S.Shelf.counts c.judge_call.new.shelf).faults
     c.in_ok-finding.ensures.unasked c.in_ok-finding.ensures.unread c.judge_call.ensures.shelf.counts.faults.never_falls found c.number.ensures c.explanation.ensures)
