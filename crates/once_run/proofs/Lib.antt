@@ -1,5 +1,7 @@
 mod Gathered
 mod LineLaws
+mod LineSteps
 mod RoomLaws
 mod Seats
+mod TextLaws
 mod Turns

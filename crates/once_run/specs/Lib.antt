@@ -1,3 +1,6 @@
+pub mod TicketText
+pub mod Reading
+pub mod Seen
 pub mod Claims
 pub mod Lines
 pub mod Ran

@@ -1,8 +1,8 @@
 -- What is answered to a text of tickets (this project's own rule).
 use Rattle.std.specs.Prelude.{◌≡◌, ℕ, Bool, List, Result, Ok, Err}
-use Rattle.once_tickets.specs.TicketText.{IsBadLine, TicketText}
-use Rattle.once_tickets.specs.declared.fault.TicketsFault.{TicketsFault}
-use Rattle.once_tickets.specs.declared.fault.TicketsFault.TheVariants.{Line, Memory}
+use Rattle.once_run.specs.TicketText.{IsBadLine, TicketText}
+use Rattle.once_run.specs.declared.fault.TicketsFault.{TicketsFault}
+use Rattle.once_run.specs.declared.fault.TicketsFault.TheVariants.{Line, Memory}
 use Rattle.live_desk.specs.declared.claim.LiveClaim.{LiveClaim}
 use Rattle.once_run.specs.Claims.{AreClaims}
 use Rattle.once_run.specs.Lines.{all_won, claim_lines}

@@ -12,7 +12,7 @@ use std::thread::{Threads, for_each_mut};
 
 /// Claims tickets by so many workers, 1 to 8, on a new desk with so many slots a level, 1 to 1,048,576: worker w of W, counted from 0, claims
 /// those at the places w, w + W, and so on. What came of each ticket is at its place. `AllocError` is the only error.
-pub fn claim_tickets<R: Threads + Sync>(
+pub(crate) fn claim_tickets<R: Threads + Sync>(
     rt: &R,
     alloc: Global,
     size: u32,

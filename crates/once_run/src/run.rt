@@ -3,9 +3,10 @@ ghost use Rattle.std.specs.Prelude.{◌≤◌, ◌<◌, length};
 ghost use Rattle.once_run.specs.Ran.{OnceRan};
 
 use crate::claiming::claim_tickets;
+use crate::fault::TicketsFault;
 use crate::lines::{all_won, claim_lines};
+use crate::reading::read_tickets;
 use crate::report::Report;
-use once_tickets::{TicketsFault, read_tickets};
 use std::alloc::Global;
 use std::thread::Threads;
 

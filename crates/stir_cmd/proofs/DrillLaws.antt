@@ -2,11 +2,11 @@
 use Rattle.std.proofs.Common.{◌≡◌, ℕ, ◌≤◌, ◌⊎◌, inl, inr, List, [], Option, Some, refl, sym, ◌∙◌, ap, subst, arith}
 use Rattle.std.specs.Io.KnownBytes.{Appends}
 use Rattle.call_log.specs.Entry.{Entry}
-use Rattle.drill_counts.specs.Summary.{summary}
-use Rattle.drill_files.specs.Files.{FilesOf}
-use Rattle.drill_files.specs.declared.files.DrillFiles.{DrillFiles}
-use Rattle.drill_run.specs.Alike.{LegalWhole, OneSummary}
-use Rattle.drill_run.specs.Drilled.{DrillRan, IsSummary, JudgedDrill, WroteSummary, config_on, world_of}
+use Rattle.drill.specs.Summary.{summary}
+use Rattle.drill.specs.Files.{FilesOf}
+use Rattle.drill.specs.declared.files.DrillFiles.{DrillFiles}
+use Rattle.drill.specs.Alike.{LegalWhole, OneSummary}
+use Rattle.drill.specs.Drilled.{DrillRan, IsSummary, JudgedDrill, WroteSummary, config_on, world_of}
 use Rattle.log_rounds.specs.Rounds.{IsApart, outcomes_in}
 use Rattle.stir_drill.specs.Calls.{calls_of}
 use Rattle.stir_drill.specs.World.{answers_of, chain_map_text, table_text}

@@ -4,7 +4,7 @@ use Rattle.std.specs.Io.KnownBytes.{Appends}
 use Rattle.log_run.specs.Ending.{report_status}
 use Rattle.once_run.specs.Lines.{all_won}
 use Rattle.once_run.specs.Ran.{ReportView, Reports}
-use Rattle.once_tickets.specs.TicketText.{IsBadLine}
+use Rattle.once_run.specs.TicketText.{IsBadLine}
 use Rattle.stir_cmd.specs.Answer.{refused_input}
 use Rattle.stir_cmd.specs.Claiming.{ClaimedInput, OnceGives, once_answering, once_course}
 use Rattle.stir_cmd.specs.Input.{Answered, CameInput, IsReply, Replied}

@@ -5,7 +5,7 @@ use Rattle.live_desk.specs.declared.claim.LiveClaim.{LiveClaim}
 use Rattle.log_run.specs.Ending.{report_status}
 use Rattle.once_run.specs.Claims.{AreClaims}
 use Rattle.once_run.specs.Lines.{all_won, claim_lines}
-use Rattle.once_tickets.specs.TicketText.{IsBadLine, TicketText}
+use Rattle.once_run.specs.TicketText.{IsBadLine, TicketText}
 use Rattle.stir_cmd.specs.Answer.{long_line, refused_input}
 use Rattle.stir_cmd.specs.Course.{Course}
 use Rattle.stir_cmd.specs.Input.{Answering, answering_by, input_course}

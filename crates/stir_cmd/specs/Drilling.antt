@@ -1,6 +1,6 @@
 -- The command `drill`: a log is made from a seed, judged by the files that are made with it, and summed up.
 use Rattle.std.specs.Prelude.{◌≡◌, ◌⊎◌, ℕ}
-use Rattle.drill_run.specs.Drilled.{DrillRan, WroteFront, WroteShort, WroteSummary}
+use Rattle.drill.specs.Drilled.{DrillRan, WroteFront, WroteShort, WroteSummary}
 use Rattle.stir_outside.specs.Count.{NotRisen}
 use Rattle.stir_words.specs.Order.{DrillingView}
 use Rattle.stir_cmd.specs.Course.{Course}

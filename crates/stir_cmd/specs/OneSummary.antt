@@ -1,7 +1,7 @@
 -- What any two runs of `drill` with one seed and one count have in common, on however many workers: they write one summary.
 use Rattle.std.specs.Prelude.{ℕ, ◌≤◌, List, Option, Some}
 use Rattle.std.specs.Io.KnownBytes.{Appends}
-use Rattle.drill_run.specs.Drilled.{WroteSummary, config_on}
+use Rattle.drill.specs.Drilled.{WroteSummary, config_on}
 use Rattle.log_rounds.specs.Rounds.{IsApart}
 use Rattle.stir_drill.specs.Calls.{calls_of}
 use Rattle.stir_words.specs.Order.{DrillBy, DrillingView, OrderView}

@@ -8,8 +8,7 @@ ghost use Rattle.stir_outside.specs.Status.{status_number};
 
 use crate::answer::Answer;
 use crate::input::{InputCommand, answer_input};
-use once_run::run_once;
-use once_tickets::TicketsFault;
+use once_run::{TicketsFault, run_once};
 use std::alloc::{AllocError, Global};
 use std::thread::Threads;
 use stir_outside::{Sink, Source, Status};

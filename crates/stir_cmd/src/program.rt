@@ -23,7 +23,7 @@ use crate::show::show;
 use crate::sign::{SignerCommand, sign_message};
 use crate::verify::verify;
 use call_log::one_log;
-use drill_run::{rounds_law, run_drill};
+use drill::{rounds_law, run_drill};
 use replay_law::one_answer;
 use single_calls::{agreement_law, asks_law};
 use std::alloc::Global;

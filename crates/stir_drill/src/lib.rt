@@ -12,8 +12,8 @@
 //! let bytes = drill.log.as_slice();
 //! ```
 //!
-//! No key is made and nothing is signed: signatures are placeholders, which the answers confirm. It judges nothing and counts nothing; `drill_files`
-//! reads what is made here, `drill_run` judges it, and `drill_counts` sums up.
+//! No key is made and nothing is signed: signatures are placeholders, which the answers confirm. It judges nothing and counts nothing: `drill`
+//! reads what is made here, judges it and sums up.
 //!
 //! Proved: each file is a function of seed and count, in the words of its format. The log is whole ([`log_law`]), no line of the answers is refused
 //! ([`answers_law`]), and what each call is depends on the first of its two draws ([`call_law`]). `docs/PROVED.md` has the clauses, and

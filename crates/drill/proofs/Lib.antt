@@ -1,0 +1,11 @@
+pub mod AlikeLaws
+pub mod CommandLaws
+pub mod SpeakLaws
+pub mod RunLaws
+pub mod ReadySteps
+pub mod LoopLaws
+pub mod WinnerLaws
+pub mod SummaryLaws
+pub mod LineLaws
+pub mod CountLaws
+pub mod FileLaws

@@ -1,4 +1,0 @@
-pub mod WinnerLaws
-pub mod SummaryLaws
-pub mod LineLaws
-pub mod CountLaws

@@ -1,3 +1,0 @@
-pub mod Winners
-pub mod Summary
-pub mod Counts

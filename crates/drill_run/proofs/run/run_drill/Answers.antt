@@ -1,6 +1,0 @@
--- There was no memory for the drill.
-use Rattle.drill_run.proofs.RunLaws.{ended_short}
-use Rattle.drill_run.proofs.run.run_drill.Goals as goal
-
-pub returns-in-Err : goal.returns-in-Err
-returns-in-Err g c = ended_short _ _ _ _ _ _ _ _ (rw c.memory_line.ensures at c.end_with.ensures)

@@ -1,4 +1,0 @@
-pub mod Alike
-pub mod Command
-pub mod Drilled
-pub mod Speaking

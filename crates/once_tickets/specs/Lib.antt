@@ -1,3 +1,0 @@
-pub mod TicketText
-pub mod Reading
-pub mod Seen
