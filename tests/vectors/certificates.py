@@ -1,4 +1,4 @@
-"""Prints the certificates that the `stdin` of crates/vectors names, and of crates/vectors_runs in part, as its lines `NAME = x:..`.
+"""Prints the certificates that the `stdin` of crates/vectors names, as its lines `NAME = x:..`.
 
 They are built by X.690 and RFC 5280 from the letters of their names, and not signed: a signature's two
 numbers are the digit of which the key and the serial number are made too.

@@ -1,4 +1,4 @@
-"""Prints the lines of crates/vectors_runs on runs in which reads and writes fail, and what they must answer.
+"""Prints the lines of crates/vectors on runs in which reads and writes fail, and what they must answer.
 
     runs.py          prints the lines of `stdin`
     runs.py answers  prints the lines of `stdout`

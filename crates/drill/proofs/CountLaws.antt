@@ -1,9 +1,9 @@
 -- What is counted call by call is what the summary says of all calls.
-use Rattle.std.proofs.Common.{◌≡◌, ℕ, suc, ◌+◌, ◌<◌, ◌≤◌, Bool, true, false, List, [], ◌∷◌, ◌++◌, length, refl, sym, ap, ◌∙◌, arith}
+use Rattle.std.proofs.Common.{◌≡◌, ℕ, ◌+◌, ◌<◌, ◌≤◌, Bool, true, false, List, [], ◌∷◌, ◌++◌, length, refl, ◌∙◌, arith}
 use Rattle.stir_outside.specs.Count.{last_count, one_more}
 use Rattle.verify_service.specs.declared.outcome.Outcome.{Outcome}
 use Rattle.drill.specs.Counts.{more_if, no_counts, summary_of, with_all, with_one}
-use Rattle.drill.specs.Summary.{as_one, as_refused, as_replay, as_valid, count_as, is_refused, is_replay, is_valid, summary}
+use Rattle.drill.specs.Summary.{as_one, count_as, is_refused, is_replay, is_valid, summary}
 use Rattle.drill.specs.declared.counts.Counts.{Counts}
 
 -- more calls after those that were counted

@@ -1,5 +1,5 @@
 -- The files of the drill are in their grammars.
-use Rattle.std.proofs.Common.{◌≡◌, ◌≢◌, ℕ, Bool, true, false, Result, Ok, Err, refl, sym, ap, ◌∙◌}
+use Rattle.std.proofs.Common.{◌≡◌, ◌≢◌, ℕ, Bool, true, false, Result, Ok, Err, refl}
 use Rattle.cert_store.specs.ChainMap.{map_rows, row_of as map_row}
 use Rattle.delegation.specs.Anchors.{anchor_at, anchors_at, anchors_in}
 use Rattle.der_reader.specs.BitString.{bits_of, flags_in}

@@ -1,9 +1,9 @@
 -- Calls that are judged twice in one world have one summary.
-use Rattle.std.proofs.Common.{◌≡◌, ℕ, suc, ◌+◌, ◌==◌, Bool, true, false, ◌||◌, List, [], ◌∷◌, ◌++◌, ◌⊎◌, inl, inr, length, codes, Option, Some, None, refl, sym, ◌∙◌, ap, subst, arith}
+use Rattle.std.proofs.Common.{◌≡◌, ℕ, suc, ◌+◌, Bool, true, false, ◌||◌, List, [], ◌∷◌, inl, inr, length, refl, sym, ◌∙◌, ap, subst, arith}
 use Rattle.std.specs.List.{list_any}
 use Rattle.std.proofs.lemmas.Option.{same_Some}
 use Rattle.call_log.specs.Entry.{Entry}
-use Rattle.replay_law.specs.Row.{Row, Uses}
+use Rattle.replay_law.specs.Row.{Uses}
 use Rattle.verify_rules.specs.Call.{Call}
 use Rattle.verify_rules.specs.World.{World}
 use Rattle.verify_rules.specs.declared.refusal.Refusal.{Refusal}
@@ -13,7 +13,7 @@ use Rattle.verify_service.specs.Judging.{EachJudged, IsJudged, call_in}
 use Rattle.verify_service.specs.Rows.{passes, row_of, rows_of}
 use Rattle.verify_service.specs.declared.outcome.Outcome.{Outcome}
 use Rattle.verify_service.specs.declared.outcome.Outcome.TheVariants.{Valid, Refused, Replay, Unread, Unasked}
-use Rattle.drill.specs.Summary.{JudgedWhole, as_refused, as_replay, as_valid, count_as, count_line, summary}
+use Rattle.drill.specs.Summary.{JudgedWhole, as_refused, as_replay, as_valid, count_as, summary}
 use Rattle.drill.specs.Winners.{PassesIn, all_rows, more_valid, valid_count}
 use Rattle.drill.proofs.WinnerLaws.{one_count}
 

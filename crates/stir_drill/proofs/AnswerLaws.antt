@@ -1,12 +1,11 @@
 -- The answers are read line by line.
-use Rattle.std.proofs.Common.{◌≡◌, ℕ, zero, suc, ◌+◌, ◌-◌, ◌*◌, ◌/◌, ◌%◌, ◌^◌, ◌<◌, ◌≤◌, ◌==◌, Bool, true, false, not, ◌&&◌, nat_lt, List, [], ◌∷◌, ◌++◌, length, filter, codes, slice_index, replicate, Option, Some, None, is_some, Result, Ok, Err, refl, sym, ap, subst, ◌∙◌, arith, append_assoc, length-append}
+use Rattle.std.proofs.Common.{◌≡◌, ℕ, zero, suc, ◌+◌, ◌-◌, ◌*◌, ◌/◌, ◌%◌, ◌^◌, ◌<◌, ◌≤◌, ◌==◌, Bool, true, false, not, ◌&&◌, nat_lt, List, [], ◌∷◌, ◌++◌, length, filter, codes, slice_index, replicate, Option, Some, None, is_some, Result, Err, refl, sym, ap, subst, ◌∙◌, arith, append_assoc, length-append}
 use Rattle.std.specs.Int.{byte_at, bytes_high_first, to_be_bytes, w32}
 use Rattle.std.specs.List.{enumerate_from, flat_map, join_with_byte, list_all}
 use Rattle.std.specs.Str.Lines.{strip_carriage_return}
 use Rattle.std.proofs.lemmas.Bool.{and_parts}
 use Rattle.std.proofs.lemmas.Bool.Decides.{nat_tests}
 use Rattle.std.proofs.lemmas.List.Folds.{list_all-append}
-use Rattle.std.proofs.lemmas.List.{length-replicate}
 use Rattle.base64.proofs.Tables.{all_below_at}
 use Rattle.hex.proofs.HexLemmas.{decode_sized-encode_lower, length-encode_with}
 use Rattle.hex.specs.Hex.{IsBytes, encode_lower, encode_with, lower_digits}
@@ -22,10 +21,10 @@ use Rattle.text_file.specs.Reading.{go_on, read_lines}
 use Rattle.stir_outside.proofs.HexLaws.{hex_is, hex_word}
 use Rattle.stir_outside.specs.AnswersText.{add_row, answer_rows, bytes_of, row_of}
 use Rattle.stir_drill.specs.Calls.{drawn_at}
-use Rattle.stir_drill.specs.Certificates.{Recipe, digest, intermediate, leaf, point, root, scalars, signed_text}
+use Rattle.stir_drill.specs.Certificates.{digest, intermediate, leaf, root, signed_text}
 use Rattle.stir_drill.specs.Change.{is_confirmed}
-use Rattle.stir_drill.specs.Message.{signature_of, signing_of}
-use Rattle.stir_drill.specs.World.{Triple, answer_line, answers_of, call_triple, call_triples, chain_triples, issued_by, triple, triples_of}
+use Rattle.stir_drill.specs.Message.{signing_of}
+use Rattle.stir_drill.specs.World.{Triple, answer_line, answers_of, call_triple, call_triples, chain_triples, issued_by, triples_of}
 use Rattle.stir_drill.specs.declared.drawn.Drawn.{Drawn}
 
 -- ---- bytes

@@ -1,21 +1,17 @@
 -- The log is whole, and its entries are short.
-use Rattle.std.proofs.Common.{◌≡◌, ◌≤◌, ◌<◌, ℕ, zero, suc, ◌+◌, ◌*◌, ◌/◌, ◌^◌, Bool, true, false, List, [], ◌∷◌, ◌++◌, length, replicate, codes, refl, sym, ap, subst, ◌∙◌, arith, append_assoc, length-append}
+use Rattle.std.proofs.Common.{◌≡◌, ◌≤◌, ◌<◌, ℕ, zero, suc, ◌+◌, ◌*◌, ◌/◌, Bool, true, false, List, [], ◌∷◌, ◌++◌, length, replicate, codes, refl, sym, ap, subst, ◌∙◌, arith, length-append}
 use Rattle.std.specs.Fmt.{decimal}
 use Rattle.std.specs.Int.{bytes_high_first}
-use Rattle.std.specs.List.{flat_map}
 use Rattle.std.proofs.lemmas.Fmt.{length-decimal-le}
 use Rattle.std.proofs.lemmas.List.{append-nil}
 use Rattle.base64.specs.Engines.{url_safe_no_pad}
 use Rattle.base64.specs.GeneralPurpose.{encode_of}
-use Rattle.hex.proofs.HexLemmas.{length-encode_with}
-use Rattle.hex.specs.Hex.{encode_lower, lower_digits}
 use Rattle.call_log.specs.Entry.{Entry, entry_text, headed}
-use Rattle.call_log.specs.Log.{AreCalls, IsNext, LogText, NoEntry, Passed, after, after_all, entry_texts, start}
-use Rattle.passport_json.specs.Signing.{Signing}
+use Rattle.call_log.specs.Log.{AreCalls, IsNext, LogText, NoEntry, Passed, after, after_all, start}
 use Rattle.stir_drill.specs.Calls.{call_at, calls_of, drawn_at, log_of, message_after, message_at}
 use Rattle.stir_drill.specs.Change.{has_identity, repeats}
 use Rattle.stir_drill.specs.Message.{calling_text, identity_fields, identity_line, identity_of, message_of, moment_of, signature_of, signing_of}
-use Rattle.stir_drill.specs.Pieces.{at_end, before_number, before_token, between, parameters}
+use Rattle.stir_drill.specs.Pieces.{at_end, before_number, between}
 use Rattle.stir_drill.specs.Readable.{AreUpTo}
 use Rattle.stir_drill.specs.Spelled.{header_text, payload_text}
 use Rattle.stir_drill.specs.declared.drawn.Drawn.{Drawn}

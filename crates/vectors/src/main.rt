@@ -1,4 +1,4 @@
-//! The table of cases of all crates but `stir_cmd`: a call a line in its standard input, and its answer a line in the standard output.
+//! The table of cases of all crates: a call a line in its standard input, and its answer a line in the standard output.
 //!
 //! ```text
 //! numbers.read 1 10 (215)\s555-1212       in stdin
@@ -9,11 +9,12 @@
 //! written, and CONTRIBUTING.md how a case is added. Expected values come from outside the program: worked by hand from a standard, or printed by a
 //! script of `tests/vectors`.
 //!
-//! The subjects are in `vector_texts`, `vector_chains`, `vector_messages`, `vector_calls` and `vector_drill`; those of words and named files are in
-//! `commands` here. Whole runs with reads and writes that fail are `vectors_runs`.
+//! The subjects are in `vector_texts`, `vector_chains`, `vector_messages` and `vector_calls`; those of words and named files are in `commands` here. Whole
+//! runs of `stir_cmd` are in `runs`, over memory forms, whose reads and writes fail at the calls that a line lists; `tests/vectors/runs.py` prints them.
 #![tactic(auto)]
 
 mod commands;
+mod runs;
 
 use std::alloc::Global;
 use std::process::ExitCode;
@@ -22,7 +23,7 @@ use vector_calls::{rounds, rules, verdicts, workers};
 use vector_chains::{authority, cache, certificates, chains, paths};
 use vector_messages::{claims, constraints, identity, messages, order, tokens};
 use vector_table::{Subjects, Unread, answer_table};
-use vector_texts::{answers, der, log, numbers, outside, state, text};
+use vector_texts::{answers, der, drills, log, numbers, outside, state, text};
 
 /// Answers a table.
 fn main(rt: HostRuntime) -> ExitCode {
@@ -55,7 +56,8 @@ impl Subjects for Cases {
             "files" => commands::files(alloc, call, words),
             "rounds" => rounds::answer(rt, alloc, call, words),
             "workers" => workers::answer(rt, alloc, call, words),
-            "drill" => vector_drill::answer(alloc, call, words),
+            "drill" => drills::answer(alloc, call, words),
+            "runs" => runs::answer(rt, alloc, call, words),
             _ => called(alloc, subject, call, words),
         }
     }

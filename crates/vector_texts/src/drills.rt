@@ -1,7 +1,4 @@
-//! Calls of a table on the drill: the sizes and the SHA-256 of the files that [`Drill::make`] makes.
-//!
-//! [`answer`] takes the name of a file, a seed and a count. The lines are section `drill` of `crates/vectors/stdin`.
-#![tactic(auto)]
+//! Calls on the drill: the sizes and the SHA-256 of the files that [`Drill::make`] makes.
 
 use sha2::{Digest, Sha256};
 use std::alloc::Global;

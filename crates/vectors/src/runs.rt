@@ -1,4 +1,7 @@
 //! Runs of the program over files, a log and an output in memory, the log and the output a byte a call: `run` of `stir_cmd`.
+//!
+//! `runs.each_read`, `runs.each_write` and `runs.each_file` let the first call of that kind fail, the second, and so on, and answer how many runs came to
+//! the same end.
 
 use std::alloc::Global;
 use std::thread::Threads;
