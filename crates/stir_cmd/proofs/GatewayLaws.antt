@@ -2,7 +2,7 @@
 use Rattle.std.proofs.Common.{ℕ, inl, inr, List, Option, arith}
 use Rattle.stir_outside.specs.Files.{Files}
 use Rattle.retarget.specs.Hop.{HopView}
-use Rattle.retarget_run.specs.Sending.{PlaceView}
+use Rattle.stir_cmd.specs.Sending.{PlaceView}
 use Rattle.stir_words.specs.Order.{RetargetingView}
 use Rattle.stir_cmd.specs.Gateway.{GatewayGives, GatewayRefuses, gateway_answering, gateway_course, gateway_over, hop_by, place_by}
 use Rattle.stir_cmd.proofs.InputLaws.{Decides, IsAnswer, keeps_shelf}

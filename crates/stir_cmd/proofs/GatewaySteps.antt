@@ -6,7 +6,7 @@ use Rattle.text_grammar.specs.Uri.{is_uri}
 use Rattle.retarget.specs.Hop.{HopView, is_hop}
 use Rattle.retarget.specs.declared.fault.HopFault.{HopFault}
 use Rattle.retarget.specs.declared.fault.HopFault.TheVariants as faults
-use Rattle.retarget_run.specs.Sending.{IsAnswerOf, IsOverChains, IsSentOn, MayCome, PlaceView}
+use Rattle.stir_cmd.specs.Sending.{IsAnswerOf, IsOverChains, IsSentOn, MayCome, PlaceView}
 use Rattle.stir_files.specs.Retargeting.{RetargetingOf}
 use Rattle.stir_files.specs.declared.retargeting.RetargetingMaterials.{RetargetingMaterials}
 use Rattle.stir_outside.specs.Files.{Files}

@@ -16,7 +16,7 @@ use Rattle.verify_service.specs.declared.outcome.Outcome.TheVariants as outcomes
 use Rattle.retarget.specs.Hop.{HopView}
 use Rattle.retarget.specs.declared.fault.HopFault.{HopFault}
 use Rattle.retarget.specs.declared.fault.HopFault.TheVariants as faults
-use Rattle.retarget_run.specs.Sending.{IsOverChains, MayCome, PlaceView, call_at}
+use Rattle.stir_cmd.specs.Sending.{IsOverChains, MayCome, PlaceView, call_at}
 use Rattle.stir_cmd.specs.Calls.{settings_by}
 use Rattle.stir_cmd.specs.Course.{Course}
 use Rattle.stir_cmd.specs.Input.{Answering, answering_by, shelf_course}

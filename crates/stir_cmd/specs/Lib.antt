@@ -11,6 +11,7 @@ pub mod Singly
 pub mod Explained
 pub mod Signing
 pub mod SignCode
+pub mod Sending
 pub mod Gateway
 pub mod Answer
 pub mod Showing

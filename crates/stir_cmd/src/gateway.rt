@@ -1,7 +1,7 @@
 //! The command `retarget`: a message that is judged, and sent on to another number.
 ghost use Rattle.std.specs.Prelude.{◌≡◌, ◌++◌, true, codes, is_some, string_bytes, IfOk, IsTrue};
 ghost use Rattle.retarget.specs.Hop.{hop_of, is_hop};
-ghost use Rattle.retarget_run.specs.Sending.{place_of};
+ghost use Rattle.stir_cmd.specs.Sending.{place_of};
 ghost use Rattle.stir_outside.specs.Stays.{ShelfStays};
 ghost use Rattle.stir_outside.specs.Status.{status_number};
 ghost use Rattle.stir_words.specs.Seen.{retargeting_view};
@@ -13,12 +13,12 @@ ghost use Rattle.verify_service.specs.Report.{said_text};
 
 use crate::answer::Answer;
 use crate::input::write_answer;
+use crate::sending::{Place, send_on};
 use crate::settings::settings_of;
 use crate::sign::{list_of, unsigned_line};
 use crate::verify::end_at;
 use cert_store::World;
 use retarget::{Hop, HopFault};
-use retarget_run::{Place, send_on};
 use sip_message::MOST_BYTES;
 use std::alloc::{AllocError, Global};
 use stir_files::{Materials, RetargetingMaterials, read_retargeting};

@@ -1,7 +1,7 @@
 -- A message goes on, or a line says why it doesn't.
 use Rattle.std.proofs.Common.{IsTrue, sym, ap, ◌∙◌, subst}
 use Rattle.retarget.specs.Hop.{HopView, hop_of, is_hop}
-use Rattle.retarget_run.specs.Sending.{place_of}
+use Rattle.stir_cmd.specs.Sending.{place_of}
 use Rattle.stir_outside.specs.Status.{status_number}
 use Rattle.stir_words.specs.Seen.{retargeting_view}
 use Rattle.stir_cmd.specs.Answer.{Reply}

@@ -1,7 +1,7 @@
 -- The answer to a message was written.
 use Rattle.std.proofs.Common.{◌≤◌, length, arith}
 use Rattle.std.proofs.lemmas.Bool.Decides.{nat_tests}
-use Rattle.retarget_run.specs.Sending.{place_of}
+use Rattle.stir_cmd.specs.Sending.{place_of}
 use Rattle.stir_words.specs.Seen.{retargeting_view}
 use Rattle.stir_cmd.specs.Gateway.{gateway_answering, hop_by}
 use Rattle.stir_cmd.proofs.InputSteps.{if_given, replies}

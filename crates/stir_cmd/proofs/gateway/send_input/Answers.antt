@@ -1,7 +1,7 @@
 -- The input was read, and its answer written.
 use Rattle.std.proofs.Common.{◌≡◌, ℕ, ◌+◌, ◌≤◌, List, [], length, sym, subst, arith}
 use Rattle.stir_outside.specs.Told.{Takes}
-use Rattle.retarget_run.specs.Sending.{place_of}
+use Rattle.stir_cmd.specs.Sending.{place_of}
 use Rattle.stir_words.specs.Seen.{retargeting_view}
 use Rattle.stir_cmd.specs.Gateway.{gateway_answering, hop_by}
 use Rattle.stir_cmd.specs.Outside.{io_of}

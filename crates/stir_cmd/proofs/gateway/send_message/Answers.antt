@@ -1,6 +1,6 @@
 -- The files were read and a message was answered, or a file stopped it.
 use Rattle.std.proofs.Common.{inr, sym, ap}
-use Rattle.retarget_run.specs.Sending.{PlaceView, place_of}
+use Rattle.stir_cmd.specs.Sending.{PlaceView, place_of}
 use Rattle.stir_files.specs.declared.retargeting.RetargetingMaterials.{RetargetingMaterials}
 use Rattle.stir_words.specs.Seen.{retargeting_view}
 use Rattle.stir_cmd.specs.Gateway.{gateway_over, hop_by, place_by}

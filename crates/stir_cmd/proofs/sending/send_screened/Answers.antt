@@ -4,9 +4,9 @@ use Rattle.stir_outside.specs.Held.{Held, held_says, held_signs}
 use Rattle.stir_outside.specs.Provided.{SteadyState}
 use Rattle.retarget.specs.Hop.{hop_of}
 use Rattle.call_judging.specs.Chains.{AreRightWhere}
-use Rattle.retarget_run.specs.Sending.{place_of}
-use Rattle.retarget_run.proofs.SendingLaws.{may_come, over_chains}
-use Rattle.retarget_run.proofs.sending.send_screened.Goals as goal
+use Rattle.stir_cmd.specs.Sending.{place_of}
+use Rattle.stir_cmd.proofs.SendingLaws.{may_come, over_chains}
+use Rattle.stir_cmd.proofs.sending.send_screened.Goals as goal
 
 pub returns-clause-sent : goal.returns-clause-sent
 returns-clause-sent g c =

@@ -27,7 +27,7 @@ use Rattle.retarget.specs.Screened.{IsScreenedFor}
 use Rattle.retarget.specs.Verdicts.{IsFinished, NamesNoPass, verdict_of}
 use Rattle.retarget.specs.declared.fault.HopFault.{HopFault}
 use Rattle.retarget.specs.declared.fault.HopFault.TheVariants as faults
-use Rattle.retarget_run.specs.Sending.{IsAnswerOf, IsOverChains, MayCome, PlaceView, call_at, holder_at}
+use Rattle.stir_cmd.specs.Sending.{IsAnswerOf, IsOverChains, MayCome, PlaceView, call_at, holder_at}
 
 -- ---- what was left open
 

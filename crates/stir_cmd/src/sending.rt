@@ -1,10 +1,11 @@
-//! One message at the gateway.
+//! One message at the gateway: it is screened, the chains of its PASSporTs are read from a shelf, and it is sent on. It reads no message and writes no
+//! line: `gateway` does. The steps are those of `verify_rules`, `call_judging` and `retarget`.
 ghost use Rattle.std.specs.Prelude.{◌≡◌, Ok, IfErr, IsTrue};
 ghost use Rattle.stir_outside.specs.Stays.{ShelfStays};
 ghost use Rattle.verify_rules.specs.Rules.{early_rules};
 ghost use Rattle.verify_rules.specs.Screened.{IsScreenedBy};
 ghost use Rattle.retarget.specs.Hop.{hop_of, is_hop};
-ghost use Rattle.retarget_run.specs.Sending.{IsSentOn, IsSentScreened, MayCome, call_at, place_of};
+ghost use Rattle.stir_cmd.specs.Sending.{IsSentOn, IsSentScreened, MayCome, call_at, place_of};
 
 use auth_service::Holder;
 use call_judging::{CallChains, read_chains};
@@ -17,24 +18,24 @@ use verify_rules::{ScreenFault, Screened, Settings, Verdict, screen};
 
 /// Where a message goes through the gateway.
 #[derive(Clone, Copy)]
-pub struct Place<'a> {
+pub(crate) struct Place<'a> {
     /// By what calls are judged.
-    pub world: &'a World,
+    pub(crate) world: &'a World,
     /// The answers of the provider of signatures, which confirms and signs.
-    pub answers: &'a Answers,
+    pub(crate) answers: &'a Answers,
     /// The authority list of the holder of the key.
-    pub list: &'a AuthList,
+    pub(crate) list: &'a AuthList,
     /// How long a PASSporT is fresh, and how numbers are read.
-    pub settings: Settings,
+    pub(crate) settings: Settings,
     /// When the message came, in Unix seconds.
-    pub moment: u64,
+    pub(crate) moment: u64,
 }
 
 /// Screens a message, reads the chains of its PASSporTs from the shelf, and sends it on: it gives the message that goes on, or why there is none. What
 /// rules 1 to 9 refuse comes as [`HopFault::Verdict`] too. `Unasked` and `Provider` never come, since an answers file never fails.
 ///
 /// The hop is one that [`Hop::is_valid`] takes, and numbers as the settings do.
-pub fn send_on<S: Shelf>(
+pub(crate) fn send_on<S: Shelf>(
     alloc: Global,
     place: &Place<'_>,
     hop: &Hop<'_>,

@@ -23,7 +23,7 @@ use Rattle.retarget.specs.Promise.{CausedOnward, GivesOnward}
 use Rattle.retarget.specs.Verdicts.{IsFinished, NamesNoPass, verdict_of}
 use Rattle.retarget.specs.declared.fault.HopFault.{HopFault}
 use Rattle.retarget.specs.declared.fault.HopFault.TheVariants as faults
-use Rattle.retarget_run.specs.declared.sending.Place.{Place}
+use Rattle.stir_cmd.specs.declared.sending.Place.{Place}
 
 -- by what calls are judged, what the answers say, the entries of the holder's list, the settings, and the moment at which the message came
 pub record PlaceView : Type 0 where
