@@ -10,3 +10,6 @@ pub mod ClapWords
 pub mod ClapTable
 pub mod ClapWalk
 pub mod ClapLaws
+pub mod RowTable
+pub mod RowValues
+pub mod RowLaws

@@ -2,7 +2,8 @@
 ghost use Rattle.std.specs.Prelude.{◌≡◌, ◌↔◌, ℕ, List, true, Some, IfOk};
 ghost use Rattle.std.specs.Option.{option_map};
 ghost use Rattle.stir_words.specs.Options.{pairs_of, Options, Pair};
-ghost use Rattle.stir_words.specs.Order.{asking_of, claiming_of, drilling_of, judging_of, order_by, order_of, order_with, settings_of, verifying_of, CanBeSigned};
+ghost use Rattle.stir_words.specs.Order.{asking_of, claiming_of, drilling_of, judging_of, order_by, order_of, order_with, settings_of, verifying_of, CanBeSigned, OrderView};
+ghost use Rattle.stir_words.specs.Rows.{IsOrdered};
 ghost use Rattle.stir_words.specs.Seen.{asking_view, claiming_view, drilling_view, judging_view, order_view, settings_view, texts, verifying_view, Orders};
 ghost use Rattle.stir_words.specs.Table.{Accepted, Known, accepts};
 ghost use Rattle.stir_words.specs.ClapRules.{values_in};
@@ -100,6 +101,8 @@ impl<'a> Order<'a> {
         // How words fall into options, and which of them a table accepts.
         ensures options { (list : List (List ℕ)) (pairs : List Pair) → (pairs_of list ≡ Some pairs) ↔ Options list pairs }
         ensures accepted { (table : List Known) (pairs : List Pair) → (accepts table pairs ≡ true) ↔ Accepted table pairs }
+        // The same row by row: what each option says, and what stands there if it isn't given.
+        ensures rows { (list : List (List ℕ)) (order : OrderView) → (order_of list ≡ Some order) ↔ IsOrdered list order }
         // What is to be signed is as signing takes it for granted.
         ensures valid { IfOk result (λ order. CanBeSigned (order_view order)) }
     {
