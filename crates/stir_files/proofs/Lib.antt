@@ -4,3 +4,4 @@ pub mod LeafSteps
 pub mod StateSteps
 pub mod LineLaws
 pub mod ListSteps
+pub mod RowLaws

@@ -9,3 +9,4 @@ pub mod StateFile
 pub mod Inputs
 pub mod Signing
 pub mod Retargeting
+pub mod Rows
