@@ -22,3 +22,5 @@ pub mod Claiming
 pub mod Causes
 pub mod OneReport
 pub mod OneSummary
+pub mod Rows
+pub mod ByWords
