@@ -1,6 +1,16 @@
 -- The lines of faults have the words of their rows.
-use Rattle.std.proofs.Common.{◌≡◌, ℕ, suc, List, [], ◌∷◌, ◌++◌, codes, refl, sym, ◌∙◌, ap, append_assoc}
+use Rattle.std.proofs.Common.{◌≡◌, ℕ, suc, ◌==◌, true, cond, length, slice_index, Option, Some, None, option_and_then, arith, List, [], ◌∷◌, ◌++◌, codes, refl, sym, ◌∙◌, ap, append_assoc}
 use Rattle.std.specs.Fmt.{decimal}
+use Rattle.std.specs.Option.{option_map}
+use Rattle.std.specs.Result.{result_ok}
+use Rattle.std.specs.Str.{bytes_eq}
+use Rattle.std.proofs.lemmas.Bool.Decides.{nat_tests}
+use Rattle.std.proofs.lemmas.Slice.Eq.{bytes_eq-Decides}
+use Rattle.hex.specs.Hex.{IsBytes, encode_lower}
+use Rattle.hex.proofs.HexLemmas.{decode_sized-encode_lower}
+use Rattle.cert_store.specs.Rules.{QuestionView}
+use Rattle.single_calls.specs.Asks.{ask_line}
+use Rattle.stir_outside.specs.AnswersText.{bytes_of, confirm_of, confirms, key_of}
 use Rattle.auth_service.specs.declared.fault.SignFault.{SignFault}
 use Rattle.auth_service.specs.declared.fault.SignFault.TheVariants as signing
 use Rattle.live_desk.specs.declared.claim.LiveClaim.{LiveClaim}
@@ -15,7 +25,7 @@ use Rattle.verify_rules.specs.declared.verdict.Verdict.{Verdict}
 use Rattle.verify_rules.specs.declared.verdict.Verdict.TheVariants as verdicts
 use Rattle.stir_cmd.specs.Answer.{long_line, refused_input}
 use Rattle.stir_cmd.specs.Gateway.{hop_line, too_long_line, verdict_line}
-use Rattle.stir_cmd.specs.Rows.{IsHopLine, IsSignLine, IsVerdictLine, claim_words, place_word, rows_from}
+use Rattle.stir_cmd.specs.Rows.{CanBeConfirmed, IsAskLine, IsHopLine, IsSignLine, IsVerdictLine, claim_words, place_word, rows_from}
 use Rattle.stir_cmd.specs.Signing.{fault_line, form_line}
 
 pub sign_lines : (key : List ℕ) (fault : SignFault) → IsSignLine key fault (fault_line key fault)
@@ -77,3 +87,29 @@ failed_are = refl
 pub unread_are : (name : List ℕ) → unread_line name ≡ line_by (codes "read" ∷ codes "fault" ∷ name ∷ [])
 unfolding unread_line
 unread_are name = refl
+
+-- ---- a question
+
+first_is : (key : List ℕ) (k : Option (List ℕ)) → k ≡ Some key → slice_index key 0 ≡ 4 → option_and_then (λ own. cond (slice_index own 0 == 4) (Some own) None) k ≡ Some key
+first_is key k e first = let t : (slice_index key 0 == 4) ≡ true = grind (arith, nat_tests) in rw (e, t) refl
+
+same_again : (text : List ℕ) → bytes_eq text text ≡ true
+same_again text = (bytes_eq-Decides text text).1 refl
+
+confirmed : (key digest signature a b c : List ℕ) → key_of a ≡ Some key → bytes_of 32 b ≡ Some digest → bytes_of 64 c ≡ Some signature
+    → option_map (confirms key digest signature) (confirm_of a b c) ≡ Some true
+confirmed key digest signature a b c ek ed es =
+    let k = same_again key in let d = same_again digest in let s = same_again signature in rw (ek, ed, es, k, d, s) refl
+
+decoded : (count : ℕ) (bytes : List ℕ) → length bytes ≡ count → IsBytes bytes → bytes_of count (encode_lower bytes) ≡ Some bytes
+decoded count bytes size are = ap result_ok (decode_sized-encode_lower bytes count size are)
+
+pub ask_row : (asked : QuestionView) → CanBeConfirmed asked → IsAskLine asked (ask_line asked)
+unfolding ask_line
+ask_row asked can = record {
+  words = codes "confirm" ∷ encode_lower asked.key ∷ encode_lower asked.digest ∷ encode_lower asked.signature ∷ [];
+  text = refl;
+  reads = confirmed asked.key asked.digest asked.signature (encode_lower asked.key) (encode_lower asked.digest) (encode_lower asked.signature)
+      (first_is asked.key (bytes_of 65 (encode_lower asked.key)) (decoded 65 asked.key can.key_size can.key) can.uncompressed)
+      (decoded 32 asked.digest can.digest_size can.digest) (decoded 64 asked.signature can.signature_size can.signature);
+}

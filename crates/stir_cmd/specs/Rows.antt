@@ -1,8 +1,10 @@
 -- The lines that the program writes of a fault, row by row: which words each line has, and which number (this project's own format). `hop_line`,
 -- `fault_line`, `claim_lines` and their kin say the same as functions.
-use Rattle.std.specs.Prelude.{◌≡◌, ⊤, ℕ, suc, List, [], ◌∷◌, ◌++◌, codes}
+use Rattle.std.specs.Prelude.{◌≡◌, ⊤, ℕ, suc, List, [], ◌∷◌, ◌++◌, length, slice_index, true, codes, Some}
 use Rattle.std.specs.Fmt.{decimal}
-use Rattle.hex.specs.Hex.{encode_lower}
+use Rattle.std.specs.Option.{option_map}
+use Rattle.cert_store.specs.Rules.{QuestionView}
+use Rattle.hex.specs.Hex.{IsBytes, encode_lower}
 use Rattle.auth_service.specs.declared.fault.SignFault.{SignFault}
 use Rattle.auth_service.specs.declared.fault.SignFault.TheVariants as signing
 use Rattle.live_desk.specs.declared.claim.LiveClaim.{LiveClaim}
@@ -10,6 +12,7 @@ use Rattle.live_desk.specs.declared.claim.LiveClaim.TheVariants.{Won, Lost, Full
 use Rattle.retarget.specs.declared.fault.HopFault.{HopFault}
 use Rattle.retarget.specs.declared.fault.HopFault.TheVariants as faults
 use Rattle.stir_files.specs.Rows.{line_by}
+use Rattle.stir_outside.specs.AnswersText.{confirms, row_of_words}
 use Rattle.verify_rules.specs.Code.{code_of}
 use Rattle.verify_rules.specs.declared.refusal.Place.{Place}
 use Rattle.verify_rules.specs.declared.verdict.Verdict.{Verdict}
@@ -77,6 +80,24 @@ claim_words (Full level) = codes "full" ∷ decimal level ∷ []
 abbrev pub rows_from : ℕ → List LiveClaim → List ℕ
 rows_from number [] = []
 rows_from number (claim ∷ claims) = line_by (decimal number ∷ claim_words claim) ++ rows_from (suc number) claims
+
+-- ---- `ask`
+
+-- a question that an answers file can confirm: an uncompressed point (SEC 1, section 2.3.3), a SHA-256, and a signature of 64 bytes
+pub record CanBeConfirmed (asked : QuestionView) : Type 0 where
+  pub key : IsBytes asked.key
+  pub key_size : length asked.key ≡ 65
+  pub uncompressed : slice_index asked.key 0 ≡ 4
+  pub digest : IsBytes asked.digest
+  pub digest_size : length asked.digest ≡ 32
+  pub signature : IsBytes asked.signature
+  pub signature_size : length asked.signature ≡ 64
+
+-- the line of a question: its words, read as those of an answers file, confirm its triple
+pub record IsAskLine (asked : QuestionView) (line : List ℕ) : Type 0 where
+  pub words : List (List ℕ)
+  pub text : line ≡ line_by words
+  pub reads : option_map (confirms asked.key asked.digest asked.signature) (row_of_words words) ≡ Some true
 
 -- ---- the input
 
