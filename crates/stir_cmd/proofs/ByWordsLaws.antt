@@ -1,5 +1,5 @@
 -- A run keeps to the values of its words.
-use Rattle.std.proofs.Common.{◌≡◌, ℕ, ◌+◌, ◌≤◌, inl, inr, List, [], ◌∷◌, ◌++◌, Option, Some, None, refl, sym, ap, subst, arith, append-nil}
+use Rattle.std.proofs.Common.{◌≡◌, ℕ, ◌+◌, ◌≤◌, inl, inr, List, [], ◌∷◌, Option, Some, None, refl, sym, subst, arith, append-nil}
 use Rattle.std.specs.Io.KnownBytes.{Appends}
 use Rattle.auth_service.specs.Order.{HolderView, OrderView as SignOrder, divert_order_of}
 use Rattle.auth_service.specs.Outcome.{IsSigned}
@@ -15,24 +15,20 @@ use Rattle.stir_files.specs.declared.signing.SigningMaterials.{SigningMaterials}
 use Rattle.stir_outside.specs.Files.{Files}
 use Rattle.stir_outside.specs.Held.{held_signs}
 use Rattle.stir_words.specs.Order.{DivertBy, OrderView, RetargetBy, RetargetingView, SettingsView, SignBy, VerifyBy, VerifyingView}
-use Rattle.verify_rules.specs.AllWords.{SaysRules, early_answer}
-use Rattle.verify_rules.specs.Call.{in_call_order}
-use Rattle.verify_rules.specs.Words.{Each, IsFresh, Means}
+use Rattle.verify_rules.specs.AllWords.{SaysRules}
 use Rattle.verify_rules.specs.World.{World}
-use Rattle.verify_rules.specs.declared.verdict.Verdict.{Verdict}
-use Rattle.verify_rules.specs.declared.verdict.Verdict.TheVariants as verdicts
 use Rattle.verify_service.specs.Judging.{EachPair, call_in}
 use Rattle.verify_service.specs.Report.{report}
 use Rattle.verify_service.specs.declared.outcome.Outcome.{Outcome}
 use Rattle.verify_service.specs.declared.outcome.Outcome.TheVariants.{Valid}
-use Rattle.stir_cmd.specs.ByWords.{FreshByWords, IsFreshIfValid, IsSignedBy, KeepsToWords, SentByWords, SignedByWords, called_at}
+use Rattle.stir_cmd.specs.ByWords.{FreshByWords, IsFreshIfValid, IsSignedBy, KeepsToWords, SentByWords, SignedByWords}
 use Rattle.stir_cmd.specs.Calls.{settings_by, world_by}
 use Rattle.stir_cmd.specs.Causes.{Ran}
-use Rattle.stir_cmd.specs.Gateway.{GatewayGives, gateway_answering, gateway_course, gateway_over, hop_by, place_by}
-use Rattle.stir_cmd.specs.Headline.{Verified, VerifiedFrom, VerifiedOn}
-use Rattle.stir_cmd.specs.Input.{Answered, IsReply, Replied}
+use Rattle.stir_cmd.specs.Gateway.{GatewayGives, gateway_answering, gateway_course, hop_by, place_by}
+use Rattle.stir_cmd.specs.Headline.{VerifiedFrom}
+use Rattle.stir_cmd.specs.Input.{IsReply}
 use Rattle.stir_cmd.specs.OverFiles.{counted}
-use Rattle.stir_cmd.specs.Outside.{IfTold, Io, Outside, io_in}
+use Rattle.stir_cmd.specs.Outside.{IfTold, Outside, io_in}
 use Rattle.stir_cmd.specs.Signing.{SignCommand, SignGives, diverting_command, holder_by, sign_answering, sign_course, signing_command}
 use Rattle.stir_cmd.proofs.RunLaws.{Laws, headline, says}
 

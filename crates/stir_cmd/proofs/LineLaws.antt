@@ -1,5 +1,5 @@
 -- The lines of faults have the words of their rows.
-use Rattle.std.proofs.Common.{◌≡◌, ℕ, suc, ◌==◌, true, cond, length, slice_index, Option, Some, None, option_and_then, arith, List, [], ◌∷◌, ◌++◌, codes, refl, sym, ◌∙◌, ap, append_assoc}
+use Rattle.std.proofs.Common.{◌≡◌, ℕ, suc, ◌==◌, true, cond, length, slice_index, Option, Some, None, option_and_then, arith, List, [], ◌∷◌, ◌++◌, codes, refl, ◌∙◌, ap, append_assoc}
 use Rattle.std.specs.Fmt.{decimal}
 use Rattle.std.specs.Option.{option_map}
 use Rattle.std.specs.Result.{result_ok}
@@ -23,10 +23,9 @@ use Rattle.stir_files.specs.Rows.{line_by}
 use Rattle.verify_rules.specs.Code.{code_of}
 use Rattle.verify_rules.specs.declared.verdict.Verdict.{Verdict}
 use Rattle.verify_rules.specs.declared.verdict.Verdict.TheVariants as verdicts
-use Rattle.stir_cmd.specs.Answer.{long_line, refused_input}
-use Rattle.stir_cmd.specs.Gateway.{hop_line, too_long_line, verdict_line}
-use Rattle.stir_cmd.specs.Rows.{CanBeConfirmed, IsAskLine, IsHopLine, IsSignLine, IsVerdictLine, claim_words, place_word, rows_from}
-use Rattle.stir_cmd.specs.Signing.{fault_line, form_line}
+use Rattle.stir_cmd.specs.Gateway.{hop_line, verdict_line}
+use Rattle.stir_cmd.specs.Rows.{CanBeConfirmed, IsAskLine, IsHopLine, IsSignLine, IsVerdictLine, claim_words, rows_from}
+use Rattle.stir_cmd.specs.Signing.{fault_line}
 
 pub sign_lines : (key : List ℕ) (fault : SignFault) → IsSignLine key fault (fault_line key fault)
 sign_lines key signing.Form = refl

@@ -10,7 +10,7 @@ use Rattle.call_log.specs.Log.{LogText, Passed}
 use Rattle.log_rounds.specs.Rounds.{InEach, Round, calls_in, outcomes_in}
 use Rattle.sip_message.specs.Target.{HasOtherUri}
 use Rattle.stir_outside.specs.Files.{Files}
-use Rattle.stir_words.specs.Order.{DivertBy, DivertingView, OrderView, RetargetBy, RetargetingView, SettingsView, SignBy, SigningView, VerifyBy, VerifyingView}
+use Rattle.stir_words.specs.Order.{DivertBy, OrderView, RetargetBy, RetargetingView, SettingsView, SignBy, VerifyBy, VerifyingView}
 use Rattle.verify_rules.specs.Call.{Call, call_of, in_call_order}
 use Rattle.verify_rules.specs.Rules.{early_rules, first}
 use Rattle.verify_rules.specs.Words.{Each, IsFresh}
