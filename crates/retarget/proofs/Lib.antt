@@ -6,3 +6,4 @@ pub mod NextLaws
 pub mod OnwardLaws
 pub mod OrderLaws
 pub mod WrittenLaws
+mod AskLaws

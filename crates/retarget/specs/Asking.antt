@@ -1,9 +1,10 @@
 -- What signing did to the provider.
-use Rattle.std.specs.Prelude.{◌≡◌, ℕ, ◌+◌, ◌≤◌, false, true, Result}
+use Rattle.std.specs.Prelude.{◌≡◌, ⊤, ℕ, ◌+◌, ◌≤◌, false, true, Result}
 use Rattle.stir_outside.specs.Count.{Rose}
 use Rattle.auth_service.specs.Asking.{Stand}
 use Rattle.retarget.specs.Answer.{names_provider}
 use Rattle.retarget.specs.declared.fault.HopFault.{HopFault}
+use Rattle.retarget.specs.declared.fault.HopFault.TheVariants as faults
 
 -- it was asked at most once, says and signs the same, and counted the failure that is answered
 pub record IsAskedOnce {X : Type 0} (before now : Stand) (result : Result X HopFault) : Type 0 where
@@ -23,3 +24,15 @@ pub record IsLeftAlone {X : Type 0} (before now : ℕ) (result : Result X HopFau
 pub record IsUnasked {X : Type 0} (judged before now : ℕ) (result : Result X HopFault) : Type 0 where
   pub asks : now ≤ before + judged
   pub unnamed : names_provider result ≡ false
+
+-- of a call that doesn't pass it was asked about this many PASSporTs at most, and not to sign: questions of both kinds have one count
+abbrev pub AsksNoMore : ℕ → ℕ → ℕ → HopFault → Type 0
+AsksNoMore judged before now (faults.Verdict verdict) = now ≤ before + judged
+AsksNoMore judged before now faults.Target = ⊤
+AsksNoMore judged before now faults.Loop = ⊤
+AsksNoMore judged before now faults.Full = ⊤
+AsksNoMore judged before now faults.Size = ⊤
+AsksNoMore judged before now faults.Authority = ⊤
+AsksNoMore judged before now (faults.NoSignature digest) = ⊤
+AsksNoMore judged before now faults.Provider = ⊤
+AsksNoMore judged before now faults.Memory = ⊤

@@ -5,7 +5,7 @@ ghost use Rattle.stir_outside.specs.Stays.{ProviderStays};
 ghost use Rattle.auth_service.specs.Asking.{stand};
 ghost use Rattle.auth_service.specs.Order.{holder_of};
 ghost use Rattle.retarget.specs.Answer.{names_provider};
-ghost use Rattle.retarget.specs.Asking.{IsAskedOnce, IsLeftAlone, IsUnasked};
+ghost use Rattle.retarget.specs.Asking.{AsksNoMore, IsAskedOnce, IsLeftAlone, IsUnasked};
 ghost use Rattle.retarget.specs.Below.{Below};
 ghost use Rattle.retarget.specs.Hop.{hop_of, is_hop};
 ghost use Rattle.retarget.specs.NextHop.{BreaksNone};
@@ -66,6 +66,9 @@ pub fn retarget<C: Chains, P: Provider>(
 
     // In every case its last PASSporT has the call's orig, the earlier number as div and the target's number as its one dest.
     ensures link { IfOk result (λ out. TellsOfDiversion bytes.now screened.now.readings (hop_of hop.now) out.items) }
+
+    // If a verdict is answered, the provider was asked about PASSporTs alone: nothing is signed of a call that doesn't pass.
+    ensures unsigned { IfErr result (AsksNoMore (length screened.now.readings) (P.asks provider.old) (P.asks provider.new)) }
 
     // The provider's failure has its count; and it isn't asked to sign, and isn't named, if one of the faults 21 to 25 is there.
     ensures failed { names_provider result ≡ true → Rose (P.faults provider.old) (P.faults provider.new) }
