@@ -1,5 +1,5 @@
 -- One round more was judged and counted.
-use Rattle.std.proofs.Common.{◌≡◌, ◌≤◌, true, List, [], ◌∷◌, ◌++◌, Option, Result, Ok, Err, IfErr, refl, sym, ◌∙◌, ap, subst, append-nil}
+use Rattle.std.proofs.Common.{◌≡◌, ◌+◌, ◌≤◌, true, List, [], ◌∷◌, ◌++◌, length, Option, Result, Ok, Err, IfErr, refl, sym, ◌∙◌, ap, subst, append-nil}
 use Rattle.call_log.specs.Entry.{Entry}
 use Rattle.drill.specs.Counts.{with_all}
 use Rattle.drill.specs.declared.counts.Counts.{Counts as Counted}
@@ -18,7 +18,7 @@ use Rattle.log_run.specs.declared.stop.AnswerError.TheVariants.{Memory}
 use Rattle.replay_law.specs.Law.{MoreRounds}
 use Rattle.stir_outside.specs.Files.{Counts, Files}
 use Rattle.verify_service.specs.Report.{report}
-use Rattle.verify_service.specs.Service.{ServiceView}
+use Rattle.verify_service.specs.Service.{ServiceView, texts_in}
 use Rattle.verify_service.specs.declared.outcome.Outcome.{Outcome}
 
 abbrev pub BothLaw : Type 0
@@ -64,12 +64,12 @@ counted_more more both first one now a b c told xs calls answer t w o same total
       total = total ∙ s.total;
     }
 
-pub counting_stopped : (first one now : DrillCommand) (a b c : Counts) (told : Option Files) (xs : List Batch) (stop : AnswerError) → stop ≡ Memory → b.faults ≤ c.faults
-    → DrillBehind first one a b told xs → DrillStopped first a c told xs stop
-counting_stopped first one now a b c told xs stop memory stays s = record {
+pub counting_stopped : (first one : DrillCommand) (a b c : Counts) (told : Option Files) (xs : List Batch) (calls : List Entry) (stop : AnswerError) → stop ≡ Memory → b.faults ≤ c.faults
+    → c.reads ≤ b.reads + length (texts_in one.verifier.service calls) → DrillBehind first one a b told xs → DrillStopped first a c told xs calls stop
+counting_stopped first one a b c told xs calls stop memory stays most s = record {
   said = s.said;
   silent = s.silent;
-  stopped = stopped first.verifier one.verifier now.verifier a b c told s.said [] stop memory stays s.judged;
+  stopped = stopped first.verifier one.verifier a b c told s.said calls stop memory stays most s.judged;
 }
 
 -- the same of a state that the verifier came to

@@ -1,6 +1,7 @@
 -- What a run over the drill's log says, in its words.
 use Rattle.std.proofs.Common.{◌≡◌, true, ◌&&◌, List, [], ◌∷◌, ◌++◌, length, Option, refl, sym, ◌∙◌, ap, subst, arith}
 use Rattle.call_log.specs.Log.{AreCalls, Passed}
+use Rattle.call_log.specs.Entry.{Entry}
 use Rattle.drill.specs.Counts.{no_counts, with_all}
 use Rattle.drill.specs.declared.counts.Counts.{Counts as Counted}
 use Rattle.drill.specs.Command.{AreSilent, DrillBehind, DrillClosed, DrillStopped, closing_text}
@@ -66,10 +67,10 @@ counted_batches legal all first now told passed a b batches at_first are s = rec
 }
 
 -- those before memory ran out
-stopped_batches : LegalTogether → FirstOfAll → (first now : DrillCommand) (told : Option Files) (passed : Passed) (a b : Counts) (batches : List Batch) (stop : AnswerError) → StandsAtFirst (state_of first.verifier a)
-    → AreBatches 256 passed batches → (h : DrillStopped first a b told batches stop)
+stopped_batches : LegalTogether → FirstOfAll → (first now : DrillCommand) (told : Option Files) (passed : Passed) (a b : Counts) (batches : List Batch) (calls : List Entry) (stop : AnswerError) → StandsAtFirst (state_of first.verifier a)
+    → AreBatches 256 passed batches → (h : DrillStopped first a b told batches calls stop)
     → AreCounted (AnswersBy (basis_of first.verifier) told) (config_of (basis_of first.verifier)) (counts_of (state_of first.verifier a)) (counts_of (state_of now.verifier b)) batches h.stopped.so.rounds
-stopped_batches legal all first now told passed a b batches stop at_first are h = record {
+stopped_batches legal all first now told passed a b batches calls stop at_first are h = record {
   calls = silent_calls batches h.said h.silent ∙ same_calls h.said h.stopped.so.rounds h.stopped.so.are;
   are_judged = are_judged legal all (AnswersBy (basis_of first.verifier) told) (config_of (basis_of first.verifier)) first.verifier.service.chains passed (state_of first.verifier a) (state_of h.stopped.mid h.stopped.counted)
       (state_of now.verifier b) h.said at_first.past h.stopped.shelf_stays (omega arith) (silent_are passed batches h.said h.silent are) h.stopped.so;
@@ -79,10 +80,10 @@ stopped_batches legal all first now told passed a b batches stop at_first are h 
 
 pub drill_speaks : LegalTogether → FirstOfAll → (first now : DrillCommand) (told : Option Files) (passed : Passed) (a b : Counts) → StandsAtFirst (state_of first.verifier a) → first.counts ≡ no_counts
     → Speaks (drill_words (AnswersBy (basis_of first.verifier) told) (config_of (basis_of first.verifier)) passed (outside_counts a.faults 0 a.reads) (outside_counts b.faults 0 b.reads) first.total) passed
-    (DrillBehind first now a b told) (λ batches calls stop. DrillStopped first a b told batches stop) (λ batches text. DrillClosed first now a b told batches text)
+    (DrillBehind first now a b told) (λ batches calls stop. DrillStopped first a b told batches calls stop) (λ batches text. DrillClosed first now a b told batches text)
 drill_speaks legal all first now told passed a b at_first none = record {
   known = λ batches are s. record { rounds = s.judged.so.rounds; are = counted_batches legal all first now told passed a b batches at_first are s };
-  stopped = λ batches calls stop are h. record { rounds = h.stopped.so.rounds; are = stopped_batches legal all first now told passed a b batches stop at_first are h };
+  stopped = λ batches calls stop are h. record { rounds = h.stopped.so.rounds; are = stopped_batches legal all first now told passed a b batches calls stop at_first are h };
   stops = λ batches calls text name h. other_stop text name h.stopped.memory;
   closed = λ batches text are c. record { rounds = c.behind.judged.so.rounds; are = counted_batches legal all first now told passed a b batches at_first are c.behind };
   closes = λ batches text c. record {

@@ -30,10 +30,10 @@ pub record DrillBehind (first now : DrillCommand) (before counts : Counts) (told
   pub total : now.total ≡ first.total
 
 -- only memory stops a run
-pub record DrillStopped (first : DrillCommand) (before counts : Counts) (told : Option Files) (batches : List Batch) (stop : AnswerError) : Type 0 where
+pub record DrillStopped (first : DrillCommand) (before counts : Counts) (told : Option Files) (batches : List Batch) (calls : List Entry) (stop : AnswerError) : Type 0 where
   pub said : List Batch
   pub silent : AreSilent batches said
-  pub stopped : RoundsStopped first.verifier before counts told said stop
+  pub stopped : RoundsStopped first.verifier before counts told said calls stop
 
 -- the text that closes the report: the summary, if all calls of the log were counted
 abbrev pub closing_text : Counted → ℕ → List ℕ

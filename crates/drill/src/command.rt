@@ -1,9 +1,9 @@
 //! The judgement of the drill's log, as a command over batches of 256 calls.
-ghost use Rattle.std.specs.Prelude.{◌≡◌, [], true, IfOk, IfErr};
+ghost use Rattle.std.specs.Prelude.{◌≡◌, ◌+◌, ◌≤◌, [], length, true, IfOk, IfErr};
 ghost use Rattle.drill.specs.Command.{OneCounted};
 ghost use Rattle.log_rounds.specs.Verifier.{AnswersBy, TrustsHeld, basis_of, config_of, state_of};
 ghost use Rattle.stir_outside.specs.Stays.{ShelfStays};
-ghost use Rattle.verify_service.specs.Service.{Follow};
+ghost use Rattle.verify_service.specs.Service.{Follow, texts_in};
 
 use crate::count_laws::count_law;
 use crate::counts::Counts;
@@ -39,6 +39,7 @@ impl<'a> DrillCommand<'a> {
         requires trusts { TrustsHeld self.old.verifier (S.files shelf.old) }
         ensures counted { IfOk result (λ answer. (answer.text ≡ []) × (answer.well ≡ true) × OneCounted (AnswersBy (basis_of self.old.verifier) (S.files shelf.old)) (config_of (basis_of self.old.verifier)) self.old.verifier.service.chains (state_of self.old.verifier (S.counts shelf.old)) (state_of self.new.verifier (S.counts shelf.new)) self.old.counts self.new.counts calls.now) }
         ensures memory { IfErr result (λ stop. stop ≡ AnswerError.Memory) }
+        ensures most { (S.counts shelf.new).reads ≤ (S.counts shelf.old).reads + length (texts_in self.old.verifier.service calls.now) }
         ensures trusts { TrustsHeld self.new.verifier (S.files shelf.new) }
         ensures same { basis_of self.new.verifier ≡ basis_of self.old.verifier }
         ensures total { self.new.total ≡ self.old.total }
@@ -62,7 +63,7 @@ impl<'a> LogCommand for DrillCommand<'a> {
 
     ghost behind = { λ first before now counts files batches. DrillBehind first now before counts files batches };
 
-    ghost stopped = { λ first before now counts files batches calls stop. DrillStopped first before counts files batches stop };
+    ghost stopped = { λ first before now counts files batches calls stop. DrillStopped first before counts files batches calls stop };
 
     ghost closed = { λ first before now counts files batches text. DrillClosed first now before counts files batches text };
 

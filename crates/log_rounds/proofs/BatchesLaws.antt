@@ -20,8 +20,9 @@ use Rattle.replay_law.specs.Law.{MoreRounds}
 use Rattle.replay_law.specs.Round.{Rounds}
 use Rattle.stir_outside.specs.Count.{AtMost}
 use Rattle.verify_service.specs.Causes.{NoneUnasked, NoneUnread, unread_texts}
+use Rattle.verify_service.specs.Needed.{named, round_texts}
 use Rattle.verify_service.specs.Rows.{IsOwed}
-use Rattle.verify_service.specs.Service.{Follow, last_moment_of, last_number}
+use Rattle.verify_service.specs.Service.{Follow, last_moment_of, last_number, texts_in}
 use Rattle.verify_service.specs.declared.outcome.Outcome.{Outcome}
 use Rattle.log_rounds.specs.Batches.{AreRounds, JudgedRounds, OneRound, RoundsBehind, RoundsStand, RoundsStopped}
 
@@ -69,9 +70,17 @@ adds more verifier one now a b c told xs calls answer o same s = record {
   same = same ∙ s.same;
 }
 
-pub stopped : (verifier one now : LogVerifier) (a b c : Counts) (told : Option Files) (xs : List Batch) (calls : List Entry) (stop : AnswerError) → stop ≡ Memory → b.faults ≤ c.faults
-    → RoundsBehind verifier one a b told xs → RoundsStopped verifier a c told xs stop
-stopped verifier one now a b c told xs calls stop memory stays s = record { memory = memory; mid = one; counted = b; so = s.so; shelf_stays = stays }
+-- the chains of the calls at which it stopped were read by the settings and the chain map that stay
+pub stopped : (verifier one : LogVerifier) (a b c : Counts) (told : Option Files) (xs : List Batch) (calls : List Entry) (stop : AnswerError) → stop ≡ Memory → b.faults ≤ c.faults
+    → c.reads ≤ b.reads + length (texts_in one.service calls) → RoundsBehind verifier one a b told xs → RoundsStopped verifier a c told xs calls stop
+stopped verifier one a b c told xs calls stop memory stays most s = record {
+  memory = memory;
+  mid = one;
+  counted = b;
+  so = s.so;
+  shelf_stays = stays;
+  reads = subst (λ (x : JudgeBasis). c.reads ≤ b.reads + length (round_texts x.materials.chains one.service.held.entries (named x.settings calls))) s.same most;
+}
 
 -- no round yet
 abbrev pub behind_none : (verifier : LogVerifier) (a : Counts) (told : Option Files) → RoundsBehind verifier verifier a a told []

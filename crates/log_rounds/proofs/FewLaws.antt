@@ -1,10 +1,12 @@
 -- How often rounds read files: the bound of several is that of each, one after the other.
-use Rattle.std.proofs.Common.{◌≡◌, ℕ, ◌≤◌, Bool, true, false, ◌||◌, List, [], ◌∷◌, ◌++◌, length, refl, sym, ◌∙◌, ap, append_assoc, append-nil, arith, subst}
+use Rattle.std.proofs.Common.{◌≡◌, ℕ, ◌+◌, ◌≤◌, Bool, true, false, ◌||◌, List, [], ◌∷◌, ◌++◌, length, refl, sym, ◌∙◌, ap, append_assoc, append-nil, arith, subst}
 use Rattle.std.specs.Str.{bytes_eq}
 use Rattle.call_log.specs.Entry.{Entry}
 use Rattle.cert_store.specs.Files.{Files as ChainFiles}
-use Rattle.cert_store.specs.Using.{AreAmong, has}
+use Rattle.cert_store.specs.Holding.{Chains}
+use Rattle.cert_store.specs.Using.{AreAmong, has, names}
 use Rattle.log_rounds.proofs.RoundLaws.{calls_both}
+use Rattle.log_rounds.proofs.TextLaws.{texts_unheld}
 use Rattle.log_rounds.specs.Judge.{JudgeConfig, JudgeState}
 use Rattle.log_rounds.specs.Reads.{ReadsNamed}
 use Rattle.log_rounds.specs.Rounds.{Round, calls_in}
@@ -12,7 +14,7 @@ use Rattle.stir_outside.proofs.CountLaws.{not_risen_before, not_risen_behind}
 use Rattle.stir_outside.specs.Count.{NotRisen}
 use Rattle.verify_rules.specs.declared.settings.Settings.{Settings}
 use Rattle.verify_service.specs.Judging.{call_in}
-use Rattle.verify_service.specs.Needed.{named, named_in}
+use Rattle.verify_service.specs.Needed.{named, named_in, round_texts}
 use Rattle.verify_service.specs.Reads.{ReadOnce, ReadsFew, unheld}
 use Rattle.verify_service.specs.declared.outcome.Outcome.{Outcome}
 
@@ -83,3 +85,18 @@ few_named config chains a b calls none few = λ texts have.
     let from_none : ReadsFew config.settings chains calls [] b.held a.reads b.reads = subst (λ t. ReadsFew config.settings chains calls t b.held a.reads b.reads) none few in
     let once = from_none texts (record { few = have.few; named = have.named; held_among = among_none texts }) in
     omega (arith, once.fewer, none_held texts)
+
+-- ---- of calls that were begun, and weren't answered
+
+-- if no chain was held at first, and these are all that was read since
+pub few_begun : (settings : Settings) (chains : ChainFiles) (before held : Chains) (xs calls : List Entry) (reads mid now : ℕ) → names before ≡ [] → ReadsFew settings chains xs (names before) (names held) reads mid
+    → now ≤ mid + length (round_texts chains held (named settings calls)) → ReadsNamed settings chains (xs ++ calls) reads now
+few_begun settings chains before held xs calls reads mid now none few most = λ texts have.
+    let from_none : ReadsFew settings chains xs [] (names held) reads mid = subst (λ t. ReadsFew settings chains xs t (names held) reads mid) none few in
+    let once = from_none texts (record { few = have.few; named = λ x5u n l. have.named x5u (named_front settings x5u xs calls n) l; held_among = among_none texts }) in
+    let more = texts_unheld chains held (named settings calls) texts (λ x5u n l. have.named x5u (named_behind settings x5u xs calls n) l) in
+    omega (arith, once.fewer, none_held texts, more, most)
+
+-- the same of fewer calls
+pub fewer_named : (settings : Settings) (chains : ChainFiles) (xs ys : List Entry) (reads now : ℕ) → ReadsNamed settings chains xs reads now → ReadsNamed settings chains (xs ++ ys) reads now
+fewer_named settings chains xs ys reads now few texts have = few texts (record { few = have.few; named = λ x5u n l. have.named x5u (named_front settings x5u xs ys n) l })

@@ -1,5 +1,5 @@
 -- A log that goes on from a state, and the state that is handed on after it.
-use Rattle.std.proofs.Common.{◌≡◌, ℕ, ◌≤◌, List, [], ◌∷◌, ◌++◌, Option, Result, Ok, Err, IfErr, refl, sym, ◌∙◌, ap, subst, arith, append-nil}
+use Rattle.std.proofs.Common.{◌≡◌, ℕ, ◌+◌, ◌≤◌, List, [], ◌∷◌, ◌++◌, length, Option, Result, Ok, Err, IfErr, refl, sym, ◌∙◌, ap, subst, arith, append-nil}
 use Rattle.std.proofs.lemmas.List.{append_assoc}
 use Rattle.call_log.specs.Entry.{Entry}
 use Rattle.call_log.specs.Log.{AreCalls, Passed, start}
@@ -23,9 +23,9 @@ use Rattle.state_text.specs.StateText.{state_text}
 use Rattle.stir_outside.specs.Files.{Counts, Files}
 use Rattle.verify_rules.specs.declared.settings.Settings.{Settings}
 use Rattle.verify_service.specs.Handing.{IsStateOf}
-use Rattle.verify_service.specs.Service.{last_moment_of, last_number}
+use Rattle.verify_service.specs.Service.{last_moment_of, last_number, texts_in}
 use Rattle.verify_service.specs.declared.outcome.Outcome.{Outcome}
-use Rattle.log_rounds.proofs.BatchesLaws.{adds, behind_none}
+use Rattle.log_rounds.proofs.BatchesLaws.{adds, behind_none, stopped}
 use Rattle.log_rounds.proofs.FewLaws.{few_named}
 use Rattle.log_rounds.proofs.FollowLaws.{moment_front, number_front}
 use Rattle.log_rounds.proofs.RoundLaws.{aside_on}
@@ -59,14 +59,14 @@ hands_more more verifier one now a b c told xs calls answer o same h = record {
       ∙ ap (last_moment_of verifier.service.moment) (sym (calls_more xs calls answer));
 }
 
-pub hands_stopped : (verifier one : LogVerifier) (a b c : Counts) (told : Option Files) (xs : List Batch) (stop : AnswerError) → stop ≡ Memory → b.faults ≤ c.faults
-    → HandsBehind verifier one a b told xs → RoundsStopped verifier a c told xs stop
-hands_stopped verifier one a b c told xs stop memory stays h = record { memory = memory; mid = one; counted = b; so = h.behind.so; shelf_stays = stays }
+pub hands_stopped : (verifier one : LogVerifier) (a b c : Counts) (told : Option Files) (xs : List Batch) (calls : List Entry) (stop : AnswerError) → stop ≡ Memory → b.faults ≤ c.faults
+    → c.reads ≤ b.reads + length (texts_in one.service calls) → HandsBehind verifier one a b told xs → RoundsStopped verifier a c told xs calls stop
+hands_stopped verifier one a b c told xs calls stop memory stays most h = stopped verifier one a b c told xs calls stop memory stays most h.behind
 
 -- memory ran out for the state, whatever became of the verifier since
 pub hands_short : (one : HandingVerifier) (first : HandingVerifier) (before counts : Counts) (told : Option Files) (xs : List Batch) → HandsBehind first.verifier one.verifier before counts told xs
-    → RoundsStopped first.verifier before counts told xs Memory
-hands_short one first before counts told xs h = hands_stopped first.verifier one.verifier before counts counts told xs Memory refl (omega arith) h
+    → RoundsStopped first.verifier before counts told xs [] Memory
+hands_short one first before counts told xs h = hands_stopped first.verifier one.verifier before counts counts told xs [] Memory refl (omega arith) (omega arith) h
 
 pub always_err : {T E : Type 0} (Q : Type 0) (result : Result T E) → Q → IfErr result (λ x. Q)
 always_err Q (Ok x) q = tt
@@ -125,7 +125,7 @@ closes_state verifier now told number moment a b batches text from c =
 
 pub speaks_on : (verifier now : LogVerifier) (told : Option Files) (number moment : ℕ) (a b : Counts) → GoesOnFrom number moment (state_of verifier a)
     → Speaks (words_on (basis_of verifier) told (state_of verifier a).past (start number moment) a b) (start number moment) (HandsBehind verifier now a b told)
-    (λ batches calls stop. RoundsStopped verifier a b told batches stop) (λ batches text. StateClosed verifier now a b told batches text)
+    (λ batches calls stop. RoundsStopped verifier a b told batches calls stop) (λ batches text. StateClosed verifier now a b told batches text)
 speaks_on verifier now told number moment a b from =
     let judged : Entry → Outcome → Type 0 = AnswersBy (basis_of verifier) told in
     let config : JudgeConfig = config_of (basis_of verifier) in

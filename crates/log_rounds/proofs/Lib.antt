@@ -2,6 +2,8 @@ pub mod ServiceLaws
 pub mod WorkerLaws
 pub mod RoundLaws
 pub mod FewLaws
+mod TextLaws
+mod FirstLaws
 mod FollowLaws
 pub mod ReportLaws
 pub mod LegalLaws

@@ -117,7 +117,7 @@ closes judged config chains a b batches text none no_text j = record {
 }
 
 pub speaks : LegalTogether → FirstOfAll → (verifier now : LogVerifier) (told : Option Files) (passed : Passed) (a b : Counts) → StandsAtFirst (state_of verifier a)
-    → Speaks (words_by (basis_of verifier) told passed a b) passed (RoundsBehind verifier now a b told) (λ batches calls stop. RoundsStopped verifier a b told batches stop)
+    → Speaks (words_by (basis_of verifier) told passed a b) passed (RoundsBehind verifier now a b told) (λ batches calls stop. RoundsStopped verifier a b told batches calls stop)
     (λ batches text. RoundsClosed verifier now a b told batches text)
 speaks legal first verifier now told passed a b at_first =
     let judged : Entry → Outcome → Type 0 = AnswersBy (basis_of verifier) told in

@@ -1,5 +1,5 @@
 -- What is known of batches that were judged as rounds.
-use Rattle.std.specs.Prelude.{◌≡◌, ℕ, ◌≤◌, List, [], ◌∷◌, Option}
+use Rattle.std.specs.Prelude.{◌≡◌, ℕ, ◌+◌, ◌≤◌, List, [], ◌∷◌, length, Option}
 use Rattle.call_log.specs.Entry.{Entry}
 use Rattle.call_log.specs.Log.{Passed}
 use Rattle.cert_store.specs.Files.{Files as ChainFiles}
@@ -16,6 +16,7 @@ use Rattle.log_run.specs.declared.stop.AnswerError.TheVariants.{Memory}
 use Rattle.replay_law.specs.Round.{Rounds}
 use Rattle.stir_outside.specs.Count.{NotRisen}
 use Rattle.stir_outside.specs.Files.{Counts, Files}
+use Rattle.verify_service.specs.Needed.{named, round_texts}
 use Rattle.verify_service.specs.Reads.{ReadsFew}
 use Rattle.verify_service.specs.Report.{report}
 use Rattle.verify_service.specs.Rows.{IsOwed}
@@ -55,13 +56,15 @@ pub record RoundsBehind (verifier now : LogVerifier) (before counts : Counts) (t
   pub so : JudgedFrom verifier now before counts told batches
   pub same : basis_of now ≡ basis_of verifier
 
--- only memory stops a run; more may have been counted since
-pub record RoundsStopped (verifier : LogVerifier) (before counts : Counts) (told : Option Files) (batches : List Batch) (stop : AnswerError) : Type 0 where
+-- Only memory stops a run. More may have been counted since; and of the chains of the calls at which it stopped, each that wasn't held was read once at
+-- most.
+pub record RoundsStopped (verifier : LogVerifier) (before counts : Counts) (told : Option Files) (batches : List Batch) (calls : List Entry) (stop : AnswerError) : Type 0 where
   pub memory : stop ≡ Memory
   pub mid : LogVerifier
   pub counted : Counts
   pub so : JudgedFrom verifier mid before counted told batches
   pub shelf_stays : counted.faults ≤ counts.faults
+  pub reads : counts.reads ≤ counted.reads + length (round_texts verifier.service.chains mid.service.held.entries (named verifier.service.settings calls))
 
 pub record RoundsClosed (verifier now : LogVerifier) (before counts : Counts) (told : Option Files) (batches : List Batch) (text : List ℕ) : Type 0 where
   pub so : JudgedFrom verifier now before counts told batches

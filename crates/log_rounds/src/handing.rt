@@ -3,6 +3,7 @@ ghost use Rattle.call_log.specs.Log.{start};
 ghost use Rattle.log_run.specs.Streams.{streams_of};
 ghost use Rattle.log_run.specs.Words.{LogSays, run_state};
 ghost use Rattle.log_rounds.specs.Handed.{GoesOnFrom, words_on};
+ghost use Rattle.log_rounds.specs.Reads.{ReadsFirst};
 ghost use Rattle.log_rounds.specs.Verifier.{TrustsHeld, basis_of, state_of};
 ghost use Rattle.std.specs.Prelude.{◌≤◌};
 ghost use Rattle.stir_outside.specs.Stays.{ShelfStays};
@@ -29,7 +30,7 @@ impl<'a> LogCommand for HandingVerifier<'a> {
 
     ghost behind = { λ first before now counts files batches. HandsBehind first.verifier now.verifier before counts files batches };
 
-    ghost stopped = { λ first before now counts files batches calls stop. RoundsStopped first.verifier before counts files batches stop };
+    ghost stopped = { λ first before now counts files batches calls stop. RoundsStopped first.verifier before counts files batches calls stop };
 
     ghost closed = { λ first before now counts files batches text. StateClosed first.verifier now.verifier before counts files batches text };
 
@@ -88,6 +89,8 @@ pub fn judge_log_on<R: Threads + Sync, S: Shelf, I: Source, O: Sink>(
     ensures says { LogSays (words_on (basis_of handing.old.verifier) (S.files shelf.old) (state_of handing.old.verifier (S.counts shelf.old)).past (start call moment) (S.counts shelf.old)
         (S.counts shelf.new)) (start call moment) (run_state (I.left input.old) (streams_of I.Source O.Sink input.old sink.old))
         (run_state (I.left input.new) (streams_of I.Source O.Sink input.new sink.new)) result }
+    ensures reads { ReadsFirst handing.old.verifier.service.settings handing.old.verifier.service.chains (start call moment) (I.left input.old)
+        (S.counts shelf.old).reads (S.counts shelf.new).reads }
     ensures shelf { ShelfStays S.Shelf shelf.old shelf.new }
 {
     one_log();

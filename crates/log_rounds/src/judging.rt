@@ -1,11 +1,11 @@
 //! What judges the calls of a log, round by round.
-ghost use Rattle.std.specs.Prelude.{◌≡◌, ◌<◌, ◌≤◌, IfOk, IfErr};
+ghost use Rattle.std.specs.Prelude.{◌≡◌, ◌+◌, ◌<◌, ◌≤◌, length, IfOk, IfErr};
 ghost use Rattle.log_rounds.specs.Batches.{OneRound};
 ghost use Rattle.log_rounds.specs.Judge.{Moves, RoundJudged};
 ghost use Rattle.log_rounds.specs.Verifier.{AnswersBy, TrustsHeld, basis_of, config_of, state_of};
 ghost use Rattle.stir_outside.specs.Stays.{ShelfStays};
 ghost use Rattle.verify_service.specs.Handing.{IsStateOf};
-ghost use Rattle.verify_service.specs.Service.{Follow};
+ghost use Rattle.verify_service.specs.Service.{Follow, texts_in};
 
 use crate::report::{all_valid, first_number, lines_of};
 use crate::verifier::LogVerifier;
@@ -55,7 +55,8 @@ impl<'a> LogVerifier<'a> {
         requires trusts { TrustsHeld self.old (S.files shelf.old) }
         ensures round { IfOk result (λ carried. RoundJudged (AnswersBy (basis_of self.old) (S.files shelf.old)) (config_of (basis_of self.old)) self.old.service.chains
             (state_of self.old (S.counts shelf.old)) (state_of self.new (S.counts shelf.new)) calls.now carried.outcomes) }
-        // What changes, and what doesn't, also if memory ran out.
+        // What changes, and what doesn't, also if memory ran out: each chain that the calls need and that isn't held is read once at most.
+        ensures most { (S.counts shelf.new).reads ≤ (S.counts shelf.old).reads + length (texts_in self.old.service calls.now) }
         ensures moves { IfOk result (λ carried. Moves (state_of self.old (S.counts shelf.old)) (state_of self.new (S.counts shelf.new)) calls.now) }
         ensures trusts { TrustsHeld self.new (S.files shelf.new) }
         ensures same { basis_of self.new ≡ basis_of self.old }
@@ -87,6 +88,7 @@ impl<'a> LogVerifier<'a> {
         requires trusts { TrustsHeld self.old (S.files shelf.old) }
         ensures judged { IfOk result (OneRound (AnswersBy (basis_of self.old) (S.files shelf.old)) (config_of (basis_of self.old)) self.old.service.chains (state_of self.old (S.counts shelf.old)) (state_of self.new (S.counts shelf.new)) calls.now) }
         ensures memory { IfErr result (λ stop. stop ≡ AnswerError.Memory) }
+        ensures most { (S.counts shelf.new).reads ≤ (S.counts shelf.old).reads + length (texts_in self.old.service calls.now) }
         ensures trusts { TrustsHeld self.new (S.files shelf.new) }
         ensures same { basis_of self.new ≡ basis_of self.old }
         ensures shelf { ShelfStays S.Shelf shelf.old shelf.new }
@@ -109,7 +111,7 @@ impl<'a> LogCommand for LogVerifier<'a> {
 
     ghost behind = { λ first before now counts files batches. RoundsBehind first now before counts files batches };
 
-    ghost stopped = { λ first before now counts files batches calls stop. RoundsStopped first before counts files batches stop };
+    ghost stopped = { λ first before now counts files batches calls stop. RoundsStopped first before counts files batches calls stop };
 
     ghost closed = { λ first before now counts files batches text. RoundsClosed first now before counts files batches text };
 

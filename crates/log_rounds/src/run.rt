@@ -4,6 +4,7 @@ ghost use Rattle.log_run.specs.Streams.{streams_of};
 ghost use Rattle.log_run.specs.Words.{LogSays, run_state};
 ghost use Rattle.log_rounds.specs.Batches.{words_by};
 ghost use Rattle.log_rounds.specs.Judged.{StandsAtFirst};
+ghost use Rattle.log_rounds.specs.Reads.{ReadsFirst};
 ghost use Rattle.log_rounds.specs.Verifier.{TrustsHeld, basis_of, state_of};
 ghost use Rattle.stir_outside.specs.Stays.{ShelfStays};
 
@@ -32,6 +33,8 @@ pub fn judge_log<R: Threads + Sync, S: Shelf, I: Source, O: Sink>(
     requires trusts { TrustsHeld verifier.old (S.files shelf.old) }
     ensures says { LogSays (words_by (basis_of verifier.old) (S.files shelf.old) (start 0 0) (S.counts shelf.old) (S.counts shelf.new))
         (start 0 0) (run_state (I.left input.old) (streams_of I.Source O.Sink input.old sink.old)) (run_state (I.left input.new) (streams_of I.Source O.Sink input.new sink.new)) result }
+    // Each file of a chain that the calls of the log name is read once, whatever the status, if they are at most 4,096.
+    ensures reads { ReadsFirst verifier.old.service.settings verifier.old.service.chains (start 0 0) (I.left input.old) (S.counts shelf.old).reads (S.counts shelf.new).reads }
     ensures shelf { ShelfStays S.Shelf shelf.old shelf.new }
 {
     one_log();

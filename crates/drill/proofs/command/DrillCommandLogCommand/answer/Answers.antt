@@ -25,5 +25,5 @@ returns-clause-stands g c =
 pub returns-clause-stopped : goal.returns-clause-stopped
 returns-clause-stopped g c =
     if_err _ _ c.count_round.result
-    (λ stop memory first before batches known. counting_stopped first c.args.self.now c.count_round.new.self before (g.S.Shelf.counts c.args.shelf.now) (g.S.Shelf.counts c.count_round.new.shelf) _ batches stop memory
-    c.count_round.ensures.shelf.counts.faults.never_falls known) c.count_round.ensures.memory
+    (λ stop memory first before batches known. counting_stopped first c.args.self.now before (g.S.Shelf.counts c.args.shelf.now) (g.S.Shelf.counts c.count_round.new.shelf) _ batches c.args.calls.now stop memory
+    c.count_round.ensures.shelf.counts.faults.never_falls c.count_round.ensures.most known) c.count_round.ensures.memory

@@ -23,5 +23,5 @@ returns-clause-stands g c =
 pub returns-clause-stopped : goal.returns-clause-stopped
 returns-clause-stopped g c =
     if_err _ _ c.answer_round.result
-    (λ stop memory first before batches known. stopped first c.args.self.now c.answer_round.new.self before (g.S.Shelf.counts c.args.shelf.now) (g.S.Shelf.counts c.answer_round.new.shelf) _ batches c.args.calls.now stop memory
-    c.answer_round.ensures.shelf.counts.faults.never_falls known) c.answer_round.ensures.memory
+    (λ stop memory first before batches known. stopped first c.args.self.now before (g.S.Shelf.counts c.args.shelf.now) (g.S.Shelf.counts c.answer_round.new.shelf) _ batches c.args.calls.now stop memory
+    c.answer_round.ensures.shelf.counts.faults.never_falls c.answer_round.ensures.most known) c.answer_round.ensures.memory
