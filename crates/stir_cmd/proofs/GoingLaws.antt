@@ -23,7 +23,6 @@ use Rattle.verify_service.specs.Handing.{kept_by}
 use Rattle.verify_service.specs.Report.{report}
 use Rattle.stir_cmd.specs.Outside.{IfTold, Outside}
 use Rattle.stir_cmd.specs.Calls.{basis_of, config_by, settings_by}
-use Rattle.stir_cmd.specs.FewReads.{ReadsFewOn}
 use Rattle.stir_cmd.specs.Headline.{AreJudgedOn, VerifiedOn}
 use Rattle.stir_cmd.specs.OverFiles.{counted, over_files}
 use Rattle.stir_cmd.specs.OverLog.{log_in}
@@ -87,29 +86,6 @@ pub headline_on : (verifying : VerifyingView) (name : List ℕ) (before now : Ou
 headline_on verifying name before now status came low =
     let b = behind_files (going_over verifying name) before now status came low in
     told_by verifying name before (counted before b.counts) now status before.files before.left b.read b.stands b.go_on.faults.never_falls b.stay refl refl (b.says.done low) (b.says.done low).log
-
--- ---- how often files were read
-
-reads_by : (verifying : VerifyingView) (name : List ℕ) (before mid now : Outside) (status : ℕ) (files : Option Files) (left : Option (List ℕ)) (materials : GoingMaterials) → GoingOf files verifying.judging name materials
-    → mid.counts.reads ≤ before.counts.reads + 5
-    → (done : DoneReport (going_words (settings_by verifying.judging.settings) verifying.workers materials mid now) (start_at materials.state) (log_in mid) (log_in now) status)
-    → IfSome left (λ bytes. LogText (start_at materials.state) bytes (calls_of done.batches) [])
-    → IfTold files left (λ told bytes. ReadsFewOn verifying name told bytes before now)
-reads_by verifying name before mid now status None left materials stands five done log = tt
-reads_by verifying name before mid now status (Some files) None materials stands five done log = tt
-reads_by verifying name before mid now status (Some files) (Some bytes) materials stands five done log = record {
-  materials = materials;
-  stands = stands;
-  calls = calls_of done.batches;
-  log = log;
-  reads = λ texts named. omega (arith, five, done.closes.few_reads (record { same = refl; below_last = omega arith }) texts named);
-}
-
-pub reads_on : (verifying : VerifyingView) (name : List ℕ) (before now : Outside) (status : ℕ) → (over_files (going_over verifying name)).Came before now status → status ≤ 1
-    → IfTold before.files before.left (λ files bytes. ReadsFewOn verifying name files bytes before now)
-reads_on verifying name before now status came low =
-    let b = behind_files (going_over verifying name) before now status came low in
-    reads_by verifying name before (counted before b.counts) now status before.files before.left b.read b.stands b.reads (b.says.done low) (b.says.done low).log
 
 -- ---- the promises
 

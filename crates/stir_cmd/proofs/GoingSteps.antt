@@ -89,7 +89,7 @@ same_basis settings workers materials service r = λ i. record {
 same_kept : (settings : Settings) (told : Told) (state : StateView) (service : ServiceView) → IsRestored settings told state service → held service.past ≡ kept_by state.kept
 same_kept settings told state service r = λ i ticket. sym (r.past ticket) i
 
-same_start : (state : StateView) (call moment : ℕ) → call ≡ state.call → moment ≡ state.moment → start call moment ≡ start_at state
+pub same_start : (state : StateView) (call moment : ℕ) → call ≡ state.call → moment ≡ state.moment → start call moment ≡ start_at state
 same_start state call moment number last = λ i. record { number = number i; moment = last i; count = 0; place = 0 }
 
 pub log_on : (settings : Settings) (workers : ℕ) (materials : GoingMaterials) (service : ServiceView) (call moment : ℕ) (before now : Outside) (status : ℕ)

@@ -77,11 +77,11 @@ pub fn run<R: Threads + Sync, S: Shelf, I: Source, O: Sink>(
         (outside_of S.Shelf I.Source O.Sink shelf.old input.old sink.old)
         (outside_of S.Shelf I.Source O.Sink shelf.new input.new sink.new) result }
 
-    // Of `verify`: let the calls of the log name at most 4,096 x5u texts that the chain map lists. Then files are read no more often than if each
-    // named file, and the file of each of these texts, were read once.
+    // Of `verify`, whatever the status: let the calls of the log name at most 4,096 x5u texts that the chain map lists. Then files are read no more
+    // often than if each named file, and the file of each of these texts, were read once.
     ensures few_reads { FewReads (order_of (texts words.now))
         (outside_of S.Shelf I.Source O.Sink shelf.old input.old sink.old)
-        (outside_of S.Shelf I.Source O.Sink shelf.new input.new sink.new) result }
+        (outside_of S.Shelf I.Source O.Sink shelf.new input.new sink.new) }
 
     // If the status is 0 or 1, the input was read to its end, or is a message that is too long; and what was written is what the command says in the
     // words of its subject. `explain` writes the rules that each call of the log meets, up to the first that it breaks; `ask` what is asked for its
@@ -137,6 +137,9 @@ fn carry_out<R: Threads + Sync, S: Shelf, I: Source, O: Sink>(
     ensures outcome { RanOrShort (order_of (texts words.now))
         (outside_of S.Shelf I.Source O.Sink shelf.old input.old sink.old)
         (outside_of S.Shelf I.Source O.Sink shelf.new input.new sink.new) result }
+    ensures few_reads { FewReads (order_of (texts words.now))
+        (outside_of S.Shelf I.Source O.Sink shelf.old input.old sink.old)
+        (outside_of S.Shelf I.Source O.Sink shelf.new input.new sink.new) }
     ensures same_files { S.files shelf.new ≡ S.files shelf.old }
 {
     match Order::of(alloc, words) {

@@ -1,15 +1,19 @@
 //! The command `verify`: the judgement of the calls of a log.
-ghost use Rattle.std.specs.Prelude.{◌≡◌, ◌≤◌, IfOk};
+ghost use Rattle.std.specs.Prelude.{◌≡◌, ◌≤◌, IfOk, None, Some};
+ghost use Rattle.call_log.specs.Log.{start};
+ghost use Rattle.log_rounds.specs.Reads.{ReadsFirst};
+ghost use Rattle.stir_cmd.specs.FewReads.{FewReadsFrom};
 ghost use Rattle.stir_cmd.specs.Outside.{outside_of};
 ghost use Rattle.stir_cmd.specs.Stopping.{EndsAtStop};
 ghost use Rattle.stir_cmd.specs.OverFiles.{over_files};
-ghost use Rattle.stir_cmd.specs.Verifying.{RanBy, WentOn, going_over, verify_course, verify_over};
+ghost use Rattle.stir_cmd.specs.Verifying.{RanBy, WentOn, going_over, start_at, verify_course, verify_over};
 ghost use Rattle.stir_files.specs.Stop.{stop_of};
 ghost use Rattle.stir_words.specs.Seen.{verifying_view};
 ghost use Rattle.stir_outside.specs.Stays.{ShelfStays};
 ghost use Rattle.verify_service.specs.Handing.{IsRestored};
 
 use crate::settings::settings_of;
+use call_log::one_log;
 use log_rounds::{HandingVerifier, LogVerifier, judge_log, judge_log_on};
 use state_text::State;
 use std::alloc::{AllocError, Global};
@@ -22,7 +26,7 @@ use verify_service::{Service, World};
 
 /// Reads the named files, and judges the calls of the log by what they say; if a file can't be had, it says so. A log that goes on from a state
 /// ends with the state that it hands on.
-#[tactic(auto, using(crate::proofs::GoingSteps::ran_alone, crate::proofs::GoingSteps::ran_on))]
+#[tactic(auto, using(crate::proofs::GoingSteps::ran_alone, crate::proofs::GoingSteps::ran_on, crate::proofs::FewReadsLaws::few_is_alone, crate::proofs::FewReadsLaws::few_is_on))]
 pub(crate) fn verify<R: Threads + Sync, S: Shelf, I: Source, O: Sink>(
     rt: &R,
     alloc: Global,
@@ -34,6 +38,9 @@ pub(crate) fn verify<R: Threads + Sync, S: Shelf, I: Source, O: Sink>(
     ensures ran { (verify_course (verifying_view verifying.now)).Came
         (outside_of S.Shelf I.Source O.Sink shelf.old input.old sink.old)
         (outside_of S.Shelf I.Source O.Sink shelf.new input.new sink.new) result }
+    ensures few_reads { FewReadsFrom (verifying_view verifying.now) (verifying_view verifying.now).state
+        (outside_of S.Shelf I.Source O.Sink shelf.old input.old sink.old)
+        (outside_of S.Shelf I.Source O.Sink shelf.new input.new sink.new) }
     ensures same_files { S.files shelf.new ≡ S.files shelf.old }
 {
     match verifying.state {
@@ -54,8 +61,12 @@ fn verify_alone<R: Threads + Sync, S: Shelf, I: Source, O: Sink>(
     ensures ran { (over_files (verify_over (verifying_view verifying.now))).Came
         (outside_of S.Shelf I.Source O.Sink shelf.old input.old sink.old)
         (outside_of S.Shelf I.Source O.Sink shelf.new input.new sink.new) result }
+    ensures few_reads { FewReadsFrom (verifying_view verifying.now) None
+        (outside_of S.Shelf I.Source O.Sink shelf.old input.old sink.old)
+        (outside_of S.Shelf I.Source O.Sink shelf.new input.new sink.new) }
     ensures same_files { S.files shelf.new ≡ S.files shelf.old }
 {
+    one_log();
     match read_materials(alloc, shelf, &verifying.judging) {
         Ok(materials) => judge_by(
             rt,
@@ -87,6 +98,7 @@ fn judge_by<R: Threads + Sync, S: Shelf, I: Source, O: Sink>(
     ensures ran { RanBy settings workers materials
         (outside_of S.Shelf I.Source O.Sink shelf.old input.old sink.old)
         (outside_of S.Shelf I.Source O.Sink shelf.new input.new sink.new) result }
+    ensures reads { ReadsFirst settings materials.chains (start 0 0) (I.left input.old) (S.counts shelf.old).reads (S.counts shelf.new).reads }
     ensures shelf { ShelfStays S.Shelf shelf.old shelf.new }
 {
     let Materials {
@@ -125,8 +137,12 @@ fn verify_on<R: Threads + Sync, S: Shelf, I: Source, O: Sink>(
     ensures ran { (over_files (going_over (verifying_view verifying.now) name.now)).Came
         (outside_of S.Shelf I.Source O.Sink shelf.old input.old sink.old)
         (outside_of S.Shelf I.Source O.Sink shelf.new input.new sink.new) result }
+    ensures few_reads { FewReadsFrom (verifying_view verifying.now) (Some name.now)
+        (outside_of S.Shelf I.Source O.Sink shelf.old input.old sink.old)
+        (outside_of S.Shelf I.Source O.Sink shelf.new input.new sink.new) }
     ensures same_files { S.files shelf.new ≡ S.files shelf.old }
 {
+    one_log();
     match read_going(alloc, shelf, &verifying.judging, name) {
         Ok(materials) => go_on_by(
             rt,
@@ -160,6 +176,7 @@ fn go_on_by<R: Threads + Sync, S: Shelf, I: Source, O: Sink>(
     ensures ran { WentOn settings workers materials
         (outside_of S.Shelf I.Source O.Sink shelf.old input.old sink.old)
         (outside_of S.Shelf I.Source O.Sink shelf.new input.new sink.new) result }
+    ensures reads { ReadsFirst settings materials.judging.chains (start_at materials.state) (I.left input.old) (S.counts shelf.old).reads (S.counts shelf.new).reads }
     ensures shelf { ShelfStays S.Shelf shelf.old shelf.new }
 {
     let GoingMaterials { judging, state } = materials;

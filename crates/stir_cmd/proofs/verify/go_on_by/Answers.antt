@@ -1,5 +1,7 @@
 -- A restored service judges the log, or memory runs out for it.
 use Rattle.std.proofs.Common.{inr, refl}
+use Rattle.stir_cmd.specs.Verifying.{start_at}
+use Rattle.stir_cmd.proofs.FewReadsLaws.{reads_none, reads_restored}
 use Rattle.stir_cmd.proofs.GoingSteps.{goes_on_from, log_on, trusts_restored}
 use Rattle.stir_cmd.proofs.verify.go_on_by.Goals as goal
 
@@ -14,3 +16,9 @@ judge_log_on-requires-clause-trusts g c κs within = trusts_restored _ _ c.args.
 
 pub returns-clause-ran : goal.returns-clause-ran
 returns-clause-ran g c = log_on c.args.settings c.args.workers c.args.materials c.in-Ok.service _ _ _ _ _ c.in-Ok.ensures c.call-call.ensures c.moment-moment.ensures c.judge_log_on.ensures.says
+
+pub returns-in-Err-clause-reads : goal.returns-in-Err-clause-reads
+returns-in-Err-clause-reads g c = reads_none c.args.settings c.args.materials.judging.chains (start_at c.args.materials.state) _ _
+
+pub returns-clause-reads : goal.returns-clause-reads
+returns-clause-reads g c = reads_restored c.args.settings c.args.materials c.in-Ok.service _ _ _ _ _ c.in-Ok.ensures c.call-call.ensures c.moment-moment.ensures c.judge_log_on.ensures.reads

@@ -2,6 +2,7 @@
 use Rattle.std.proofs.Common.{inr}
 use Rattle.stir_files.specs.declared.going.GoingMaterials.{GoingMaterials}
 use Rattle.stir_cmd.proofs.GoingSteps.{call_within, from_files, same_window}
+use Rattle.stir_cmd.proofs.FewReadsLaws.{few_named_on, few_on}
 use Rattle.stir_cmd.proofs.StopSteps.{stopped}
 use Rattle.stir_words.specs.Seen.{verifying_view}
 use Rattle.stir_cmd.proofs.verify.verify_on.Goals as goal
@@ -20,3 +21,10 @@ returns-in-Ok-clause-ran g c =
 pub returns-in-Err-clause-ran : goal.returns-in-Err-clause-ran
 returns-in-Err-clause-ran g c =
     inr (stopped GoingMaterials _ c.in-Err.stop _ _ _ _ _ _ _ _ _ _ _ c.in-Err.ensures.stopped c.in-Err.ensures.truly c.in-Err.ensures.cause c.end_at.ensures)
+
+pub returns-in-Ok-clause-few_reads : goal.returns-in-Ok-clause-few_reads
+returns-in-Ok-clause-few_reads g c =
+    few_on c.one_log.ensures (verifying_view c.args.verifying.now) c.args.name.now _ _ _ _ c.in-Ok.materials c.in-Ok.ensures.read c.read_going.ensures.reads c.settings_of.ensures c.go_on_by.ensures.reads
+
+pub returns-in-Err-clause-few_reads : goal.returns-in-Err-clause-few_reads
+returns-in-Err-clause-few_reads g c = few_named_on (verifying_view c.args.verifying.now) c.args.name.now _ _ c.read_going.ensures.reads
