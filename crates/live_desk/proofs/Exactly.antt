@@ -1,8 +1,8 @@
 -- That a claim's and a look's answers are exact: what each case says excludes the others.
-use Rattle.std.proofs.Common.{◌≡◌, Bool, true, false, ℕ, zero, suc, ◌+◌, ◌-◌, ◌<◌, ◌≤◌, inl, inr, ⊎_elim, List, [], get_or, refl, sym, ap, ◌∙◌, subst, arith}
+use Rattle.std.proofs.Common.{◌≡◌, Bool, true, false, ℕ, zero, suc, ◌+◌, ◌-◌, ◌*◌, ◌<◌, ◌≤◌, inl, inr, ⊎_elim, List, [], length, get_or, refl, sym, ap, ◌∙◌, subst, arith}
 use mathlib.Core.Logic.{dite}
 use native.Mathlib.Decide.{dec_lt}
-use Rattle.live_desk.specs.Lists.{In}
+use Rattle.live_desk.specs.Lists.{In, more_by}
 use Rattle.live_desk.specs.Rule.{Sound, code_of}
 use Rattle.live_desk.specs.Ticket.{IsTicket, pieces}
 use Rattle.live_desk.specs.Views.{AllMark, AllStand, Stands, seen_of, set_of}
@@ -18,6 +18,7 @@ use Rattle.live_desk.specs.declared.view.SeenWord.{SeenWord}
 use Rattle.live_desk.specs.declared.view.Blank.{Blank}
 use Rattle.live_desk.specs.declared.claim.LiveClaim.{LiveClaim}
 use Rattle.live_desk.specs.declared.claim.LiveClaim.TheVariants.{Won, Lost, Full}
+use Rattle.live_desk.proofs.Searches.{more_is}
 use Rattle.live_desk.proofs.Sums.{in_left}
 use Rattle.live_desk.proofs.Trails.{has_stands}
 use Rattle.live_desk.proofs.Words.{one_slot}
@@ -82,6 +83,11 @@ module _ (size : ℕ) (some : 0 < size) (ticket : List ℕ) (is : IsTicket ticke
   up : (n level : ℕ) → n < level → n + 1 < level + 1
   up n level less = omega arith
 
+  few_made : (sets : List SetWord) (seen : List SeenWord) (blanks : List Blank) → after ≡ gained sets seen blanks before → length sets + (length seen + length blanks) ≤ 6 * size → after.steps ≤ before.steps + 6 * size
+  few_made sets seen blanks more few =
+      let steps : after.steps ≡ more_by blanks (more_by sets (more_by seen before.steps)) = ap (λ (h : Holder). h.steps) more in
+      omega (arith, steps, more_is seen before.steps, more_is sets (more_by seen before.steps), more_is blanks (more_by sets (more_by seen before.steps)), few)
+
   pub claimed_of : (answer : LiveClaim) → ClaimedExactly size ticket before after answer → Claimed size ticket before after answer
   claimed_of Won exact =
       let ended = exact.ended in
@@ -102,6 +108,7 @@ module _ (size : ℕ) (some : 0 < size) (ticket : List ℕ) (is : IsTicket ticke
         );
         full = λ n. ((λ wrong. absurd cc), (λ full. absurd (my_never exact.sets exact.seen [] exact.gained 6 full.0 ended.1 full.2 trail full.3)));
         steps = exact.steps;
+        made = few_made exact.sets exact.seen [] exact.gained (omega (arith, exact.steps));
         ticket_is = is;
       }
   claimed_of Lost exact =
@@ -118,6 +125,7 @@ module _ (size : ℕ) (some : 0 < size) (ticket : List ℕ) (is : IsTicket ticke
         lost = ((λ _. record { parent = ended.0; slot = ended.1; trail = ended.2; found = ended.3 }), (λ _. refl));
         full = λ n. ((λ wrong. absurd cc), (λ full. absurd (my_never exact.sets exact.seen [] exact.gained 6 full.0 ended.1 full.2 trail full.3)));
         steps = exact.steps;
+        made = few_made exact.sets exact.seen [] exact.gained (omega (arith, exact.steps));
         ticket_is = is;
       }
   claimed_of (Full n) exact =
@@ -155,6 +163,7 @@ module _ (size : ℕ) (some : 0 < size) (ticket : List ℕ) (is : IsTicket ticke
               ap (λ (k : ℕ). Full k) (ended.1 ∙ (ap (λ (k : ℕ). k + 1) (sym level_is) ∙ sym full.1))),
         );
         steps = exact.steps;
+        made = few_made exact.sets exact.seen [] exact.gained (omega (arith, exact.steps));
         ticket_is = is;
       } where
         full_injective : (a b : ℕ) → Full a ≡ Full b → a ≡ b
@@ -180,6 +189,7 @@ module _ (size : ℕ) (some : 0 < size) (ticket : List ℕ) (is : IsTicket ticke
               stops.2),
         );
         steps = exact.steps;
+        made = few_made [] exact.seen exact.blanks exact.gained (omega (arith, exact.steps));
       }
   held_of false exact =
       let ended = exact.ended in
@@ -206,4 +216,5 @@ module _ (size : ℕ) (some : 0 < size) (ticket : List ℕ) (is : IsTicket ticke
         );
         not_found = ((λ _. (ended.0, ended.1, ⊎_elim (λ blank. inl blank.0) (λ full. inr full) ended.3)), (λ _. refl));
         steps = exact.steps;
+        made = few_made [] exact.seen exact.blanks exact.gained (omega (arith, exact.steps));
       }

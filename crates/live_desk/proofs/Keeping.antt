@@ -10,14 +10,14 @@ use mathlib.Core.Logic.{dite}
 use native.Mathlib.Decide.{ℕ_discrete}
 use lib.ListN.{get_elem?}
 use Rattle.atomic_table.specs.Table.{State, Act, keeps, Me, Valid, carried_after, Allows, Splits, Joins, step, stepped}
-use Rattle.atomic_table.proofs.Lists.{at_set, at_snoc, exchanged, set_again, set_else}
+use Rattle.atomic_table.proofs.Lists.{at_set, at_snoc, exchanged, set_else}
 use Rattle.live_desk.specs.Lists.{In, count, total}
 use Rattle.live_desk.specs.Rule.{Sound, code_of, reads, turn, word_at}
 use Rattle.live_desk.specs.Ticket.{IsTicket, pieces}
 use Rattle.live_desk.specs.Views.{AllMark, AllStand, Holds, Marks, Stands, at_place, seen_of, set_of, setters}
 use Rattle.live_desk.specs.Known.{Known}
 use Rattle.live_desk.specs.Trail.{Has, Trail}
-use Rattle.live_desk.specs.Steps.{Exchanges, KnownOf, Loads, Looks, both, left_part, right_part, spent_view, with_blank, with_seen, with_set}
+use Rattle.live_desk.specs.Steps.{Exchanges, KnownOf, Loads, Looks, both, left_part, right_part, spent_view, with_blank, with_look, with_seen, with_set}
 use Rattle.live_desk.specs.Holder.{Holder, holder}
 use Rattle.live_desk.specs.ClaimSteps.{Exchanged, Ready}
 use Rattle.live_desk.specs.HeldSteps.{Loaded}
@@ -115,10 +115,10 @@ module _ {S : Type 0} (size : ℕ) where
 
   module _ (s : State S View) (id : ℕ) (v : View) (at : get_elem? s.views id ≡ some v) (above : 0 < v.share) (holds : Holds size s) where
     -- a step that leaves the words and the sets as they are
-    same_holds : (seen : List SeenWord) (blanks : List Blank) → AllStand size s.words seen
-        → Holds size (record { words = s.words; homes = s.homes; views = set s.views id (record { size = v.size; sets = v.sets; seen = seen; blanks = blanks; share = v.share }) })
-    same_holds seen blanks stand =
-        let w : View = record { size = v.size; sets = v.sets; seen = seen; blanks = blanks; share = v.share } in
+    same_holds : (seen : List SeenWord) (blanks : List Blank) (steps : ℕ) → AllStand size s.words seen
+        → Holds size (record { words = s.words; homes = s.homes; views = set s.views id (record { size = v.size; sets = v.sets; seen = seen; blanks = blanks; share = v.share; steps = steps }) })
+    same_holds seen blanks steps stand =
+        let w : View = record { size = v.size; sets = v.sets; seen = seen; blanks = blanks; share = v.share; steps = steps } in
         record {
           counts = holds.counts;
           sound = holds.sound;
@@ -277,12 +277,11 @@ module _ {S : Type 0} (size : ℕ) where
 module _ (size slots id : ℕ) (me : Me (List ℕ) View) (above : 0 < me.0.share) (sizes : me.0.size ≡ size) where
   pub look_allowed : Allows (Holds size) slots id me 0 (λ n. n) (Looks (step slots 0 0 0 none) me)
   look_allowed s holds homes at fits =
-      let words : set s.words 0 (get_or s.words 0 0) ≡ s.words = set-get_or s.words 0 0 in
-      let views : set s.views id me.0 ≡ s.views = set_again s.views id me.0 at in
-      let same : Holds size (stepped s 0 (get_or s.words 0 0) id me.1 me.0 keeps) =
-      subst (λ (ws : List ℕ). Holds size (record { words = ws; homes = s.homes; views = set s.views id me.0 })) (sym words)
-      (subst (λ (vs : List View). Holds size (record { words = s.words; homes = s.homes; views = vs })) (sym views) holds) in
-      (me.0, keeps, tt, same, record { same = refl; known = known_of size s holds id me.0 at above })
+      let w : View = with_look me.0 in
+      let after : Holds size (stepped s 0 (get_or s.words 0 0) id me.1 w keeps) =
+      subst (λ (ws : List ℕ). Holds size (record { words = ws; homes = s.homes; views = set s.views id w })) (sym (set-get_or s.words 0 0))
+      (same_holds size s id me.0 at above holds me.0.seen me.0.blanks w.steps (holds.seen id me.0 at)) in
+      (w, keeps, tt, after, record { looked = refl; slots = refl; known = known_of size _ after id w (set_there s.views id me.0 w at) above })
 
   module _ (level slot : ℕ) (below : level < 6) (within : slot < size) where
     level_is : (level * size + slot) / me.0.size ≡ level
@@ -297,7 +296,7 @@ module _ (size slots id : ℕ) (me : Me (List ℕ) View) (above : 0 < me.0.share
         let n : ℕ = get_or s.words (level * size + slot) 0 in
         let stands : Stands size s.words level slot n = record { below = below; within = within; is = refl; some = taken } in
         subst (λ (ws : List ℕ). Holds size (record { words = ws; homes = s.homes; views = set s.views id (with_seen level slot n me.0) })) (sym (set-get_or s.words (level * size + slot) 0))
-        (same_holds size s id me.0 at above holds (seen_of level slot n ∷ me.0.seen) me.0.blanks (stand_more size s id me.0 at above holds level slot n stands))
+        (same_holds size s id me.0 at above holds (seen_of level slot n ∷ me.0.seen) me.0.blanks (suc me.0.steps) (stand_more size s id me.0 at above holds level slot n stands))
 
     seen_is : (n : ℕ) → with_seen level slot n me.0 ≡ with_seen ((level * size + slot) / me.0.size) ((level * size + slot) % me.0.size) n me.0
     seen_is n = ap (λ (l : ℕ). with_seen l slot n me.0) (sym level_is) ∙ ap (λ (k : ℕ). with_seen ((level * size + slot) / me.0.size) k n me.0) (sym slot_is)
@@ -310,7 +309,7 @@ module _ (size slots id : ℕ) (me : Me (List ℕ) View) (above : 0 < me.0.share
         let w : View = with_blank level slot me.0 in
         let after : Holds size (stepped s (level * size + slot) n id me.1 w keeps) =
         subst (λ (ws : List ℕ). Holds size (record { words = ws; homes = s.homes; views = set s.views id w })) (sym (set-get_or s.words (level * size + slot) 0))
-        (same_holds size s id me.0 at above holds me.0.seen w.blanks (holds.seen id me.0 at)) in (
+        (same_holds size s id me.0 at above holds me.0.seen w.blanks w.steps (holds.seen id me.0 at)) in (
           w,
           keeps,
           tt,

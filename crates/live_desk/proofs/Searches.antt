@@ -1,9 +1,9 @@
 -- How a search goes on and ends, in the words of a seat's holder.
-use Rattle.std.proofs.Common.{◌≡◌, ◌≢◌, ℕ, zero, suc, ◌+◌, ◌<◌, ◌≤◌, inl, inr, ⊎_elim, List, [], ◌∷◌, ◌++◌, get_or, refl, sym, ap, ◌∙◌, subst, arith}
-use Rattle.std.proofs.lemmas.List.{append_assoc}
+use Rattle.std.proofs.Common.{◌≡◌, ◌≢◌, ℕ, zero, suc, ◌+◌, ◌<◌, ◌≤◌, inl, inr, ⊎_elim, List, [], ◌∷◌, ◌++◌, length, get_or, refl, sym, ap, ◌∙◌, subst, arith}
+use Rattle.std.proofs.lemmas.List.{append_assoc, length-append}
 use mathlib.Core.Logic.{dite}
 use native.Mathlib.Decide.{ℕ_discrete}
-use Rattle.live_desk.specs.Lists.{In}
+use Rattle.live_desk.specs.Lists.{In, more_by}
 use Rattle.live_desk.specs.Rule.{code_of, turn}
 use Rattle.live_desk.specs.Ticket.{pieces}
 use Rattle.live_desk.specs.Views.{seen_of, set_of}
@@ -107,13 +107,35 @@ searched_full size level code tries ticket before now all passes = record {
 
 -- ---- all levels of a claim
 
+pub more_is : {A : Type 0} (xs : List A) (n : ℕ) → more_by xs n ≡ length xs + n
+more_is [] n = omega arith
+more_is (x ∷ xs) n = omega (arith, more_is xs n)
+
+six_counts : {A B C : Type 0} (more sets : List A) (further seen : List B) (beyond blanks : List C) (n : ℕ)
+    → more_by beyond (more_by more (more_by further (more_by blanks (more_by sets (more_by seen n))))) ≡ more_by (beyond ++ blanks) (more_by (more ++ sets) (more_by (further ++ seen) n))
+six_counts more sets further seen beyond blanks n =
+    let a = more_is seen n in
+    let b = more_is sets (more_by seen n) in
+    let c = more_is blanks (more_by sets (more_by seen n)) in
+    let d = more_is further (more_by blanks (more_by sets (more_by seen n))) in
+    let e = more_is more (more_by further (more_by blanks (more_by sets (more_by seen n)))) in
+    let f = more_is beyond (more_by more (more_by further (more_by blanks (more_by sets (more_by seen n))))) in
+    let g = more_is (further ++ seen) n in
+    let h = more_is (more ++ sets) (more_by (further ++ seen) n) in
+    let i = more_is (beyond ++ blanks) (more_by (more ++ sets) (more_by (further ++ seen) n)) in
+    omega (arith, a, b, c, d, e, f, g, h, i, length-append more sets, length-append further seen, length-append beyond blanks)
+
 -- what was gained twice
 pub gained_more : (sets more : List SetWord) (seen further : List SeenWord) (blanks beyond : List Blank) (h : Holder)
     → gained more further beyond (gained sets seen blanks h) ≡ gained (more ++ sets) (further ++ seen) (beyond ++ blanks) h
 gained_more sets more seen further blanks beyond h =
-    ap (λ (xs : List SetWord). record { desk = h.desk; sets = xs; seen = further ++ (seen ++ h.seen); blanks = beyond ++ (blanks ++ h.blanks); share = h.share }) (sym (append_assoc more sets h.sets))
-    ∙ (ap (λ (xs : List SeenWord). record { desk = h.desk; sets = (more ++ sets) ++ h.sets; seen = xs; blanks = beyond ++ (blanks ++ h.blanks); share = h.share }) (sym (append_assoc further seen h.seen))
-    ∙ ap (λ (xs : List Blank). record { desk = h.desk; sets = (more ++ sets) ++ h.sets; seen = (further ++ seen) ++ h.seen; blanks = xs; share = h.share }) (sym (append_assoc beyond blanks h.blanks)))
+    let twice : ℕ = more_by beyond (more_by more (more_by further (more_by blanks (more_by sets (more_by seen h.steps))))) in
+    let steps : twice ≡ more_by (beyond ++ blanks) (more_by (more ++ sets) (more_by (further ++ seen) h.steps)) =
+    six_counts more sets further seen beyond blanks h.steps in
+    ap (λ (xs : List SetWord). record { desk = h.desk; sets = xs; seen = further ++ (seen ++ h.seen); blanks = beyond ++ (blanks ++ h.blanks); share = h.share; steps = twice }) (sym (append_assoc more sets h.sets))
+    ∙ (ap (λ (xs : List SeenWord). record { desk = h.desk; sets = (more ++ sets) ++ h.sets; seen = xs; blanks = beyond ++ (blanks ++ h.blanks); share = h.share; steps = twice }) (sym (append_assoc further seen h.seen))
+    ∙ (ap (λ (xs : List Blank). record { desk = h.desk; sets = (more ++ sets) ++ h.sets; seen = (further ++ seen) ++ h.seen; blanks = xs; share = h.share; steps = twice }) (sym (append_assoc beyond blanks h.blanks))
+    ∙ ap (λ (n : ℕ). record { desk = h.desk; sets = (more ++ sets) ++ h.sets; seen = (further ++ seen) ++ h.seen; blanks = (beyond ++ blanks) ++ h.blanks; share = h.share; steps = n }) steps))
 
 pub descends_none : (size : ℕ) (ticket : List ℕ) (h : Holder) → 0 < size → Descends size ticket 0 0 h h
 descends_none size ticket h more = record { sets = []; seen = []; gained = refl; own_sets = λ e nothing. absurd nothing; own_seen = λ e nothing. absurd nothing; trail = refl; within = more; steps = omega arith }

@@ -33,6 +33,7 @@ pub record Claimed (size : ℕ) (ticket : List ℕ) (before after : Holder) (ans
   pub lost : (answer ≡ Lost) ↔ FoundLast ticket sets seen
   -- Full: it found each word of that level nonzero, and none of them the ticket's code
   pub full : (n : ℕ) → (answer ≡ Full n) ↔ ((level : ℕ) × (n ≡ level + 1) × (level < 6) × FullAt size ticket sets seen level)
-  -- each step set a word or found one
+  -- it set and found few words, and made few steps, loads among them
   pub steps : length sets + length seen ≤ 6 * size
+  pub made : after.steps ≤ before.steps + 6 * size
   pub ticket_is : IsTicket ticket

@@ -20,5 +20,6 @@ pub record Held (size : ℕ) (ticket : List ℕ) (before after : Holder) (answer
   pub found : (answer ≡ true) ↔ ((slot : ℕ) × Trail [] seen (pieces ticket) 6 slot)
   -- false: at some level a word of the search was 0, or each word was found without the ticket's code
   pub not_found : (answer ≡ false) ↔ ((level : ℕ) × (level < 6) × (BlankAt size ticket seen blanks level ⊎ FullAt size ticket [] seen level))
-  -- each step found a word or a 0
+  -- it found few words and zeros, and made few steps
   pub steps : length seen + length blanks ≤ 6 * size
+  pub made : after.steps ≤ before.steps + 6 * size

@@ -2,14 +2,14 @@
 //!
 //! | Kind | Word | View |
 //! |---|---|---|
-//! | make | all 0 | empty lists, share 1 |
+//! | make | all 0 | empty lists, share 1, no step |
 //! | split | loads word 0 | the share is halved; the new view has the other half and nothing else |
 //! | join | loads word 0 | the one view gains the lists and the share of the other, which is spent |
 //! | load | stays | a nonzero word joins what was seen, and a slot whose word is 0 the blanks |
 //! | exchange of a 0 | 0 to the code | joins what was set, with the ticket |
 //! | exchange of another word | stays | the word joins what was seen |
 //!
-//! A join loads word 0 once more, for a look that changes nothing. A set is made only if the view's sets and seen words have the ticket's
+//! A join loads word 0 once more, for a look that changes no list. Each step on a word is counted in the view of the seat that makes it. A set is made only if the view's sets and seen words have the ticket's
 //! codes at all levels before, and other codes at the slots before it (`Ready` of `specs/ClaimSteps`).
 ghost use Rattle.live_desk.specs.Views.{Holds};
 ghost use Rattle.live_desk.specs.Steps.{Exchanges, Loads, Looks, both, first_view, left_part, right_part, spent_view};
@@ -45,7 +45,7 @@ impl Join<View> for Together {
     ghost spent = { spent_view };
 }
 
-/// A look at a word, which changes no word and no view.
+/// A look at a word, which changes no word, and of the view the count of steps alone.
 pub struct Look;
 
 impl Play<[u8; 32], View> for Look {

@@ -43,4 +43,6 @@ pub struct View {
     pub blanks: LinkedList<Blank>,
     /// How many of the desk's parts the seat has; 2^32 parts are the whole desk.
     pub share: u64,
+    /// How many steps on words were made with the seat, and with those that were joined to it.
+    pub steps: u64,
 }
