@@ -1,4 +1,5 @@
-//! ES256 (RFC 7518, section 3.4): ECDSA on P-256 with SHA-256, by OpenSSL. What is confirmed here is what the judge takes for good.
+//! ES256 (RFC 7518, section 3.4): ECDSA on P-256 with SHA-256, by OpenSSL. What is confirmed here
+//! is what the judge takes for good.
 use openssl::bn::{BigNum, BigNumContext};
 use openssl::ec::{EcGroup, EcKey, EcPoint};
 use openssl::ecdsa::EcdsaSig;
@@ -9,7 +10,8 @@ use std::collections::HashMap;
 use std::ops::Range;
 use std::sync::RwLock;
 
-/// A question: the key, an uncompressed point of 65 bytes; the digest, 32; the signature, r and s, 64.
+/// A question: the key, an uncompressed point of 65 bytes; the digest, 32; the signature, r and s,
+/// 64.
 pub type Question = [u8; 161];
 
 const KEY: Range<usize> = 0..65;
@@ -40,7 +42,8 @@ pub fn question(line: &[u8]) -> Option<Question> {
     rest.is_empty().then_some(question)
 }
 
-/// What a character is as a hex digit. The digits of keys and signatures are random, so a branch for each would be foretold wrongly half the time.
+/// What a character is as a hex digit. The digits of keys and signatures are random, so a branch
+/// for each would be foretold wrongly half the time.
 const DIGITS: [u8; 256] = digits();
 const NO_DIGIT: u8 = 0xff;
 
@@ -58,12 +61,15 @@ const fn digits() -> [u8; 256] {
 /// Whether the signature is good; what it isn't for whatever reason, it isn't.
 fn is_good(key: &EcKey<Public>, digest: &[u8], signature: &[u8]) -> bool {
     let (r, s) = signature.split_at(32);
-    let verify = || EcdsaSig::from_private_components(BigNum::from_slice(r)?, BigNum::from_slice(s)?)?.verify(digest, key);
+    let verify = || {
+        EcdsaSig::from_private_components(BigNum::from_slice(r)?, BigNum::from_slice(s)?)?
+            .verify(digest, key)
+    };
     verify().unwrap_or(false)
 }
 
-/// A verifier that remembers: keys, and what it answered, in two generations. What is asked again is remembered again, so the questions of
-/// certificates stay and those of PASSporTs go.
+/// A verifier that remembers: keys, and what it answered, in two generations. What is asked again
+/// is remembered again, so the questions of certificates stay and those of PASSporTs go.
 pub struct Verifier {
     curve: EcGroup,
     keys: RwLock<HashMap<[u8; 65], Option<EcKey<Public>>>>,
@@ -95,7 +101,7 @@ impl Verifier {
     /// The same, without remembering the answer.
     pub fn checks(&self, question: &Question) -> bool {
         let key = self.key(question[KEY].try_into().expect("65 bytes"));
-        key.map_or(false, |key| is_good(&key, &question[DIGEST], &question[SIGNATURE]))
+        key.is_some_and(|key| is_good(&key, &question[DIGEST], &question[SIGNATURE]))
     }
 
     fn remembered(&self, question: &Question) -> Option<bool> {
@@ -132,8 +138,10 @@ impl Verifier {
         key
     }
 
-    /// The public key that a point is, if it lies on the curve: OpenSSL takes no coordinates of another, nor any past the field's prime. Each point of
-    /// P-256 that isn't infinity has the curve's order, since its cofactor is 1, and infinity hasn't 65 bytes (SEC 1, sections 2.3.4 and 3.2.2).
+    /// The public key that a point is, if it lies on the curve: OpenSSL takes no coordinates of
+    /// another, nor any past the field's prime. Each point of P-256 that isn't infinity has the
+    /// curve's order, since its cofactor is 1, and infinity hasn't 65 bytes (SEC 1, sections 2.3.4
+    /// and 3.2.2).
     fn key_of(&self, point: &[u8; 65]) -> Result<EcKey<Public>, ErrorStack> {
         let point = EcPoint::from_bytes(&self.curve, point, &mut *BigNumContext::new()?)?;
         EcKey::from_public_key(&self.curve, &point)
@@ -144,12 +152,23 @@ impl Verifier {
 mod tests {
     use super::*;
 
-    /// RFC 6979, section A.2.5, "sample" with SHA-256: a key, a digest and a signature that this program didn't make.
+    /// RFC 6979, section A.2.5, "sample" with SHA-256: a key, a digest and a signature that this
+    /// program didn't make.
     fn sample() -> Question {
-        let text = "0460FED4BA255A9D31C961EB74C6356D68C049B8923B61FA6CE669622E60F29FB67903FE1008B8BC99A41AE9E95628BC64F2F1B20C2D7E9F5177A3C294D4462299\
+        let text = "0460FED4BA255A9D31C961EB74C6356D68C049B8923B61FA6CE669622E60F29FB6\
+             7903FE1008B8BC99A41AE9E95628BC64F2F1B20C2D7E9F5177A3C294D4462299\
              AF2BDBE1AA9B6EC1E2ADE1D694F41FC71A831D0268E9891562113D8A62ADD1BF\
-             EFD48B2AACB6A8FD1140DD9CD45E81D69D2C877B56AAF991C34D0EA84EAF3716F7CB1C942D657C41D436C7A1B6E29F65F3E900DBB9AFF4064DC4AB2F843ACDA8";
-        let line = [b"confirm ", &text.as_bytes()[..130], b" ", &text.as_bytes()[130..194], b" ", &text.as_bytes()[194..]].concat();
+             EFD48B2AACB6A8FD1140DD9CD45E81D69D2C877B56AAF991C34D0EA84EAF3716\
+             F7CB1C942D657C41D436C7A1B6E29F65F3E900DBB9AFF4064DC4AB2F843ACDA8";
+        let line = [
+            b"confirm ",
+            &text.as_bytes()[..130],
+            b" ",
+            &text.as_bytes()[130..194],
+            b" ",
+            &text.as_bytes()[194..],
+        ]
+        .concat();
         question(&line).expect("a question")
     }
 
@@ -195,17 +214,33 @@ mod tests {
         for number in GENERATION..2 * GENERATION {
             verifier.remember(&bad(number), false);
         }
-        assert_eq!((verifier.remembered(&bad(1)), verifier.remembered(&sample())), (None, Some(true)));
+        assert_eq!(
+            (verifier.remembered(&bad(1)), verifier.remembered(&sample())),
+            (None, Some(true))
+        );
     }
 
     #[test]
     fn a_line_that_is_no_question_is_none() {
         let good = format!("confirm 04{} {} {}", "aF".repeat(64), "09".repeat(32), "b1".repeat(64));
         assert_eq!(question(good.as_bytes()).expect("a question")[..2], [0x04, 0xaf]);
-        for line in ["", "confirm ", "confirm 04 00 00", "sign x 00 00", &good[..good.len() - 1], &good[..good.len() - 2]] {
+        for line in [
+            "",
+            "confirm ",
+            "confirm 04 00 00",
+            "sign x 00 00",
+            &good[..good.len() - 1],
+            &good[..good.len() - 2],
+        ] {
             assert_eq!(question(line.as_bytes()), None, "{line}");
         }
-        for line in [good.replace("04a", "04g"), good.replace("04a", "04 "), good.replace(' ', "  "), format!("{good} "), format!("{good}00")] {
+        for line in [
+            good.replace("04a", "04g"),
+            good.replace("04a", "04 "),
+            good.replace(' ', "  "),
+            format!("{good} "),
+            format!("{good}00"),
+        ] {
             assert_eq!(question(line.as_bytes()), None, "{line}");
         }
     }

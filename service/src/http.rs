@@ -1,5 +1,5 @@
-//! HTTP/1.1 as far as the service needs it: requests with a length, answers with a length, connections that stay. What is larger or slower than
-//! the limits is refused, and holds nothing.
+//! HTTP/1.1 as far as the service needs it: requests with a length, answers with a length,
+//! connections that stay. What is larger or slower than the limits is refused, and holds nothing.
 use std::io::{self, Read, Write};
 use std::net::TcpStream;
 use std::time::{Duration, Instant};
@@ -61,10 +61,19 @@ impl Connection {
         stream.set_nodelay(true)?;
         stream.set_read_timeout(Some(idle))?;
         stream.set_write_timeout(Some(request))?;
-        Ok(Connection { stream, bytes: Vec::new(), room: vec![0; MOST_HEAD], request, idle, reads: idle, writes: request })
+        Ok(Connection {
+            stream,
+            bytes: Vec::new(),
+            room: vec![0; MOST_HEAD],
+            request,
+            idle,
+            reads: idle,
+            writes: request,
+        })
     }
 
-    /// The next request. From its first byte on the whole has to come within the time for a request.
+    /// The next request. From its first byte on the whole has to come within the time for a
+    /// request.
     pub fn next(&mut self) -> Result<Request, Fault> {
         while self.bytes.is_empty() {
             self.read_more(Some(self.idle), Fault::Closed)?;
@@ -99,7 +108,12 @@ impl Connection {
     pub fn send(&mut self, answer: &Answer, keep: bool) -> io::Result<()> {
         let text = format!(
             "HTTP/1.1 {} {}\r\nContent-Type: {}\r\nContent-Length: {}\r\nConnection: {}\r\n\r\n{}",
-            answer.status, phrase(answer.status), answer.kind, answer.body.len(), if keep { "keep-alive" } else { "close" }, answer.body
+            answer.status,
+            phrase(answer.status),
+            answer.kind,
+            answer.body.len(),
+            if keep { "keep-alive" } else { "close" },
+            answer.body
         );
         self.write(text.as_bytes())
     }
@@ -139,7 +153,11 @@ impl Connection {
                 Ok(())
             }
             Err(error) if error.kind() == io::ErrorKind::Interrupted => Ok(()),
-            Err(error) if matches!(error.kind(), io::ErrorKind::WouldBlock | io::ErrorKind::TimedOut) => Err(late),
+            Err(error)
+                if matches!(error.kind(), io::ErrorKind::WouldBlock | io::ErrorKind::TimedOut) =>
+            {
+                Err(late)
+            }
             Err(_) => Err(Fault::Closed),
         }
     }
@@ -169,7 +187,7 @@ fn read_head(head: &[u8]) -> Result<(Request, usize, bool), Fault> {
         match name.to_ascii_lowercase().as_str() {
             "content-length" => {
                 let given = number(value).ok_or_else(bad)?;
-                if size.map_or(false, |size| size != given) {
+                if size.is_some_and(|size| size != given) {
                     return Err(bad());
                 }
                 size = Some(given);
@@ -221,8 +239,20 @@ mod tests {
 
     #[test]
     fn a_head_says_method_path_size_and_moment() {
-        let (request, size, expects) = head("POST /verify HTTP/1.1\r\nHost: x\r\ncontent-LENGTH: 12\r\nX-Moment:\t5 \r\n\r\n").unwrap();
-        assert_eq!((request.method.as_str(), request.path.as_str(), size, request.moment, request.keep, expects), ("POST", "/verify", 12, Some(5), true, false));
+        let (request, size, expects) =
+            head("POST /verify HTTP/1.1\r\nHost: x\r\ncontent-LENGTH: 12\r\nX-Moment:\t5 \r\n\r\n")
+                .unwrap();
+        assert_eq!(
+            (
+                request.method.as_str(),
+                request.path.as_str(),
+                size,
+                request.moment,
+                request.keep,
+                expects
+            ),
+            ("POST", "/verify", 12, Some(5), true, false)
+        );
     }
 
     #[test]

@@ -1,8 +1,11 @@
-//! The journal: a file of the tickets that passed, so that a service that is started again lets none pass twice.
+//! The journal: a file of the tickets that passed, so that a service that is started again lets
+//! none pass twice.
 //!
-//! A line is `TICKET LAST NUMBER`, or `forgotten SECOND`: tickets that were fresh up to before that second may be missing. A claim's line is in
-//! the file before its call is answered, and on the disk if that was asked for; claims that come together are written together. A last line that
-//! was cut off belongs to no answer, and is taken off. When many lines are old the file is written anew, and takes the old one's place by a rename.
+//! A line is `TICKET LAST NUMBER`, or `forgotten SECOND`: tickets that were fresh up to before that
+//! second may be missing. A claim's line is in the file before its call is answered, and on the
+//! disk if that was asked for; claims that come together are written together. A last line that was
+//! cut off belongs to no answer, and is taken off. When many lines are old the file is written
+//! anew, and takes the old one's place by a rename.
 use crate::past::{Passed, Ticket, Tickets};
 use std::fs::{File, OpenOptions};
 use std::io::{self, Write};
@@ -46,11 +49,19 @@ pub struct Journal {
 }
 
 impl Journal {
-    /// Opens the journal and reads what it holds: the tickets, and the greatest number of a call. One service at a time has it.
+    /// Opens the journal and reads what it holds: the tickets, and the greatest number of a call.
+    /// One service at a time has it.
     pub fn open(path: &Path, sync: bool) -> io::Result<(Journal, Tickets, u64)> {
-        let lock = OpenOptions::new().create(true).write(true).open(path.with_extension("lock"))?;
+        let lock = OpenOptions::new()
+            .create(true)
+            .truncate(false)
+            .write(true)
+            .open(path.with_extension("lock"))?;
         if unsafe { libc::flock(lock.as_raw_fd(), libc::LOCK_EX | libc::LOCK_NB) } != 0 {
-            return Err(io::Error::new(io::ErrorKind::WouldBlock, "another service has this journal"));
+            return Err(io::Error::new(
+                io::ErrorKind::WouldBlock,
+                "another service has this journal",
+            ));
         }
         let text = match std::fs::read(path) {
             Ok(text) => text,
@@ -79,7 +90,8 @@ impl Journal {
         queue.entered
     }
 
-    /// Waits until the claim of this turn is kept; false if it can't be. Whoever comes first writes for all that wait.
+    /// Waits until the claim of this turn is kept; false if it can't be. Whoever comes first writes
+    /// for all that wait.
     pub fn wait(&self, turn: u64, tickets: &Mutex<Tickets>) -> bool {
         let mut queue = self.queue.lock().expect("queue");
         loop {
@@ -123,7 +135,8 @@ impl Journal {
         if target.lines >= LINES {
             let held = tickets.lock().expect("tickets");
             if target.lines >= held.passed.len() * 2 {
-                // What is claimed from here on is entered behind this lock, and so written behind this file's lines.
+                // What is claimed from here on is entered behind this lock, and so written behind
+                // this file's lines.
                 *target = write_anew(&self.path, &held)?;
             }
         }
@@ -133,12 +146,16 @@ impl Journal {
 
 fn line_of(out: &mut Vec<u8>, ticket: &Ticket, passed: &Passed) {
     for byte in ticket {
-        out.extend_from_slice(&[b"0123456789abcdef"[usize::from(byte >> 4)], b"0123456789abcdef"[usize::from(byte & 15)]]);
+        out.extend_from_slice(&[
+            b"0123456789abcdef"[usize::from(byte >> 4)],
+            b"0123456789abcdef"[usize::from(byte & 15)],
+        ]);
     }
     let _ = writeln!(out, " {} {}", passed.last, passed.number);
 }
 
-/// The whole lines of a journal. A line that isn't one is an error, save a last one without its end.
+/// The whole lines of a journal. A line that isn't one is an error, save a last one without its
+/// end.
 fn read(text: &[u8]) -> io::Result<(Tickets, u64)> {
     let mut tickets = Tickets::default();
     let mut greatest = 0;
@@ -153,7 +170,12 @@ fn read(text: &[u8]) -> io::Result<(Tickets, u64)> {
                 tickets.passed.entry(ticket).or_insert(passed);
             }
             Some(Entry::Forgotten(second)) => tickets.forgotten = tickets.forgotten.max(second),
-            None => return Err(io::Error::new(io::ErrorKind::InvalidData, format!("line {} of the journal can't be read", number + 1))),
+            None => {
+                return Err(io::Error::new(
+                    io::ErrorKind::InvalidData,
+                    format!("line {} of the journal can't be read", number + 1),
+                ))
+            }
         }
     }
     let forgotten = tickets.forgotten;
@@ -183,7 +205,8 @@ fn entry(line: &[u8]) -> Option<Entry> {
     Some(Entry::Ticket(ticket, Passed { last: last.parse().ok()?, number: number.parse().ok()? }))
 }
 
-/// Writes what is held into a new file, and puts it into the journal's place; the rename is on the disk before this returns.
+/// Writes what is held into a new file, and puts it into the journal's place; the rename is on the
+/// disk before this returns.
 fn write_anew(path: &Path, tickets: &Tickets) -> io::Result<Target> {
     let new = path.with_extension("new");
     let mut text = format!("forgotten {}\n", tickets.forgotten).into_bytes();
@@ -194,7 +217,8 @@ fn write_anew(path: &Path, tickets: &Tickets) -> io::Result<Target> {
     file.write_all(&text)?;
     file.sync_all()?;
     std::fs::rename(&new, path)?;
-    let folder = path.parent().filter(|folder| !folder.as_os_str().is_empty()).unwrap_or(Path::new("."));
+    let folder =
+        path.parent().filter(|folder| !folder.as_os_str().is_empty()).unwrap_or(Path::new("."));
     File::open(folder)?.sync_all()?;
     let file = OpenOptions::new().append(true).open(path)?;
     Ok(Target { file, lines: tickets.passed.len() })
@@ -212,7 +236,8 @@ mod tests {
 
     fn keep(path: &Path, ticket: u8, number: u64) {
         let (journal, tickets, _) = Journal::open(path, true).unwrap();
-        let turn = journal.enter(Record { ticket: [ticket; 32], passed: Passed { last: 500, number } });
+        let turn =
+            journal.enter(Record { ticket: [ticket; 32], passed: Passed { last: 500, number } });
         assert!(journal.wait(turn, &Mutex::new(tickets)));
     }
 

@@ -1,4 +1,5 @@
-//! A call judged: its chains are picked, its questions asked of OpenSSL, what comes of it taken from the proved library, and its ticket claimed.
+//! A call judged: its chains are picked, its questions asked of OpenSSL, what comes of it taken
+//! from the proved library, and its ticket claimed.
 use crate::door::{self, Materials, Said};
 use crate::es256::{self, Verifier};
 use crate::identity::x5us_of;
@@ -19,11 +20,13 @@ pub enum Outcome {
     Refused { rule: u32, code: u32, field: u32, part: u32 },
     /// Its ticket passed before: with the call of this number; 0 if that isn't known.
     Replay { winner: u64 },
-    /// Nothing is said of it: its ticket can't be told from one that passed, or isn't kept; or memory ran out.
+    /// Nothing is said of it: its ticket can't be told from one that passed, or isn't kept; or
+    /// memory ran out.
     Unjudged,
 }
 
-/// A call that was judged: its number, counted from 1 over the life of the journal, and what came of it.
+/// A call that was judged: its number, counted from 1 over the life of the journal, and what came
+/// of it.
 #[derive(Clone, Copy, Debug)]
 pub struct Judged {
     pub call: u64,
@@ -57,12 +60,15 @@ impl Outcome {
         }
     }
 
-    /// The value of the `verstat` parameter (ATIS-1000074, section 5.3): nothing was validated of a call that is no INVITE, has no PASSporT of its
-    /// origin, or whose certificates aren't there; one that breaks another rule has failed.
+    /// The value of the `verstat` parameter (ATIS-1000074, section 5.3): nothing was validated of a
+    /// call that is no INVITE, has no PASSporT of its origin, or whose certificates aren't there;
+    /// one that breaks another rule has failed.
     pub fn verstat(&self) -> &'static str {
         match self {
             Outcome::Valid => "TN-Validation-Passed",
-            Outcome::Refused { code: 400 | 428 | 436, .. } | Outcome::Unjudged => "No-TN-Validation",
+            Outcome::Refused { code: 400 | 428 | 436, .. } | Outcome::Unjudged => {
+                "No-TN-Validation"
+            }
             Outcome::Refused { .. } | Outcome::Replay { .. } => "TN-Validation-Failed",
         }
     }
@@ -107,20 +113,35 @@ impl Judge {
         let said = self.said(&world, message, moment);
         let call = self.numbers.fetch_add(1, Ordering::SeqCst) + 1;
         let outcome = match said.kind {
-            door::REFUSED => Outcome::Refused { rule: said.rule, code: said.code, field: said.field, part: said.part },
-            door::PASSES => match self.past.claim(said.ticket, Passed { last: said.last, number: call }, moment) {
-                Claim::Won => Outcome::Valid,
-                Claim::Lost(winner) => Outcome::Replay { winner },
-                Claim::Forgotten | Claim::Unable => Outcome::Unjudged,
+            door::REFUSED => Outcome::Refused {
+                rule: said.rule,
+                code: said.code,
+                field: said.field,
+                part: said.part,
             },
+            door::PASSES => {
+                match self.past.claim(said.ticket, Passed { last: said.last, number: call }, moment)
+                {
+                    Claim::Won => Outcome::Valid,
+                    Claim::Lost(winner) => Outcome::Replay { winner },
+                    Claim::Forgotten | Claim::Unable => Outcome::Unjudged,
+                }
+            }
             _ => Outcome::Unjudged,
         };
         self.metrics.count(&outcome);
         Judged { call, outcome }
     }
 
-    /// What a call is judged by: the chains of the x5us in its Identity fields; and if more than nine of these are listed, of those that are judged.
-    fn materials(&self, world: &World, message: &[u8], moment: u64, room: &mut Vec<u8>) -> Materials {
+    /// What a call is judged by: the chains of the x5us in its Identity fields; and if more than
+    /// nine of these are listed, of those that are judged.
+    fn materials(
+        &self,
+        world: &World,
+        message: &[u8],
+        moment: u64,
+        room: &mut Vec<u8>,
+    ) -> Materials {
         let found = x5us_of(message);
         world.materials(found.iter().map(Vec::as_slice)).unwrap_or_else(|| {
             door::x5us(&self.rules, moment, message, room);
@@ -128,7 +149,8 @@ impl Judge {
         })
     }
 
-    /// What the rules say: asked with each answer taken for good; and if an answer isn't, judged by those that are.
+    /// What the rules say: asked with each answer taken for good; and if an answer isn't, judged by
+    /// those that are.
     fn said(&self, world: &World, message: &[u8], moment: u64) -> Said {
         let mut room = Vec::with_capacity(8192);
         let by = self.materials(world, message, moment, &mut room);
@@ -140,7 +162,8 @@ impl Judge {
             return if_all;
         }
         let lines: Vec<&[u8]> = lines_of(&room).collect();
-        let good: Vec<&[u8]> = lines.iter().copied().filter(|line| self.confirms(world, line)).collect();
+        let good: Vec<&[u8]> =
+            lines.iter().copied().filter(|line| self.confirms(world, line)).collect();
         let confirmed = Instant::now();
         self.metrics.spend(Part::Confirm, confirmed - asked);
         if good.len() == lines.len() {
@@ -154,7 +177,9 @@ impl Judge {
 
     /// Whether the signature of a line that is asked is good.
     fn confirms(&self, world: &World, line: &[u8]) -> bool {
-        es256::question(line).map_or(false, |question| world.has_confirmed(&question) || self.verifier.confirms(&question))
+        es256::question(line).is_some_and(|question| {
+            world.has_confirmed(&question) || self.verifier.confirms(&question)
+        })
     }
 }
 

@@ -1,4 +1,5 @@
-//! Lines of this project's text files: those that are empty or begin with `;` are passed over, and a CR before the LF isn't part of one.
+//! Lines of this project's text files: those that are empty or begin with `;` are passed over, and
+//! a CR before the LF isn't part of one.
 
 /// The lines of a text.
 pub fn lines_of(text: &[u8]) -> impl Iterator<Item = &[u8]> {
@@ -17,7 +18,8 @@ pub fn split(text: &[u8]) -> impl Iterator<Item = &[u8]> {
     })
 }
 
-/// Where the first of these bytes is. A block is tested without a branch for each byte, so that the processor takes many at once.
+/// Where the first of these bytes is. A block is tested without a branch for each byte, so that the
+/// processor takes many at once.
 pub fn first(text: &[u8], wanted: impl Fn(u8) -> bool) -> Option<usize> {
     let has_none = |block: &&[u8]| !block.iter().fold(false, |has, byte| has | wanted(*byte));
     let before: usize = text.chunks(32).take_while(has_none).map(<[u8]>::len).sum();
@@ -36,8 +38,20 @@ mod tests {
 
     #[test]
     fn a_text_is_split_at_each_lf() {
-        for text in ["", "\n", "a", "a\n", "\r\n\r", "a\r\n\nb\rc\n", &"x".repeat(100), &format!("{0}\n{0}\r\n{0}", "y".repeat(31))] {
-            let plainly = text.as_bytes().split(|byte| *byte == b'\n').map(|line| line.strip_suffix(b"\r").unwrap_or(line));
+        for text in [
+            "",
+            "\n",
+            "a",
+            "a\n",
+            "\r\n\r",
+            "a\r\n\nb\rc\n",
+            &"x".repeat(100),
+            &format!("{0}\n{0}\r\n{0}", "y".repeat(31)),
+        ] {
+            let plainly = text
+                .as_bytes()
+                .split(|byte| *byte == b'\n')
+                .map(|line| line.strip_suffix(b"\r").unwrap_or(line));
             assert!(split(text.as_bytes()).eq(plainly), "{text:?}");
         }
     }

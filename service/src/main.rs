@@ -1,5 +1,5 @@
-//! `stird`: a STIR/SHAKEN service over HTTP. It judges calls by the proved library of `stir` (`include/stir.h`), with ES256 by OpenSSL.
-//! docs/SERVICE.md tells how to run it.
+//! `stird`: a STIR/SHAKEN service over HTTP. It judges calls by the proved library of `stir`
+//! (`include/stir.h`), with ES256 by OpenSSL. docs/SERVICE.md tells how to run it.
 mod anchors;
 mod atis;
 mod door;
@@ -24,8 +24,9 @@ use std::process::Command;
 use std::sync::atomic::AtomicUsize;
 use std::sync::{Arc, Mutex, RwLock};
 
-/// The settings of the C library, and how many freed blocks of each size a thread keeps for itself (mallopt(3), "Environment variables"). A call gives
-/// back more than the seven that are usual, and each further one takes a lock.
+/// The settings of the C library, and how many freed blocks of each size a thread keeps for itself
+/// (mallopt(3), "Environment variables"). A call gives back more than the seven that are usual, and
+/// each further one takes a lock.
 const TUNABLES: &str = "GLIBC_TUNABLES";
 const KEPT_BLOCKS: &str = "glibc.malloc.tcache_count=64";
 
@@ -42,26 +43,39 @@ fn main() {
     }
 }
 
-/// Starts the program anew with these settings, which the C library reads before `main`, unless there are some. If that fails it goes on without.
+/// Starts the program anew with these settings, which the C library reads before `main`, unless
+/// there are some. If that fails it goes on without.
 fn keep_blocks() {
     let mut words = env::args_os();
-    if let (None, Some(name), Ok(program)) = (env::var_os(TUNABLES), words.next(), env::current_exe()) {
+    if let (None, Some(name), Ok(program)) =
+        (env::var_os(TUNABLES), words.next(), env::current_exe())
+    {
         let _ = Command::new(program).arg0(name).args(words).env(TUNABLES, KEPT_BLOCKS).exec();
     }
 }
 
 fn start(settings: settings::Settings) -> Result<(), String> {
     if door::abi() != door::ABI {
-        return Err(format!("the library's declarations are of version {}, and {} is wanted", door::abi(), door::ABI));
+        return Err(format!(
+            "the library's declarations are of version {}, and {} is wanted",
+            door::abi(),
+            door::ABI
+        ));
     }
-    let mut world = world::World::read(&settings.rules, &settings.chains, &settings.anchors, &settings.table)?;
+    let mut world =
+        world::World::read(&settings.rules, &settings.chains, &settings.anchors, &settings.table)?;
     let verifier = es256::Verifier::new().map_err(|error| error.to_string())?;
     world.confirm(&settings.rules, &verifier, None);
     let blocks = blocks_of(&settings)?;
     let (past, greatest) = past_of(&settings)?;
-    let listener = TcpListener::bind(&settings.listen).map_err(|error| format!("{}: {error}", settings.listen))?;
+    let listener = TcpListener::bind(&settings.listen)
+        .map_err(|error| format!("{}: {error}", settings.listen))?;
     let address = listener.local_addr().map_err(|error| error.to_string())?;
-    eprintln!("stird: listens at {address}, with {} chains, {} tickets and {} blocks of numbers to sign for", world.chains(), past.count(), blocks.count());
+    let (chains, tickets, signs) = (world.chains(), past.count(), blocks.count());
+    eprintln!(
+        "stird: listens at {address}, with {chains} chains, {tickets} tickets and {signs} blocks \
+         of numbers to sign for"
+    );
     let service = Arc::new(service::Service {
         judge: judge::Judge {
             rules: settings.rules.clone(),
@@ -97,10 +111,14 @@ fn past_of(settings: &settings::Settings) -> Result<(past::Past, u64), String> {
     }
     let (journal, tickets, greatest) = match &settings.journal {
         Some(path) => {
-            let (journal, tickets, greatest) = journal::Journal::open(path, settings.sync).map_err(|error| format!("{}: {error}", path.display()))?;
+            let (journal, tickets, greatest) = journal::Journal::open(path, settings.sync)
+                .map_err(|error| format!("{}: {error}", path.display()))?;
             (Some(journal), tickets, greatest)
         }
         None => (None, past::Tickets::default(), 0),
     };
-    Ok((past::Past::Memory { tickets: Mutex::new(tickets), most: settings.tickets, journal }, greatest))
+    Ok((
+        past::Past::Memory { tickets: Mutex::new(tickets), most: settings.tickets, journal },
+        greatest,
+    ))
 }

@@ -1,5 +1,5 @@
-//! The past: which tickets passed. A ticket is claimed once, and where it is kept decides how long that holds: in memory, in a journal over
-//! restarts, or in a Redis for several hosts.
+//! The past: which tickets passed. A ticket is claimed once, and where it is kept decides how long
+//! that holds: in memory, in a journal over restarts, or in a Redis for several hosts.
 use crate::journal::{Journal, Record};
 use crate::redis::Redis;
 use std::collections::HashMap;
@@ -7,8 +7,8 @@ use std::sync::Mutex;
 
 pub type Ticket = [u8; 32];
 
-/// A ticket is forgotten so many seconds after the last at which a call with it is fresh, so that calls which overtake each other are still
-/// told from replays.
+/// A ticket is forgotten so many seconds after the last at which a call with it is fresh, so that
+/// calls which overtake each other are still told from replays.
 pub const SLACK: u64 = 10;
 
 /// How often, in seconds, what is no longer fresh is looked for.
@@ -27,14 +27,16 @@ pub enum Claim {
     Unable,
 }
 
-/// A ticket that passed: the last second at which a call with it is fresh, and the number of the call.
+/// A ticket that passed: the last second at which a call with it is fresh, and the number of the
+/// call.
 #[derive(Clone, Copy, Debug, PartialEq, Eq)]
 pub struct Passed {
     pub last: u64,
     pub number: u64,
 }
 
-/// The tickets in memory, and the second before which all that are no longer fresh may be forgotten.
+/// The tickets in memory, and the second before which all that are no longer fresh may be
+/// forgotten.
 #[derive(Default)]
 pub struct Tickets {
     pub passed: HashMap<Ticket, Passed>,
@@ -80,17 +82,23 @@ pub enum Past {
 }
 
 impl Past {
-    /// Claims a ticket for a call; a claim that is won is where it is to be kept before this returns.
+    /// Claims a ticket for a call; a claim that is won is where it is to be kept before this
+    /// returns.
     pub fn claim(&self, ticket: Ticket, passed: Passed, moment: u64) -> Claim {
         match self {
             Past::Memory { tickets, most, journal } => {
                 let mut held = tickets.lock().expect("tickets");
                 let claim = held.claim(ticket, passed, moment, *most);
                 let (Claim::Won, Some(journal)) = (claim, journal) else { return claim };
-                // Entered under the lock, so that what is kept over a restart is what was claimed, in its order.
+                // Entered under the lock, so that what is kept over a restart is what was claimed,
+                // in its order.
                 let turn = journal.enter(Record { ticket, passed });
                 drop(held);
-                if journal.wait(turn, tickets) { Claim::Won } else { Claim::Unable }
+                if journal.wait(turn, tickets) {
+                    Claim::Won
+                } else {
+                    Claim::Unable
+                }
             }
             Past::Shared(redis) => redis.claim(ticket, passed, moment),
         }
@@ -107,7 +115,7 @@ impl Past {
     /// Whether tickets can be kept.
     pub fn is_well(&self) -> bool {
         match self {
-            Past::Memory { journal, .. } => journal.as_ref().map_or(true, Journal::is_well),
+            Past::Memory { journal, .. } => journal.as_ref().is_none_or(Journal::is_well),
             Past::Shared(redis) => redis.is_well(),
         }
     }

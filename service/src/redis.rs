@@ -1,4 +1,5 @@
-//! A past that several hosts share: `SET stir:TICKET VALUE NX EX SECONDS` on a Redis. The first to set a ticket has it.
+//! A past that several hosts share: `SET stir:TICKET VALUE NX EX SECONDS` on a Redis. The first to
+//! set a ticket has it.
 use crate::past::{Claim, Passed, Ticket, SLACK};
 use std::io::{BufRead, BufReader, Read, Write};
 use std::net::{TcpStream, ToSocketAddrs};
@@ -54,21 +55,27 @@ impl Redis {
         self.well.load(Ordering::SeqCst)
     }
 
-    /// Looks whether it answers again, if the last claim wasn't answered. So a host that is given no calls meanwhile is well again by itself.
+    /// Looks whether it answers again, if the last claim wasn't answered. So a host that is given
+    /// no calls meanwhile is well again by itself.
     pub fn greet(&self) {
-        if !self.is_well() && self.connect().and_then(|mut connection| ask(&mut connection, &[b"PING"])).is_ok() {
+        if !self.is_well()
+            && self.connect().and_then(|mut connection| ask(&mut connection, &[b"PING"])).is_ok()
+        {
             self.well.store(true, Ordering::SeqCst);
         }
     }
 
-    /// Claims a ticket: it is this call's exactly if the value that stands there is this call's own. So an answer that was lost on its way can
-    /// be asked for again. A ticket whose value may be gone there already, since the clock went back, can't be told from one that passed.
+    /// Claims a ticket: it is this call's exactly if the value that stands there is this call's
+    /// own. So an answer that was lost on its way can be asked for again. A ticket whose value may
+    /// be gone there already, since the clock went back, can't be told from one that passed.
     pub fn claim(&self, ticket: Ticket, passed: Passed, moment: u64) -> Claim {
         if passed.last + SLACK < self.latest.fetch_max(moment, Ordering::SeqCst) {
             return Claim::Forgotten;
         }
-        let key = ticket.iter().fold(String::from("stir:"), |key, byte| key + &format!("{byte:02x}"));
-        let value = format!("{} {} {}", passed.number, self.own, self.count.fetch_add(1, Ordering::SeqCst));
+        let key =
+            ticket.iter().fold(String::from("stir:"), |key, byte| key + &format!("{byte:02x}"));
+        let value =
+            format!("{} {} {}", passed.number, self.own, self.count.fetch_add(1, Ordering::SeqCst));
         let seconds = (passed.last.saturating_sub(moment) + 1 + SLACK).to_string();
         for _ in 0..2 {
             if let Ok(claim) = self.try_claim(&key, &value, &seconds) {
@@ -86,7 +93,10 @@ impl Redis {
             Some(connection) => connection,
             None => self.connect()?,
         };
-        let set = ask(&mut connection, &[b"SET", key.as_bytes(), value.as_bytes(), b"NX", b"EX", seconds.as_bytes()])?;
+        let set = ask(
+            &mut connection,
+            &[b"SET", key.as_bytes(), value.as_bytes(), b"NX", b"EX", seconds.as_bytes()],
+        )?;
         let claim = if set == Reply::Done {
             Claim::Won
         } else {
@@ -119,7 +129,10 @@ impl Redis {
 }
 
 fn number_in(text: &[u8]) -> u64 {
-    std::str::from_utf8(text).ok().and_then(|text| text.split(' ').next()?.parse().ok()).unwrap_or(0)
+    std::str::from_utf8(text)
+        .ok()
+        .and_then(|text| text.split(' ').next()?.parse().ok())
+        .unwrap_or(0)
 }
 
 /// Asks, in the form of RESP (Redis serialization protocol).
@@ -134,7 +147,7 @@ fn ask(connection: &mut Connection, words: &[&[u8]]) -> std::io::Result<Reply> {
     let mut line = String::new();
     connection.by_ref().take(1024).read_line(&mut line)?;
     let line = line.trim_end();
-    let other = || std::io::Error::new(std::io::ErrorKind::Other, format!("the Redis said {line:?}"));
+    let other = || std::io::Error::other(format!("the Redis said {line:?}"));
     match line.split_at(line.len().min(1)) {
         ("+", _) => Ok(Reply::Done),
         ("$", "-1") | ("_", _) => Ok(Reply::Nothing),

@@ -42,13 +42,18 @@ impl Service {
 
     fn turn_away(&self, stream: TcpStream) {
         let _ = stream.set_nonblocking(true);
-        if let Ok(mut connection) = Connection::new(stream, self.settings.request, self.settings.idle) {
+        if let Ok(mut connection) =
+            Connection::new(stream, self.settings.request, self.settings.idle)
+        {
             let _ = connection.send(&Answer::text(503, "too many connections\n"), false);
         }
     }
 
     fn serve(&self, stream: TcpStream) {
-        let Ok(mut connection) = Connection::new(stream, self.settings.request, self.settings.idle) else { return };
+        let Ok(mut connection) = Connection::new(stream, self.settings.request, self.settings.idle)
+        else {
+            return;
+        };
         loop {
             match connection.next() {
                 Ok(request) => {
@@ -75,11 +80,15 @@ impl Service {
             ("POST", "/verify") => Answer::json(200, told(&self.verify(request))),
             ("POST", "/verify/line") => Answer::text(200, line(&self.verify(request))),
             ("POST", "/stir/v1/verification") => self.verification(request),
-            ("POST", "/stir/v1/signing") if self.settings.signing.is_some() => self.signing(request),
+            ("POST", "/stir/v1/signing") if self.settings.signing.is_some() => {
+                self.signing(request)
+            }
             ("GET", "/metrics") => self.metrics(),
             ("GET", "/healthz") if self.judge.past.is_well() => Answer::text(200, "ok\n"),
             ("GET", "/healthz") => Answer::text(503, "tickets can't be kept\n"),
-            (_, "/verify" | "/verify/line" | "/stir/v1/verification" | "/metrics" | "/healthz") => Answer::text(405, ""),
+            (_, "/verify" | "/verify/line" | "/stir/v1/verification" | "/metrics" | "/healthz") => {
+                Answer::text(405, "")
+            }
             (_, "/stir/v1/signing") if self.settings.signing.is_some() => Answer::text(405, ""),
             _ => Answer::text(404, ""),
         }
@@ -117,7 +126,13 @@ impl Service {
     /// The Identity value of a call.
     fn sign(&self, call: &atis::Signing) -> Result<String, atis::Refusal> {
         let blocks = self.blocks.read().expect("blocks").clone();
-        let wanted = signing::Call { orig: &call.orig, message: &call.message, iat: self.moment(call.time), origid: &call.origid, attest: call.attest };
+        let wanted = signing::Call {
+            orig: &call.orig,
+            message: &call.message,
+            iat: self.moment(call.time),
+            origid: &call.origid,
+            attest: call.attest,
+        };
         let made = blocks.sign(&self.settings.rules, &wanted);
         self.judge.metrics.sign(made.is_ok());
         let message = made.map_err(|why| match why {
@@ -135,12 +150,21 @@ impl Service {
 
     fn metrics(&self) -> Answer {
         let world = self.judge.world.read().expect("world").clone();
-        let held = [self.judge.past.count(), world.chains(), world.confirmed(), self.connections.load(Ordering::SeqCst)];
-        Answer { status: 200, kind: "text/plain; version=0.0.4", body: self.judge.metrics.text(held) }
+        let held = [
+            self.judge.past.count(),
+            world.chains(),
+            world.confirmed(),
+            self.connections.load(Ordering::SeqCst),
+        ];
+        Answer {
+            status: 200,
+            kind: "text/plain; version=0.0.4",
+            body: self.judge.metrics.text(held),
+        }
     }
 
-    /// Looks at the files from time to time, and takes what changed if it can be read; else what was read before stays. Looks at a Redis that
-    /// didn't answer too.
+    /// Looks at the files from time to time, and takes what changed if it can be read; else what
+    /// was read before stays. Looks at a Redis that didn't answer too.
     pub fn reload(&self) {
         loop {
             std::thread::sleep(self.settings.reload);
@@ -177,21 +201,30 @@ impl Service {
     }
 }
 
-/// What came of a call, as JSON: its members in the order of their names. No text in it has a character that would be escaped.
+/// What came of a call, as JSON: its members in the order of their names. No text in it has a
+/// character that would be escaped.
 fn told(judged: &Judged) -> String {
     let outcome = &judged.outcome;
     let (place, winner) = match outcome {
-        Outcome::Refused { field, part, .. } => (format!(r#""place":"{field}.{part}","#), String::new()),
+        Outcome::Refused { field, part, .. } => {
+            (format!(r#""place":"{field}.{part}","#), String::new())
+        }
         Outcome::Replay { winner } => (String::new(), format!(r#","winner":{winner}"#)),
         Outcome::Valid | Outcome::Unjudged => Default::default(),
     };
+    let end = format!(r#""verstat":"{}"{winner}}}"#, outcome.verstat());
     format!(
-        r#"{{"call":{},"code":{},"outcome":"{}",{place}"reason":"{}","rule":{},"verstat":"{}"{winner}}}"#,
-        judged.call, outcome.code(), outcome.name(), outcome.reason(), outcome.rule(), outcome.verstat()
+        r#"{{"call":{},"code":{},"outcome":"{}",{place}"reason":"{}","rule":{},{end}"#,
+        judged.call,
+        outcome.code(),
+        outcome.name(),
+        outcome.reason(),
+        outcome.rule(),
     ) + "\n"
 }
 
-/// What came of a call, on one line for a proxy without JSON: the code (0 if there is none), the verstat and the reason phrase.
+/// What came of a call, on one line for a proxy without JSON: the code (0 if there is none), the
+/// verstat and the reason phrase.
 fn line(judged: &Judged) -> String {
     format!("{} {} {}", judged.outcome.code(), judged.outcome.verstat(), judged.outcome.reason())
 }
@@ -203,13 +236,31 @@ mod tests {
 
     #[test]
     fn what_came_of_a_call_is_json() {
-        let (valid, replay, unjudged) = (Outcome::Valid, Outcome::Replay { winner: u64::MAX }, Outcome::Unjudged);
+        let (valid, replay, unjudged) =
+            (Outcome::Valid, Outcome::Replay { winner: u64::MAX }, Outcome::Unjudged);
         let refused = Outcome::Refused { rule: 9, code: 403, field: 1, part: 0 };
         for (outcome, told_by_json) in [
-            (valid, json!({ "call": 1, "outcome": "valid", "code": 0, "reason": "", "rule": 0, "verstat": "TN-Validation-Passed" })),
-            (refused, json!({ "call": 1, "outcome": "refused", "code": 403, "reason": "Stale Date", "rule": 9, "verstat": "TN-Validation-Failed", "place": "1.0" })),
-            (replay, json!({ "call": 1, "outcome": "replay", "code": 438, "reason": "Invalid Identity Header", "rule": 18, "verstat": "TN-Validation-Failed", "winner": u64::MAX })),
-            (unjudged, json!({ "call": 1, "outcome": "unjudged", "code": 0, "reason": "", "rule": 0, "verstat": "No-TN-Validation" })),
+            (
+                valid,
+                json!({ "call": 1, "outcome": "valid", "code": 0, "reason": "", "rule": 0,
+                    "verstat": "TN-Validation-Passed" }),
+            ),
+            (
+                refused,
+                json!({ "call": 1, "outcome": "refused", "code": 403, "reason": "Stale Date",
+                    "rule": 9, "verstat": "TN-Validation-Failed", "place": "1.0" }),
+            ),
+            (
+                replay,
+                json!({ "call": 1, "outcome": "replay", "code": 438,
+                    "reason": "Invalid Identity Header", "rule": 18,
+                    "verstat": "TN-Validation-Failed", "winner": u64::MAX }),
+            ),
+            (
+                unjudged,
+                json!({ "call": 1, "outcome": "unjudged", "code": 0, "reason": "", "rule": 0,
+                    "verstat": "No-TN-Validation" }),
+            ),
         ] {
             assert_eq!(told(&Judged { call: 1, outcome }), format!("{told_by_json}\n"));
         }

@@ -9,7 +9,8 @@ pub const USAGE: &str = "usage: stird --chains FILE --anchors FILE --table FILE 
   --future SECONDS      how far its iat may be ahead (5)
   --country DIGITS      the own country (1), and
   --national COUNT      how many digits a number in it has (10)
-  --moments clock|asked the moment of a call: the clock's (clock), or what X-Moment or time say (asked)
+  --moments clock|asked the moment of a call: the clock's (clock), or what X-Moment or
+                        time say (asked)
   --journal FILE        keep tickets over restarts in this file
   --sync yes|no         answer after the ticket is on the disk (yes), or in the file (no)
   --redis HOST:PORT     keep tickets in a Redis, so that several hosts are one service
@@ -69,7 +70,11 @@ pub fn read(words: &[String]) -> Result<Settings, String> {
         seen.push(name);
         take(&mut settings, name, value)?;
     }
-    for (name, path) in [("--chains", &settings.chains), ("--anchors", &settings.anchors), ("--table", &settings.table)] {
+    for (name, path) in [
+        ("--chains", &settings.chains),
+        ("--anchors", &settings.anchors),
+        ("--table", &settings.table),
+    ] {
         if path.as_os_str().is_empty() {
             return Err(format!("{name} is missing"));
         }
@@ -115,7 +120,11 @@ fn number(name: &str, value: &str, least: u64, most: u64) -> Result<u64, String>
 
 /// Whether the value is the second of two words.
 fn choice(name: &str, value: &str, words: [&str; 2]) -> Result<bool, String> {
-    words.iter().position(|word| *word == value).map(|at| at == 1).ok_or_else(|| format!("{name} is {} or {}", words[0], words[1]))
+    words
+        .iter()
+        .position(|word| *word == value)
+        .map(|at| at == 1)
+        .ok_or_else(|| format!("{name} is {} or {}", words[0], words[1]))
 }
 
 #[cfg(test)]
@@ -130,13 +139,23 @@ mod tests {
     fn three_files_are_enough_and_the_door_is_the_loopback() {
         let settings = of("--chains a --anchors b --table c").unwrap();
         assert_eq!(settings.listen, "127.0.0.1:8080");
-        assert_eq!((settings.rules.past, settings.rules.future, settings.sync, settings.asked_moments), (60, 5, true, false));
+        assert_eq!(
+            (settings.rules.past, settings.rules.future, settings.sync, settings.asked_moments),
+            (60, 5, true, false)
+        );
     }
 
     #[test]
     fn words_that_cant_be_taken_are_named() {
-        for words in ["", "--chains a --anchors b", "--chains a --anchors b --table c --past 86401", "--chains a --chains a --anchors b --table c",
-            "--chains a --anchors b --table c --journal j --redis r", "--chains a --anchors b --table c --sync maybe", "--chains a --anchors b --table c --listen"] {
+        for words in [
+            "",
+            "--chains a --anchors b",
+            "--chains a --anchors b --table c --past 86401",
+            "--chains a --chains a --anchors b --table c",
+            "--chains a --anchors b --table c --journal j --redis r",
+            "--chains a --anchors b --table c --sync maybe",
+            "--chains a --anchors b --table c --listen",
+        ] {
             assert!(of(words).is_err(), "{words}");
         }
     }

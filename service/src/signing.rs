@@ -1,5 +1,6 @@
-//! Calls signed: by the number that calls a block of numbers is found, which has a key and an attestation. What is signed is said by the proved
-//! library, which first holds the number against the key's certificate.
+//! Calls signed: by the number that calls a block of numbers is found, which has a key and an
+//! attestation. What is signed is said by the proved library, which first holds the number against
+//! the key's certificate.
 use crate::door::{self, Order, Rules};
 use crate::lines::lines_of;
 use crate::world::{codes_of, stamp, Stamp};
@@ -10,7 +11,8 @@ use std::collections::HashMap;
 use std::path::{Path, PathBuf};
 use std::sync::Arc;
 
-/// A key with the certificate that goes with it: the leaf in DER, its URI, and the lines of the code table on the codes in it.
+/// A key with the certificate that goes with it: the leaf in DER, its URI, and the lines of the
+/// code table on the codes in it.
 pub struct Key {
     key: PKey<Private>,
     leaf: Vec<u8>,
@@ -18,7 +20,8 @@ pub struct Key {
     table: Vec<u8>,
 }
 
-/// Numbers that follow each other, with how well their callers are known (RFC 8588, section 4) and the key that signs for them.
+/// Numbers that follow each other, with how well their callers are known (RFC 8588, section 4) and
+/// the key that signs for them.
 struct Block {
     first: u64,
     count: u64,
@@ -44,7 +47,8 @@ pub enum Unsigned {
     Failed,
 }
 
-/// What is to be signed: who calls, the INVITE, the second in Unix time, the identifier of the call, and the best attestation that is wanted.
+/// What is to be signed: who calls, the INVITE, the second in Unix time, the identifier of the
+/// call, and the best attestation that is wanted.
 pub struct Call<'a> {
     pub orig: &'a str,
     pub message: &'a [u8],
@@ -54,17 +58,21 @@ pub struct Call<'a> {
 }
 
 impl Blocks {
-    /// Reads the lines `FIRST COUNT ATTEST KEY CERTIFICATES X5U`: a number and how many follow it, `A`, `B` or `C`, the file of a private key in PEM,
-    /// the file of its certificates in DER, the leaf first, and the URI under which these are found. Each key has to be that of its leaf, which
-    /// has to cover the first number of its block and the last.
+    /// Reads the lines `FIRST COUNT ATTEST KEY CERTIFICATES X5U`: a number and how many follow it,
+    /// `A`, `B` or `C`, the file of a private key in PEM, the file of its certificates in DER, the
+    /// leaf first, and the URI under which these are found. Each key has to be that of its leaf,
+    /// which has to cover the first number of its block and the last.
     pub fn read(rules: &Rules, path: &Path, table_path: &Path) -> Result<Blocks, String> {
         let mut blocks = Blocks::default();
         let text = blocks.file(path)?;
         let table = blocks.file(table_path)?;
         let mut keys = HashMap::new();
         for (at, line) in lines_of(&text).enumerate() {
-            let line = std::str::from_utf8(line).map_err(|_| format!("{}: line {} isn't text", path.display(), at + 1))?;
-            let block = blocks.block(line, &table, &mut keys).map_err(|fault| format!("{}: line {} that says something: {fault}", path.display(), at + 1))?;
+            let line = std::str::from_utf8(line)
+                .map_err(|_| format!("{}: line {} isn't text", path.display(), at + 1))?;
+            let block = blocks.block(line, &table, &mut keys).map_err(|fault| {
+                format!("{}: line {} that says something: {fault}", path.display(), at + 1)
+            })?;
             block.test(rules)?;
             blocks.blocks.push(block);
         }
@@ -76,9 +84,16 @@ impl Blocks {
         std::fs::read(path).map_err(|error| format!("{}: {error}", path.display()))
     }
 
-    fn block(&mut self, line: &str, table: &[u8], keys: &mut HashMap<[String; 3], Arc<Key>>) -> Result<Block, String> {
+    fn block(
+        &mut self,
+        line: &str,
+        table: &[u8],
+        keys: &mut HashMap<[String; 3], Arc<Key>>,
+    ) -> Result<Block, String> {
         let words: Vec<&str> = line.split(' ').collect();
-        let [first, count, attest, key, certificates, x5u] = words[..] else { return Err("six words are wanted".into()) };
+        let [first, count, attest, key, certificates, x5u] = words[..] else {
+            return Err("six words are wanted".into());
+        };
         let first = first.parse().map_err(|_| "no number")?;
         let count = count.parse().ok().filter(|count| *count > 0).ok_or("no count")?;
         if !["A", "B", "C"].contains(&attest) {
@@ -88,7 +103,8 @@ impl Blocks {
         let key = match keys.get(&name) {
             Some(key) => Arc::clone(key),
             None => {
-                let read = Arc::new(self.key(Path::new(key), Path::new(certificates), x5u, table)?);
+                let read =
+                    Arc::new(self.key(Path::new(key), Path::new(certificates), x5u, table)?);
                 keys.insert(name, Arc::clone(&read));
                 read
             }
@@ -96,11 +112,22 @@ impl Blocks {
         Ok(Block { first, count, attest: attest.as_bytes()[0], key })
     }
 
-    fn key(&mut self, path: &Path, certificates: &Path, x5u: &str, table: &[u8]) -> Result<Key, String> {
-        let key = PKey::private_key_from_pem(&self.file(path)?).map_err(|_| format!("{} is no private key in PEM", path.display()))?;
+    fn key(
+        &mut self,
+        path: &Path,
+        certificates: &Path,
+        x5u: &str,
+        table: &[u8],
+    ) -> Result<Key, String> {
+        let key = PKey::private_key_from_pem(&self.file(path)?)
+            .map_err(|_| format!("{} is no private key in PEM", path.display()))?;
         let chain = self.file(certificates)?;
-        let leaf = first_element(&chain).ok_or_else(|| format!("{} is no certificate in DER", certificates.display()))?.to_vec();
-        let public = X509::from_der(&leaf).and_then(|leaf| leaf.public_key()).map_err(|_| format!("{} is no certificate in DER", certificates.display()))?;
+        let leaf = first_element(&chain)
+            .ok_or_else(|| format!("{} is no certificate in DER", certificates.display()))?
+            .to_vec();
+        let public = X509::from_der(&leaf)
+            .and_then(|leaf| leaf.public_key())
+            .map_err(|_| format!("{} is no certificate in DER", certificates.display()))?;
         if !public.public_eq(&key) {
             return Err(format!("{} isn't the key of {}", path.display(), certificates.display()));
         }
@@ -128,7 +155,7 @@ impl Blocks {
 
 impl Block {
     fn has(&self, number: u64) -> bool {
-        number.checked_sub(self.first).map_or(false, |place| place < self.count)
+        number.checked_sub(self.first).is_some_and(|place| place < self.count)
     }
 
     /// Signs nothing, but looks whether the first number and the last could be signed for.
@@ -137,10 +164,19 @@ impl Block {
         for number in [self.first, last] {
             let orig = number.to_string();
             let message = crate::atis::invite(&orig, "12125551213", &[]);
-            let call = Call { orig: &orig, message: &message, iat: 0, origid: "00000000-0000-4000-8000-000000000000", attest: self.attest };
+            let call = Call {
+                orig: &orig,
+                message: &message,
+                iat: 0,
+                origid: "00000000-0000-4000-8000-000000000000",
+                attest: self.attest,
+            };
             let said = door::to_sign(rules, &self.order(&call));
             if said.kind != door::PASSES {
-                return Err(format!("the certificate of {} isn't one that covers {orig}", self.key.x5u));
+                return Err(format!(
+                    "the certificate of {} isn't one that covers {orig}",
+                    self.key.x5u
+                ));
             }
         }
         Ok(())
@@ -149,7 +185,15 @@ impl Block {
     fn order<'a>(&'a self, call: &'a Call) -> Order<'a> {
         // The letters are in order: the later is the lower attestation.
         let form = self.attest.max(call.attest);
-        Order { iat: call.iat, form, origid: call.origid.as_bytes(), x5u: self.key.x5u.as_bytes(), message: call.message, certificate: &self.key.leaf, table: &self.key.table }
+        Order {
+            iat: call.iat,
+            form,
+            origid: call.origid.as_bytes(),
+            x5u: self.key.x5u.as_bytes(),
+            message: call.message,
+            certificate: &self.key.leaf,
+            table: &self.key.table,
+        }
     }
 
     fn sign(&self, rules: &Rules, call: &Call) -> Result<Vec<u8>, Unsigned> {
@@ -210,7 +254,8 @@ mod tests {
 
     #[test]
     fn the_field_of_a_signed_message_is_its_last_line() {
-        let message = b"INVITE sip:a SIP/2.0\r\nIdentity: old\r\nTo: b\r\nIdentity: a.b.c;info=<d>\r\n\r\nIdentity: body";
+        let message = b"INVITE sip:a SIP/2.0\r\nIdentity: old\r\nTo: b\r\n\
+            Identity: a.b.c;info=<d>\r\n\r\nIdentity: body";
         assert_eq!(identity(message).as_deref(), Some("a.b.c;info=<d>"));
         assert_eq!(identity(b"INVITE sip:a SIP/2.0\r\nTo: b\r\n\r\n"), None);
     }
