@@ -1,5 +1,6 @@
 //! ES256 (RFC 7518, section 3.4): ECDSA on P-256 with SHA-256, by OpenSSL. What is confirmed here
 //! is what the judge takes for good.
+use crate::locks::Held;
 use openssl::bn::{BigNum, BigNumContext};
 use openssl::ec::{EcGroup, EcKey, EcPoint};
 use openssl::ecdsa::EcdsaSig;
@@ -105,7 +106,7 @@ impl Verifier {
     }
 
     fn remembered(&self, question: &Question) -> Option<bool> {
-        let answers = self.answers.read().expect("answers");
+        let answers = self.answers.read().held();
         if let Some(good) = answers.young.get(question) {
             return Some(*good);
         }
@@ -116,7 +117,7 @@ impl Verifier {
     }
 
     fn remember(&self, question: &Question, good: bool) {
-        let Generations { young, old } = &mut *self.answers.write().expect("answers");
+        let Generations { young, old } = &mut *self.answers.write().held();
         if young.len() >= GENERATION {
             // The older one's memory serves again.
             std::mem::swap(young, old);
@@ -126,11 +127,11 @@ impl Verifier {
     }
 
     fn key(&self, point: [u8; 65]) -> Option<EcKey<Public>> {
-        if let Some(key) = self.keys.read().expect("keys").get(&point) {
+        if let Some(key) = self.keys.read().held().get(&point) {
             return key.clone();
         }
         let key = self.key_of(&point).ok();
-        let mut keys = self.keys.write().expect("keys");
+        let mut keys = self.keys.write().held();
         if keys.len() >= MOST_KEYS {
             keys.clear();
         }

@@ -6,7 +6,9 @@
 //! disk if that was asked for; claims that come together are written together. A last line that was
 //! cut off belongs to no answer, and is taken off. When many lines are old the file is written
 //! anew, and takes the old one's place by a rename.
+use crate::locks::Held;
 use crate::past::{Passed, Ticket, Tickets};
+use crate::say::say;
 use std::fs::{File, OpenOptions};
 use std::io::{self, Write};
 use std::os::unix::io::AsRawFd;
@@ -84,7 +86,7 @@ impl Journal {
 
     /// Enters a claim, and gives its turn.
     pub fn enter(&self, record: Record) -> u64 {
-        let mut queue = self.queue.lock().expect("queue");
+        let mut queue = self.queue.lock().held();
         line_of(&mut queue.waiting, &record.ticket, &record.passed);
         queue.entered += 1;
         queue.entered
@@ -93,7 +95,7 @@ impl Journal {
     /// Waits until the claim of this turn is kept; false if it can't be. Whoever comes first writes
     /// for all that wait.
     pub fn wait(&self, turn: u64, tickets: &Mutex<Tickets>) -> bool {
-        let mut queue = self.queue.lock().expect("queue");
+        let mut queue = self.queue.lock().held();
         loop {
             if !self.is_well() {
                 return false;
@@ -102,7 +104,7 @@ impl Journal {
                 return true;
             }
             if queue.writing {
-                queue = self.done.wait(queue).expect("queue");
+                queue = self.done.wait(queue).held();
                 continue;
             }
             queue.writing = true;
@@ -110,10 +112,10 @@ impl Journal {
             drop(queue);
             let written = self.write(&bytes, tickets);
             if let Err(error) = &written {
-                eprintln!("stird: {}: {error}: no call passes from now on", self.path.display());
+                say(format_args!("{}: {error}: no call passes from now on", self.path.display()));
                 self.well.store(false, Ordering::SeqCst);
             }
-            queue = self.queue.lock().expect("queue");
+            queue = self.queue.lock().held();
             queue.writing = false;
             queue.written = upto;
             self.done.notify_all();
@@ -126,14 +128,14 @@ impl Journal {
     }
 
     fn write(&self, bytes: &[u8], tickets: &Mutex<Tickets>) -> io::Result<()> {
-        let mut target = self.target.lock().expect("target");
+        let mut target = self.target.lock().held();
         target.file.write_all(bytes)?;
         if self.sync {
             target.file.sync_data()?;
         }
         target.lines += bytes.iter().filter(|byte| **byte == b'\n').count();
         if target.lines >= LINES {
-            let held = tickets.lock().expect("tickets");
+            let held = tickets.lock().held();
             if target.lines >= held.passed.len() * 2 {
                 // What is claimed from here on is entered behind this lock, and so written behind
                 // this file's lines.

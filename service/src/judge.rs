@@ -4,6 +4,7 @@ use crate::door::{self, Materials, Said};
 use crate::es256::{self, Verifier};
 use crate::identity::x5us_of;
 use crate::lines::lines_of;
+use crate::locks::Held;
 use crate::metrics::{Metrics, Part};
 use crate::past::{Claim, Passed, Past};
 use crate::world::World;
@@ -106,12 +107,19 @@ pub fn now() -> u64 {
     SystemTime::now().duration_since(UNIX_EPOCH).map_or(0, |since| since.as_secs())
 }
 
+/// The next number of a call. At the greatest that there is it stands still.
+fn next(numbers: &AtomicU64) -> u64 {
+    let more = |number: u64| Some(number.saturating_add(1));
+    let (Ok(before) | Err(before)) = numbers.fetch_update(Ordering::SeqCst, Ordering::SeqCst, more);
+    before.saturating_add(1)
+}
+
 impl Judge {
     /// What comes of an INVITE that came at this moment.
     pub fn judge(&self, message: &[u8], moment: u64) -> Judged {
-        let world = self.world.read().expect("world").clone();
+        let world = self.world.read().held().clone();
         let said = self.said(&world, message, moment);
-        let call = self.numbers.fetch_add(1, Ordering::SeqCst) + 1;
+        let call = next(&self.numbers);
         let outcome = match said.kind {
             door::REFUSED => Outcome::Refused {
                 rule: said.rule,
@@ -186,6 +194,13 @@ impl Judge {
 #[cfg(test)]
 mod tests {
     use super::*;
+
+    #[test]
+    fn calls_are_numbered_up_to_the_greatest_number() {
+        let numbers = AtomicU64::new(u64::MAX - 2);
+        let given = [(); 3].map(|()| next(&numbers));
+        assert_eq!(given, [u64::MAX - 1, u64::MAX, u64::MAX]);
+    }
 
     #[test]
     fn a_call_that_isnt_valid_has_a_reason() {

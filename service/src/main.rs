@@ -1,5 +1,9 @@
 //! `stird`: a STIR/SHAKEN service over HTTP. It judges calls by the proved library of `stir`
 //! (`include/stir.h`), with ES256 by OpenSSL. docs/SERVICE.md tells how to run it.
+#![deny(clippy::print_stderr, clippy::print_stdout)]
+#[cfg(not(panic = "unwind"))]
+compile_error!("a fault in one thread must end one connection, and not the service");
+
 mod anchors;
 mod atis;
 mod door;
@@ -9,19 +13,22 @@ mod identity;
 mod journal;
 mod judge;
 mod lines;
+mod locks;
 mod metrics;
 mod past;
 mod redis;
+mod say;
 mod service;
 mod settings;
 mod signing;
 mod world;
 
+use crate::say::say;
 use std::env;
+use std::ffi::OsString;
 use std::net::TcpListener;
 use std::os::unix::process::CommandExt;
 use std::process::Command;
-use std::sync::atomic::AtomicUsize;
 use std::sync::{Arc, Mutex, RwLock};
 
 /// The settings of the C library, and how many freed blocks of each size a thread keeps for itself
@@ -32,13 +39,17 @@ const KEPT_BLOCKS: &str = "glibc.malloc.tcache_count=64";
 
 fn main() {
     keep_blocks();
-    let words: Vec<String> = env::args().skip(1).collect();
-    let settings = settings::read(&words).unwrap_or_else(|fault| {
-        eprint!("stird: {fault}\n{}", settings::USAGE);
-        std::process::exit(2)
-    });
+    let words: Result<Vec<String>, OsString> =
+        env::args_os().skip(1).map(OsString::into_string).collect();
+    let settings = words
+        .map_err(|word| format!("{} isn't UTF-8", word.to_string_lossy()))
+        .and_then(|words| settings::read(&words))
+        .unwrap_or_else(|fault| {
+            say(format_args!("{fault}\n{}", settings::USAGE.trim_end()));
+            std::process::exit(2)
+        });
     if let Err(fault) = start(settings) {
-        eprintln!("stird: {fault}");
+        say(fault);
         std::process::exit(1);
     }
 }
@@ -72,10 +83,10 @@ fn start(settings: settings::Settings) -> Result<(), String> {
         .map_err(|error| format!("{}: {error}", settings.listen))?;
     let address = listener.local_addr().map_err(|error| error.to_string())?;
     let (chains, tickets, signs) = (world.chains(), past.count(), blocks.count());
-    eprintln!(
-        "stird: listens at {address}, with {chains} chains, {tickets} tickets and {signs} blocks \
-         of numbers to sign for"
-    );
+    say(format_args!(
+        "listens at {address}, with {chains} chains, {tickets} tickets and {signs} blocks of \
+         numbers to sign for"
+    ));
     let service = Arc::new(service::Service {
         judge: judge::Judge {
             rules: settings.rules.clone(),
@@ -86,7 +97,7 @@ fn start(settings: settings::Settings) -> Result<(), String> {
             metrics: metrics::Metrics::default(),
         },
         blocks: RwLock::new(Arc::new(blocks)),
-        connections: AtomicUsize::new(0),
+        connections: Arc::default(),
         settings,
     });
     let reloading = service.clone();

@@ -1,6 +1,7 @@
 //! The past: which tickets passed. A ticket is claimed once, and where it is kept decides how long
 //! that holds: in memory, in a journal over restarts, or in a Redis for several hosts.
 use crate::journal::{Journal, Record};
+use crate::locks::Held;
 use crate::redis::Redis;
 use std::collections::HashMap;
 use std::sync::Mutex;
@@ -87,7 +88,7 @@ impl Past {
     pub fn claim(&self, ticket: Ticket, passed: Passed, moment: u64) -> Claim {
         match self {
             Past::Memory { tickets, most, journal } => {
-                let mut held = tickets.lock().expect("tickets");
+                let mut held = tickets.lock().held();
                 let claim = held.claim(ticket, passed, moment, *most);
                 let (Claim::Won, Some(journal)) = (claim, journal) else { return claim };
                 // Entered under the lock, so that what is kept over a restart is what was claimed,
@@ -107,7 +108,7 @@ impl Past {
     /// How many tickets are held here.
     pub fn count(&self) -> usize {
         match self {
-            Past::Memory { tickets, .. } => tickets.lock().expect("tickets").passed.len(),
+            Past::Memory { tickets, .. } => tickets.lock().held().passed.len(),
             Past::Shared(_) => 0,
         }
     }

@@ -1,5 +1,6 @@
 //! A past that several hosts share: `SET stir:TICKET VALUE NX EX SECONDS` on a Redis. The first to
 //! set a ticket has it.
+use crate::locks::Held;
 use crate::past::{Claim, Passed, Ticket, SLACK};
 use std::io::{BufRead, BufReader, Read, Write};
 use std::net::{TcpStream, ToSocketAddrs};
@@ -88,7 +89,7 @@ impl Redis {
     }
 
     fn try_claim(&self, key: &str, value: &str, seconds: &str) -> std::io::Result<Claim> {
-        let idle = self.idle.lock().expect("idle").pop();
+        let idle = self.idle.lock().held().pop();
         let mut connection = match idle {
             Some(connection) => connection,
             None => self.connect()?,
@@ -121,7 +122,7 @@ impl Redis {
     }
 
     fn give_back(&self, connection: Connection) {
-        let mut idle = self.idle.lock().expect("idle");
+        let mut idle = self.idle.lock().held();
         if idle.len() < 64 {
             idle.push(connection);
         }
@@ -144,23 +145,70 @@ fn ask(connection: &mut Connection, words: &[&[u8]]) -> std::io::Result<Reply> {
         text.extend_from_slice(b"\r\n");
     }
     connection.get_mut().write_all(&text)?;
-    let mut line = String::new();
-    connection.by_ref().take(1024).read_line(&mut line)?;
-    let line = line.trim_end();
-    let other = || std::io::Error::other(format!("the Redis said {line:?}"));
-    match line.split_at(line.len().min(1)) {
-        ("+", _) => Ok(Reply::Done),
-        ("$", "-1") | ("_", _) => Ok(Reply::Nothing),
-        ("$", size) => {
-            let size: usize = size.parse().map_err(|_| other())?;
-            if size > 1024 {
-                return Err(other());
-            }
+    let mut line = Vec::new();
+    connection.by_ref().take(1024).read_until(b'\n', &mut line)?;
+    let line = line.trim_ascii_end();
+    let other =
+        || std::io::Error::other(format!("the Redis said {:?}", String::from_utf8_lossy(line)));
+    match line.split_first().ok_or_else(other)? {
+        (b'+', _) => Ok(Reply::Done),
+        (b'$', b"-1") | (b'_', _) => Ok(Reply::Nothing),
+        (b'$', size) => {
+            let size: Option<usize> =
+                std::str::from_utf8(size).ok().and_then(|size| size.parse().ok());
+            let size = size.filter(|size| *size <= 1024).ok_or_else(other)?;
             let mut text = vec![0; size + 2];
             connection.read_exact(&mut text)?;
             text.truncate(size);
             Ok(Reply::Text(text))
         }
         _ => Err(other()),
+    }
+}
+
+#[cfg(test)]
+mod tests {
+    use super::*;
+    use std::net::{Shutdown, TcpListener};
+
+    /// What is made of a peer that answers with these bytes and says no more.
+    fn answered(bytes: &'static [u8]) -> Result<Reply, String> {
+        let listener = TcpListener::bind("127.0.0.1:0").unwrap();
+        let stream = TcpStream::connect(listener.local_addr().unwrap()).unwrap();
+        let peer = std::thread::spawn(move || {
+            let mut stream = listener.accept().unwrap().0;
+            stream.write_all(bytes).unwrap();
+            stream.shutdown(Shutdown::Write).unwrap();
+            stream.read_to_end(&mut Vec::new()).unwrap();
+        });
+        let reply = ask(&mut BufReader::new(stream), &[b"PING"]).map_err(|error| error.to_string());
+        peer.join().unwrap();
+        reply
+    }
+
+    #[test]
+    fn answers_of_a_redis_are_read() {
+        assert_eq!(answered(b"+PONG\r\n"), Ok(Reply::Done));
+        assert_eq!(answered(b"$-1\r\n"), Ok(Reply::Nothing));
+        assert_eq!(answered(b"_\r\n"), Ok(Reply::Nothing));
+        assert_eq!(answered(b"$3\r\nabc\r\n"), Ok(Reply::Text(b"abc".to_vec())));
+    }
+
+    #[test]
+    fn whatever_else_a_peer_says_is_an_error() {
+        let others: [&[u8]; 9] = [
+            b"",
+            b"\r\n",
+            b"-ERR no\r\n",
+            "\u{e9}\r\n".as_bytes(),
+            b"\xff\xfe\r\n",
+            b"$\xc3\xa9\r\n",
+            b"$1025\r\n",
+            b"$5\r\nabc",
+            b"HTTP/1.1 400 Bad Request\r\n",
+        ];
+        for bytes in others {
+            assert!(answered(bytes).is_err(), "{bytes:?}");
+        }
     }
 }

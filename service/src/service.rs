@@ -2,10 +2,13 @@
 use crate::atis;
 use crate::http::{Answer, Connection, Fault, Request};
 use crate::judge::{now, Judge, Judged, Outcome};
+use crate::locks::Held;
+use crate::say::say;
 use crate::settings::Settings;
 use crate::signing::{self, Blocks, Unsigned};
 use crate::world::World;
 use std::net::{TcpListener, TcpStream};
+use std::panic::{catch_unwind, AssertUnwindSafe};
 use std::sync::atomic::{AtomicUsize, Ordering};
 use std::sync::{Arc, RwLock};
 use std::time::Instant;
@@ -15,26 +18,24 @@ pub struct Service {
     pub settings: Settings,
     pub judge: Judge,
     pub blocks: RwLock<Arc<Blocks>>,
-    pub connections: AtomicUsize,
+    pub connections: Arc<AtomicUsize>,
 }
 
 impl Service {
     /// Answers connections, each in a thread of its own, as many at once as there may be.
     pub fn run(self: Arc<Service>, listener: &TcpListener) {
         for stream in listener.incoming().flatten() {
-            if self.connections.fetch_add(1, Ordering::SeqCst) >= self.settings.connections {
-                self.connections.fetch_sub(1, Ordering::SeqCst);
+            let Some(place) = Place::take(&self.connections, self.settings.connections) else {
                 self.judge.metrics.turn_away();
                 self.turn_away(stream);
                 continue;
-            }
+            };
             let service = self.clone();
             let thread = std::thread::Builder::new().stack_size(4 << 20).spawn(move || {
+                let _place = place;
                 service.serve(stream);
-                service.connections.fetch_sub(1, Ordering::SeqCst);
             });
             if thread.is_err() {
-                self.connections.fetch_sub(1, Ordering::SeqCst);
                 self.judge.metrics.turn_away();
             }
         }
@@ -125,7 +126,7 @@ impl Service {
 
     /// The Identity value of a call.
     fn sign(&self, call: &atis::Signing) -> Result<String, atis::Refusal> {
-        let blocks = self.blocks.read().expect("blocks").clone();
+        let blocks = self.blocks.read().held().clone();
         let wanted = signing::Call {
             orig: &call.orig,
             message: &call.message,
@@ -149,7 +150,7 @@ impl Service {
     }
 
     fn metrics(&self) -> Answer {
-        let world = self.judge.world.read().expect("world").clone();
+        let world = self.judge.world.read().held().clone();
         let held = [
             self.judge.past.count(),
             world.chains(),
@@ -168,27 +169,32 @@ impl Service {
     pub fn reload(&self) {
         loop {
             std::thread::sleep(self.settings.reload);
-            self.judge.past.look();
-            let world = self.judge.world.read().expect("world").clone();
-            if world.is_stale() {
-                let files = &self.settings;
-                let read = World::read(&files.rules, &files.chains, &files.anchors, &files.table);
-                let done = read.map(|mut new| {
-                    new.confirm(&files.rules, &self.judge.verifier, Some(&world));
-                    *self.judge.world.write().expect("world") = Arc::new(new);
-                });
-                self.tell(done);
-            }
-            self.reload_blocks();
+            // A round that panics isn't the last one.
+            let _ = catch_unwind(AssertUnwindSafe(|| self.look()));
         }
+    }
+
+    fn look(&self) {
+        self.judge.past.look();
+        let world = self.judge.world.read().held().clone();
+        if world.is_stale() {
+            let files = &self.settings;
+            let read = World::read(&files.rules, &files.chains, &files.anchors, &files.table);
+            let done = read.map(|mut new| {
+                new.confirm(&files.rules, &self.judge.verifier, Some(&world));
+                *self.judge.world.write().held() = Arc::new(new);
+            });
+            self.tell(done);
+        }
+        self.reload_blocks();
     }
 
     /// The same of the numbers that are signed for.
     fn reload_blocks(&self) {
         let Some(path) = &self.settings.signing else { return };
-        if self.blocks.read().expect("blocks").is_stale() {
+        if self.blocks.read().held().is_stale() {
             let read = Blocks::read(&self.settings.rules, path, &self.settings.table);
-            let done = read.map(|blocks| *self.blocks.write().expect("blocks") = Arc::new(blocks));
+            let done = read.map(|blocks| *self.blocks.write().held() = Arc::new(blocks));
             self.tell(done);
         }
     }
@@ -196,8 +202,26 @@ impl Service {
     fn tell(&self, done: Result<(), String>) {
         self.judge.metrics.reload(done.is_ok());
         if let Err(fault) = done {
-            eprintln!("stird: {fault}: what was read before stays");
+            say(format_args!("{fault}: what was read before stays"));
         }
+    }
+}
+
+/// A place among the connections that there may be. It is given back when its thread ends, by a
+/// panic too.
+struct Place(Arc<AtomicUsize>);
+
+impl Place {
+    /// One more of this many, if one is free.
+    fn take(taken: &Arc<AtomicUsize>, most: usize) -> Option<Place> {
+        let place = Place(Arc::clone(taken));
+        (taken.fetch_add(1, Ordering::SeqCst) < most).then_some(place)
+    }
+}
+
+impl Drop for Place {
+    fn drop(&mut self) {
+        self.0.fetch_sub(1, Ordering::SeqCst);
     }
 }
 
@@ -233,6 +257,19 @@ fn line(judged: &Judged) -> String {
 mod tests {
     use super::*;
     use serde_json::json;
+
+    #[test]
+    fn a_connection_that_panics_gives_its_place_back() {
+        let taken = Arc::default();
+        let place = Place::take(&taken, 1).expect("one is free");
+        assert!(Place::take(&taken, 1).is_none(), "the only place is taken");
+        let thread = std::thread::spawn(move || {
+            let _place = place;
+            std::panic::resume_unwind(Box::new("a fault"));
+        });
+        assert!(thread.join().is_err());
+        assert!(Place::take(&taken, 1).is_some(), "its place is free again");
+    }
 
     #[test]
     fn what_came_of_a_call_is_json() {
