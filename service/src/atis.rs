@@ -21,9 +21,14 @@ pub const MISSING: Refusal = Refusal {
 };
 pub const BAD_VALUE: Refusal =
     Refusal { status: 400, id: "SVC4005", text: "Error: Invalid parameter value." };
-/// This one and the next aren't in the document.
+/// This one and those after it aren't in the document.
 pub const NOT_OURS: Refusal =
     Refusal { status: 403, id: "POL4030", text: "Error: This number isn't signed for." };
+pub const NOT_VALID: Refusal = Refusal {
+    status: 500,
+    id: "SVC5001",
+    text: "Error: The certificate of this number isn't valid now.",
+};
 pub const FAILED: Refusal =
     Refusal { status: 500, id: "SVC5000", text: "Error: The call can't be signed now." };
 

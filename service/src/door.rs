@@ -92,6 +92,7 @@ extern "C" {
         out: *mut u8,
         room: usize,
     ) -> Said;
+    fn stir_show(chain: *const u8, chain_size: usize, out: *mut u8, room: usize) -> Said;
     fn stir_to_sign(
         country: *const u8,
         country_size: usize,
@@ -246,6 +247,11 @@ pub fn x5us(rules: &Rules, moment: u64, message: &[u8], out: &mut Vec<u8>) -> Sa
             room,
         )
     })
+}
+
+/// What the certificates of a chain say, in the lines of the command `show`.
+pub fn show(chain: &[u8], out: &mut Vec<u8>) -> Said {
+    with_room(out, |at, room| unsafe { stir_show(chain.as_ptr(), chain.len(), at, room) })
 }
 
 /// The digest that is to be signed, as the ticket of what is said; or why nothing may be.

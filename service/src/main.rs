@@ -100,6 +100,7 @@ fn start(settings: settings::Settings) -> Result<(), String> {
         connections: Arc::default(),
         settings,
     });
+    service.tell_not_valid();
     let reloading = service.clone();
     std::thread::spawn(move || reloading.reload());
     service.run(&listener);

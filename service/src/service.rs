@@ -139,6 +139,7 @@ impl Service {
         let message = made.map_err(|why| match why {
             Unsigned::NotOurs => atis::NOT_OURS,
             Unsigned::BadValue => atis::BAD_VALUE,
+            Unsigned::NotValid => atis::NOT_VALID,
             Unsigned::Failed => atis::FAILED,
         })?;
         signing::identity(&message).ok_or(atis::FAILED)
@@ -196,6 +197,14 @@ impl Service {
             let read = Blocks::read(&self.settings.rules, path, &self.settings.table);
             let done = read.map(|blocks| *self.blocks.write().held() = Arc::new(blocks));
             self.tell(done);
+            self.tell_not_valid();
+        }
+    }
+
+    /// Says which certificates sign nothing now, since they aren't valid.
+    pub fn tell_not_valid(&self) {
+        for x5u in self.blocks.read().held().not_valid(now()) {
+            say(format_args!("{x5u}: not valid now, so nothing is signed with its key"));
         }
     }
 

@@ -7,15 +7,17 @@ use crate::world::{codes_of, stamp, Stamp};
 use openssl::ecdsa::EcdsaSig;
 use openssl::pkey::{PKey, Private};
 use openssl::x509::X509;
-use std::collections::HashMap;
+use std::collections::{BTreeSet, HashMap};
+use std::ops::RangeInclusive;
 use std::path::{Path, PathBuf};
 use std::sync::Arc;
 
-/// A key with the certificate that goes with it: the leaf in DER, its URI, and the lines of the
-/// code table on the codes in it.
+/// A key with the certificate that goes with it: the leaf in DER, the seconds at which it is valid,
+/// its URI, and the lines of the code table on the codes in it.
 pub struct Key {
     key: PKey<Private>,
     leaf: Vec<u8>,
+    valid: RangeInclusive<i64>,
     x5u: String,
     table: Vec<u8>,
 }
@@ -43,6 +45,8 @@ pub enum Unsigned {
     NotOurs,
     /// What the library can't take or won't sign: a number or an identifier is no such thing.
     BadValue,
+    /// The certificate isn't valid at that second.
+    NotValid,
     /// The key or the memory failed.
     Failed,
 }
@@ -94,7 +98,7 @@ impl Blocks {
         let [first, count, attest, key, certificates, x5u] = words[..] else {
             return Err("six words are wanted".into());
         };
-        let first = first.parse().map_err(|_| "no number")?;
+        let first = number_of(first).ok_or("no number")?;
         let count = count.parse().ok().filter(|count| *count > 0).ok_or("no count")?;
         if !["A", "B", "C"].contains(&attest) {
             return Err("the attestation is A, B or C".into());
@@ -131,8 +135,12 @@ impl Blocks {
         if !public.public_eq(&key) {
             return Err(format!("{} isn't the key of {}", path.display(), certificates.display()));
         }
+        let mut shown = Vec::new();
+        door::show(&leaf, &mut shown);
+        let valid = dates(&shown)
+            .ok_or_else(|| format!("{} isn't in the profile", certificates.display()))?;
         let table = codes_of(&leaf, table);
-        Ok(Key { key, leaf, x5u: x5u.into(), table })
+        Ok(Key { key, leaf, valid, x5u: x5u.into(), table })
     }
 
     /// Whether a file isn't what it was when it was read.
@@ -145,11 +153,24 @@ impl Blocks {
         self.blocks.len()
     }
 
+    /// The URIs of the certificates that aren't valid at this second.
+    pub fn not_valid(&self, second: u64) -> BTreeSet<&str> {
+        let keys = self.blocks.iter().map(|block| &block.key);
+        keys.filter(|key| !key.is_valid(second)).map(|key| key.x5u.as_str()).collect()
+    }
+
     /// The message of a call with its Identity field.
     pub fn sign(&self, rules: &Rules, call: &Call) -> Result<Vec<u8>, Unsigned> {
-        let number: u64 = call.orig.parse().map_err(|_| Unsigned::NotOurs)?;
+        let number = number_of(call.orig).ok_or(Unsigned::NotOurs)?;
         let block = self.blocks.iter().find(|block| block.has(number)).ok_or(Unsigned::NotOurs)?;
         block.sign(rules, call)
+    }
+}
+
+impl Key {
+    /// Whether its certificate is valid at this second, as rule 13 asks of it.
+    fn is_valid(&self, second: u64) -> bool {
+        i64::try_from(second).is_ok_and(|second| self.valid.contains(&second))
     }
 }
 
@@ -205,6 +226,9 @@ impl Block {
             door::REFUSED | door::BAD_INPUT => return Err(Unsigned::BadValue),
             _ => return Err(Unsigned::Failed),
         }
+        if !self.key.is_valid(call.iat) {
+            return Err(Unsigned::NotValid);
+        }
         let signature = signature(&self.key.key, &said.ticket).ok_or(Unsigned::Failed)?;
         let mut message = Vec::with_capacity(call.message.len() + 2048);
         match door::signed(rules, &order, &signature, &mut message).kind {
@@ -212,6 +236,23 @@ impl Block {
             _ => Err(Unsigned::Failed),
         }
     }
+}
+
+/// The number that a text of digits is. Each has one text alone: no country code begins with 0
+/// (ITU-T E.164), so a number with zeros before it is none that a block has.
+fn number_of(text: &str) -> Option<u64> {
+    let plain = !text.starts_with('0') && text.bytes().all(|byte| byte.is_ascii_digit());
+    plain.then(|| text.parse().ok()).flatten()
+}
+
+/// The seconds, in Unix time, at which the first certificate of these lines of `show` is valid: the
+/// first and the last.
+fn dates(lines: &[u8]) -> Option<RangeInclusive<i64>> {
+    let second = |name: &str| {
+        let mut lines = std::str::from_utf8(lines).ok()?.lines();
+        lines.find_map(|line| line.strip_prefix(name))?.parse().ok()
+    };
+    Some(second("not-before ")?..=second("not-after ")?)
 }
 
 /// The signature over a digest: r and s, 32 bytes each (RFC 7518, section 3.4).
@@ -243,6 +284,25 @@ fn first_element(der: &[u8]) -> Option<&[u8]> {
 #[cfg(test)]
 mod tests {
     use super::*;
+
+    #[test]
+    fn a_number_has_one_text() {
+        assert_eq!(number_of("12000010005"), Some(12_000_010_005));
+        for text in
+            ["012000010005", "0012000010005", "0", "", "+12000010005", "1 2", "12*", "\u{661}"]
+        {
+            assert_eq!(number_of(text), None, "{text}");
+        }
+    }
+
+    #[test]
+    fn a_certificate_is_valid_from_its_first_second_to_its_last() {
+        let lines = b"certificate 1\nnot-before -5\nnot-after 70\nca no\n\
+            certificate 2\nnot-before 0\nnot-after 9\nca yes\n";
+        assert_eq!(dates(lines), Some(-5..=70));
+        assert_eq!(dates(b"certificate 1\nnot-before 5\n"), None);
+        assert_eq!(dates(b"refused input 0\n"), None);
+    }
 
     #[test]
     fn the_leaf_of_a_chain_is_its_first_element() {
