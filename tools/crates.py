@@ -11,6 +11,13 @@ def below():
     return {name: [part for part in parts if part in named] for name, parts in named.items()}
 
 
+def of_the_kit():
+    """The crates that the lines name and that the repository hasn't: those of the kit, in the order of their names."""
+    lines = [line.split('#')[0].strip() for line in (TOP / 'crates.txt').read_text().splitlines()]
+    named = {part for line in lines if line for part in line.split(':')[1].split()}
+    return sorted(named - set(below()))
+
+
 def standing_under(name, crates):
     """The crates that this one stands on, and itself, lowest first."""
     found = []

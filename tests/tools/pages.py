@@ -1,6 +1,6 @@
 """The pages that people read: each command that they show is run, in a copy of the tree in which the program stands as the proved one, and what it
-writes is compared; no sentence is too long; man/stir.1 is what tools/man makes; what docs/PROVED.md names is there; and docs/REFUSALS.md is what
-tools/refusals makes.
+writes is compared; no sentence is too long; man/stir.1 is what tools/man makes; what docs/PROVED.md names is there; docs/REFUSALS.md is what
+tools/refusals makes; and README.md trusts the crates of the kit that tools/trusted lists.
 
     pages.py    counts the long sentences of these pages, and names them
 
@@ -142,6 +142,9 @@ def results(program, has_library):
     yield 'tools/man --check', (0, ''), (done.returncode, done.stderr)
     done = subprocess.run([sys.executable, TOP / 'tools' / 'refusals', '--check'], stdout=subprocess.PIPE, text=True)
     yield 'tools/refusals --check', (0, 'refusals: docs/REFUSALS.md has what the sources say\n'), (done.returncode, done.stdout)
+
+    done = subprocess.run([sys.executable, TOP / 'tools' / 'trusted', '--check'], stdout=subprocess.PIPE, text=True)
+    yield 'tools/trusted --check', (0, 'trusted: README.md names the crates of the kit that crates.txt names\n'), (done.returncode, done.stdout)
 
 
 def main():
