@@ -14,7 +14,12 @@
  * - Of the calls that pass with one ticket only one is let through. Up to its second `last` a ticket has to be remembered.
  * - What is handed in as a signature was made by the key of the certificate whose URI is the x5u, and the caller may be signed for as the form says.
  *
- * What is proved, and of what, is in docs/PROVED.md. A program is linked with libstir_c.a and then with liblibc_c.a of the Rattle kit.
+ * What is proved, and of what, is in docs/PROVED.md. Not proved, but so by the way the library is made, is what this page says of:
+ * - malloc and threads: that nothing is kept, and that any number of threads may be inside;
+ * - the order in which bad inputs are looked at (that of stir_withheld is proved), and the fields that are 0;
+ * - what is enough: which trust anchors and which lines of a code table a call needs, and how much room.
+ *
+ * A program is linked with libstir_c.a and then with liblibc_c.a of the Rattle kit.
  */
 #ifndef STIR_H
 #define STIR_H
@@ -87,7 +92,8 @@ uint64_t stir_abi(void);
  * anchors        the trust anchors one after another, in DER; those whose subject stands in the chains are enough, in their order
  * table          lines of a code table (docs/FORMATS.md); those on the codes in the chains and in the trust anchors are enough (an anchor with codes
  *                is an issuer whose numbers a certificate below it can't go beyond: rule 14)
- * room           where the lines go; 20,979 bytes are always enough, 63 lines of 333
+ * room           where the lines go; 20,979 bytes are always enough: at most nine chains of six certificates and nine PASSporTs are asked for, 63 lines
+ *                of 333 bytes
  */
 stir_said stir_ask(uint64_t past, uint64_t future, const uint8_t *country, size_t country_size, uint8_t national, uint64_t moment,
                    const uint8_t *message, size_t message_size, const uint8_t *listed, size_t listed_size,
@@ -132,8 +138,8 @@ stir_said stir_x5u(uint64_t past, uint64_t future, const uint8_t *country, size_
  *
  * FIELD is the number of its Identity header field, counted from 1 in message order, in decimal digits. PAYLOAD is the payload that was signed, as
  * deterministic JSON (RFC 8225, section 9): a JSON object without white space, whose members stand in byte order of their names, on all levels. All
- * claims that were signed are there, also those that no rule looks at; of a PASSporT in its compact form (RFC 8225, section 7) they are those that the
- * message gave. No LF stands in it; the line ends with one. A payload has no such form if a number in it has a point or an exponent, is -0, or an
+ * claims that were signed are there, also those that no rule looks at; of several members of one name the last alone. Of a PASSporT in its compact form
+ * (RFC 8225, section 7) they are those that the message gave. No LF stands in it; the line ends with one. A payload has no such form if a number in it has a point or an exponent, is -0, or an
  * integer past 64 bits: then PAYLOAD is a hyphen.
  *
  * The inputs are those of stir_ask, with its units and limits. STIR_PASSES says here, as of stir_x5u, that none of rules 1 to 9 is broken, and has
