@@ -138,9 +138,9 @@ stir_said stir_x5u(uint64_t past, uint64_t future, const uint8_t *country, size_
  *
  * FIELD is the number of its Identity header field, counted from 1 in message order, in decimal digits. PAYLOAD is the payload that was signed, as
  * deterministic JSON (RFC 8225, section 9): a JSON object without white space, whose members stand in byte order of their names, on all levels. All
- * claims that were signed are there, also those that no rule looks at; of several members of one name the last alone. Of a PASSporT in its compact form
- * (RFC 8225, section 7) they are those that the message gave. No LF stands in it; the line ends with one. A payload has no such form if a number in it has a point or an exponent, is -0, or an
- * integer past 64 bits: then PAYLOAD is a hyphen.
+ * claims that were signed are there, also those that no rule looks at; of several members of one name the last alone. Of a PASSporT in its compact
+ * form (RFC 8225, section 7) they are those that the message gave. No LF stands in it; the line ends with one. A payload has no such form if a number
+ * in it has a point or an exponent, is -0, or an integer past 64 bits: then PAYLOAD is a hyphen.
  *
  * The inputs are those of stir_ask, with its units and limits. STIR_PASSES says here, as of stir_x5u, that none of rules 1 to 9 is broken, and has
  * the ticket and its last second; STIR_REFUSED says which of them is broken, and then nothing is written. Rules 10 to 17 and 19 aren't tried and no
