@@ -1,4 +1,5 @@
-"""Counts of the calls of a report: by rule, by signer and by hour, as a table and as a picture."""
+"""Counts of the calls of a report: by rule, by signer, by the certificate that is named where nothing shows who signed, and by hour; as a table
+and as a picture."""
 import collections
 import time
 import xml.sax.saxutils
@@ -17,24 +18,27 @@ HEIGHT, LEFT, BAR = 18, 330, 420
 class Summary:
     def __init__(self):
         self.all, self.rules = collections.Counter(), collections.Counter()
-        self.signers, self.hours = collections.defaultdict(collections.Counter), collections.defaultdict(collections.Counter)
+        self.signers, self.named, self.hours = (collections.defaultdict(collections.Counter) for _ in range(3))
 
-    def add(self, call):
+    def add(self, call, verdict):
         answer = call['answer']
         self.all[answer] += 1
         if call['rule'] is not None:
             self.rules['unread' if answer == 'unread' else call['rule']] += 1
-        self.signers[' '.join(it for it in (call['signer'], call['x5u']) if it) or 'no signer'][answer] += 1
+        # The signer's name of a call whose signatures aren't good may be a forger's choice, so it gets no row among the signers.
+        rows = self.signers if verdict.is_signed() else self.named
+        rows[' '.join(it for it in (call['signer'], call['named'], call['x5u']) if it) or 'none'][answer] += 1
         self.hours[time.strftime('%Y-%m-%d %H:00', time.gmtime(call['moment']))][answer] += 1
 
     def parts(self):
-        """The three tables: a title, and rows of a name and the counts of each answer. The signers of most calls come first."""
+        """The four tables: a title, and rows of a name and the counts of each answer. The signers of most calls come first."""
         rules = [(f'{rule} {BROKEN[rule].partition(",")[0]}', {'replay' if rule == 18 else 'refused': count})
                  for rule, count in sorted(it for it in self.rules.items() if it[0] != 'unread')]
         if self.rules['unread']:
             rules.append((f'10 {UNREAD}', {'unread': self.rules['unread']}))
-        signers = sorted(self.signers.items(), key=lambda it: (-sum(it[1].values()), it[0]))
-        return ('by rule', rules), ('by signer', signers), ('by hour (UTC)', sorted(self.hours.items()))
+        signers, named = (sorted(them.items(), key=lambda it: (-sum(it[1].values()), it[0])) for them in (self.signers, self.named))
+        hours = sorted(self.hours.items())
+        return ('by rule', rules), ('by signer', signers), ('by named certificate, not shown to have signed', named), ('by hour (UTC)', hours)
 
     def table(self):
         """The counts as lines."""

@@ -3,6 +3,11 @@ import re
 
 LINE = re.compile(r'([1-9]\d*) (valid|refused|replay|unread) (-|\d{3}) (-|\d+) (-|[\d.]+)')
 
+# The lines of a state after the report (docs/FORMATS.md, "State file"): the first, those between, and the last.
+STATE_BEGINS = 'past 1'
+STATE_LINE = re.compile(r'(?:window|call|moment) \d+|kept [0-9a-f]{64} \d+ \d+')
+STATE_ENDS = re.compile(r'end \d+')
+
 # RFC 8224, section 6.2.2; 400 is that of RFC 3261, section 21.4.1.
 PHRASES = {400: 'Bad Request', 403: 'Stale Date', 428: 'Use Identity Header', 436: 'Bad Identity Info', 437: 'Unsupported Credential',
            438: 'Invalid Identity Header'}
@@ -17,6 +22,9 @@ BROKEN = {1: 'the message can\'t be read, or is no INVITE', 2: 'there is no Iden
           16: 'the PASSporT\'s signature isn\'t good', 17: 'the certificate doesn\'t cover the number',
           18: 'the PASSporT passed before, with call {place}', 19: 'a certificate doesn\'t allow what is claimed'}
 UNREAD = 'the file of the certificates couldn\'t be read'
+
+# Rule 16 is that the PASSporTs' signatures are good. These are tried after it, so of a call that breaks one of them they are.
+AFTER_SIGNATURES = (17, 18, 19)
 
 # A call of which nothing was validated has no verdict on its number: the message, the Identity field or the certificates weren't there.
 NOTHING_VALIDATED = (400, 428, 436)
@@ -38,6 +46,10 @@ class Verdict:
 
     def line(self):
         return ' '.join('-' if it is None else str(it) for it in (self.call, self.answer, self.response, self.rule, self.place))
+
+    def is_signed(self):
+        """Whether the PASSporTs' signatures are good, by certificates that lead to a trust anchor: rules 11 to 16 hold."""
+        return self.answer == 'valid' or self.rule in AFTER_SIGNATURES
 
     def phrase(self):
         """The reason phrase of the response."""

@@ -35,20 +35,37 @@ MESSAGES = [
     (1443211946, b'OPTIONS'),
     (1443211947, message(FROM, TO, 'Call-ID: five', f'Identity: {token([])};info=<a b>;ppt=shaken')),
     (1443211948, message(FROM, TO, 'Call-ID: six', SHAKEN)),
+    (1443211949, message(FROM, TO, 'Call-ID: seven', SHAKEN)),
+    (1443211950, message(FROM, TO, 'Call-ID: eight', SHAKEN)),
 ]
-REPORT = '1 valid - - -\n2 refused 437 12 1.2\n3 replay 438 18 1\n4 refused 400 1 0.7\n5 refused 438 6 1.2\n6 unread - 10 1.0\n'
+VERDICTS = ['valid - - -', 'refused 437 12 1.2', 'replay 438 18 {}', 'refused 400 1 0.7', 'refused 438 6 1.2', 'unread - 10 1.0', 'refused 438 16 1.0',
+            'refused 437 17 1.0']
 
-COLUMNS = ('call moment call_id caller called attestation origid x5u signer answer response phrase rule place verstat reason').split()
+
+def report(first):
+    """The report of these messages, whose first call has this number."""
+    return ''.join(f'{number} {verdict}\n'.format(first) for number, verdict in enumerate(VERDICTS, first))
+
+
+REPORT = report(1)
+STATE = f'past 1\nwindow 60\ncall 48\nmoment 1443211950\nkept {"0a" * 32} 41 1443212005\nkept {"0b" * 32} 1 1443212005\nend 2\n'
+
+COLUMNS = ('call moment call_id caller called attestation origid x5u signer named answer response phrase rule place verstat reason').split()
 ROWS = [
-    (1, 1443208345, 'one', '12155551212', '12125551213', 'B', ORIGID, X5U, '42AB', 'valid', None, '', None, None, 'TN-Validation-Passed', ''),
-    (2, 1443208346, 'two', '442071838750', '911', 'B', ORIGID, OTHER, '', 'refused', 437, 'Unsupported Credential', 12, '1.2', 'TN-Validation-Failed',
+    (1, 1443208345, 'one', '12155551212', '12125551213', 'B', ORIGID, X5U, '42AB', '', 'valid', None, '', None, None, 'TN-Validation-Passed', ''),
+    (2, 1443208346, 'two', '442071838750', '911', 'B', ORIGID, OTHER, '', '', 'refused', 437, 'Unsupported Credential', 12, '1.2', 'TN-Validation-Failed',
      'STIR;cause=437;text="Unsupported Credential"'),
-    (3, 1443211945, '=three\x1b[2J', '12155551212', '12125551213', '', '', X5U, '42AB', 'replay', 438, 'Invalid Identity Header', 18, '1',
+    (3, 1443211945, '=three\x1b[2J', '12155551212', '12125551213', '', '', X5U, '42AB', '', 'replay', 438, 'Invalid Identity Header', 18, '1',
      'TN-Validation-Failed', 'STIR;cause=438;text="Invalid Identity Header"'),
-    (4, 1443211946, '', '', '', '', '', '', '', 'refused', 400, 'Bad Request', 1, '0.7', 'No-TN-Validation', ''),
-    (5, 1443211947, 'five', '12155551212', '12125551213', '', '', '', '', 'refused', 438, 'Invalid Identity Header', 6, '1.2', 'TN-Validation-Failed',
+    (4, 1443211946, '', '', '', '', '', '', '', '', 'refused', 400, 'Bad Request', 1, '0.7', 'No-TN-Validation', ''),
+    (5, 1443211947, 'five', '12155551212', '12125551213', '', '', '', '', '', 'refused', 438, 'Invalid Identity Header', 6, '1.2', 'TN-Validation-Failed',
      'STIR;cause=438;text="Invalid Identity Header"'),
-    (6, 1443211948, 'six', '12155551212', '12125551213', 'B', ORIGID, X5U, '42AB', 'unread', None, '', 10, '1.0', 'No-TN-Validation', ''),
+    # Neither of the next two calls shows that 42AB signed it: the certificates weren't read, and the signature is another's.
+    (6, 1443211948, 'six', '12155551212', '12125551213', 'B', ORIGID, X5U, '', '42AB', 'unread', None, '', 10, '1.0', 'No-TN-Validation', ''),
+    (7, 1443211949, 'seven', '12155551212', '12125551213', 'B', ORIGID, X5U, '', '42AB', 'refused', 438, 'Invalid Identity Header', 16, '1.0',
+     'TN-Validation-Failed', 'STIR;cause=438;text="Invalid Identity Header"'),
+    (8, 1443211950, 'eight', '12155551212', '12125551213', 'B', ORIGID, X5U, '42AB', '', 'refused', 437, 'Unsupported Credential', 17, '1.0',
+     'TN-Validation-Failed', 'STIR;cause=437;text="Unsupported Credential"'),
 ]
 TEXT = f'''1 valid - - -
     2015-09-25 19:12:25 UTC, Call-ID one
@@ -58,7 +75,7 @@ TEXT = f'''1 valid - - -
 2 refused 437 12 1.2
     2015-09-25 19:12:26 UTC, Call-ID two
     442071838750 calls 911, attestation B, origid {ORIGID}
-    signed by {OTHER}
+    names the certificate at {OTHER}
     Unsupported Credential: the certificates lead to no trust anchor
     verstat=TN-Validation-Failed, Reason: STIR;cause=437;text="Unsupported Credential"
 3 replay 438 18 1
@@ -70,40 +87,87 @@ TEXT = f'''1 valid - - -
 4 refused 400 1 0.7
     2015-09-25 20:12:26 UTC, Call-ID none
     nobody calls nobody
-    no signer
+    names no certificate
     Bad Request: the message can't be read, or is no INVITE
     verstat=No-TN-Validation
+5 refused 438 6 1.2
+    2015-09-25 20:12:27 UTC, Call-ID five
+    12155551212 calls 12125551213
+    names no certificate
+    Invalid Identity Header: the PASSporT can't be read
+    verstat=TN-Validation-Failed, Reason: STIR;cause=438;text="Invalid Identity Header"
+6 unread - 10 1.0
+    2015-09-25 20:12:28 UTC, Call-ID six
+    12155551212 calls 12125551213, attestation B, origid {ORIGID}
+    names the certificate of 42AB, {X5U}
+    the file of the certificates couldn't be read
+    verstat=No-TN-Validation
+7 refused 438 16 1.0
+    2015-09-25 20:12:29 UTC, Call-ID seven
+    12155551212 calls 12125551213, attestation B, origid {ORIGID}
+    names the certificate of 42AB, {X5U}
+    Invalid Identity Header: the PASSporT's signature isn't good
+    verstat=TN-Validation-Failed, Reason: STIR;cause=438;text="Invalid Identity Header"
+8 refused 437 17 1.0
+    2015-09-25 20:12:30 UTC, Call-ID eight
+    12155551212 calls 12125551213, attestation B, origid {ORIGID}
+    signed by 42AB, {X5U}
+    Unsupported Credential: the certificate doesn't cover the number
+    verstat=TN-Validation-Failed, Reason: STIR;cause=437;text="Unsupported Credential"
 '''
-SUMMARY = f'''calls 6                                                             valid  refused   replay   unread
-all                                                                     1        3        1        1
+SUMMARY = f'''calls 8                                                             valid  refused   replay   unread
+all                                                                     1        5        1        1
 
 by rule
   1 the message can't be read                                           0        1        0        0
   6 the PASSporT can't be read                                          0        1        0        0
   12 the certificates lead to no trust anchor                           0        1        0        0
+  16 the PASSporT's signature isn't good                                0        1        0        0
+  17 the certificate doesn't cover the number                           0        1        0        0
   18 the PASSporT passed before                                         0        0        1        0
   10 the file of the certificates couldn't be read                      0        0        0        1
 
 by signer
-  42AB {X5U}                                   1        0        1        1
-  no signer                                                             0        2        0        0
+  42AB {X5U}                                   1        1        1        0
+
+by named certificate, not shown to have signed
+  42AB {X5U}                                   0        1        0        1
+  none                                                                  0        2        0        0
   {OTHER}                                        0        1        0        0
 
 by hour (UTC)
   2015-09-25 19:00                                                      1        1        0        0
-  2015-09-25 20:00                                                      0        2        1        1
+  2015-09-25 20:00                                                      0        4        1        1
 '''
 
 # Reports of the same log, or of a part of it, that end otherwise.
 ENDS = ['', REPORT, REPORT + 'refused input 5\n', REPORT[:20], '1 valid - - -\nread fault input\n', 'missing ch\udce4ins.txt\n', 'words refused\n',
-        'want of memory\n', REPORT + 'past 1\nwindow 60\nend 0\n', '1 valid - - -\n; no call\n1 valid - -\n01 valid - - -\n\n', '1 refused 438 6 1.20\r\n']
+        'want of memory\n', REPORT + STATE + 'refused input 5\n', REPORT + STATE, '1 valid - - -\n; no call\n1 valid - -\n01 valid - - -\n\n',
+        '1 refused 438 6 1.20\r\n']
+
+# Reports that aren't whole, and what is said of them.
+NOT_WHOLE = {
+    'missing nosuch.der\n': 'input:1: no line of a report: missing nosuch.der',
+    'refused anchors.der 454\n': 'input:1: no line of a report: refused anchors.der 454',
+    'words refused\n': 'input:1: no line of a report: words refused',
+    REPORT + 'refused input 5\n': 'input:9: no line of a report: refused input 5',
+    '1 valid - - -\nread fault input\n': 'input:2: no line of a report: read fault input',
+    '1 valid - - -\nwant of memory\n2 valid - - -\n': 'input:2: no line of a report: want of memory',
+    REPORT[:20]: 'input:2: no line of a report: 2 refu',
+    '\x1b[2J\n': 'input:1: no line of a report: ?[2J',
+    REPORT + STATE + 'refused input 5\n': 'input:16: no line of a report: refused input 5',
+    REPORT + STATE + '9 valid - - -\n': 'input:16: no line of a report: 9 valid - - -',
+    REPORT + STATE + STATE: 'input:16: no line of a report: past 1',
+    REPORT + STATE.replace('kept', 'keep'): 'input:13: no line of a report: keep ' + '0a' * 32 + ' 41 1443212005',
+    REPORT + STATE[:-6]: 'input: the state after the report is cut short',
+}
 
 
 class Run:
     def __init__(self, tool, room, files):
         self.tool, self.room = tool, room
         log = b''.join(b'@%d %d\n%s' % (moment, len(data), data) for moment, data in MESSAGES)
-        for name, data in {'log': log, 'report': REPORT.encode(), 'chains': f'{X5U} chain.der\n{OTHER} missing.der\n'.encode(),
+        for name, data in {'log': log, 'none': b'', 'report': REPORT.encode(), 'chains': f'{X5U} chain.der\n{OTHER} missing.der\n'.encode(),
                            'chain.der': (files / 'carrier-chain.der').read_bytes()}.items():
             (room / name).write_bytes(data)
 
@@ -123,8 +187,8 @@ def forms(run):
     status, output, said = run('--chains', 'chains', '--summary', '--svg', 'day.svg', 'log', 'report')
     yield 'stir-report --summary', (0, SUMMARY, ''), (status, output.decode(), said)
     picture = xml.etree.ElementTree.parse(run.room / 'day.svg').getroot()
-    # A piece for each count that isn't 0 in a row of the three tables, and four for the legend.
-    yield 'stir-report --svg', (f'{SVG}svg', 5 + 5 + 5 + 4), (picture.tag, len(picture.findall(f'{SVG}rect')))
+    # A piece for each count that isn't 0 in a row of the four tables, and four for the legend.
+    yield 'stir-report --svg', (f'{SVG}svg', 7 + 3 + 4 + 5 + 4), (picture.tag, len(picture.findall(f'{SVG}rect')))
 
 
 def back(run):
@@ -132,15 +196,41 @@ def back(run):
     for number, report in enumerate(ENDS):
         wanted = report.encode(errors='surrogateescape')
         (run.room / 'json').write_bytes(run('--json', 'log', given=wanted)[1])
-        yield f'stir-report --back {number}', (0, wanted, ''), run('--back', 'json')
+        yield f'stir-report --back {number}', (0, wanted.replace(STATE.encode(), b''), ''), run('--back', 'json')
+
+
+def later(run):
+    """A report of the same log that goes on from a run before: its calls are numbered from 41 on, and its state stands after it."""
+    whole = report(41) + STATE
+    status, output, said = run('--chains', 'chains', '--json', 'log', given=whole.encode())
+    rows = [dict(zip(COLUMNS, row)) for row in ROWS]
+    wanted = [row | {'call': row['call'] + 40, 'place': '41' if row['rule'] == 18 else row['place']} for row in rows]
+    yield 'stir-report --json, a later report', (0, wanted, ''), (status, [json.loads(line) for line in output.splitlines()], said)
+    status, output, said = run('--csv', 'log', given=whole.encode())
+    yield 'stir-report --csv, a later report', (0, 1 + len(ROWS), ''), (status, len(output.splitlines()), said)
+    yield 'stir-report --summary, a later report', (0, SUMMARY.encode(), ''), run('--chains', 'chains', '--summary', 'log', given=whole.encode())
+    yield 'stir-report, a state alone', (0, b'', ''), run('none', given=STATE.encode())
+    yield 'stir-report, a short later report', (1, 'stir-report: the report ends with call 41, and the log has more\n'), run(
+        'log', given=b'41 valid - - -\n' + STATE.encode())[::2]
+
+
+def not_whole(run):
+    """Reports that aren't whole, in each form: the status is 2, and standard error has the one line."""
+    for given, said in NOT_WHOLE.items():
+        for form in ([], ['--json'], ['--csv'], ['--summary']):
+            status, _, error = run(*form, 'log', given=given.encode())
+            yield f'stir-report {form}, {said}', (2, f'stir-report: {said}\n'), (status, error)
+    yield 'stir-report --summary, nothing to count', b'', run('--summary', 'log', given=b'missing x\n')[1]
 
 
 def faults(run):
-    others = {('log',): '2 valid - - -\n', ('log', 'long'): '', ('--json', 'log'): '1 valid - - -\n3 valid - - -\n'}
-    (run.room / 'long').write_text(REPORT + '7 valid - - -\n')
+    others = {('log', 'long'): '', ('--json', 'log'): '1 valid - - -\n3 valid - - -\n', ('--csv', 'log'): '2 valid - - -\n2 valid - - -\n'}
+    (run.room / 'long').write_text(REPORT + '9 valid - - -\n')
     for words, given in others.items():
         status, _, said = run(*words, given=given.encode())
         yield f'stir-report {words}', (2, True), (status, 'the report isn\'t of this log' in said)
+    yield 'stir-report, one whose first calls are missing', (1, 'stir-report: the report ends with call 2, and the log has more\n'), run(
+        'log', given=b'2 valid - - -\n')[::2]
     yield 'stir-report, a short one', (1, 'stir-report: the report ends with call 1, and the log has more\n'), run('log', given=b'1 valid - - -\n')[::2]
     (run.room / 'text').write_text('1 valid - - -\n')
     yield 'stir-report --back, no JSON', (2, b'', 'stir-report: text:1: no line of a report in JSON\n'), run('--back', 'text')
@@ -150,5 +240,5 @@ def results(tool, files):
     """Each case: its name, what is wanted, and what came."""
     with tempfile.TemporaryDirectory() as folder:
         run = Run(tool, pathlib.Path(folder), files)
-        for cases in (forms, back, faults):
+        for cases in (forms, back, later, not_whole, faults):
             yield from cases(run)
