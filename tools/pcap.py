@@ -4,6 +4,7 @@ import struct
 
 import outside
 from call_log import SECOND
+from connections import SIP_PORT
 
 # The first bytes of a capture: the order of its bytes, and the unit of its fractions of a second.
 KINDS = {b'\xd4\xc3\xb2\xa1': ('<', 1000), b'\x4d\x3c\xb2\xa1': ('<', 1), b'\xa1\xb2\xc3\xd4': ('>', 1000), b'\xa1\xb2\x3c\x4d': ('>', 1)}
@@ -18,9 +19,11 @@ PLACES = {RAW: (None, 0), COOKED: (14, 16), COOKED_2: (0, 20)}
 VLANS = (b'\x81\x00', b'\x88\xa8')
 IP = (b'\x08\x00', b'\x86\xdd')
 TCP, UDP, FRAGMENT = 6, 17, 44
+# The bytes of a header of TCP without options.
+SHORTEST_TCP = 20
 # Hop-by-hop options, routing and destination options (RFC 8200, section 4).
 HEADERS_BEFORE = (0, 43, 60)
-SIP = (5060).to_bytes(2, 'big')
+SIP = SIP_PORT.to_bytes(2, 'big')
 
 
 def header(name, file):
@@ -127,10 +130,10 @@ def transported(time, packet, fragments):
 class Reader:
     """Reads captures, and counts what it sees on the way."""
 
-    def __init__(self, counts):
-        self.counts = counts
-        # Packets from or to SIP's port, and of these the segments of TCP with content.
-        self.on_port = self.over_tcp = 0
+    def __init__(self, counts, connections):
+        self.counts, self.connections = counts, connections
+        # Packets of UDP from or to SIP's port.
+        self.on_port = 0
 
     def messages(self, name, file, kind):
         """The time, the source (address and port) and the bytes of what each UDP datagram of a capture carries, from after its header on."""
@@ -142,19 +145,15 @@ class Reader:
             protocol, segment = transported(time, packet, fragments)
             if segment is None:
                 continue
-            on_port = SIP in (segment[:2], segment[2:4])
             if protocol == UDP and len(segment) >= 8:
                 # RFC 768.
-                self.on_port += on_port
+                self.on_port += SIP in (segment[:2], segment[2:4])
                 address = packet[12:16] if packet[0] >> 4 == 4 else packet[8:24]
                 yield time, address + segment[:2], segment[8:int.from_bytes(segment[4:6], 'big')]
-            elif protocol == TCP and on_port:
-                self.note_tcp(segment)
+            elif protocol == TCP and len(segment) >= SHORTEST_TCP and segment[12] >> 4 >= SHORTEST_TCP // 4:
+                # RFC 9293, section 3.1.
+                self.connections.note(*struct.unpack_from('>HH', segment), segment[(segment[12] >> 4) * 4:])
             else:
                 self.counts['other messages'] += 1
+        self.counts['other messages'] += self.connections.others()
         self.counts['packets with missing fragments'] += fragments.lost + len(fragments.waiting)
-
-    def note_tcp(self, segment):
-        """Counts a segment of TCP on SIP's port that carries something (RFC 9293, section 3.1)."""
-        self.on_port += 1
-        self.over_tcp += len(segment) > 12 and len(segment) > (segment[12] >> 4) * 4

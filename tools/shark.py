@@ -16,7 +16,8 @@ INSTALL = 'apt install tshark'
 WANTED = '!icmp && !icmpv6 && (sip || udp.payload[0:7] == "INVITE ")'
 OVER_TCP = 'tcp && sip && !icmp && !icmpv6'
 ON_PORT = 'udp.port == 5060 || (tcp.port == 5060 && tcp.len > 0)'
-FIELDS = 'frame frame.time_epoch frame.len frame.cap_len ip ip.src ipv6 ipv6.src udp udp.srcport udp.payload tcp tcp.srcport sip'
+CARRIES = 'tcp.len > 0 && !icmp && !icmpv6'
+FIELDS = 'frame frame.time_epoch frame.len frame.cap_len ip ip.src ipv6 ipv6.src udp udp.srcport udp.payload tcp tcp.srcport tcp.dstport sip'
 
 
 def is_there():
@@ -84,10 +85,20 @@ def source_of(layers, port):
     return None
 
 
-def messages(name, path, counts, wanted=WANTED):
+def look(name, path, connections):
+    """Looks at the TCP connections of a capture."""
+    words = ['-Y', CARRIES, '-T', 'fields', '-E', 'occurrence=l', '-e', 'tcp.srcport', '-e', 'tcp.dstport', '-e', 'tcp.payload']
+    for line in lines(name, path, words):
+        one, other, content = line.rstrip(b'\n').split(b'\t')
+        connections.note(int(one), int(other), bytes.fromhex(content.decode()))
+
+
+def messages(name, path, counts, connections, wanted=WANTED):
     """The time, the source and the bytes of each SIP message of a capture. One over TCP comes when its last segment does, and has no
     source: there no client sends a request again (RFC 3261, section 17.1.1.2)."""
-    for line in lines(name, path, ['-Y', wanted, '-T', 'ek', '-x', '-j', FIELDS]):
+    # What tshark takes for SIP of itself, on another port than SIP's, lacks each message that is cut in its first line.
+    by_port = [word for port in connections.found() for word in ('-d', f'tcp.port=={port},sip')]
+    for line in lines(name, path, [*by_port, '-Y', wanted, '-T', 'ek', '-x', '-j', FIELDS]):
         if line.startswith(b'{"index"') or not line.strip():
             continue
         layers = json.loads(line)['layers']
@@ -98,6 +109,8 @@ def messages(name, path, counts, wanted=WANTED):
             source = source_of(layers, datagram['udp_udp_srcport'])
             yield time_of(frame), source, bytes.fromhex(last(datagram['udp_udp_payload_raw']))
         else:
+            segment = last(layers['tcp'])
+            connections.note_read(*(int(last(segment[f'tcp_tcp_{end}port'])) for end in ('src', 'dst')))
             for message in several(layers['sip_raw']):
                 yield time_of(frame), None, bytes.fromhex(message)
 

@@ -23,15 +23,15 @@ def tcp(content, sequence, port=5070, to=5060, flags=0x18):
     return struct.pack('>HHIIBBHHH', port, to, sequence & 0xFFFFFFFF, 1, 0x50, flags, 65535, 0, 0) + content
 
 
-def segment(content, sequence, port=5070, flags=0x18):
-    return captures.ethernet(captures.ipv4(tcp(content, sequence, port, flags=flags), protocol=6))
+def segment(content, sequence, port=5070, to=5060, flags=0x18):
+    return captures.ethernet(captures.ipv4(tcp(content, sequence, port, to, flags), protocol=6))
 
 
-def stream(parts, port=5070, first=1000):
+def stream(parts, port=5070, first=1000, to=5060):
     """The frames of a connection that carries these parts, each with its time."""
-    frames, at = [(parts[0][0], segment(b'', first - 1, port, flags=2))], first
+    frames, at = [(parts[0][0], segment(b'', first - 1, port, to, 2))], first
     for time, content in parts:
-        frames.append((time, segment(content, at, port)))
+        frames.append((time, segment(content, at, port, to)))
         at += len(content)
     return frames
 
@@ -46,11 +46,11 @@ def joined(messages):
     return [(messages[-1][0], b''.join(message for _, message in messages))]
 
 
-def everywhere():
-    """For each place in two messages a connection of its own, cut there."""
+def everywhere(to):
+    """For each place in two messages a connection of its own to this port, cut there."""
     text, frames = call(6) + call(7, b'hello'), []
     for place in range(1, len(text)):
-        frames += stream([(800 + place, text[:place]), (800 + place, text[place:])], 10000 + place)
+        frames += stream([(800 + place, text[:place]), (800 + place, text[place:])], 10000 + place, to=to)
     return frames, [(800 + place, message) for place in range(1, len(text)) for message in (call(6), call(7, b'hello'))]
 
 
@@ -100,7 +100,13 @@ SHUFFLED = stream(RUN[:3]) + shuffled(stream(cut(RUN[3:], 100), first=1000 + sum
 DNS = struct.pack('>HHHH', 53, 53, 9, 0) + b'x'
 NO_TRAFFIC = [(1, captures.ethernet(captures.ipv4(DNS)))]
 ONE_PART = RUN[:1], [RUN[1], RUN[2]], RUN[3:4], RUN[4:]
-CUT_EVERYWHERE, EVERYWHERE = everywhere()
+CUT_EVERYWHERE, EVERYWHERE = everywhere(5060)
+# Connections to other ports than SIP's, of which 8080 is one that tshark takes for another protocol's; and one that carries no SIP, but for a byte each.
+ELSEWHERE = stream(cut(RUN[:3], 300), 40000, to=5070) + stream(RUN[3:], 40001, to=8080)
+WEB = stream([(700, b'GET /index HTTP/1.1\r\nHost: a\r\n\r\n'), (701, b'GET /sip:a HTTP/1.1\r\n\r\n')], 40002, to=80)
+SPLIT = stream([(time, bytes([byte])) for time, message in RUN[:3] for byte in message], 40003, to=5090)
+# Messages of which the capture lacks all ends.
+UNREADABLE = stream([(700, call(1)[:-9])], 40004, to=5070) + stream([(701, call(2)[:200])], 40005, to=5080)
 NO_CALLS = [(time, captures.ethernet(captures.ipv4(captures.udp(captures.message(number, 'OPTIONS'))))) for number, time in enumerate((1, 2))]
 
 def invite(*identities):
@@ -129,6 +135,15 @@ FILES = {
     'run-tcp-shuffled.pcapng': pcapng((SHUFFLED, captures.ETHERNET)),
     'run-two.pcapng': pcapng((FRAMES[:3], captures.ETHERNET), (ANY[3:], COOKED_2)),
     'run-cut.pcapng': pcapng((FRAMES, captures.ETHERNET))[:-9],
+    'elsewhere.pcap': captures.pcap(ELSEWHERE + WEB, captures.ETHERNET),
+    'elsewhere.pcapng': pcapng((ELSEWHERE + WEB, captures.ETHERNET)),
+    'elsewhere-loopback.pcap': captures.pcap([(time, struct.pack('<I', 2) + frame[14:]) for time, frame in ELSEWHERE], LOOPBACK),
+    'elsewhere-everywhere.pcap': captures.pcap(everywhere(5070)[0], captures.ETHERNET),
+    'web.pcap': captures.pcap(WEB, captures.ETHERNET),
+    'split.pcap': captures.pcap(SPLIT, captures.ETHERNET),
+    'split.log': captures.log(RUN[:3]),
+    'unreadable.pcap': captures.pcap(UNREADABLE + FRAMES, captures.ETHERNET),
+    'unreadable-loopback.pcap': captures.pcap([(time, struct.pack('<I', 2) + frame[14:]) for time, frame in UNREADABLE + FRAMES], LOOPBACK),
     'run-loopback.pcap': captures.pcap([(time, struct.pack('<I', 2) + packet) for time, packet in PACKETS], LOOPBACK),
     'run-half-tcp.pcap': captures.pcap(FRAMES[:2] + stream(RUN[2:]), captures.ETHERNET),
     'everywhere.pcap': captures.pcap(CUT_EVERYWHERE, captures.ETHERNET),
