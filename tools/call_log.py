@@ -55,11 +55,15 @@ class Spool:
         self.file = tempfile.TemporaryFile(buffering=BUFFER)
         self.times, self.places, self.lengths, self.keys = array.array('q'), array.array('q', [0]), array.array('l'), bytearray()
         self.dialogs, self.in_order = bytearray(), True
+        # How many of its fields were split, of each message that has such.
+        self.split = {}
 
     def __len__(self):
         return len(self.times)
 
-    def add(self, time, key, inside, message):
+    def add(self, time, key, inside, message, split):
+        if split:
+            self.split[len(self)] = split
         self.in_order = self.in_order and (not self.times or self.times[-1] <= time)
         self.file.write(message)
         self.times.append(time)

@@ -14,6 +14,11 @@ QUOTED = re.compile(r'"(?:\\.|[^"\\])*(?:"|$)', re.S)
 # A parameter of an Identity field (RFC 8224, section 4): its name, and a value in quotes, in angle brackets or bare.
 PARAMETER = re.compile(r';\s*([^\s;="<>]+)(?:\s*=\s*(?:"([^"]*)"|<([^>]*)>|([^;,\s"<]*)))?')
 
+# P-Asserted-Identity (RFC 3325, section 9.1), and the parts of a list's text: a quoted string, angle brackets, a comma, and the rest.
+ASSERTED_NAME = b'\np-asserted-identity'
+ASSERTED = re.compile(rb'\n(P-Asserted-Identity[ \t]*:)([^\n]*(?:\n[ \t][^\n]*)*)', re.I)
+PART_OF_LIST = re.compile(rb'"(?:\\.|[^"\\])*"|<[^<>]*>|,|[^",<]+', re.S)
+
 # An x5u, as a chain map takes it (docs/FORMATS.md).
 X5U = re.compile(r'[!#-;=?-\[\]-~]+')
 
@@ -36,6 +41,40 @@ def fields(message, wanted=EVERY):
 def first(found, name):
     """The first value of a header field, or the empty text."""
     return found.get(name, ('',))[0]
+
+
+def values_of_list(text):
+    """The values of a field that is a list (RFC 3261, section 7.3.1), without empty ones; one alone if a quoted string or a bracket has no end."""
+    parts = PART_OF_LIST.findall(text)
+    if sum(map(len, parts)) < len(text):
+        return [text]
+    values = [b'']
+    for part in parts:
+        if part == b',':
+            values.append(b'')
+        else:
+            values[-1] += part
+    return [value.strip() for value in values if value.strip()]
+
+
+def asserted_apart(message):
+    """The message with one P-Asserted-Identity field for each value, which means the same (RFC 3261, section 7.3.1); and how many fields were split."""
+    if ASSERTED_NAME not in message.lower():
+        return message, 0
+    split = 0
+
+    def apart(found):
+        nonlocal split
+        values = values_of_list(found[2])
+        if len(values) < 2:
+            return found[0]
+        split += 1
+        end = b'\r' if found[2].endswith(b'\r') else b''
+        return b''.join(b'\n%s %s%s' % (found[1], value, end) for value in values)
+
+    end = end_of_head(message)
+    head = ASSERTED.sub(apart, message[:end])
+    return head + message[end:], split
 
 
 def transaction(found):

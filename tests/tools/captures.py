@@ -63,6 +63,27 @@ OTHER_CALL = message(1).replace(b'Call-ID: 1', b'Call-ID: 2')
 SHORT_NAMES = message(1).replace(b'Via:', b'v:').replace(b'Call-ID', b'i').replace(b'UDP a', b'UDP\r\n a')
 NO_TAG = message(3).replace(b'<sip:+12125551213', b'"a;tag=1" <sip:b;tag=2')
 
+
+def asserting(number, *fields, line=b'\r\n', rest=b''):
+    """A call with these fields before its empty line."""
+    head = message(number).replace(b'\r\n\r\n', b'\r\n' + b''.join(field + b'\r\n' for field in fields) + b'\r\n')
+    return head.replace(b'\r\n', line) + rest
+
+
+ASSERTED = b'P-Asserted-Identity: '
+# P-Asserted-Identity with two values, and what that is with a field for each (RFC 3261, section 7.3.1; RFC 3325, section 9.1).
+TWO = ASSERTED + b'<sip:pbx@example.org>, <tel:+12155551001>'
+TWO_APART = ASSERTED + b'<sip:pbx@example.org>', ASSERTED + b'<tel:+12155551001>'
+# With commas in a quoted string and in angle brackets; another name, folds, a value without brackets, and empty values.
+QUOTED = ASSERTED + b'"Bond, \\"J\\" <x>," <sip:a,b@example.org;x=1>;y="1,2",<tel:+12155551001>'
+QUOTED_APART = ASSERTED + b'"Bond, \\"J\\" <x>," <sip:a,b@example.org;x=1>;y="1,2"', ASSERTED + b'<tel:+12155551001>'
+FOLDED = b'p-ASSERTED-identity \t:sip:a@example.org\r\n ,,\r\n\t"A\r\n B" <tel:+12155551001> ,'
+FOLDED_APART = b'p-ASSERTED-identity \t: sip:a@example.org', b'p-ASSERTED-identity \t: "A\r\n B" <tel:+12155551001>'
+# One value each: a comma in a quoted string, a comma at the end, a quoted string and a bracket without an end; and another field.
+ALONE = (ASSERTED + b'"a, b" <sip:a@example.org>', ASSERTED + b'<sip:a@example.org>,', ASSERTED + b'"a <sip:b@example.org>, <tel:+1>',
+         ASSERTED + b'<sip:b@example.org, <tel:+1>', b'P-Preferred-Identity: <sip:a@example.org>, <tel:+1>', b'X-' + TWO)
+BODY = b'\r\n' + TWO + b'\r\n'
+
 FILES = {
     # A call, its retransmission, its ACK, a response, no SIP at all, another protocol, ARP, and the padding of a short frame.
     'ethernet.pcap': pcap([(100, ethernet(ipv4(udp(message(1))) + bytes(6))),
@@ -113,6 +134,17 @@ FILES = {
                               ((632, 999999998), sent(1)),
                               ((633, 0), sent(2))], RAW, '>', 0xA1B23C4D),
 }
+FILES['asserted.pcap'] = pcap([(700, ipv4(udp(asserting(1, TWO)))), (701, ipv4(udp(asserting(1, TWO)))), (702, ipv4(udp(asserting(2, QUOTED, FOLDED, TWO)))),
+                               (703, ipv4(udp(asserting(3, *ALONE, rest=BODY)))), (704, ipv4(udp(asserting(4, TWO, line=b'\n'))))], RAW)
+FILES['asserted.log'] = log([(700, asserting(1, *TWO_APART)), (702, asserting(2, *QUOTED_APART, *FOLDED_APART, *TWO_APART)),
+                             (703, asserting(3, *ALONE, rest=BODY)), (704, asserting(4, *TWO_APART, line=b'\n'))])
+FILES['asserted-as-is.log'] = log([(700, asserting(1, TWO)), (702, asserting(2, QUOTED, FOLDED, TWO)), (703, asserting(3, *ALONE, rest=BODY)),
+                                   (704, asserting(4, TWO, line=b'\n'))])
+FILES['asserted.sip'], FILES['asserted-list'] = asserting(1, TWO), b'700 asserted.sip\n'
+FILES['asserted-list.log'] = log([(700, asserting(1, *TWO_APART))])
+# The longest message, which would grow.
+FILES['longest.sip'] = asserting(1, TWO, rest=bytes(131_072 - len(asserting(1, TWO))))
+FILES['longest-list'], FILES['longest.log'] = b'700 longest.sip\n', log([(700, FILES['longest.sip'])])
 FILES['cut-short.pcap'] = FILES['ethernet.pcap'][:-1]
 FILES['cut-in-header.pcap'] = FILES['ethernet.pcap'][:20]
 FILES['cut-between.pcap'] = FILES['ethernet.pcap'] + bytes(15)

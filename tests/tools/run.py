@@ -17,6 +17,7 @@ import subprocess
 import sys
 import tempfile
 
+import asserted
 import captures
 import days
 import debian
@@ -175,6 +176,7 @@ def results(program, keys):
     yield from refusals.results(program)
     yield from pages.results(program, has_library)
     yield from reports.results(tool, HERE / 'files')
+    yield from asserted.results(tool, program)
     yield from days.results(program)
     if shutil.which('git') and shutil.which('dpkg-deb'):
         yield from debian.results()
