@@ -18,6 +18,10 @@ MOST_LINES = 50_000
 MOST_CERTIFICATES = 6
 MOST_BYTES = 49_152
 
+# The most trust anchors, and the most bytes of a certificate (docs/FORMATS.md, "Chain" and "Certificate").
+MOST_ANCHORS = 256
+MOST_CERTIFICATE = 8192
+
 BLOCK = re.compile(rb'-----BEGIN (CERTIFICATE|PKCS7|CMS)-----(.*?)-----END \1-----', re.S)
 
 
@@ -117,6 +121,12 @@ def issuer_text(certificate):
     """The issuer's name (RFC 4514)."""
     found = outside.ec and loaded(certificate)
     return found.issuer.rfc4514_string() if found else 'its issuer'
+
+
+def subject_text(certificate):
+    """The subject's name (RFC 4514), or the empty text where the library doesn't read it."""
+    found = outside.ec and loaded(certificate)
+    return found.subject.rfc4514_string() if found else ''
 
 
 def public_point(certificate):

@@ -9,8 +9,8 @@ AUTHORITY = '1.3.6.1.5.5.7.1.26'
 
 def elements(data, start, end):
     """The elements of a stretch of bytes: where each begins, where its content does, and where it ends. What can't be read ends the
-    list."""
-    while start + 2 <= end:
+    list; so does the length 80, which is the indefinite one, and none of DER (X.690, sections 8.1.3.6 and 10.1)."""
+    while start + 2 <= end and data[start + 1] != 0x80:
         size, content = data[start + 1], start + 2
         if size > 0x80:
             content += size - 0x80
