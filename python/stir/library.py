@@ -72,6 +72,8 @@ DECLARED = {
 
 def load(file: pathlib.Path) -> ctypes.CDLL:
     """The library of this file, if it has the version of these declarations."""
+    if not file.exists():
+        raise LibraryError(f"{file} is missing: `pip install ./python` builds it, after `rt lib` in crates/stir_c (python/README.md, Install)")
     try:
         loaded = ctypes.CDLL(str(file))
         loaded.stir_abi.restype, loaded.stir_abi.argtypes = ctypes.c_uint64, ()
@@ -82,7 +84,7 @@ def load(file: pathlib.Path) -> ctypes.CDLL:
             function = getattr(loaded, name)
             function.restype, function.argtypes = Said, words
     except (OSError, AttributeError) as error:
-        raise LibraryError(f"{file} isn't the library of this package: {error}") from error
+        raise LibraryError(f"{file} isn't the library of this package: {error}") from None
     return loaded
 
 

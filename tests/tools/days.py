@@ -70,6 +70,31 @@ def lines_of(report):
     return report[:report.index(b'past 1\n')]
 
 
+def told(room, number):
+    """What stir-report makes of a log and its report: its status, how many calls it tells, and what it says on standard error."""
+    words = ['--json', f'logs/{number:02}.log', f'reports/{number:02}.report']
+    done = subprocess.run([sys.executable, STIR_DAY.with_name('stir-report'), *words], cwd=room, stdout=subprocess.PIPE, stderr=subprocess.PIPE, check=False)
+    return done.returncode, done.stdout.count(b'"call": '), done.stderr.decode()
+
+
+def in_words(room, program, made):
+    """The tool's own words, in each order, and what it says of bad ones and in its help."""
+    def said(*words):
+        return ended(subprocess.Popen([sys.executable, STIR_DAY, *words], cwd=room, stdout=subprocess.PIPE, stderr=subprocess.PIPE))
+
+    for number, own in enumerate((['logs', '--to', 'order', '--stir', program], ['--to=order', 'logs', '--stir', program], ['--stir', program, '--to', 'order', 'logs'])):
+        status = said(*own, '--', *WORDS)[0]
+        yield f'days: its own words, {number}', (1, made), (status, reports(room, 'order'))
+    (room / 'own').symlink_to(program)
+    yield 'days: a program of this folder', 1, said('--to', 'by-own', '--stir', 'own', 'logs', '--', *WORDS)[0]
+    yield 'days: no program', (2, b'', 'stir-day: nosuch: no program\n'), said('--to', 'nosuch', '--stir', 'nosuch', 'logs', '--', *WORDS)
+    yield 'days: and nothing is made', False, (room / 'nosuch').exists()
+    yield 'days: no words', (2, b'', 'stir-day: the words of verify are missing: they stand after --\n'), said('--to', 'order', 'logs')
+    status, output, error = said('--help')
+    lines = {line.split()[0]: line.split()[2:] for line in output.decode().splitlines() if line.startswith(('  --', '  LOGS'))}
+    yield 'days: its help tells each word', (0, ['--stir', '--to', 'LOGS'], True, ''), (status, sorted(lines), all(lines.values()), error)
+
+
 def killed(room, program, moment):
     """The reports of a run that was killed after so many seconds, and gone on with."""
     to = f'killed-{moment:.4f}'
@@ -92,6 +117,8 @@ def results(program):
         made = reports(room, 'reports')
         yield 'days: twenty logs', (1, b'', ''.join(f'stir-day: {number:02}.log: judged\n' for number in range(LOGS))), said
         yield 'days: together they are the report of one', whole.stdout, b''.join(lines_of(report) for report in made.values())
+        yield 'days: stir-report reads each report', [(0, CALLS // LOGS, '')] * LOGS, [told(room, number) for number in range(LOGS)]
+        yield from in_words(room, program, made)
         yield 'days: again, nothing is left to do', (1, b'', ''), ended(start(room, program, 'reports'))
         for number in range(KILLS):
             moment = took * (number + 0.5) / KILLS
@@ -112,5 +139,5 @@ def faults(room, program, made):
     said = ended(start(room, program, 'other', '--chains=none', *WORDS[1:]))
     yield 'days: a file that is missing', (2, 'stir-day: logs/00.log: verify ended with 5: missing none\n'), (said[0], said[2])
     (room / 'empty').mkdir()
-    process = subprocess.Popen([sys.executable, STIR_DAY, '--to', 'none', 'empty'], cwd=room, stdout=subprocess.PIPE, stderr=subprocess.PIPE)
+    process = subprocess.Popen([sys.executable, STIR_DAY, '--to', 'none', 'empty', '--', *WORDS], cwd=room, stdout=subprocess.PIPE, stderr=subprocess.PIPE)
     yield 'days: a folder without a log', (2, b'', 'stir-day: empty: no file ends with .log\n'), ended(process)

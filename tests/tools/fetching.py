@@ -1,16 +1,21 @@
 """tools/stir-fetch against a hostile https server on the loopback: what it takes, what it refuses, what it keeps and when it asks again."""
 import collections
 import contextlib
+import fcntl
 import http.server
 import importlib.util
 import json
 import pathlib
 import ssl
+import subprocess
+import sys
 import tempfile
 import threading
 import time
 
 import issued
+
+TOOLS = pathlib.Path(__file__).resolve().parent.parent.parent / 'tools'
 
 SECONDS = 2
 
@@ -225,9 +230,33 @@ def missing(run):
     yield 'stir-fetch names the missing issuer', (1, x5us, f'stir-fetch: {x5us[0]}: {why}'), (status, list(chain_map), said[0])
 
 
+def left(run):
+    """What a killed run was writing is taken away, and nothing else; and of two runs one waits."""
+    folder, kept = run.room / 'again', run.at('kept')
+    before = sorted(path.name for path in folder.iterdir())
+    for name in ('a.example-0123456789abcdef.der.new', 'fetched.json.new'):
+        (folder / name).write_bytes(b'0\x82')
+    (folder / 'notes.new').write_bytes(b'')
+    status, chain_map, said = run([kept], *TRUSTED, '--to', 'again')
+    yield 'stir-fetch takes away what was half written', (0, [], sorted([*before, 'notes.new'])), (
+        status, said, sorted(path.name for path in folder.iterdir()))
+    with open(folder / '.lock', 'wb') as held:
+        fcntl.flock(held, fcntl.LOCK_EX)
+        words = [sys.executable, TOOLS / 'stir-fetch', '--hosts', 'hosts', *TRUSTED, '--to', 'again']
+        second = subprocess.Popen(words, cwd=run.room, stdin=subprocess.PIPE, stdout=subprocess.PIPE, stderr=subprocess.PIPE)
+        second.stdin.write(f'{kept}\n'.encode())
+        second.stdin.close()
+        line = second.stderr.readline().decode()
+        fcntl.flock(held, fcntl.LOCK_UN)
+        output = second.stdout.read().decode()
+        waited = second.wait(60), line, output
+    said = 'stir-fetch: again: another run writes there, and this one waits for its end\n'
+    yield 'stir-fetch waits for another run', (0, said, f'{kept} {chain_map[kept]}\n'), waited
+
+
 def addresses():
     """Which addresses are private (RFC 6890 and its registries)."""
-    spec = importlib.util.spec_from_file_location('https', pathlib.Path(__file__).resolve().parent.parent.parent / 'tools' / 'https.py')
+    spec = importlib.util.spec_from_file_location('https', TOOLS / 'https.py')
     https = importlib.util.module_from_spec(spec)
     spec.loader.exec_module(https)
     for public, some in ((True, PUBLIC), (False, PRIVATE)):
@@ -239,5 +268,5 @@ def results(tool):
     yield from addresses()
     with tempfile.TemporaryDirectory() as folder, served(pathlib.Path(folder)) as port:
         run = Run(tool, pathlib.Path(folder), port)
-        for cases in (good, bad, unsafe, again, missing):
+        for cases in (good, bad, unsafe, again, left, missing):
             yield from cases(run)
