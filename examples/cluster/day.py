@@ -8,14 +8,18 @@ each worker has the package `stir`. Signatures are confirmed by the workers, or 
 processes of this machine, and listen on the loopback alone.
 
 The status is 0 if each call is valid, 1 if some call isn't, 5 if a log is outside its grammar (the last line of the report says where, and a line on
-standard error in which log), and 2, with a line on standard error, if there is no whole report.
+standard error in which log), and 2, with a line on standard error, if there is no whole report: also if the scheduler dies, or after Ctrl-C.
 """
 import argparse
+import concurrent.futures
 import contextlib
+import logging
 import operator
 import os
 import pathlib
+import signal
 import sys
+from multiprocessing import resource_tracker
 from typing import BinaryIO, Iterator, List, Optional, Tuple
 
 import stir
@@ -28,6 +32,13 @@ GROUPS = 8
 BAR_WIDTH = 30
 
 
+def count(text: str) -> int:
+    """A number of at least 1."""
+    if not text.isdecimal() or int(text) == 0:
+        raise argparse.ArgumentTypeError(f"{text!r} is no number of at least 1")
+    return int(text)
+
+
 def read_words() -> argparse.Namespace:
     words = argparse.ArgumentParser(description=__doc__, formatter_class=argparse.RawDescriptionHelpFormatter, allow_abbrev=False)
     words.add_argument("logs", nargs="+", metavar="LOG")
@@ -38,9 +49,9 @@ def read_words() -> argparse.Namespace:
     words.add_argument("--future", type=int, default=5, metavar="SECONDS")
     words.add_argument("--country", default="1", metavar="DIGITS")
     words.add_argument("--national", type=int, default=10, metavar="COUNT")
-    words.add_argument("--calls", type=int, default=2000, metavar="COUNT", help="how many calls a part has")
+    words.add_argument("--calls", type=count, default=2000, metavar="COUNT", help="how many calls a part has")
     where = words.add_mutually_exclusive_group()
-    where.add_argument("--workers", type=int, default=os.cpu_count(), metavar="COUNT", help="how many processes of this machine")
+    where.add_argument("--workers", type=count, default=os.cpu_count(), metavar="COUNT", help="how many processes of this machine")
     where.add_argument("--scheduler", metavar="ADDRESS", help="a scheduler that is running, as tcp://HOST:8786")
     return words.parse_args()
 
@@ -52,8 +63,22 @@ def connect(workers: int, scheduler: Optional[str]) -> Iterator[Client]:
         with Client(scheduler) as client:
             yield client
     else:
-        with LocalCluster(n_workers=workers, threads_per_worker=1, host="127.0.0.1", dashboard_address=None) as cluster, Client(cluster) as client:
+        with interrupts_held():
+            cluster = LocalCluster(n_workers=workers, threads_per_worker=1, host="127.0.0.1", dashboard_address=None)
+        with cluster, Client(cluster) as client:
             yield client
+
+
+@contextlib.contextmanager
+def interrupts_held() -> Iterator[None]:
+    """Holds Ctrl-C back. The threads and workers that are started meanwhile keep it held: it ends this process, which ends them."""
+    # Python starts this helper with the first process, and lets signals in again after that.
+    resource_tracker.ensure_running()
+    before = signal.pthread_sigmask(signal.SIG_BLOCK, {signal.SIGINT})
+    try:
+        yield
+    finally:
+        signal.pthread_sigmask(signal.SIG_SETMASK, before)
 
 
 def submit(client: Client, job: jobs.Job, parts: List[logs.Part]) -> Tuple[List[Future], List[Future]]:
@@ -70,7 +95,7 @@ def wait(judged: List[Future], parts: List[logs.Part], total: int) -> None:
     """Waits until all parts are judged, with a bar on a terminal. Raises what a part raised."""
     counts, done = {future.key: part.count for future, part in zip(judged, parts)}, 0
     for future in as_completed(judged):
-        if future.status == "error":
+        if future.status != "finished":
             future.result()
         done += counts[future.key]
         if sys.stderr.isatty():
@@ -82,7 +107,8 @@ def write_report(client: Client, job: jobs.Job, cut: logs.Cut, output: BinaryIO)
     """Writes the report, and gives the status."""
     all_valid = True
     if cut.parts:
-        judged, reports = submit(client, job, list(cut.parts))
+        with interrupts_held():
+            judged, reports = submit(client, job, list(cut.parts))
         wait(judged, list(cut.parts), cut.calls)
         for future in reports:
             report = future.result()
@@ -111,8 +137,14 @@ def main() -> int:
 
 
 if __name__ == "__main__":
+    # Dask logs a lost scheduler over many lines, by several names. A line of this program says it.
+    logging.disable(logging.CRITICAL)
     try:
         sys.exit(main())
     except (OSError, ValueError, stir.StirError, KilledWorker) as error:
         complain(str(error))
-        sys.exit(2)
+    except concurrent.futures.CancelledError:
+        complain("the scheduler is lost, and with it what it had of the day")
+    except KeyboardInterrupt:
+        complain("stopped")
+    sys.exit(2)

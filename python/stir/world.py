@@ -3,8 +3,9 @@ import hashlib
 import os
 import re
 from pathlib import Path
-from typing import Dict, List, Mapping, Set, Union
+from typing import Dict, List, Mapping, Set, Tuple, Union
 
+from . import anchors as trusted
 from . import checks, library, texts
 from .calls import MOST_CHAINS, Call, Materials, Settings
 from .errors import BadFile, BadInput, Input
@@ -41,7 +42,11 @@ class World:
         # Rules 14 and 17 ask the table for the codes in certificates alone, so a call is judged by the lines on these as by the whole table.
         self.lines = lines
         self.codes = {x5u: codes_in(chain, lines) for x5u, chain in self.chains.items()}
-        self.anchors_codes = codes_in(self.anchors, lines)
+        # Rule 12 asks for an anchor that is the last certificate of a chain or the issuer of that one, so a call is judged by those of its chains as by all.
+        self.each_anchor = trusted.split(self.anchors)
+        self.anchors_codes = [codes_in(anchor.der, lines) for anchor in self.each_anchor]
+        # The places of the anchors of those chains that were asked for.
+        self.picked: Dict[bytes, Tuple[int, ...]] = {}
         self.digest = self.summed(table)
 
     @classmethod
@@ -67,14 +72,23 @@ class World:
         return cls(found, anchors_der, lines)
 
     def materials(self, call: Call, settings: Settings = Settings()) -> Materials:
-        """What this call is judged by: the chains of its x5us, and the lines of the code table on the codes in them and in the anchors."""
+        """What this call is judged by: the chains of its x5us, the trust anchors of these, and the lines of the code table on the codes in both."""
         listed = [x5u for x5u in bracketed(checks.instance("call", call, Call).message) if x5u in self.chains]
         if len(listed) > MOST_CHAINS:
             # Not all of them are those of PASSporTs that are judged, which are nine at most.
             listed = [x5u.encode() for x5u in dict.fromkeys(x5us(call, settings)) if x5u.encode() in self.chains]
-        codes = self.anchors_codes.union(*(self.codes[x5u] for x5u in listed))
+        # In the order of the file, since the first that fits is a chain's anchor.
+        places = sorted({place for x5u in listed for place in self.anchors_of(x5u)})
+        codes: Set[bytes] = set().union(*(self.codes[x5u] for x5u in listed), *(self.anchors_codes[place] for place in places))
         table = b"".join(self.lines[code] for code in sorted(codes))
-        return Materials({x5u.decode(): self.chains[x5u] for x5u in listed}, self.anchors, table)
+        return Materials({x5u.decode(): self.chains[x5u] for x5u in listed}, b"".join(self.each_anchor[place].der for place in places), table)
+
+    def anchors_of(self, x5u: bytes) -> Tuple[int, ...]:
+        """The places of the trust anchors that may be those of this x5u's chain."""
+        if x5u not in self.picked:
+            chain = self.chains[x5u]
+            self.picked[x5u] = tuple(place for place, anchor in enumerate(self.each_anchor) if anchor.may_be_of(chain))
+        return self.picked[x5u]
 
     def summed(self, table: bytes) -> bytes:
         """The SHA-256 of all that this world is made of: each text after its length."""

@@ -5,11 +5,13 @@ import pathlib
 import signal
 import subprocess
 import sys
+import time
 
 import cuts
 import day as example
 import stir
-from distributed import LocalCluster, as_completed
+from distributed import Client, LocalCluster, as_completed
+from load import below
 from stir import days, jobs, logs
 
 # Dask says much of workers that are killed, which is what a test does.
@@ -62,6 +64,43 @@ class Day:
             done = subprocess.run([sys.executable, PROGRAM, *words, self.log], stdout=subprocess.PIPE, check=False, text=True)
         assert done.stdout == self.report and done.returncode == 1, f"another report, with status {done.returncode}"
 
+    def start(self, *words):
+        """The program with these words on the day's log, in a group of processes of its own, with what Dask says by itself."""
+        files = [word for pair in zip(("--chains", "--anchors", "--table"), self.names) for word in pair]
+        environment = {name: value for name, value in os.environ.items() if not name.startswith("DASK_LOGGING")}
+        return subprocess.Popen([sys.executable, PROGRAM, *files, *words, self.log], env=environment, start_new_session=True, stdout=subprocess.PIPE,
+                                stderr=subprocess.PIPE, text=True)
+
+    def refused(self):
+        """No workers, fewer than none, and parts of no call: at once, before anything is started."""
+        for words in (["--workers", "0"], ["--workers", "-1"], ["--workers", "two"], ["--calls", "0"]):
+            output, error = ended(self.start(*words))[1:]
+            said = error.splitlines()[-1] if error else ""
+            assert output == "" and said == f"day.py: error: argument {words[0]}: {words[1]!r} is no number of at least 1", f"{words}: {error}"
+
+    def lost(self):
+        """The scheduler is killed while the day waits for a worker."""
+        scheduler = subprocess.Popen([sys.executable, "-m", "distributed.cli.dask_scheduler", "--host", "127.0.0.1", "--port", "0", "--no-dashboard"],
+                                     stderr=subprocess.PIPE, text=True, env={**os.environ, "DASK_LOGGING__DISTRIBUTED": "info"})
+        try:
+            address = next(line.split()[-1] for line in scheduler.stderr if "Scheduler at:" in line)
+            day = self.start("--scheduler", address)
+            with Client(address) as watcher:
+                wait_until(lambda: watcher.run_on_scheduler(lambda dask_scheduler: len(dask_scheduler.tasks)) > 0)
+        finally:
+            scheduler.kill()
+            scheduler.wait()
+        said = ended(day)
+        assert said == (2, "", "day.py: the scheduler is lost, and with it what it had of the day\n"), f"status, report and standard error are {said}"
+
+    def interrupted(self):
+        """Ctrl-C, which the terminal sends to the program and to its workers alike."""
+        day = self.start("--workers", "2")
+        wait_until(lambda: len(list(below(day.pid))) > 2)
+        os.killpg(day.pid, signal.SIGINT)
+        said = ended(day)
+        assert said == (2, "", "day.py: stopped\n"), f"status, report and standard error are {said}"
+
     def killed(self):
         """A worker is killed when the first part is judged, and the next one when half are: of two workers, and of one."""
         for workers in (2, 1):
@@ -92,3 +131,22 @@ class Day:
             assert "any more" in str(error), error
         else:
             raise AssertionError("a worker went by files that had changed")
+
+
+def ended(process):
+    """The status of a process that ends within a minute, its output and what it says on standard error."""
+    try:
+        output, error = process.communicate(timeout=60)
+    except subprocess.TimeoutExpired:
+        os.killpg(process.pid, signal.SIGKILL)
+        process.communicate()
+        raise AssertionError("it doesn't end") from None
+    return process.returncode, output, error
+
+
+def wait_until(holds):
+    """Waits until this holds, at most a minute."""
+    end = time.monotonic() + 60
+    while not holds():
+        assert time.monotonic() < end, "what is waited for doesn't come"
+        time.sleep(0.05)

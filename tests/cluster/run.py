@@ -49,6 +49,7 @@ def main():
             ("each call by itself has the verdict of the report", lambda: verdicts.each(world, calls, report)),
             ("the rules that hold are those of explain", lambda: verdicts.explained(program, world, calls, folder)),
             ("a call that names many x5us is judged by its own", lambda: verdicts.named(world)),
+            ("a call is judged by the anchors of its own chains", lambda: verdicts.trusted(world, calls, folder)),
             ("claims are those that were signed", lambda: verdicts.claimed(world)),
             ("certificates say what they were made with", lambda: verdicts.shown(world)),
             ("eight threads at once say the same", lambda: verdicts.at_once(world, calls)),
@@ -60,6 +61,9 @@ def main():
             ("so does a scheduler that was running", day.scheduler),
             ("a worker killed in the middle changes nothing", day.killed),
             ("files that change in the middle stop the run", day.changed),
+            ("a day for no worker is refused", day.refused),
+            ("a scheduler that dies ends the day with 2 and one line", day.lost),
+            ("so does Ctrl-C", day.interrupted),
         ]
         failed = 0
         for what, test in tests:

@@ -61,6 +61,23 @@ def named(world):
     assert isinstance(verdict, stir.Passes), f"a call that names twelve other x5us: {verdict}"
 
 
+def trusted(world, calls, folder):
+    """A call is judged by the trust anchors of its own chains, as it is by all of them; and by rule 12 if its own isn't there."""
+    names, own = dict(zip(("chains", "anchors", "table"), world.words()[1::2])), (world.folder / "anchors.der").read_bytes()
+    others = world.others(200)
+    anchors = folder / "many-anchors.der"
+    anchors.write_bytes(b"".join([*others[:100], own, *others[100:]]))
+    few, many = world_of(world), stir.World.read(**{**names, "anchors": anchors})
+    for call in (stir.Call(*call) for call in calls[:200]):
+        by = many.materials(call)
+        assert by.anchors == (own if by.chains else b""), f"{len(by.anchors)} bytes of anchors, and the call's own has {len(own)}"
+        assert stir.verify(call, by, stir.confirm) == stir.verify(call, few.materials(call), stir.confirm), "many anchors make another verdict"
+    anchors.write_bytes(b"".join(others))
+    call = stir.Call(START, world.call(0, START, 1))
+    verdict = stir.verify(call, stir.World.read(**{**names, "anchors": anchors}).materials(call), stir.confirm)
+    assert verdict == stir.Refused(12, 437, 1, 2), f"without its anchor the verdict is {verdict}"
+
+
 def claimed(world):
     """What the PASSporTs of a call say is what was signed, in the order in which it went, whatever the text that was signed looks like."""
     message, said = world.diverted(world.number(0, 5), ["13105550100", "13105550101", "13105550102"], START, 1)

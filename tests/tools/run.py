@@ -22,7 +22,7 @@ import captures
 import days
 import debian
 import fetching
-import importing
+import packaged
 import pages
 import refusals
 import reports
@@ -179,7 +179,7 @@ def results(program, keys):
     yield from reports.results(tool, HERE / 'files')
     yield from asserted.results(tool, program)
     yield from days.results(program)
-    yield from importing.results()
+    yield from packaged.results()
     if shutil.which('git') and shutil.which('dpkg-deb'):
         yield from debian.results()
     if has_library:
