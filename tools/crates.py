@@ -4,11 +4,16 @@ import pathlib
 TOP = pathlib.Path(__file__).resolve().parent.parent
 
 
+def named():
+    """Each crate with all that its line names: crates of the repository, and libraries of the kit."""
+    lines = [line.split('#')[0].strip() for line in (TOP / 'crates.txt').read_text().splitlines()]
+    return {line.split(':')[0].split()[0]: line.split(':')[1].split() for line in lines if line}
+
+
 def below():
     """Each crate with the crates of the repository that its line names."""
-    lines = [line.split('#')[0].strip() for line in (TOP / 'crates.txt').read_text().splitlines()]
-    named = {line.split(':')[0].split()[0]: line.split(':')[1].split() for line in lines if line}
-    return {name: [part for part in parts if part in named] for name, parts in named.items()}
+    lines = named()
+    return {name: [part for part in parts if part in lines] for name, parts in lines.items()}
 
 
 def of_the_kit():

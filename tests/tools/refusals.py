@@ -1,5 +1,5 @@
 """Whether tools/stir-words finds a reason for just those words that the program refuses, by the words of tests/vectors; and what the script
-`./stir` says of them, from the folder of the tree and from another."""
+`./stir` says of them, from the folder of the tree and from another; and what it answers itself."""
 import importlib.util
 import os
 import pathlib
@@ -14,7 +14,6 @@ import words  # noqa: E402
 
 # Words, and what is said of them; None where they aren't refused.
 SAID = {
-    '': 'no command: the first word is verify, explain, ask, sign, divert, retarget, show, drill, once',
     'Verify': '\'Verify\' is no command: the first word is verify, explain, ask, sign, divert, retarget, show, drill, once',
     'show x': '\'x\' is no option: an option is --NAME=VALUE, or --NAME and a value',
     'show': None,
@@ -53,8 +52,9 @@ def started(program, room):
     """The script in a tree of its own, with this program as the proved one."""
     (room / 'tools').mkdir()
     (room / 'crates/stir/out').mkdir(parents=True)
+    (room / 'docs').mkdir()
     (room / 'crates.txt').write_text('')
-    for name in ('stir', 'tools/stir-words', 'tools/command_words.py'):
+    for name in ('stir', 'VERSION', 'docs/COMMANDS.md', 'tools/stir-words', 'tools/command_words.py'):
         shutil.copy(TOP / name, room / name)
     file = room / 'crates/stir/out/stir'
     file.write_text(f'#!/bin/sh\nexec "{program}" "$@"\n')
@@ -70,6 +70,20 @@ def answer(script, given, folder):
     return done.returncode, done.stdout, done.stderr
 
 
+def by_itself(script, folder):
+    """The words that the script answers itself: how the program is called, and its version. In the last case its program would end with 70."""
+    synopsis = (TOP / 'docs/COMMANDS.md').read_text().split('## Synopsis\n\n```\n')[1].split('```\n')[0]
+    pages = PAGES.removeprefix('stir: ')
+    for given in ('--help', '-h', 'help'):
+        yield f'stir {given}', (0, synopsis + pages, ''), answer(script, [given], folder)
+    yield 'stir', (2, 'words refused\n', synopsis + pages), answer(script, [], folder)
+    yield 'stir --version', (0, f'stir {(TOP / "VERSION").read_text()}', ''), answer(script, ['--version'], folder)
+    from_root = pages.replace('man/', f'{folder}/man/').replace('README', f'{folder}/README')
+    yield 'stir --help, from another folder', (0, synopsis + from_root, ''), answer(script, ['--help'], os.path.join(folder, 'crates'))
+    (pathlib.Path(folder) / 'crates.txt').touch()
+    yield 'stir --help without a program', (0, synopsis + pages, ''), answer(script, ['--help'], folder)
+
+
 def results(program):
     """Each case: its name, what is wanted, and what came."""
     why = table().why_refused
@@ -82,4 +96,5 @@ def results(program):
             yield f'stir {given}', wanted, answer(script, given.split(), folder)
         inner = os.path.join(folder, 'crates')
         elsewhere = PAGES.replace('man/', '../man/').replace('README', '../README')
-        yield 'stir, from another folder', (2, 'words refused\n', f'stir: {SAID[""]}\n{elsewhere}'), answer(script, [], inner)
+        yield 'stir, from another folder', (2, 'words refused\n', f'stir: {SAID["Verify"]}\n{elsewhere}'), answer(script, ['Verify'], inner)
+        yield from by_itself(script, folder)

@@ -5,7 +5,7 @@ stir-confirm and stir-signer with openssl, where that is on the path.
     run.py PROGRAM [--keys COUNT]
 
 `cases` tells its lines. The files of a case are those of `files`, those that captures.py and streams.py make, and those that stand below.
-What no line can say stands in days.py, debian.py, fetching.py, pages.py, refusals.py, reports.py and terminals.py. COUNT is the number of keys and
+What no line can say stands in days.py, debian.py, fetching.py, pages.py, refusals.py, reports.py, starts.py and terminals.py. COUNT is the number of keys and
 messages that go through openssl, 10 where it isn't given. Where the Python package cryptography, openssl, tshark, git or dpkg-deb is missing, a
 line says what isn't tried.
 """
@@ -26,6 +26,7 @@ import packaged
 import pages
 import refusals
 import reports
+import starts
 import streams
 import terminals
 
@@ -67,7 +68,6 @@ FILES = captures.FILES | streams.FILES | {
     'chain-map': b'https://cert.example.org/a.pem made/shuffled.der\n',
     'odd-list': b'u odd.pem\n', 'odd-map': b'u odd.der\n', 'rsa-list': b'u rsa-leaf.pem\n', 'rsa-map': b'u rsa-leaf.der\n',
     'twice': b'u shuffled.pem\nu shuffled.pem\n',
-    'below/map': b'; names with .. and without\nu root.der\nv below/../root.pem\n', 'stdin': b'', 'a=b': b'',
     'message-list': b'u message.p7b\n', 'message-map': b'u message.der\n', 'carrier-list': b'u carrier.pem\n', 'carrier-map': b'u carrier.der\n',
     'gap-list': b'u gap.pem\n', 'gap-map': b'u gap.der\n',
     'fetched-map': b'; as it was fetched\nu carrier-chain.der\nv carrier-chain.der\nw own.pem\n',
@@ -175,6 +175,7 @@ def results(program, keys):
         if line and not line.startswith((';', *without)):
             yield f'cases:{number}', *case(line, program)
     yield from refusals.results(program)
+    yield from starts.results()
     yield from pages.results(program, has_library)
     yield from reports.results(tool, HERE / 'files')
     yield from asserted.results(tool, program)
