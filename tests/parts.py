@@ -21,15 +21,16 @@ import time
 TOP = pathlib.Path(__file__).resolve().parent.parent
 PROGRAM = 'crates/stir/out/stir'
 STIRD = 'service/out/release/stird'
-PYTEST = ('python3', '-m', 'pytest', '-q', '-p', 'no:cacheprovider', '--durations=5', '--durations-min=5')
+SIDE_BY_SIDE = ('python3', '-m', 'pytest', '-q', '-n', 'auto', '--dist', 'loadgroup', '--durations', '5', '--durations-min', '5')
 
 # Each part, and what runs it, at the top of the tree.
 PARTS = {
+    'sources': ('python3', 'tests/sources.py'),
     'examples': ('tests/examples',),
     'start': ('python3', 'tests/start/run.py'),
-    'cli': ('python3', 'tests/cli/run.py', PROGRAM),
+    'cli': (*SIDE_BY_SIDE, 'tests/cli'),
     'fuzz': ('python3', 'tests/fuzz/run.py', '1', '300', PROGRAM),
-    'tools': ('python3', 'tests/tools/run.py', PROGRAM),
+    'tools': (*SIDE_BY_SIDE, 'tests/tools'),
     'day': ('examples/carrier/day',),
     'service': ('tests/service/try',),
     'proxy': ('python3', 'tests/service/proxy.py', STIRD),

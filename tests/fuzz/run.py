@@ -27,7 +27,7 @@ import tempfile
 HERE = pathlib.Path(__file__).resolve().parent
 TOP = HERE.parent.parent
 sys.path[:0] = [str(HERE.parent / 'cli'), str(HERE.parent / 'vectors')]
-import run as cli  # noqa: E402
+import command_cases as cli  # noqa: E402
 import states  # noqa: E402
 import tickets  # noqa: E402
 from given import named_files, option  # noqa: E402

@@ -25,7 +25,7 @@ OWN = ('claims', 'completion.py', 'crate', 'crates.py', 'gate', 'gate-cost', 'in
 TOOLCHAIN = 'toolchain 1 logic 0123456789abcdef'
 LOGIC = 'logic=0123456789abcdef01234567'
 PROGRAM = f'#!/bin/sh\n# \0libc.so.6\0GLIBC_2.4\0GLIBC_2.34\0rattle {LOGIC}\0\necho words refused\nexit 2\n'
-LAST = ('rt: ok; every proof was done in this run', '7 passed, 0 failed', 'cli: 8 passed, 0 failed')
+LAST = ('rt: ok; every proof was done in this run', '7 passed, 0 failed', 'part  result  seconds', 'cli  passed  8', '2 passed, 0 failed')
 
 # What the gate does is in the file `gate-does`, which git ignores.
 GATE = """#!/bin/sh
@@ -39,6 +39,11 @@ case $does in
     'changes the tree') echo >>README.md ;;
 esac
 echo '%s' >&2
+echo '%s'
+echo '== cli'
+echo '8 passed, 0 failed'
+echo
+echo '%s'
 echo '%s'
 echo '%s'
 """ % LAST

@@ -5,7 +5,7 @@
 
 What is answered is worked out here, by a model of what docs/FORMATS.md says of words ("Words, and the named files that they name"). The
 lines are always the same: first those that try each option of each command in each way, then such as are drawn by a fixed seed.
-tests/cli/run.py gives all of them to the program, and words that are no UTF-8 besides.
+tests/cli gives all of them to the program, and words that are no UTF-8 besides.
 """
 
 import random

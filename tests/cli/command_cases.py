@@ -1,7 +1,4 @@
-#!/usr/bin/env python3
-"""Runs the built program on the cases of this folder and compares what it writes and its status.
-
-    run.py PROGRAM
+"""The cases of the built program: what it writes, and its status. test_cli.py runs them.
 
 Each folder beside this file is a case, with these files:
 
@@ -26,12 +23,12 @@ A piece is `[COUNT*]TEXT`, and a text is `$NAME`, `x:HEX`, or plain text in whic
 `\\t` and `\\\\` are escapes. An input is pieces; the pieces behind a piece `@MOMENT`, up to the next such or the end, are
 one entry of a call log with that message. A line that can't be read fails the run.
 
-The program runs in a folder of its own and must write nothing to standard error. Needs the standard
-library alone. The last line counts the cases. More cases stand elsewhere: the words of
+The program runs in a folder of its own and must write nothing to standard error. More cases stand elsewhere: the words of
 tests/vectors/words.py, logs that are made here, one of 100,000 calls, one that comes slowly, and one of replays on each number of workers, and
 lists of tickets that tests/vectors/tickets.py draws, on each number of workers.
 """
 import contextlib
+import functools
 import os
 import pathlib
 import re
@@ -81,7 +78,7 @@ def run(program, words, given, files, streams=()):
     return done.returncode, done.stdout or b'', done.stderr
 
 
-def folder_case(program, case):
+def folder_case(case, program):
     words = [word for word in content(case / 'args').split(b'\n') if word]
     files = {path.name: path.read_bytes() for path in case.glob('files/*')}
     got = run(program, words, content(case / 'stdin'), files, content(case / 'streams').decode().split())
@@ -143,27 +140,31 @@ class Rows:
                 (self.files if found[1] else self.texts)[found[2]] = self.text(pieces)
         return found is not None
 
-    def case(self, program, line):
+    def case(self, line):
+        """The case of a line, over what has been named until there."""
         streams, given, wanted = re.fullmatch(r'(?:\(([a-z -]+)\) )?(.*) => (.*)', line).groups(default='')
         words, data = f' {given} '.split(' < ')
         status, *said = wanted.split(' ')
-        got = run(program, self.line_of_words(words.split()), self.log(data.split()), self.files, streams.split())
         outputs = [self.text(pieces.split()) for pieces in ' '.join(said).split(' | ')]
-        return (int(status), got[1] if got[1] in outputs else outputs[0], b''), got
+        return functools.partial(row_case, self.line_of_words(words.split()), self.log(data.split()), dict(self.files), streams.split(), int(status), outputs)
 
 
-def rows(program, path):
-    """Each case of a file of rows: its name, what is wanted, and what came."""
+def row_case(words, given, files, streams, status, outputs, program):
+    got = run(program, words, given, files, streams)
+    return (status, got[1] if got[1] in outputs else outputs[0], b''), got
+
+
+def rows(path):
+    """Each case of a file of rows, with its name."""
     file = Rows()
     for number, line in enumerate(path.read_text().splitlines(), 1):
         if line and not line.startswith('#') and not file.named(line):
-            yield f'{path.name}:{number}', *file.case(program, line)
+            yield f'{path.name}:{number}', file.case(line)
 
 
-def word_cases(program):
-    """What the program does with the words of tests/vectors/words.py, where no file is."""
-    for number, (words, status, output) in enumerate(program_cases(), 1):
-        yield f'words.py:{number} {words}', (status, output, b''), run(program, words, b'', {})
+def word_case(words, status, output, program):
+    """What the program does with words of tests/vectors/words.py, where no file is."""
+    return (status, output, b''), run(program, words, b'', {})
 
 
 LONG_LOG = 100_000
@@ -220,60 +221,46 @@ def winners_told(report, tickets):
 ROUND = 256
 
 
-def worker_cases(program):
-    """Calls of two tickets by turns, over six rounds, of which several workers read four at once, judged by each number of workers: one of each ticket is
+def worker_case(workers, program):
+    """Calls of two tickets by turns, over six rounds, of which several workers read four at once, judged by this number of workers: one of each ticket is
     valid, in the first round."""
     file = Rows()
     file.named('NAMED IN verify.rows')
     tickets = [number % 2 for number in range(5 * ROUND + 10)]
     log = file.log([piece for ticket in tickets for piece in ('@1443208345', '$OTHER_CALL' if ticket else '$CALL')])
     half = len(tickets) // 2 - 1
-    for workers in range(1, 9):
-        words = file.line_of_words(['verify', '+FILES', f'--workers={workers}'])
-        status, report, errors = run(program, words, log, file.files)
-        yield f'{workers} workers', (1, [True, (1, [True], half), (1, [True], half)], b''), (status, winners_told(report, tickets), errors)
+    words = file.line_of_words(['verify', '+FILES', f'--workers={workers}'])
+    status, report, errors = run(program, words, log, file.files)
+    return (1, [True, (1, [True], half), (1, [True], half)], b''), (status, winners_told(report, tickets), errors)
 
 
 TICKET_LISTS = 60
 
 
-def ticket_cases(program):
-    """Lists of tickets: with one worker exactly what the model says, and with several whatever a rule allows."""
-    for number in range(TICKET_LISTS):
-        size, drawn = tickets.drawn(number)
-        workers = 1 + number % 8
-        words = [b'once', b'--size=%d' % size, b'--workers=%d' % workers]
-        status, report, errors = run(program, words, ''.join(f'{ticket}\n' for ticket in drawn).encode(), {})
-        wanted = tickets.claims(size, drawn)
-        said = [line.partition(' ')[2] for line in report.decode().splitlines()]
-        if workers > 1 and report == tickets.report(said) and tickets.may_say(size, drawn, said):
-            wanted = said
-        yield f'tickets {number}', (int(any(text != 'won' for text in wanted)), tickets.report(wanted), b''), (status, report, errors)
+def ticket_case(number, program):
+    """A list of tickets: with one worker exactly what the model says, and with several whatever a rule allows."""
+    size, drawn = tickets.drawn(number)
+    workers = 1 + number % 8
+    words = [b'once', b'--size=%d' % size, b'--workers=%d' % workers]
+    status, report, errors = run(program, words, ''.join(f'{ticket}\n' for ticket in drawn).encode(), {})
+    wanted = tickets.claims(size, drawn)
+    said = [line.partition(' ')[2] for line in report.decode().splitlines()]
+    if workers > 1 and report == tickets.report(said) and tickets.may_say(size, drawn, said):
+        wanted = said
+    return (int(any(text != 'won' for text in wanted)), tickets.report(wanted), b''), (status, report, errors)
 
 
-def cases(program):
+def cases():
+    """Each case: its name, and a function of the program to what is wanted and what came."""
     for case in sorted(path for path in HERE.iterdir() if (path / 'status').exists()):
-        yield case.name, *folder_case(program, case)
+        yield case.name, functools.partial(folder_case, case)
     for path in sorted(HERE.glob('*.rows')):
-        yield from rows(program, path)
-    yield from word_cases(program)
-    yield 'long log', *long_log_case(program)
-    yield 'slow log', *slow_log_case(program)
-    yield from worker_cases(program)
-    yield from ticket_cases(program)
-
-
-def main():
-    program = os.path.abspath(sys.argv[1])
-    count = failed = 0
-    for name, wanted, got in cases(program):
-        count += 1
-        if wanted != got:
-            failed += 1
-            print(f'{name}: wanted {str(wanted)[:4000]}, got {str(got)[:4000]}')
-    print(f'cli: {count - failed} passed, {failed} failed')
-    return 0 if count and not failed else 1
-
-
-if __name__ == '__main__':
-    sys.exit(main())
+        yield from rows(path)
+    for number, (words, status, output) in enumerate(program_cases(), 1):
+        yield f'words.py:{number} {words}', functools.partial(word_case, words, status, output)
+    yield 'long log', long_log_case
+    yield 'slow log', slow_log_case
+    for workers in range(1, 9):
+        yield f'{workers} workers', functools.partial(worker_case, workers)
+    for number in range(TICKET_LISTS):
+        yield f'tickets {number}', functools.partial(ticket_case, number)

@@ -1,15 +1,7 @@
-#!/usr/bin/env python3
-"""Runs the tools around the program on the cases of this folder and compares what they write and their status; and compares
-stir-confirm and stir-signer with openssl, where that is on the path.
-
-    run.py PROGRAM [--keys COUNT]
+"""The lines of `cases`, with the files that they name; and what openssl says of the signatures of stir-confirm and stir-signer. test_tools.py runs them.
 
 `cases` tells its lines. The files of a case are those of `files`, those that captures.py and streams.py make, and those that stand below.
-What no line can say stands in days.py, debian.py, fetching.py, pages.py, refusals.py, reports.py, starts.py and terminals.py. COUNT is the number of keys and
-messages that go through openssl, 10 where it isn't given. Where the Python package cryptography, openssl, tshark, git or dpkg-deb is missing, a
-line says what isn't tried.
 """
-import importlib.util
 import os
 import pathlib
 import shutil
@@ -17,18 +9,8 @@ import subprocess
 import sys
 import tempfile
 
-import asserted
 import captures
-import days
-import debian
-import fetching
-import packaged
-import pages
-import refusals
-import reports
-import starts
 import streams
-import terminals
 
 HERE = pathlib.Path(__file__).resolve().parent
 TOOLS = HERE.parent.parent / 'tools'
@@ -157,53 +139,15 @@ def agreement(folder):
     return openssl('dgst', '-sha256', '-verify', public, '-signature', signature, message).returncode == 0
 
 
-def results(program, keys):
-    """Each case: its name, what is wanted, and what came."""
-    has_library = importlib.util.find_spec('cryptography') is not None
-    has_openssl = shutil.which('openssl') is not None
-    without = () if has_library else NEED_LIBRARY
-    for is_there, what, untried in ((has_library, 'python3-cryptography', 'stir-chain, stir-confirm, stir-fetch and stir-signer are'),
-                                    (has_openssl, 'openssl', 'stir-fetch, and what openssl signs and verifies, are'),
-                                    (shutil.which('tshark'), 'tshark', 'what it reads is'),
-                                    (shutil.which('git'), 'git', 'gate and package are'),
-                                    (shutil.which('dpkg-deb'), 'dpkg-deb', 'gate and package are')):
-        if not is_there:
-            print(f'tools: {what} is missing, so {untried} not tried')
-    if not shutil.which('tshark'):
-        without += ('+tshark',)
+def lines():
+    """Each line of `cases`, with its number."""
     for number, line in enumerate((HERE / 'cases').read_text().splitlines(), 1):
-        if line and not line.startswith((';', *without)):
-            yield f'cases:{number}', *case(line, program)
-    yield from refusals.results(program)
-    yield from starts.results()
-    yield from pages.results(program, has_library)
-    yield from reports.results(tool, HERE / 'files')
-    yield from asserted.results(tool, program)
-    yield from days.results(program)
-    yield from packaged.results()
-    if shutil.which('git') and shutil.which('dpkg-deb'):
-        yield from debian.results()
-    if has_library:
-        yield from terminals.results(TOOLS, FILES)
-    if has_library and has_openssl:
-        yield from fetching.results(tool)
-        with tempfile.TemporaryDirectory() as folder:
-            for number in range(keys):
-                yield f'openssl, key {number + 1}', True, agreement(pathlib.Path(folder))
+        if line and not line.startswith(';'):
+            yield number, line
 
 
-def main():
-    words = sys.argv[1:]
-    keys = int(words[words.index('--keys') + 1]) if '--keys' in words else 10
-    count = failed = 0
-    for name, wanted, got in results(os.path.abspath(words[0]), keys):
-        count += 1
-        if wanted != got:
-            failed += 1
-            print(f'{name}: wanted {str(wanted)[:2000]}, got {str(got)[:2000]}')
-    print(f'tools: {count - failed} passed, {failed} failed')
-    return 0 if count and not failed else 1
-
-
-if __name__ == '__main__':
-    sys.exit(main())
+def agreements(keys):
+    """Whether openssl and the tools agree on so many new keys and messages: the name, what is wanted, and what came."""
+    with tempfile.TemporaryDirectory() as folder:
+        for number in range(keys):
+            yield f'openssl, key {number + 1}', True, agreement(pathlib.Path(folder))

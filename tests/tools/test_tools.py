@@ -1,0 +1,91 @@
+"""Runs the tools around the program on the cases of this folder: the lines of `cases`, and the modules that say what no line can say.
+
+`--keys COUNT` is the number of keys and messages that go through openssl. What needs a package that is missing is skipped.
+"""
+import importlib.util
+import shutil
+
+import asserted
+import days
+import debian
+import fetching
+import gates
+import packaged
+import pages
+import pytest
+import refusals
+import reports
+import starts
+import terminals
+import tool_cases
+from tool_cases import FILES, HERE, NEED_LIBRARY, TOOLS, tool
+
+LIBRARY = 'python3-cryptography'
+HAS_LIBRARY = importlib.util.find_spec('cryptography') is not None
+
+
+def needs(*names):
+    """Skips a test if one of these programs, or the Python package cryptography, is missing."""
+    missing = [name for name in names if not (HAS_LIBRARY if name == LIBRARY else shutil.which(name))]
+    return pytest.mark.skipif(bool(missing), reason=f'missing: {", ".join(missing)}')
+
+
+def needs_of(line):
+    return [LIBRARY] * line.startswith(NEED_LIBRARY) + ['tshark'] * line.startswith('+tshark')
+
+
+@pytest.mark.parametrize('line', [pytest.param(line, id=f'cases:{number}', marks=needs(*needs_of(line))) for number, line in tool_cases.lines()])
+def test_line(line, program, equal):
+    equal(*tool_cases.case(line, program), given=line)
+
+
+def test_words(each, program):
+    each(refusals.results(program))
+
+
+def test_starts(each):
+    each(starts.results())
+
+
+def test_gates(each):
+    each(gates.results())
+
+
+def test_pages(each, program):
+    each(pages.results(program, HAS_LIBRARY))
+
+
+def test_reports(each):
+    each(reports.results(tool, HERE / 'files'))
+
+
+def test_asserted(each, program):
+    each(asserted.results(tool, program))
+
+
+def test_packaged(each):
+    each(packaged.results())
+
+
+def test_days(each, program):
+    each(days.results(program))
+
+
+@needs('git', 'dpkg-deb')
+def test_package(each):
+    each(debian.results())
+
+
+@needs(LIBRARY)
+def test_terminals(each):
+    each(terminals.results(TOOLS, FILES))
+
+
+@needs(LIBRARY, 'openssl')
+def test_fetching(each):
+    each(fetching.results(tool))
+
+
+@needs(LIBRARY, 'openssl')
+def test_openssl(each, request):
+    each(tool_cases.agreements(request.config.getoption('keys')))
