@@ -25,7 +25,7 @@
 //! were taken. A fault is the first one, and is known at the last byte taken and at none before ([`one_log`], [`reads_law`]; `docs/PROVED.md`, "A
 //! log").
 //!
-//! Cases: section `log` of `crates/vectors/stdin`; whole runs in `crates/vectors_runs/stdin` and `tests/cli/verify.rows`.
+//! Cases: section `log` of `crates/vectors/stdin`; whole runs in `crates/vectors/stdin` and `tests/cli/verify.rows`.
 #![tactic(auto)]
 
 mod ahead;

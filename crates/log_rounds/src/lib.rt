@@ -20,7 +20,7 @@
 //! their state on are legal together, and [`output_law`] that the whole output of such a run is the file for the next. [`day_law`] says that a log may be
 //! judged call by call, on any number of machines, and settled by its tickets afterwards, and [`days_law`] the same of a day after others.
 //!
-//! Cases: `tests/cli/verify.rows`, and `crates/vectors_runs/stdin` for reads and writes that fail.
+//! Cases: `tests/cli/verify.rows`, and `crates/vectors/stdin` for reads and writes that fail.
 #![tactic(auto)]
 
 mod handing;

@@ -36,7 +36,7 @@
 //!
 //! # Cases
 //!
-//! Whole runs in `crates/vectors_runs/stdin`, in which each read and each write fails in turn, and `tests/cli/*.rows`.
+//! Whole runs in `crates/vectors/stdin`, in which each read and each write fails in turn, and `tests/cli/*.rows`.
 #![tactic(auto)]
 
 mod answer;

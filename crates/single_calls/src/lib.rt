@@ -27,7 +27,7 @@
 //!
 //! # Cases
 //!
-//! `tests/cli/explain.rows` and `tests/cli/ask.rows`; `crates/vectors_runs/stdin` for reads and writes that fail.
+//! `tests/cli/explain.rows` and `tests/cli/ask.rows`; `crates/vectors/stdin` for reads and writes that fail.
 #![tactic(auto)]
 
 mod asker;

@@ -1,5 +1,5 @@
 -- What is asked for a call, from what is asked for its chains and its PASSporTs; and what a provider that confirms all of it finds.
-use Rattle.std.proofs.Common.{◌≡◌, ℕ, false, List, [], ◌∷◌, Some, None, sym, ◌∙◌, ap}
+use Rattle.std.proofs.Common.{◌≡◌, ℕ, false, List, [], ◌∷◌, Some, None, sym, ◌∙◌, ap, subst}
 use Rattle.std.specs.List.{list_any}
 use Rattle.cert_store.specs.Questions.{AgreeOn}
 use Rattle.cert_store.specs.Rules.{QuestionView, Says}

@@ -8,7 +8,7 @@ use Rattle.call_log.specs.Log.{start}
 use Rattle.log_rounds.specs.Answers.{Answers, verdict_of}
 use Rattle.log_rounds.specs.Rounds.{InEach, Round, outcomes_in}
 use Rattle.retarget.specs.Hop.{diversion}
-use Rattle.retarget_run.specs.Sending.{holder_at}
+use Rattle.stir_cmd.specs.Sending.{holder_at}
 use Rattle.state_text.specs.StateText.{state_text}
 use Rattle.stir_files.specs.declared.retargeting.RetargetingMaterials.{RetargetingMaterials}
 use Rattle.stir_files.specs.declared.signing.SigningMaterials.{SigningMaterials}

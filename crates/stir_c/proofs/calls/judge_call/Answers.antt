@@ -1,9 +1,8 @@
 -- What is found of a call over its chains in memory, which nothing sets aside.
-use Rattle.std.proofs.Common.{◌≡◌, Some, subst}
-use Rattle.call_judging.specs.Causes.{HasCauseIf, found_unasked, found_unread}
+use Rattle.std.proofs.Common.{Some, subst}
+use Rattle.call_judging.specs.Causes.{HasCauseIf, found_unasked}
 use Rattle.call_judging.specs.Judging.{IsFoundWhere}
 use Rattle.stir_outside.specs.Files.{Files}
-use Rattle.stir_c.specs.Files.{files_of}
 use Rattle.stir_c.specs.Inputs.{call_in, handed, world_in}
 use Rattle.stir_c.proofs.FoundLaws.{decided, is_found}
 use Rattle.stir_c.proofs.calls.judge_call.Goals as goal
