@@ -19,11 +19,11 @@ use tn_auth_list::{CodeTable, TableFault};
 
 /// What calls of the drill are judged by: what its files say.
 #[derive(Drop)]
-pub(crate) struct DrillFiles {
+pub struct DrillFiles {
     /// The chain map, the trust anchors and the code table.
-    pub(crate) world: World,
+    pub world: World,
     /// The signatures that are good.
-    pub(crate) answers: Answers,
+    pub answers: Answers,
 }
 
 /// Reads the files of the drill of this seed, with so many calls. They are in their grammars, so that `AllocError` is the only error.

@@ -13,7 +13,7 @@
 //!
 //! It reads no file and no input: seed, count and workers are all. The report of single calls isn't written, only the summary.
 //!
-//! - `read_files` gives the drill's world and answers, as `stir_files` does of anybody's files. `DrillLog` is its log as a source, and `DrillShelf`
+//! - `read_files` gives the drill's world and answers, [`DrillFiles`], as `stir_files` does of anybody's files. `DrillLog` is its log as a source, and `DrillShelf`
 //!   the shelf with the chain's file: no read of them fails.
 //! - `Counts` begins with none. `Counts::add` counts the outcomes of a round, and `Counts::summary` gives the seven lines. Which of the calls with
 //!   one ticket is the valid one may differ from run to run; how many are valid doesn't.
@@ -38,5 +38,6 @@ mod shelf;
 
 pub use count_laws::{count_law, summary_law, winners_law};
 pub use file_laws::files_law;
+pub use files::DrillFiles;
 pub use laws::rounds_law;
 pub use run::run_drill;

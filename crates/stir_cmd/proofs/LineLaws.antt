@@ -9,7 +9,7 @@ use Rattle.std.proofs.lemmas.Slice.Eq.{bytes_eq-Decides}
 use Rattle.hex.specs.Hex.{IsBytes, encode_lower}
 use Rattle.hex.proofs.HexLemmas.{decode_sized-encode_lower}
 use Rattle.cert_store.specs.Rules.{QuestionView}
-use Rattle.single_calls.specs.Asks.{ask_line}
+use Rattle.call_judging.specs.AskLines.{ask_line}
 use Rattle.stir_outside.specs.AnswersText.{bytes_of, confirm_of, confirms, key_of}
 use Rattle.auth_service.specs.declared.fault.SignFault.{SignFault}
 use Rattle.auth_service.specs.declared.fault.SignFault.TheVariants as signing

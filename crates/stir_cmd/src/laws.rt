@@ -7,7 +7,7 @@ ghost use Rattle.live_desk.specs.declared.claim.LiveClaim.{LiveClaim};
 ghost use Rattle.log_run.specs.Ending.{failed_line, refused_line, unread_line};
 ghost use Rattle.once_run.specs.Lines.{claim_lines};
 ghost use Rattle.retarget.specs.declared.fault.HopFault.{HopFault};
-ghost use Rattle.single_calls.specs.Asks.{ask_line};
+ghost use Rattle.call_judging.specs.AskLines.{ask_line};
 ghost use Rattle.stir_cmd.specs.Answer.{long_line, refused_input};
 ghost use Rattle.stir_cmd.specs.Gateway.{hop_line, too_long_line};
 ghost use Rattle.stir_cmd.specs.Rows.{CanBeConfirmed, IsAskLine, IsHopLine, IsInputLine, IsSignLine, rows_from};
