@@ -11,30 +11,30 @@ drop_at xs i x below is =
     let one : i + 1 ≡ suc i = omega arith in
     rw one (drop-cons xs i x below ∙ ap (λ (y : Field). y ∷ drop (suc i) xs) (sym is))
 
-values_of : (test : List ℕ → Bool) (field : Field) (fields : List Field) (t : Bool) → test field.name.now ≡ t
+values_of : (test : List ℕ → Bool) (field : Field) (fields : List Field) (t : Bool) → test field.name ≡ t
     → values test (map field_seen (field ∷ fields)) ≡ (if t then value_seen field.value ∷ values test (map field_seen fields) else values test (map field_seen fields))
 values_of test field fields true e = rw e refl
 values_of test field fields false e = rw e refl
 
 pub values_step : (test : List ℕ → Bool) (fields : List Field) (i : ℕ) (field : Field) → i < length fields → field ≡ get_or fields i field
     → values test (map field_seen (drop i fields))
-    ≡ (if test field.name.now then value_seen field.value ∷ values test (map field_seen (drop (i + 1) fields)) else values test (map field_seen (drop (i + 1) fields)))
+    ≡ (if test field.name then value_seen field.value ∷ values test (map field_seen (drop (i + 1) fields)) else values test (map field_seen (drop (i + 1) fields)))
 values_step test fields i field below is =
-    ap (λ (xs : List Field). values test (map field_seen xs)) (drop_at fields i field below is) ∙ values_of test field (drop (i + 1) fields) (test field.name.now) refl
+    ap (λ (xs : List Field). values test (map field_seen xs)) (drop_at fields i field below is) ∙ values_of test field (drop (i + 1) fields) (test field.name) refl
 
 pub values_end : (test : List ℕ → Bool) (fields : List Field) (i : ℕ) → length fields ≤ i → values test (map field_seen (drop i fields)) ≡ []
 values_end test fields i past = ap (λ (xs : List Field). values test (map field_seen xs)) (drop_of_length-le fields past)
 
-placed_of : (test : List ℕ → Bool) (field : Field) (fields : List Field) (t : Bool) → test field.name.now ≡ t
+placed_of : (test : List ℕ → Bool) (field : Field) (fields : List Field) (t : Bool) → test field.name ≡ t
     → placed_named test (map placed_seen (field ∷ fields)) ≡ (if t then placed_seen field ∷ placed_named test (map placed_seen fields) else placed_named test (map placed_seen fields))
 placed_of test field fields true e = rw e refl
 placed_of test field fields false e = rw e refl
 
 pub placed_step : (test : List ℕ → Bool) (fields : List Field) (i : ℕ) (field : Field) → i < length fields → field ≡ get_or fields i field
     → placed_named test (map placed_seen (drop i fields))
-    ≡ (if test field.name.now then placed_seen field ∷ placed_named test (map placed_seen (drop (i + 1) fields)) else placed_named test (map placed_seen (drop (i + 1) fields)))
+    ≡ (if test field.name then placed_seen field ∷ placed_named test (map placed_seen (drop (i + 1) fields)) else placed_named test (map placed_seen (drop (i + 1) fields)))
 placed_step test fields i field below is =
-    ap (λ (xs : List Field). placed_named test (map placed_seen xs)) (drop_at fields i field below is) ∙ placed_of test field (drop (i + 1) fields) (test field.name.now) refl
+    ap (λ (xs : List Field). placed_named test (map placed_seen xs)) (drop_at fields i field below is) ∙ placed_of test field (drop (i + 1) fields) (test field.name) refl
 
 pub placed_end : (test : List ℕ → Bool) (fields : List Field) (i : ℕ) → length fields ≤ i → placed_named test (map placed_seen (drop i fields)) ≡ []
 placed_end test fields i past = ap (λ (xs : List Field). placed_named test (map placed_seen xs)) (drop_of_length-le fields past)

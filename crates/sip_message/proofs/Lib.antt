@@ -12,6 +12,7 @@ pub mod FieldSteps
 pub mod FormLaws
 pub mod HeadLaws
 pub mod HeadSteps
+pub mod KnownLaws
 pub mod LineSteps
 pub mod PlaceLaws
 pub mod SchemeLaws

@@ -22,7 +22,7 @@ value_seen (View text) = text.now
 value_seen (Joined bytes) = bytes.items
 
 abbrev pub field_seen : Field → FieldView
-field_seen field = record { name = field.name.now; value = value_seen field.value }
+field_seen field = record { name = field.name; value = value_seen field.value }
 
 abbrev pub placed_seen : Field → PlacedField
 placed_seen field = record { place = field.place; field = field_seen field }

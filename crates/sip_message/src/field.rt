@@ -9,6 +9,7 @@ ghost use Rattle.sip_message.specs.Seen.{field_seen};
 
 use crate::address::address_number;
 use crate::known::Known;
+use crate::name::Name;
 use crate::value::Value;
 use httpdate::HttpDate;
 use tn_values::{Local, Number};
@@ -17,7 +18,7 @@ use tn_values::{Local, Number};
 #[derive(Debug, Drop)]
 pub(crate) struct Field<'a> {
     pub place: u32,
-    pub name: &'a [u8],
+    pub name: Name<'a>,
     pub value: Value<'a>,
 }
 
@@ -57,7 +58,7 @@ fn first_value<'b>(fields: &'b [Field<'_>], known: Known) -> Option<&'b [u8]>
     ensures { option_copied result ≡ first (values (is_named known) (map field_seen fields.now)) }
 {
     for field in fields {
-        if known.is_named(field.name) {
+        if field.name.is(known) {
             return Some(field.value.bytes());
         }
     }
@@ -70,7 +71,7 @@ pub(crate) fn first_number(fields: &[Field<'_>], known: Known, local: &Local) ->
     ensures { result ≡ first (filter_map (number_in local.now) (values (is_named known) (map field_seen fields.now))) }
 {
     for field in fields {
-        if !known.is_named(field.name) {
+        if !field.name.is(known) {
             continue;
         }
         if let Some(number) = address_number(field.value.bytes(), local) {
@@ -87,7 +88,7 @@ pub(crate) fn count(fields: &[Field<'_>], known: Known) -> usize
 {
     let mut count = 0;
     for field in fields {
-        if known.is_named(field.name) {
+        if field.name.is(known) {
             count += 1;
         }
     }
@@ -102,7 +103,7 @@ pub(crate) fn value_at<'b>(fields: &'b [Field<'_>], known: Known, i: usize) -> &
 {
     let mut left = i;
     for field in fields {
-        if !known.is_named(field.name) {
+        if !field.name.is(known) {
             continue;
         }
         if left == 0 {

@@ -10,6 +10,7 @@ use crate::field::Field;
 use crate::field_line::field_line;
 use crate::known::Known;
 use crate::lines::{Line, Lines};
+use crate::name::Name;
 use crate::value::read_value;
 use std::alloc::Global;
 
@@ -70,7 +71,7 @@ fn read_field<'a>(
     let value = read_value(alloc, rest, lines)?;
     Ok(Field {
         place: line.place,
-        name,
+        name: Name::new(name),
         value,
     })
 }
@@ -83,7 +84,7 @@ impl HeadFields<'_> {
     {
         let mut is_found = false;
         for field in &self.fields {
-            if !known.is_named(field.name) {
+            if !field.name.is(known) {
                 continue;
             }
             if is_found {

@@ -1,10 +1,10 @@
 //! The header fields that have a meaning here.
 ghost use Rattle.std.specs.Prelude.{◌≡◌};
-ghost use Rattle.sip_message.specs.Known.{is_named};
+ghost use Rattle.sip_message.specs.Known.{is_named, kind_of};
 ghost use Rattle.sip_message.specs.Names.{is_either};
 
 /// A header field that has a meaning here.
-#[derive(Clone, Copy, Debug)]
+#[derive(Clone, Copy, Debug, PartialEq, Eq)]
 pub(crate) enum Known {
     From,
     To,
@@ -14,6 +14,21 @@ pub(crate) enum Known {
 }
 
 impl Known {
+    /// The one of this name, None if a field of this name has no meaning here.
+    #[tactic(auto, unfolding(crate::specs::Known::kind_of))]
+    pub(crate) fn of(name: &[u8]) -> Option<Known>
+        ensures { result ≡ kind_of name.now }
+    {
+        let all = [
+            Known::From,
+            Known::To,
+            Known::Identity,
+            Known::Asserted,
+            Known::Date,
+        ];
+        all.into_iter().find(|known| known.is_named(name))
+    }
+
     /// Whether a field of this name is such a one. Names are compared without case, and some have a short form.
     pub(crate) fn is_named(self, name: &[u8]) -> bool
         ensures { result ≡ is_named self name.now }

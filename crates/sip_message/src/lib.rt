@@ -47,6 +47,7 @@ mod known;
 mod laws;
 mod lines;
 mod message;
+mod name;
 mod start_line;
 mod target;
 mod value;
