@@ -22,6 +22,7 @@ pub mod LeafMeans
 pub mod NumberLaws
 pub mod OrderWords
 pub mod PlaceLaws
+pub mod PptLaws
 pub mod ProviderLaws
 pub mod ReadSteps
 pub mod ReadingLaws

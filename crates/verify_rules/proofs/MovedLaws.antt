@@ -1,12 +1,12 @@
 -- A call whose message has another request URI says the same by rules 1 to 7.
-use Rattle.std.proofs.Common.{◌≡◌, ℕ, List, [], ◌∷◌, take, refl, sym, ap, ◌∙◌}
+use Rattle.std.proofs.Common.{◌≡◌, ℕ, List, [], ◌∷◌, refl, ap, ◌∙◌}
 use Rattle.std.specs.Option.{option_or}
 use Rattle.tn_values.specs.Local.{LocalView}
 use Rattle.sip_message.specs.Message.{MessageView}
 use Rattle.sip_message.specs.Target.{to_uri}
-use Rattle.verify_rules.specs.Call.{Call, IdentityField, Reading, facts, facts_of, fields_of, in_message, judged_fields, read_call, read_field, readings_of}
+use Rattle.verify_rules.specs.Call.{Call, IdentityField, facts, facts_of, fields_of, in_message, judged_fields, read_call, read_field, readings_of}
 use Rattle.verify_rules.specs.Moved.{HoldsMoved, SaysSame}
-use Rattle.verify_rules.specs.Rules.{HoldAll, each, early_rules, other_calling, unreadable}
+use Rattle.verify_rules.specs.Rules.{each, other_calling, unreadable}
 use Rattle.verify_rules.specs.declared.settings.Settings.{Settings}
 
 abbrev moved : Settings → ℕ → MessageView → List ℕ → Call

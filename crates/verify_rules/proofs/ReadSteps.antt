@@ -9,7 +9,7 @@ use Rattle.verify_rules.specs.Call.{IdentityField, Reading, has_ppt, links, read
 use Rattle.verify_rules.specs.Rules.{each, place, unreadable, unreadable_at}
 use Rattle.verify_rules.specs.Seen.{AreLinks, AreReadings, GivesReading, IsChainable, ReadSoFar, field_seen}
 use Rattle.verify_rules.specs.declared.facts.Facts.{Facts}
-use Rattle.verify_rules.specs.declared.fields.NumberedField.{NumberedField}
+use Rattle.verify_rules.specs.declared.identity_field.NumberedField.{NumberedField}
 use Rattle.verify_rules.specs.declared.refusal.Stop.{Stop}
 use Rattle.verify_rules.specs.declared.refusal.Stop.TheVariants.{Broken, Memory}
 use Rattle.verify_rules.proofs.Known.{text_by}

@@ -8,6 +8,7 @@ pub mod Late
 pub mod LatePlaces
 pub mod LateWords
 pub mod Places
+pub mod Ppt
 pub mod Numbers
 pub mod Rules
 pub mod Screened

@@ -9,7 +9,7 @@ use Rattle.verify_rules.specs.Call.{IdentityField, Reading, links, numbered, rea
 use Rattle.verify_rules.specs.Rules.{bad_field, each, no_order, place, unreadable}
 use Rattle.verify_rules.specs.Screened.{IsTurned}
 use Rattle.verify_rules.specs.declared.facts.Facts.{Facts}
-use Rattle.verify_rules.specs.declared.fields.NumberedField.{NumberedField}
+use Rattle.verify_rules.specs.declared.identity_field.NumberedField.{NumberedField}
 use Rattle.verify_rules.specs.declared.passports.Marked.{Marked}
 use Rattle.verify_rules.specs.declared.readings.Taken.{Taken}
 use Rattle.verify_rules.specs.declared.refusal.Place.{Place}

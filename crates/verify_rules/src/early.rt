@@ -8,7 +8,8 @@ ghost use Rattle.verify_rules.specs.Seen.{field_seen};
 ghost use Rattle.verify_rules.specs.Words.{SaysWords};
 
 use crate::facts::Facts;
-use crate::fields::{NumberedField, foreign_alg, originating, read_fields};
+use crate::fields::{foreign_alg, originating, read_fields};
+use crate::identity_field::NumberedField;
 use crate::passports::read_all;
 use crate::refusal::{Place, ScreenFault, Stop};
 use crate::screened::{Screened, stale};

@@ -4,7 +4,8 @@ ghost use Rattle.sip_message.specs.Accessors.{date};
 ghost use Rattle.verify_rules.specs.Call.{facts_of, links};
 ghost use Rattle.verify_rules.specs.Seen.{Serves, facts_asked, field_seen};
 
-use crate::fields::{NumberedField, asks_date};
+use crate::fields::asks_date;
+use crate::identity_field::NumberedField;
 use sip_message::Message;
 use tn_values::{Local, Number};
 

@@ -1,29 +1,22 @@
 //! Rules 3 to 5: the Identity fields, and which of them are judged.
-ghost use Rattle.std.specs.Prelude.{◌≡◌, ◌≤◌, ℕ, true, [], List, ◌∷◌, map, find, length, codes, Option, IfOk, IfSome};
+ghost use Rattle.std.specs.Prelude.{◌≡◌, true, ◌∷◌, map, find, codes, IfSome};
 ghost use Rattle.std.specs.List.{list_any};
 ghost use Rattle.std.specs.Option.{option_copied, option_map};
-ghost use Rattle.identity_header.specs.Read.{read};
 ghost use Rattle.passport_claims.specs.Claims.{IsKnown};
 ghost use Rattle.sip_message.specs.Accessors.{identities};
 ghost use Rattle.passport_claims.specs.Passport.{is_text};
-ghost use Rattle.verify_rules.specs.Call.{has_ppt, lacks_ppt, links, originating};
+ghost use Rattle.verify_rules.specs.Call.{has_ppt, links, originating};
+ghost use Rattle.verify_rules.specs.Ppt.{is_of};
 ghost use Rattle.verify_rules.specs.Rules.{each, foreign_alg, is_es256};
-ghost use Rattle.verify_rules.specs.Seen.{AreFields, GivesField, field_seen, is_compact};
+ghost use Rattle.verify_rules.specs.Seen.{AreFields, field_seen, is_compact};
 
+use crate::identity_field::{NumberedField, Ppt};
 use crate::refusal::{Place, Stop};
-use identity_header::Field;
 use sip_message::Message;
 use std::alloc::Global;
 
 /// How many Identity fields a message may have (this project's own limit).
 const MOST_FIELDS: usize = 16;
-
-/// An Identity field with its number, counted from 1 in message order.
-#[derive(Drop)]
-pub(crate) struct NumberedField<'a> {
-    pub(crate) number: u32,
-    pub(crate) parts: Field<'a>,
-}
 
 /// The Identity fields of a message, in message order.
 #[tactic(auto, using(crate::proofs::FieldSteps::fields_start, crate::proofs::FieldSteps::field_more, crate::proofs::FieldSteps::numbers_more, crate::proofs::FieldSteps::field_bad, crate::proofs::FieldSteps::fields_many, crate::proofs::FieldSteps::none_bad, crate::proofs::FieldSteps::all_numbered))]
@@ -38,7 +31,7 @@ pub(crate) fn read_fields<'a>(
         if i >= MOST_FIELDS {
             return Err(Stop::Broken(Place::new(17, 0)));
         }
-        match read_field(message.identity(i), i as u32 + 1) {
+        match NumberedField::read(message.identity(i), i as u32 + 1) {
             Ok(field) => {
                 if fields.push(field).is_err() {
                     return Err(Stop::Memory);
@@ -50,49 +43,25 @@ pub(crate) fn read_fields<'a>(
     Ok(fields)
 }
 
-/// The field with this value and this number, or where it stops being readable.
-fn read_field(value: &[u8], number: u32) -> Result<NumberedField<'_>, Place>
-    requires { length value.now ≤ 65535 }
-    ensures { GivesField number result (read value.now) }
-{
-    match Field::read(value) {
-        Ok(parts) => Ok(NumberedField { number, parts }),
-        Err(fault) => Err(Place::new(number, fault.place)),
-    }
-}
-
 /// The field of the PASSporT that the originating side signed.
 #[tactic(auto, using(crate::proofs::Known::known_with, crate::proofs::Known::known_without))]
 pub(crate) fn originating<'f, 'a>(fields: &'f [NumberedField<'a>]) -> Option<&'f NumberedField<'a>>
     ensures field { option_map (λ field. field_seen field.now) result ≡ originating (map field_seen fields.now) }
     ensures known { IfSome result (λ field. IsKnown field.now.parts.ppt) }
 {
-    match first_with(fields, b"shaken") {
+    match first_of(fields, Ppt::Shaken) {
         Some(field) => Some(field),
-        None => first_without(fields),
+        None => first_of(fields, Ppt::Absent),
     }
 }
 
-/// The first field with this type.
-fn first_with<'f, 'a>(fields: &'f [NumberedField<'a>], ppt: &[u8]) -> Option<&'f NumberedField<'a>>
-    ensures field { option_map (λ field. field_seen field.now) result ≡ find (has_ppt ppt.now) (map field_seen fields.now) }
-    ensures with { IfSome result (λ field. has_ppt ppt.now (field_seen field.now) ≡ true) }
+/// The first field with such a type.
+fn first_of<'f, 'a>(fields: &'f [NumberedField<'a>], ppt: Ppt) -> Option<&'f NumberedField<'a>>
+    ensures field { option_map (λ field. field_seen field.now) result ≡ find (is_of ppt) (map field_seen fields.now) }
+    ensures with { IfSome result (λ field. is_of ppt (field_seen field.now) ≡ true) }
 {
     for field in fields {
-        if has_ppt(field, ppt) {
-            return Some(field);
-        }
-    }
-    None
-}
-
-/// The first field without a type.
-fn first_without<'f, 'a>(fields: &'f [NumberedField<'a>]) -> Option<&'f NumberedField<'a>>
-    ensures field { option_map (λ field. field_seen field.now) result ≡ find lacks_ppt (map field_seen fields.now) }
-    ensures without { IfSome result (λ field. lacks_ppt (field_seen field.now) ≡ true) }
-{
-    for field in fields {
-        if field.parts.ppt().is_none() {
+        if field.is(ppt) {
             return Some(field);
         }
     }
@@ -151,14 +120,7 @@ fn is_compact(field: &NumberedField<'_>) -> bool
 pub(crate) fn is_link(field: &NumberedField<'_>) -> bool
     ensures { result ≡ has_ppt (codes "div") (field_seen field.now) }
 {
-    has_ppt(field, b"div")
-}
-
-/// Whether the field's type is this one.
-fn has_ppt(field: &NumberedField<'_>, ppt: &[u8]) -> bool
-    ensures { result ≡ has_ppt ppt.now (field_seen field.now) }
-{
-    is_text(field.parts.ppt(), ppt)
+    field.is(Ppt::Div)
 }
 
 /// Whether the field's algorithm is ES256, which it is if none is given.

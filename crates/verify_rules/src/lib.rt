@@ -47,6 +47,7 @@ mod early;
 mod events;
 mod facts;
 mod fields;
+mod identity_field;
 mod late;
 mod laws;
 mod leaf_authority;

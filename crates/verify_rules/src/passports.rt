@@ -8,7 +8,8 @@ ghost use Rattle.verify_rules.specs.Call.{given_to_compact, links, read_field};
 ghost use Rattle.verify_rules.specs.Seen.{AreReadings, GivesReading, IsChainable, field_seen};
 
 use crate::facts::Facts;
-use crate::fields::{NumberedField, is_link};
+use crate::fields::is_link;
+use crate::identity_field::NumberedField;
 use crate::readings::{Beside, Mark, Readings};
 use crate::refusal::{Place, Stop};
 use crate::signed_token::SignedToken;
