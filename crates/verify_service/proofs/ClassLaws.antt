@@ -1,5 +1,5 @@
 -- The classes that calls were given.
-use Rattle.std.proofs.Common.{◌≡◌, ◌≢◌, ℕ, zero, suc, ◌+◌, ◌-◌, ◌<◌, ◌≤◌, ◌==◌, ◌||◌, Bool, true, false, cond, List, [], ◌∷◌, ◌++◌, drop, get_or, set, length, map, is_some, unwrap_or, Option, Some, None, refl, sym, ap, ◌∙◌, subst, arith, get_or-set_same, get_or-set_other}
+use Rattle.std.proofs.Common.{◌≡◌, ◌≢◌, ℕ, zero, suc, ◌+◌, ◌-◌, ◌<◌, ◌≤◌, ◌==◌, ◌||◌, Bool, true, false, cond, List, [], ◌∷◌, ◌++◌, drop, get_or, set, length, map, is_some, unwrap_or, Option, Some, None, refl, sym, ap, ◌∙◌, subst, arith, get_or-set_same, get_or-set_other, ◌⊎◌, inl, inr, max}
 use Rattle.std.proofs.lemmas.Bool.Decides.{nat_tests}
 use Rattle.std.proofs.lemmas.Option.{same_Some}
 use Rattle.std.specs.Cmp.Lexicographic.{bytes_decides}
@@ -11,10 +11,10 @@ use Rattle.replay_desk.specs.Holder.{DeskId}
 use Rattle.verify_rules.specs.declared.settings.Settings.{Settings}
 use Rattle.state_text.specs.State.{IsKept}
 use Rattle.verify_service.specs.Adding.{kept_as}
-use Rattle.verify_service.specs.Classes.{AreGivenClasses, IsGivenClass, tickets_in}
+use Rattle.verify_service.specs.Classes.{AreGivenClasses, IsGivenClass, IsTicketOf, tickets_in}
 use Rattle.verify_service.specs.Judging.{EachPair, call_in}
 use Rattle.verify_service.specs.Needed.{once}
-use Rattle.verify_service.specs.Prepared.{AreScreened, AreUpTo, HaveClass, numbers_of}
+use Rattle.verify_service.specs.Prepared.{AreScreened, AreUpTo, HasWords, HaveClass, IsClass, classes_of, numbers_of}
 use Rattle.verify_service.specs.Ready.{AreClassed, AreNumbered, HasRoom, class_in, is_passed, ticket_in}
 use Rattle.verify_service.specs.Screening.{IsReady, IsScreening, is_open, readings_in, last_in}
 use Rattle.verify_service.specs.Service.{EachFollows, last_entry, last_moment_of, last_number, moment_or, number_or}
@@ -348,3 +348,99 @@ given_next tickets now calls before at r s class within rest is some ticket give
     subst (λ (o : ReadyCall). IsGivenClass now (get_or before k d) (get_or (set calls at (with_class o class)) k d)) (same_call calls at r s within)
     (subst (λ (ts : List (List ℕ)). IsGivenClass ts (get_or before k d) (get_or (set calls at new) k d)) (sym is)
     (given_by tickets more calls before at k new d (k == at) refl within here (given k d) below))
+
+-- ---- each ticket is that of a call
+
+abbrev Uses : List (List ℕ) → ℕ → List ReadyCall → Type 0
+Uses tickets count calls = (i : ℕ) (ticket : List ℕ) → slice_get tickets i ≡ Some ticket → IsTicketOf count calls ticket
+
+in_pushed : (xs : List (List ℕ)) (x : List ℕ) (i : ℕ) (y : List ℕ) → slice_get (xs ++ x ∷ []) i ≡ Some y → (slice_get xs i ≡ Some y) ⊎ (x ≡ y)
+in_pushed [] x zero y is = inr (same_Some x y is)
+in_pushed [] x (suc i) y is = absurd cc
+in_pushed (z ∷ xs) x zero y is = inl is
+in_pushed (z ∷ xs) x (suc i) y is = in_pushed xs x i y is
+
+still_used : (count : ℕ) (calls : List ReadyCall) (ticket : List ℕ) → IsTicketOf count calls ticket → IsTicketOf (count + 1) calls ticket
+still_used count calls ticket used = (used.0, (let less = used.1 in omega arith), used.2)
+
+pushed_used : (tickets : List (List ℕ)) (ticket : List ℕ) (at : ℕ) (before : List ReadyCall) (b : Bool) → Uses tickets at before → IsTicketOf (at + 1) before ticket
+    → Uses (cond b tickets (tickets ++ ticket ∷ [])) (at + 1) before
+pushed_used tickets ticket at before true used here i other is = still_used at before other (used i other is)
+pushed_used tickets ticket at before false used here i other is = by (in_pushed tickets ticket i other is)
+  where
+    by : (slice_get tickets i ≡ Some other) ⊎ (ticket ≡ other) → IsTicketOf (at + 1) before other
+    by (inl old) = still_used at before other (used i other old)
+    by (inr new) = subst (IsTicketOf (at + 1) before) new here
+
+used_by : (tickets : List (List ℕ)) (at : ℕ) (before : List ReadyCall) (screening : Screening) → ((d : ReadyCall) → (get_or before at d).screening ≡ screening) → Uses tickets at before
+    → Uses (once tickets (tickets_in screening)) (at + 1) before
+used_by tickets at before Open own used = λ i ticket is. still_used at before ticket (used i ticket is)
+used_by tickets at before (Refused refused) own used = λ i ticket is. still_used at before ticket (used i ticket is)
+used_by tickets at before (Passed screened) own used =
+    pushed_used tickets (ticket_in (Passed screened)) at before (has (ticket_in (Passed screened)) tickets) used (at, (omega arith), (λ d. (ap is_passed (own d), ap ticket_in (own d))))
+
+pub used_next : (tickets now : List (List ℕ)) (calls before : List ReadyCall) (at : ℕ) (r : ReadyCall) → at < length calls → drop at calls ≡ drop at before
+    → now ≡ once tickets (tickets_in (get_or calls at r).screening) → Uses tickets at before → Uses now (at + 1) before
+used_next tickets now calls before at r within rest is used =
+    let same : (d : ReadyCall) → (get_or before at d).screening ≡ (get_or calls at r).screening = λ d.
+    ap (λ (c : ReadyCall). c.screening) (sym (first_of_rest before at d) ∙ ap (λ (l : List ReadyCall). get_or l 0 d) (sym rest) ∙ first_of_rest calls at d ∙ same_call calls at d r within) in
+    subst (λ (ts : List (List ℕ)). Uses ts (at + 1) before) (sym is) (used_by tickets at before (get_or calls at r).screening same used)
+
+-- ---- a word of the desk for each class
+
+there_at : {X : Type 0} → (xs : List X) (i : ℕ) → i < length xs → (x : X) × (slice_get xs i ≡ Some x)
+there_at [] i less = absurd (omega arith)
+there_at (x ∷ xs) zero less = (x, refl)
+there_at (x ∷ xs) (suc i) less = there_at xs i (omega arith)
+
+some_of : (class : Option ℕ) (i : ℕ) → is_some class ≡ true → unwrap_or class 0 ≡ i → class ≡ Some i
+some_of None i some is = absurd cc
+some_of (Some class) i some is = ap (λ n. Some n) is
+
+mapped_to : (calls : List ReadyCall) (at : ℕ) (call : ReadyCall) → slice_get calls at ≡ Some call → slice_get (classes_of calls) at ≡ Some call.class
+mapped_to [] at call is = absurd cc
+mapped_to (c ∷ calls) zero call is = ap (λ (x : ReadyCall). Some x.class) (same_Some c call is)
+mapped_to (c ∷ calls) (suc at) call is = mapped_to calls at call is
+
+mapped_from : (calls : List ReadyCall) (at class : ℕ) → slice_get (classes_of calls) at ≡ Some (Some class) → (call : ReadyCall) × (slice_get calls at ≡ Some call) × (call.class ≡ Some class)
+mapped_from [] at class is = absurd cc
+mapped_from (c ∷ calls) zero class is = (c, refl, same_Some c.class (Some class) is)
+mapped_from (c ∷ calls) (suc at) class is = mapped_from calls at class is
+
+class_used : (count : ℕ) (olds news : List ReadyCall) (g : AreGivenClasses count olds news) (class : ℕ) → class < count → IsClass (classes_of news) class
+class_used count olds news g class less =
+    let within : class < length g.tickets = (let many = g.counted in omega arith) in
+    let found = there_at g.tickets class within in
+    let used = g.used class found.0 found.1 in
+    let below : used.0 < length news = (let same = g.same in let first = used.1 in omega arith) in
+    let there = there_at news used.0 below in
+    let call : ReadyCall = there.0 in
+    let given = given_at count olds news g used.0 call there.1 in
+    let of = used.2 call in
+    let passed : is_passed call.screening ≡ true = ap is_passed given.screening ∙ of.0 in
+    let ticket : slice_get g.tickets (class_in call) ≡ Some found.0 = given.ticket passed ∙ ap (λ t. Some t) (ap ticket_in given.screening ∙ of.1) in
+    let same : class_in call ≡ class = one_place g.tickets (class_in call) class found.0 g.once ticket found.1 in
+    (used.0, mapped_to news used.0 call there.1 ∙ ap (λ (c : Option ℕ). Some c) (some_of call.class class (given.some ∙ passed) same))
+
+some_is : (class : Option ℕ) (i : ℕ) → class ≡ Some i → (is_some class ≡ true) × (unwrap_or class 0 ≡ i)
+some_is class i is = (ap is_some is, ap (λ c. unwrap_or c 0) is)
+
+class_within : (count : ℕ) (olds news : List ReadyCall) → AreGivenClasses count olds news → (class : ℕ) → IsClass (classes_of news) class → class < count
+class_within count olds news g class of =
+    let found = mapped_from news of.0 class of.1 in
+    let call : ReadyCall = found.0 in
+    let given = given_at count olds news g of.0 call found.1 in
+    let is = some_is call.class class found.2 in
+    let below : class_in call < count = class_below count olds news g of.0 call found.1 (sym given.some ∙ is.0) in
+    let same : class_in call ≡ class = is.1 in
+    omega arith
+
+pub has_words : (count : ℕ) (olds news : List ReadyCall) (desk : DeskId) → AreGivenClasses count olds news → desk.words ≡ max count 1 → HasWords desk (classes_of news)
+has_words zero olds news desk g words = record {
+  each = λ class of. (let none : class < 0 = class_within zero olds news g class of in absurd (omega arith));
+  no_more = λ class less. inr (words, (λ other of. (let none : other < 0 = class_within zero olds news g other of in absurd (omega arith))));
+}
+has_words (suc count) olds news desk g words = record {
+  each = λ class of. (let below : class < suc count = class_within (suc count) olds news g class of in omega (arith, words, below));
+  no_more = λ class less. inl (class_used (suc count) olds news g class (omega (arith, words, less)));
+}

@@ -1,5 +1,5 @@
 -- A round that is prepared, from the calls that were screened and the classes that they were given.
-use Rattle.std.proofs.Common.{◌≡◌, ℕ, ◌≤◌, List, length, sym, subst, arith}
+use Rattle.std.proofs.Common.{◌≡◌, ℕ, ◌≤◌, List, length, max, sym, subst, arith}
 use Rattle.call_log.specs.Entry.{Entry}
 use Rattle.replay_desk.specs.Holder.{DeskId, Holder}
 use Rattle.verify_rules.specs.declared.settings.Settings.{Settings}
@@ -8,14 +8,14 @@ use Rattle.verify_service.specs.Judging.{EachPair}
 use Rattle.verify_service.specs.Kept.{Kept}
 use Rattle.verify_service.specs.Needed.{all_named}
 use Rattle.verify_service.specs.Carried.{AreClasses}
-use Rattle.verify_service.specs.Prepared.{AreSeats, HaveClass, IsPrepared, classes_of}
+use Rattle.verify_service.specs.Prepared.{AreSeats, HasWords, HaveClass, IsPrepared, classes_of}
 use Rattle.verify_service.specs.Ready.{AreClassed, HasRoom}
 use Rattle.verify_service.specs.RightChains.{FailAtQuestions}
 use Rattle.verify_service.specs.Screening.{IsReady}
 use Rattle.verify_service.specs.Service.{AreOfRound}
 use Rattle.verify_service.specs.declared.screening.ReadyCall.{ReadyCall}
 use Rattle.verify_service.proofs.CallRowLaws.{ScreenedLaws}
-use Rattle.verify_service.proofs.ClassLaws.{are_classed, classes_ready, has_room, have_class, numbered}
+use Rattle.verify_service.proofs.ClassLaws.{are_classed, classes_ready, has_room, has_words, have_class, numbered}
 use Rattle.verify_service.proofs.EntryClassLaws.{are_classes}
 use Rattle.verify_service.proofs.ListLaws.{each_length}
 use Rattle.verify_service.proofs.RoundAllLaws.{named_most}
@@ -54,3 +54,7 @@ module _ (settings : Settings) (entries : List Entry) (count : ℕ) (olds now pl
       let own = have_class settings round.number round.moment count desk entries olds now round.follow.each each given many some in
       are_classes settings entries placed laws placed_ready (subst AreClassed (sym same) (are_classed count olds now given))
       (λ at call stands. (subst (HaveClass desk) (sym same) own at call stands).classed)
+
+  -- the desk has one word for each class, and one if there is no class
+  pub placed_words : (desk : DeskId) → desk.words ≡ max count 1 → HasWords desk (classes_of placed)
+  placed_words desk words = subst (λ cs. HasWords desk (classes_of cs)) (sym same) (has_words count olds now desk given words)

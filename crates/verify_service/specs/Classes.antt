@@ -21,11 +21,16 @@ pub record IsGivenClass (tickets : List (List ℕ)) (old new : ReadyCall) : Type
   pub some : is_some new.class ≡ is_passed new.screening
   pub ticket : is_passed new.screening ≡ true → slice_get tickets (class_in new) ≡ Some (ticket_in new.screening)
 
--- Each call is given its class, of so many.
+-- the ticket is that of one of the first calls, if rules 1 to 9 don't refuse it
+abbrev pub IsTicketOf : ℕ → List ReadyCall → List ℕ → Type 0
+IsTicketOf count calls ticket = (at : ℕ) × (at < count) × ((d : ReadyCall) → (is_passed (get_or calls at d).screening ≡ true) × (ticket_in (get_or calls at d).screening ≡ ticket))
+
+-- Each call is given its class, of so many, and each of these is given to some call.
 pub record AreGivenClasses (count : ℕ) (old new : List ReadyCall) : Type 0 where
   pub tickets : List (List ℕ)
   pub once : IsOnce tickets
   pub counted : length tickets ≡ count
   pub few : count ≤ length old
   pub same : length new ≡ length old
+  pub used : (class : ℕ) (ticket : List ℕ) → slice_get tickets class ≡ Some ticket → IsTicketOf (length old) old ticket
   pub each : (at : ℕ) (d : ReadyCall) → at < length old → IsGivenClass tickets (get_or old at d) (get_or new at d)

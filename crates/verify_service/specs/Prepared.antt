@@ -1,5 +1,5 @@
 -- What a contract sees of a round that is prepared, and what makes it the newest of a service.
-use Rattle.std.specs.Prelude.{◌≡◌, ◌<◌, ◌≤◌, ◌-◌, ℕ, true, false, List, length, map, is_some, Option, Some}
+use Rattle.std.specs.Prelude.{◌≡◌, ◌<◌, ◌⊎◌, ◌≤◌, ◌-◌, ℕ, true, false, List, length, map, is_some, Option, Some}
 use Rattle.std.specs.List.{slice_get}
 use Rattle.call_log.specs.Entry.{Entry}
 use Rattle.replay_desk.specs.Holder.{DeskId, Holder}
@@ -26,6 +26,15 @@ numbers_of calls = map (λ call. call.number) calls
 
 abbrev pub classes_of : List ReadyCall → List (Option ℕ)
 classes_of calls = map (λ call. call.class) calls
+
+-- it is the class of a call
+abbrev pub IsClass : List (Option ℕ) → ℕ → Type 0
+IsClass classes class = (at : ℕ) × (slice_get classes at ≡ Some (Some class))
+
+-- The desk has one word for each class, and one if there is no class.
+pub record HasWords (desk : DeskId) (classes : List (Option ℕ)) : Type 0 where
+  pub each : (class : ℕ) → IsClass classes class → class < desk.words
+  pub no_more : (class : ℕ) → class < desk.words → IsClass classes class ⊎ ((desk.words ≡ 1) × ((other : ℕ) → IsClass classes other → ⊥))
 
 -- ---- what holds of each
 

@@ -5,7 +5,7 @@ ghost use Rattle.cert_store.specs.Holding.{AreAnswered};
 ghost use Rattle.verify_service.specs.Carried.{AreClasses};
 ghost use Rattle.verify_service.specs.Judging.{EachPair};
 ghost use Rattle.verify_service.specs.Needed.{all_named, named, round_texts};
-ghost use Rattle.verify_service.specs.Prepared.{IsNewest, classes_of};
+ghost use Rattle.verify_service.specs.Prepared.{HasWords, IsNewest, classes_of};
 ghost use Rattle.verify_service.specs.Ready.{HasRoom, HaveSeats};
 ghost use Rattle.verify_service.specs.RightChains.{AreRightHeld, AreThere};
 ghost use Rattle.verify_service.specs.RoundRead.{HasAskedOwn, RoundReads};
@@ -52,12 +52,14 @@ impl Service {
         requires right { (d : _) → HoldsRight (S.files shelf.old) (P.says (slice_index_or workers.old 0 d).provider) self.old }
 
         // It is the newest round of the service: these calls, screened. A call has no class exactly if rules 1 to 9 refuse it, and two others have one
-        // class exactly if they have one ticket. There is a seat of the desk for each worker, and all together have the whole share.
+        // class exactly if they have one ticket. There is a seat of the desk for each worker, and all together have the whole share. The desk has one
+        // word for each class, and one if there is no class.
         ensures calls { IfOk result (λ prepared. EachPair (IsReady self.old.settings) calls.now prepared.calls) }
         ensures newest { IfOk result (λ prepared. IsNewest self.new prepared) }
         ensures classes { IfOk result (λ prepared. AreClasses self.old.settings calls.now (classes_of prepared.calls)) }
         ensures counted { IfOk result (λ prepared. length prepared.seats ≡ length workers.old) }
         ensures seats { IfOk result (λ prepared. HaveSeats prepared.desk prepared.seats) }
+        ensures words { IfOk result (λ prepared. HasWords prepared.desk (classes_of prepared.calls)) }
 
         // What was read and judged, each text once, by the worker whose text it is; and what is known of the chains is right.
         ensures reads { (d : _) → IfOk result (λ prepared. RoundReads (S.files shelf.old) (materials_of self.old) (P.says (slice_index_or workers.old 0 d).provider)
@@ -148,6 +150,7 @@ fn prepare_round<R: Threads + Sync, S: Shelf, P: Provider + Send, G: Gate + Send
     ensures room { IfOk result (λ prepared. HasRoom prepared.calls (length calls.now)) }
     ensures counted { IfOk result (λ prepared. length prepared.seats ≡ length workers.old) }
     ensures seats { IfOk result (λ prepared. HaveSeats prepared.desk prepared.seats) }
+    ensures words { IfOk result (λ prepared. HasWords prepared.desk (classes_of prepared.calls)) }
     ensures there { IfOk result (λ prepared. AreThere world.now.chains cache.new.entries prepared.kept (all_named prepared.calls)) }
     ensures reads { (d : _) → IfOk result (λ prepared. RoundReads (S.files shelf.old) world.now (P.says (slice_index_or workers.old 0 d).provider)
         prepared.calls (S.counts shelf.old) (S.counts shelf.new) (λ states. (w : ℕ) → w < length workers.old → HasAskedOwn w (length workers.old)

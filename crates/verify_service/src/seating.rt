@@ -1,5 +1,5 @@
 //! The desk of a round, and its seats.
-ghost use Rattle.std.specs.Prelude.{◌≡◌, ◌<◌, ◌≤◌, vec_len, IfOk};
+ghost use Rattle.std.specs.Prelude.{◌≡◌, ◌<◌, ◌≤◌, max, vec_len, IfOk};
 ghost use Rattle.replay_desk.specs.Pairs.{whole};
 ghost use Rattle.verify_service.specs.Prepared.{AreSeats};
 ghost use Rattle.verify_service.specs.Ready.{HaveSeats, IsFresh};
@@ -17,6 +17,7 @@ pub(crate) fn desk_for(
     requires few { count ≤ 8 }
     ensures words { IfOk result (λ made. 1 ≤ made.0.words) }
     ensures classes { IfOk result (λ made. classes ≤ made.0.words) }
+    ensures exact { IfOk result (λ made. made.0.words ≡ max classes 1) }
     ensures counted { IfOk result (λ made. vec_len made.1 ≡ count) }
     ensures all { IfOk result (λ made. HaveSeats made.0 made.1.items) }
     ensures seats { IfOk result (λ made. AreSeats made.0 made.1.items) }

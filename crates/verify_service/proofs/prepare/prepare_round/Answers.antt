@@ -6,7 +6,7 @@ use Rattle.verify_service.specs.RightChains.{AreThere}
 use Rattle.verify_service.specs.RoundRead.{HasAskedOwn, RoundReads, texts_of}
 use Rattle.verify_service.specs.declared.screening.ReadyCall.{ReadyCall}
 use Rattle.verify_service.proofs.ListLaws.{each_length}
-use Rattle.verify_service.proofs.PrepareLaws.{placed_classes, placed_named, placed_prepared, placed_ready, placed_room}
+use Rattle.verify_service.proofs.PrepareLaws.{placed_classes, placed_named, placed_prepared, placed_ready, placed_room, placed_words}
 use Rattle.verify_service.proofs.ReadyLaws.{written_back}
 use Rattle.verify_service.proofs.RoundThereLaws.{are_there, right_now}
 use Rattle.verify_service.proofs.TogetherLaws.{head_of}
@@ -111,3 +111,11 @@ returns-clause-classes g c =
     let given = subst (λ (cs : List ReadyCall). AreGivenClasses c.in_ok-classes.classes cs c.class_calls.new.calls) c.deref_mut.ensures.value c.in_ok-classes.ensures.classes in
     placed_classes c.args.settings.now c.args.calls.now c.in_ok-classes.classes olds now _ back c.requires.ready given
     (record { ticket = c.screened_law.ensures.ticket; last = c.screened_law.ensures.last }) c.in_ok-desk.desk c.requires.follow c.in_ok-desk.ensures.classes c.in_ok-desk.ensures.words
+
+pub returns-clause-words : goal.returns-clause-words
+returns-clause-words g c =
+    let olds = c.args.ready.items in
+    let now = c.class_calls.new.calls in
+    let back = written_back olds now c.args.ready.len c.args.ready.ok.0 (c.in_ok-classes.ensures.counted ∙ ap length c.deref_mut.ensures.value) in
+    let given = subst (λ (cs : List ReadyCall). AreGivenClasses c.in_ok-classes.classes cs c.class_calls.new.calls) c.deref_mut.ensures.value c.in_ok-classes.ensures.classes in
+    placed_words c.args.settings.now c.args.calls.now c.in_ok-classes.classes olds now _ back c.requires.ready given c.in_ok-desk.desk c.in_ok-desk.ensures.exact
