@@ -1,17 +1,11 @@
 -- A line of the report can be read back: its number and its outcome.
-use Rattle.std.proofs.Common.{◌≡◌, ℕ, suc, ◌==◌, ◌||◌, not, ◌+◌, ◌<◌, ◌^◌, Bool, true, false, ◌&&◌, cond, List, [], ◌∷◌, ◌++◌, length, get_or, codes, append_assoc, refl, sym, ◌∙◌, ap, arith}
-use Rattle.std.specs.Char.{is_ascii_digit}
+use Rattle.std.proofs.Common.{◌≡◌, ℕ, suc, ◌==◌, not, ◌+◌, ◌<◌, ◌^◌, Bool, true, false, ◌&&◌, cond, List, [], ◌∷◌, ◌++◌, length, get_or, codes, append_assoc, refl, sym, ◌∙◌, ap, arith}
 use Rattle.std.specs.Fmt.{decimal}
-use Rattle.std.specs.List.{list_all}
-use Rattle.std.specs.Str.Parse.{digits_value}
-use Rattle.std.proofs.lemmas.Fmt.{decimal_nonempty, digits_decimal, digits_value-decimal}
 use Rattle.std.proofs.lemmas.List.{append_cancel_left}
 use Rattle.std.proofs.lemmas.List.Folds.{list_all-append}
-use Rattle.text_grammar.specs.Cut.{cut, lacks}
-use Rattle.text_grammar.proofs.CutLaws.{cut_again}
-use Rattle.text_grammar.proofs.DecimalLaws.{decimal_lacks, digit_numerals}
-use Rattle.std.proofs.lemmas.Option.{same_Some}
-use Rattle.verify_rules.specs.Code.{code_of, is_unsupported}
+use Rattle.text_grammar.specs.Cut.{lacks}
+use Rattle.text_grammar.proofs.DecimalLaws.{decimal_lacks}
+use Rattle.verify_rules.specs.Code.{code_of}
 use Rattle.verify_rules.specs.declared.refusal.Place.{Place}
 use Rattle.verify_rules.specs.declared.refusal.Refusal.{Refusal}
 use Rattle.call_judging.proofs.TextBack.{code_fits, halves, no_text, refusal_is, same_number, same_place, same_then}
