@@ -18,9 +18,8 @@ def below():
 
 def of_the_kit():
     """The crates that the lines name and that the repository hasn't: those of the kit, in the order of their names."""
-    lines = [line.split('#')[0].strip() for line in (TOP / 'crates.txt').read_text().splitlines()]
-    named = {part for line in lines if line for part in line.split(':')[1].split()}
-    return sorted(named - set(below()))
+    lines = named()
+    return sorted({part for parts in lines.values() for part in parts} - set(lines))
 
 
 def standing_under(name, crates):

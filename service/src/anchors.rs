@@ -53,7 +53,7 @@ fn element(der: &[u8]) -> Option<Element<'_>> {
         return None;
     }
     let size =
-        der.get(2..2 + more)?.iter().fold(short, |size, digit| size << 8 | usize::from(*digit));
+        der.get(2..2 + more)?.iter().fold(short, |size, digit| (size << 8) | usize::from(*digit));
     let content = der.get(2 + more..)?.get(..size)?;
     Some(Element { tag, content, whole: &der[..2 + more + size] })
 }

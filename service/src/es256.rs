@@ -37,7 +37,7 @@ pub fn question(line: &[u8]) -> Option<Question> {
             if high | low == NO_DIGIT {
                 return None;
             }
-            *byte = high << 4 | low;
+            *byte = (high << 4) | low;
         }
     }
     rest.is_empty().then_some(question)

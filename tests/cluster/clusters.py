@@ -20,6 +20,11 @@ logging.getLogger("distributed.client").setLevel(logging.CRITICAL)
 PROGRAM = pathlib.Path(example.__file__)
 
 
+def take_interrupts():
+    """Has a process that is started here heed SIGINT, also if these tests run in the background, where a shell has it ignored."""
+    signal.signal(signal.SIGINT, signal.SIG_DFL)
+
+
 class Day:
     """The log of a day, its files, and its report."""
 
@@ -69,7 +74,7 @@ class Day:
         files = [word for pair in zip(("--chains", "--anchors", "--table"), self.names) for word in pair]
         environment = {name: value for name, value in os.environ.items() if not name.startswith("DASK_LOGGING")}
         return subprocess.Popen([sys.executable, PROGRAM, *files, *words, self.log], env=environment, start_new_session=True, stdout=subprocess.PIPE,
-                                stderr=subprocess.PIPE, text=True)
+                                stderr=subprocess.PIPE, text=True, preexec_fn=take_interrupts)
 
     def refused(self):
         """No workers, fewer than none, and parts of no call: at once, before anything is started."""

@@ -20,7 +20,8 @@ HELPFUL = sorted(path.name for path in (TOP / 'tools').glob('stir-*') if path.na
 TOOLS = sorted([*HELPFUL, 'stir-words'])
 
 # The tools of those who work on the sources.
-OWN = ('claims', 'completion.py', 'crate', 'crates.py', 'gate', 'gate-cost', 'installed.py', 'making.py', 'manual.py', 'package', 'proved.py', 'prove', 'refusals', 'trusted', 'unproved')
+OWN = ('claims', 'completion.py', 'crate', 'crates.py', 'gate', 'gate-cost', 'installed.py', 'making.py', 'manual.py', 'package', 'proved.py', 'prove', 'refusals',
+       'trusted', 'unproved')
 
 TOOLCHAIN = 'toolchain 1 logic 0123456789abcdef'
 LOGIC = 'logic=0123456789abcdef01234567'

@@ -63,12 +63,12 @@ def test_asserted(each, program):
     each(asserted.results(tool, program))
 
 
-def test_packaged(each):
-    each(packaged.results())
-
-
 def test_days(each, program):
     each(days.results(program))
+
+
+def test_packaged(each):
+    each(packaged.results())
 
 
 @needs('git', 'dpkg-deb')
