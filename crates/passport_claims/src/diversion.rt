@@ -10,6 +10,7 @@ ghost use Rattle.passport_claims.specs.OrderSeen.{IsFilled, IsTurn, order_seen, 
 use crate::links::{dest, div, link_from, repeated, start_behind};
 use crate::order::{ChainFault, MOST_LINKS, Order};
 use crate::passport::Passport;
+use crate::passports::Passports;
 use tn_values::Number;
 
 /// The order in which a diverted call went (RFC 8946, section 4.2), from its originating PASSporT to the number that is called now. Its links are the
@@ -18,7 +19,7 @@ use tn_values::Number;
 /// Each link is there once. The div of the first is a number that the originating PASSporT calls. The div of each later one is the dest of the one before
 /// it. The dest of the last is the called number. These numbers are distinct, and there are at most 8 links. Without links the originating PASSporT calls
 /// that number. There is one such order at most; if there is none, the fault is the first of those of [`ChainFault`].
-#[tactic(auto, using(crate::proofs::OrderFaultLaws::order_found, crate::proofs::OrderFaultLaws::order_only, crate::proofs::OrderFaultLaws::fault_found, crate::proofs::OrderFaultLaws::turn_found, crate::proofs::OrderLaws::order_unique))]
+#[tactic(auto, using(crate::proofs::OrderFaultLaws::order_found, crate::proofs::OrderFaultLaws::order_only, crate::proofs::OrderFaultLaws::fault_found, crate::proofs::OrderLaws::order_unique))]
 pub fn chain(
     origin: &Passport,
     links: &[Passport],
@@ -42,27 +43,43 @@ pub fn chain(
     ensures fault { (fault : ChainFault) → IsFault origin.now links.now called fault → result ≡ Err fault }
     ensures link { IfErr result (λ fault. fault.link ≤ length links.now) }
 {
+    chain_of(origin, &links, called)
+}
+
+/// The same as [`chain`], of links that are kept elsewhere.
+#[tactic(auto, using(crate::proofs::OrderFaultLaws::order_found, crate::proofs::OrderFaultLaws::fault_found, crate::proofs::OrderFaultLaws::turn_found))]
+pub fn chain_of<L: Passports>(
+    origin: &Passport,
+    links: &L,
+    called: Option<Number>,
+) -> Result<Order, ChainFault>
+    requires links { All IsLink (L.list links.now) }
+    ensures exact { order_seen result ≡ order_of origin.now (L.list links.now) called }
+    ensures found { IfOk result (λ order. IsOrder origin.now (L.list links.now) called (turn_of order)) }
+    ensures turn { IfOk result (λ order. IsTurn (length (L.list links.now)) order) }
+    ensures refused { IfErr result (λ fault. IsFault origin.now (L.list links.now) called fault) }
+{
     chain_exactly(origin, links, called)
 }
 
 /// The order, or the first fault.
 #[tactic(auto, unfolding(crate::specs::OrderReading::order_of))]
-fn chain_exactly(
+fn chain_exactly<L: Passports>(
     origin: &Passport,
-    links: &[Passport],
+    links: &L,
     called: Option<Number>,
 ) -> Result<Order, ChainFault>
-    requires links { All IsLink links.now }
-    ensures exact { order_seen result ≡ order_of origin.now links.now called }
+    requires links { All IsLink (L.list links.now) }
+    ensures exact { order_seen result ≡ order_of origin.now (L.list links.now) called }
     ensures filled { IfOk result IsFilled }
 {
-    if links.len() > MOST_LINKS {
+    if links.count() > MOST_LINKS {
         return Err(ChainFault::new(ChainFault::MANY, 9));
     }
     if let Some(link) = repeated(links) {
         return Err(ChainFault::new(ChainFault::REPEAT, link));
     }
-    if links.is_empty() {
+    if links.count() == 0 {
         return undiverted(origin, called);
     }
     let start = start_of(origin, links)?;
@@ -89,11 +106,11 @@ fn undiverted(origin: &Passport, called: Option<Number>) -> Result<Order, ChainF
 
 /// The one link with which the order may start, if the originating PASSporT calls its div.
 #[tactic(auto, unfolding(crate::specs::OrderReading::start_of))]
-fn start_of(origin: &Passport, links: &[Passport]) -> Result<u8, ChainFault>
-    requires links { All IsLink links.now }
-    requires few { length links.now ≤ 8 }
-    ensures exact { result ≡ start_of origin.now.dest links.now }
-    ensures within { IfOk result (IsOneOf (length links.now)) }
+fn start_of<L: Passports>(origin: &Passport, links: &L) -> Result<u8, ChainFault>
+    requires links { All IsLink (L.list links.now) }
+    requires few { length (L.list links.now) ≤ 8 }
+    ensures exact { result ≡ start_of origin.now.dest (L.list links.now) }
+    ensures within { IfOk result (IsOneOf (length (L.list links.now))) }
 {
     let Some(start) = start_behind(links, 0) else {
         return Err(ChainFault::new(ChainFault::START, 1));
@@ -109,15 +126,15 @@ fn start_of(origin: &Passport, links: &[Passport]) -> Result<u8, ChainFault>
 
 /// The way from the start, if it leaves no link and the last dest is called.
 #[tactic(auto, unfolding(crate::specs::OrderReading::way_from))]
-fn way_from(links: &[Passport], called: Option<Number>, start: u8) -> Result<Order, ChainFault>
-    requires links { All IsLink links.now }
-    requires few { length links.now ≤ 8 }
-    requires within { IsOneOf (length links.now) start }
-    ensures exact { order_seen result ≡ way_from links.now called start }
+fn way_from<L: Passports>(links: &L, called: Option<Number>, start: u8) -> Result<Order, ChainFault>
+    requires links { All IsLink (L.list links.now) }
+    requires few { length (L.list links.now) ≤ 8 }
+    requires within { IsOneOf (length (L.list links.now)) start }
+    ensures exact { order_seen result ≡ way_from (L.list links.now) called start }
     ensures filled { IfOk result IsFilled }
 {
     let order = walk(links, start);
-    if let Some(link) = left(&order, links.len() as u8) {
+    if let Some(link) = left(&order, links.count() as u8) {
         return Err(ChainFault::new(ChainFault::CUT, link));
     }
     let last = last(&order);
@@ -128,17 +145,17 @@ fn way_from(links: &[Passport], called: Option<Number>, start: u8) -> Result<Ord
 }
 
 /// The links by which the call went on from the start, each next one with the dest of the one before it as div.
-fn walk(links: &[Passport], start: u8) -> Order
-    requires links { All IsLink links.now }
-    requires few { length links.now ≤ 8 }
-    requires within { IsOneOf (length links.now) start }
-    ensures turn { turn_of result ≡ start ∷ behind links.now start }
+fn walk<L: Passports>(links: &L, start: u8) -> Order
+    requires links { All IsLink (L.list links.now) }
+    requires few { length (L.list links.now) ≤ 8 }
+    requires within { IsOneOf (length (L.list links.now)) start }
+    ensures turn { turn_of result ≡ start ∷ behind (L.list links.now) start }
     ensures filled { IsFilled result }
 {
     let mut turn = [0; MOST_LINKS];
     turn[0] = start;
     let mut number = dest(links, start);
-    for place in 1..links.len() {
+    for place in 1..links.count() {
         let Some(next) = link_from(links, number) else {
             return Order {
                 length: place as u8,
@@ -149,7 +166,7 @@ fn walk(links: &[Passport], start: u8) -> Order
         number = dest(links, next);
     }
     Order {
-        length: links.len() as u8,
+        length: links.count() as u8,
         turn,
     }
 }

@@ -7,7 +7,7 @@
 //! - The [`Passport`] has its [`Kind`], the certificate's URI ([`Passport::x5u`]), the second of its issue ([`Passport::iat`]), the calling number
 //!   ([`Passport::orig`]) and the called ones ([`Passport::dest`]).
 //! - [`chain`] puts the `div` PASSporTs of a diverted call into the [`Order`] in which the call went, or says by a [`ChainFault`] which link breaks
-//!   the way.
+//!   the way. [`chain_of`] does so for PASSporTs that aren't in a slice: any list of them is [`Passports`].
 //! - A signer goes the other way: [`Passport::new`], then [`Passport::to_values`] or [`Passport::signing_text`]. A [`Form`] says which PASSporT is
 //!   meant.
 //!
@@ -41,11 +41,12 @@ mod members;
 mod order;
 mod origid;
 mod passport;
+mod passports;
 mod rows;
 mod signing;
 mod values;
 
-pub use diversion::chain;
+pub use diversion::{chain, chain_of};
 pub use fault::ClaimFault;
 pub use form::Form;
 pub use kind::{Attest, Kind};
@@ -53,4 +54,5 @@ pub use laws::{claims_law, one_link_more_law, order_law, signed_claims_law};
 pub use order::{ChainFault, Order};
 pub use origid::is_origid;
 pub use passport::Passport;
+pub use passports::Passports;
 pub use std::alloc::AllocError as Memory;

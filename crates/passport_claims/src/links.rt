@@ -5,6 +5,7 @@ ghost use Rattle.passport_claims.specs.OrderReading.{first_from, is_twin, leads_
 
 use crate::kind::Kind;
 use crate::passport::Passport;
+use crate::passports::Passports;
 use tn_values::Number;
 
 /// The number that was called before a diversion (RFC 8946, section 3).
@@ -27,40 +28,40 @@ fn dest_of(link: &Passport) -> Number
 
 /// The number that was called before the diversion, of the link with this number.
 #[tactic(auto, unfolding(crate::specs::Links::div_at))]
-pub(crate) fn div(links: &[Passport], link: u8) -> Number
-    requires links { All IsLink links.now }
-    requires within { IsOneOf (length links.now) link }
-    ensures { result ≡ div_at links.now link }
+pub(crate) fn div<L: Passports>(links: &L, link: u8) -> Number
+    requires links { All IsLink (L.list links.now) }
+    requires within { IsOneOf (length (L.list links.now)) link }
+    ensures { result ≡ div_at (L.list links.now) link }
 {
-    div_of(&links[usize::from(link) - 1])
+    div_of(links.passport(usize::from(link) - 1))
 }
 
 /// The number to which the call was diverted, of the link with this number.
 #[tactic(auto, unfolding(crate::specs::Links::dest_at))]
-pub(crate) fn dest(links: &[Passport], link: u8) -> Number
-    requires { IsOneOf (length links.now) link }
-    ensures { result ≡ dest_at links.now link }
+pub(crate) fn dest<L: Passports>(links: &L, link: u8) -> Number
+    requires { IsOneOf (length (L.list links.now)) link }
+    ensures { result ≡ dest_at (L.list links.now) link }
 {
-    dest_of(&links[usize::from(link) - 1])
+    dest_of(links.passport(usize::from(link) - 1))
 }
 
 /// Whether the other link has its div or its dest.
 #[tactic(auto, unfolding(crate::specs::OrderReading::is_twin))]
-fn is_twin(links: &[Passport], link: u8, other: u8) -> bool
-    requires links { All IsLink links.now }
-    requires within { IsOneOf (length links.now) link }
-    requires other { IsOneOf (length links.now) other }
-    ensures { result ≡ is_twin links.now link other }
+fn is_twin<L: Passports>(links: &L, link: u8, other: u8) -> bool
+    requires links { All IsLink (L.list links.now) }
+    requires within { IsOneOf (length (L.list links.now)) link }
+    requires other { IsOneOf (length (L.list links.now)) other }
+    ensures { result ≡ is_twin (L.list links.now) link other }
 {
     div(links, other) == div(links, link) || dest(links, other) == dest(links, link)
 }
 
 /// The first of the links before it that has its div or its dest.
 #[tactic(auto, using(crate::proofs::FirstLaws::first_here, crate::proofs::FirstLaws::first_passed, crate::proofs::FirstLaws::first_done))]
-fn twin(links: &[Passport], link: u8) -> Option<u8>
-    requires links { All IsLink links.now }
-    requires within { IsOneOf (length links.now) link }
-    ensures { result ≡ first_from (is_twin links.now link) 1 (link - 1) }
+fn twin<L: Passports>(links: &L, link: u8) -> Option<u8>
+    requires links { All IsLink (L.list links.now) }
+    requires within { IsOneOf (length (L.list links.now)) link }
+    ensures { result ≡ first_from (is_twin (L.list links.now) link) 1 (link - 1) }
 {
     for other in 1..link {
         if is_twin(links, link, other) {
@@ -72,22 +73,22 @@ fn twin(links: &[Passport], link: u8) -> Option<u8>
 
 /// Whether its div is its own dest, or a link before it has its div or its dest.
 #[tactic(auto, unfolding(crate::specs::OrderReading::repeats))]
-fn repeats(links: &[Passport], link: u8) -> bool
-    requires links { All IsLink links.now }
-    requires within { IsOneOf (length links.now) link }
-    ensures { result ≡ repeats links.now link }
+fn repeats<L: Passports>(links: &L, link: u8) -> bool
+    requires links { All IsLink (L.list links.now) }
+    requires within { IsOneOf (length (L.list links.now)) link }
+    ensures { result ≡ repeats (L.list links.now) link }
 {
     div(links, link) == dest(links, link) || twin(links, link).is_some()
 }
 
 /// The first link that repeats a number.
 #[tactic(auto, using(crate::proofs::FirstLaws::first_here, crate::proofs::FirstLaws::first_passed, crate::proofs::FirstLaws::first_done))]
-pub(crate) fn repeated(links: &[Passport]) -> Option<u8>
-    requires links { All IsLink links.now }
-    requires few { length links.now ≤ 8 }
-    ensures { result ≡ first_from (repeats links.now) 1 (length links.now) }
+pub(crate) fn repeated<L: Passports>(links: &L) -> Option<u8>
+    requires links { All IsLink (L.list links.now) }
+    requires few { length (L.list links.now) ≤ 8 }
+    ensures { result ≡ first_from (repeats (L.list links.now)) 1 (length (L.list links.now)) }
 {
-    for link in 1..links.len() as u8 + 1 {
+    for link in 1..links.count() as u8 + 1 {
         if repeats(links, link) {
             return Some(link);
         }
@@ -97,11 +98,11 @@ pub(crate) fn repeated(links: &[Passport]) -> Option<u8>
 
 /// The link whose dest this number is.
 #[tactic(auto, using(crate::proofs::FirstLaws::first_here, crate::proofs::FirstLaws::first_passed, crate::proofs::FirstLaws::first_done, crate::proofs::FirstLaws::leads_to_is))]
-fn link_to(links: &[Passport], number: Number) -> Option<u8>
-    requires { length links.now ≤ 8 }
-    ensures { result ≡ first_from (leads_to links.now number) 1 (length links.now) }
+fn link_to<L: Passports>(links: &L, number: Number) -> Option<u8>
+    requires { length (L.list links.now) ≤ 8 }
+    ensures { result ≡ first_from (leads_to (L.list links.now) number) 1 (length (L.list links.now)) }
 {
-    for link in 1..links.len() as u8 + 1 {
+    for link in 1..links.count() as u8 + 1 {
         if dest(links, link) == number {
             return Some(link);
         }
@@ -111,13 +112,13 @@ fn link_to(links: &[Passport], number: Number) -> Option<u8>
 
 /// The link whose div this number is.
 #[tactic(auto, using(crate::proofs::FirstLaws::first_here, crate::proofs::FirstLaws::first_passed, crate::proofs::FirstLaws::first_done, crate::proofs::FirstLaws::leads_from_is))]
-pub(crate) fn link_from(links: &[Passport], number: Number) -> Option<u8>
-    requires links { All IsLink links.now }
-    requires few { length links.now ≤ 8 }
-    ensures first { result ≡ first_from (leads_from links.now number) 1 (length links.now) }
-    ensures within { IfSome result (IsOneOf (length links.now)) }
+pub(crate) fn link_from<L: Passports>(links: &L, number: Number) -> Option<u8>
+    requires links { All IsLink (L.list links.now) }
+    requires few { length (L.list links.now) ≤ 8 }
+    ensures first { result ≡ first_from (leads_from (L.list links.now) number) 1 (length (L.list links.now)) }
+    ensures within { IfSome result (IsOneOf (length (L.list links.now))) }
 {
-    for link in 1..links.len() as u8 + 1 {
+    for link in 1..links.count() as u8 + 1 {
         if div(links, link) == number {
             return Some(link);
         }
@@ -127,25 +128,25 @@ pub(crate) fn link_from(links: &[Passport], number: Number) -> Option<u8>
 
 /// Whether the order may start with the link: whether its div is no link's dest.
 #[tactic(auto, unfolding(crate::specs::OrderReading::may_start))]
-fn may_start(links: &[Passport], link: u8) -> bool
-    requires links { All IsLink links.now }
-    requires few { length links.now ≤ 8 }
-    requires within { IsOneOf (length links.now) link }
-    ensures { result ≡ may_start links.now link }
+fn may_start<L: Passports>(links: &L, link: u8) -> bool
+    requires links { All IsLink (L.list links.now) }
+    requires few { length (L.list links.now) ≤ 8 }
+    requires within { IsOneOf (length (L.list links.now)) link }
+    ensures { result ≡ may_start (L.list links.now) link }
 {
     link_to(links, div(links, link)).is_none()
 }
 
 /// The first link after this one, or of all after 0, with which the order may start.
 #[tactic(auto, using(crate::proofs::FirstLaws::first_here, crate::proofs::FirstLaws::first_passed, crate::proofs::FirstLaws::first_done))]
-pub(crate) fn start_behind(links: &[Passport], before: u8) -> Option<u8>
-    requires links { All IsLink links.now }
-    requires few { length links.now ≤ 8 }
-    requires within { before ≤ length links.now }
-    ensures first { result ≡ first_from (may_start links.now) (before + 1) (length links.now - before) }
-    ensures within { IfSome result (IsOneOf (length links.now)) }
+pub(crate) fn start_behind<L: Passports>(links: &L, before: u8) -> Option<u8>
+    requires links { All IsLink (L.list links.now) }
+    requires few { length (L.list links.now) ≤ 8 }
+    requires within { before ≤ length (L.list links.now) }
+    ensures first { result ≡ first_from (may_start (L.list links.now)) (before + 1) (length (L.list links.now) - before) }
+    ensures within { IfSome result (IsOneOf (length (L.list links.now))) }
 {
-    for link in before + 1..links.len() as u8 + 1 {
+    for link in before + 1..links.count() as u8 + 1 {
         if may_start(links, link) {
             return Some(link);
         }

@@ -21,12 +21,11 @@ use Rattle.sip_message.specs.Head.{Head}
 use Rattle.sip_message.specs.Message.{MessageView}
 use Rattle.sip_message.specs.Reading.{read}
 use Rattle.sip_message.specs.declared.fault.FormFault.{FormFault}
-use Rattle.verify_rules.specs.Call.{IdentityField, Reading, called_by, given_to_compact, judged_fields, mark_of, marked_or_part, numbered, passports_of, read_field, reading_by, turn_of}
+use Rattle.verify_rules.specs.Call.{IdentityField, Mark, Reading, called_by, given_to_compact, judged_fields, mark_of, marked_or_part, numbered, passports_of, read_field, reading_by, turn_of}
 use Rattle.verify_rules.specs.Places.{AtFirst, AtFirstField, BadFieldAt, IsFirstWrong, IsUnreadableAs, NoInviteAt, NoOrderAt, NoPart, bad_text, by_claims, by_token, no_message, other_method, too_many}
 use Rattle.verify_rules.specs.Rules.{bad_field, bad_or_later, each, field_at, foreign_alg, is_es256, is_stale, no_invite, no_order, other_calling, place, stale, unreadable, unreadable_at}
 use Rattle.verify_rules.specs.Words.{CanBeRead, Each, IsEs256, IsFieldText, IsFresh, IsFrom}
 use Rattle.verify_rules.specs.declared.facts.Facts.{Facts}
-use Rattle.verify_rules.specs.declared.readings.Mark.{Mark}
 use Rattle.verify_rules.specs.declared.refusal.Place.{Place}
 use Rattle.verify_rules.specs.declared.settings.Settings.{Settings}
 use Rattle.verify_rules.proofs.PlaceLaws.{each_wrong, each_wrong_of}

@@ -13,9 +13,8 @@ use Rattle.passport_claims.specs.declared.fault.ClaimFault.{ClaimFault}
 use Rattle.passport_json.specs.Token.{read_token}
 use Rattle.passport_json.specs.View.{TokenView}
 use Rattle.passport_json.specs.declared.fault.TokenFault.{TokenFault}
-use Rattle.verify_rules.specs.Call.{Call, IdentityField, Reading, facts, fields_of, given_to_compact, has_ppt, in_call_order, in_message, in_turn, is_read, judged_fields, lacks_ppt, links, mark_of, marked_or_part, numbered, or_none, originating, read_field, reading, reading_by, readings_of, turn_of, values_of, with_field}
+use Rattle.verify_rules.specs.Call.{Call, IdentityField, Mark, Reading, facts, fields_of, given_to_compact, has_ppt, in_call_order, in_message, in_turn, is_read, judged_fields, lacks_ppt, links, mark_of, marked_or_part, numbered, or_none, originating, read_field, reading, reading_by, readings_of, turn_of, values_of, with_field}
 use Rattle.verify_rules.specs.declared.facts.Facts.{Facts}
-use Rattle.verify_rules.specs.declared.readings.Mark.{Mark}
 
 abbrev pub IsIn : {A : Type 0} → A → List A → Type 0
 IsIn x [] = ⊥

@@ -13,13 +13,12 @@ use Rattle.passport_json.specs.Signed.{payload_in}
 use Rattle.passport_json.specs.Token.{TokenText}
 use Rattle.passport_json.specs.View.{TokenView}
 use Rattle.text_grammar.specs.Moment.{last_second}
-use Rattle.verify_rules.specs.Call.{Call, IdentityField, Reading, facts, fields_of, given_to_compact, in_call_order, in_message, in_turn, judged_fields, or_none, turn_of, values_of}
+use Rattle.verify_rules.specs.Call.{Call, IdentityField, Mark, Reading, facts, fields_of, given_to_compact, in_call_order, in_message, in_turn, judged_fields, or_none, turn_of, values_of}
 use Rattle.verify_rules.specs.Rules.{HoldAll, early_rules, first}
 use Rattle.verify_rules.specs.Screened.{digest_in, iat_or_none, last_of}
 use Rattle.verify_rules.specs.Signed.{IsKnownAgain, last_by}
 use Rattle.verify_rules.specs.Words.{AreRead, CanBeRead, Each, IsRead}
 use Rattle.verify_rules.specs.declared.facts.Facts.{Facts}
-use Rattle.verify_rules.specs.declared.readings.Mark.{Mark}
 use Rattle.verify_rules.specs.declared.settings.Settings.{Settings}
 use Rattle.verify_rules.proofs.FirstLaws.{none_broken}
 use Rattle.verify_rules.proofs.FreshLaws.{fresh_call, some_chain, some_message}

@@ -1,9 +1,9 @@
 -- The PASSporTs one by one, and their order.
-use Rattle.std.proofs.Common.{◌≡◌, ℕ, zero, suc, ◌+◌, ◌-◌, ◌<◌, ◌≤◌, ◌==◌, false, List, [], ◌∷◌, length, take, drop, get_or, slice_index, Option, Some, None, Ok, Err, refl, sym, ◌∙◌, ap, subst, arith, if◌then◌else◌}
+use Rattle.std.proofs.Common.{◌≡◌, ℕ, zero, suc, ◌+◌, ◌<◌, ◌≤◌, ◌==◌, false, List, [], ◌∷◌, length, take, drop, get_or, slice_index, Option, Some, None, Ok, Err, refl, sym, ◌∙◌, ap, subst, arith, if◌then◌else◌}
 use Rattle.std.specs.List.{All, slice_get}
 use Rattle.std.specs.Option.{option_or}
 use Rattle.std.proofs.lemmas.Bool.Decides.{nat_tests}
-use Rattle.std.proofs.lemmas.List.{drop_all, length-map, take_rest}
+use Rattle.std.proofs.lemmas.List.{drop_all, length-map}
 use Rattle.passport_claims.specs.Links.{IsLink, IsOneOf}
 use Rattle.passport_claims.specs.OrderReading.{order_of}
 use Rattle.passport_claims.specs.OrderSeen.{IsTurn, order_seen}
@@ -70,41 +70,33 @@ links_at [] k d all within = absurd (omega arith)
 links_at (one ∷ others) zero d all within = all.0
 links_at (one ∷ others) (suc k) d all within = links_at others k d all.1 (omega arith)
 
-pub rest_is : (origin : Reading) (others : List Reading) (passports : List ClaimsView) → passports ≡ passports_of (origin ∷ others)
-    → take (length passports - 1) (drop 1 passports) ≡ passports_of others
-rest_is origin others passports is = take_rest passports 1 ∙ ap (drop 1) is
+pub rest_links : (readings : List Reading) → IsChainable readings → All IsLink (drop 1 (passports_of readings))
+rest_links [] kept = λ k d within. absurd (omega arith)
+rest_links (origin ∷ others) kept = λ k d within. links_at others k d kept within
 
-pub rest_links : (readings : List Reading) (passports : List ClaimsView) → passports ≡ passports_of readings → 1 ≤ length readings → IsChainable readings
-    → All IsLink (take (length passports - 1) (drop 1 passports))
-rest_links [] passports is some kept = absurd (omega arith)
-rest_links (origin ∷ others) passports is some kept = subst (All IsLink) (sym (rest_is origin others passports is)) (λ k d within. links_at others k d kept within)
-
-pub called_is : (said : Facts) (others : List Reading) → (if length (passports_of others) == 0 then said.to else said.target) ≡ called_by said others
+called_is : (said : Facts) (others : List Reading) → (if length (passports_of others) == 0 then said.to else said.target) ≡ called_by said others
 called_is said [] = refl
 called_is said (one ∷ others) = let some : (length (passports_of (one ∷ others)) == 0) ≡ false = grind (arith, nat_tests) in rw some refl
 
--- what is asked of the passports is asked of the PASSporTs
-asked_is : (said : Facts) (origin : Reading) (others : List Reading) (passports : List ClaimsView) (called : Option (List ℕ)) (d : ClaimsView) → passports ≡ passports_of (origin ∷ others)
-    → called ≡ (if length (take (length passports - 1) (drop 1 passports)) == 0 then said.to else said.target)
-    → order_of (get_or passports 0 d) (take (length passports - 1) (drop 1 passports)) called ≡ turn_of said (origin ∷ others)
-asked_is said origin others passports called d is c =
-    let rest = rest_is origin others passports is in
-    let same : called ≡ called_by said others = c ∙ ap (λ (x : List ClaimsView). if length x == 0 then said.to else said.target) rest ∙ called_is said others in
-    let one : get_or passports 0 d ≡ origin.passport = ap (λ x. get_or x 0 d) is in
-    ap (λ x. order_of x (take (length passports - 1) (drop 1 passports)) called) one ∙ ap (λ x. order_of origin.passport x called) rest
-    ∙ ap (order_of origin.passport (passports_of others)) same
+-- what is asked of the links is asked of the PASSporTs
+asked_is : (said : Facts) (readings : List Reading) (called : Option (List ℕ)) (one : Reading) → slice_get readings 0 ≡ Some one
+    → called ≡ (if length (drop 1 (passports_of readings)) == 0 then said.to else said.target)
+    → order_of one.passport (drop 1 (passports_of readings)) called ≡ turn_of said readings
+asked_is said [] called one first c = absurd cc
+asked_is said (origin ∷ others) called one first c =
+    let same : one ≡ origin = cc in
+    ap (λ (x : Reading). order_of x.passport (passports_of others) called) same ∙ ap (order_of origin.passport (passports_of others)) (c ∙ called_is said others)
 
-pub order_is : (said : Facts) (readings : List Reading) (passports : List ClaimsView) (called : Option (List ℕ)) (d : ClaimsView) (order : Order) → passports ≡ passports_of readings → 1 ≤ length readings
-    → called ≡ (if length (take (length passports - 1) (drop 1 passports)) == 0 then said.to else said.target)
-    → order_seen (Ok order) ≡ order_of (get_or passports 0 d) (take (length passports - 1) (drop 1 passports)) called → turn_of said readings ≡ Ok (take order.length order.turn)
-order_is said [] passports called d order is some c e = absurd (omega arith)
-order_is said (origin ∷ others) passports called d order is some c e = sym (asked_is said origin others passports called d is c) ∙ sym e
+pub order_is : (said : Facts) (readings : List Reading) (called : Option (List ℕ)) (one : Reading) (order : Order) → slice_get readings 0 ≡ Some one
+    → called ≡ (if length (drop 1 (passports_of readings)) == 0 then said.to else said.target)
+    → order_seen (Ok order) ≡ order_of one.passport (drop 1 (passports_of readings)) called → turn_of said readings ≡ Ok (take order.length order.turn)
+order_is said readings called one order first c e = sym (asked_is said readings called one first c) ∙ sym e
 
-pub order_turned : (readings : List Reading) (passports : List ClaimsView) (order : Order) → passports ≡ passports_of readings → 1 ≤ length readings
-    → IsTurn (length (take (length passports - 1) (drop 1 passports))) order → IsTurned readings order.length order.turn
-order_turned [] passports order is some turn = absurd (omega arith)
-order_turned (origin ∷ others) passports order is some turn =
-    let count : order.length ≡ length others = turn.all ∙ ap length (rest_is origin others passports is) ∙ length-map others passport_in in
+pub order_turned : (readings : List Reading) (order : Order) → 1 ≤ length readings
+    → IsTurn (length (drop 1 (passports_of readings))) order → IsTurned readings order.length order.turn
+order_turned [] order some turn = absurd (omega arith)
+order_turned (origin ∷ others) order some turn =
+    let count : order.length ≡ length others = turn.all ∙ length-map others passport_in in
     record {
       all = omega (arith, count);
       few = turn.few;
@@ -112,13 +104,12 @@ order_turned (origin ∷ others) passports order is some turn =
       each = λ at below. subst (λ k. IsOneOf k (slice_index order.turn at)) (sym turn.all) (turn.each at below);
     }
 
-pub no_order_is : (said : Facts) (readings : List Reading) (passports : List ClaimsView) (called : Option (List ℕ)) (d : ClaimsView) (fault : ChainFault) (bad : Place) → passports ≡ passports_of readings → 1 ≤ length readings
-    → called ≡ (if length (take (length passports - 1) (drop 1 passports)) == 0 then said.to else said.target)
-    → order_seen (Err fault) ≡ order_of (get_or passports 0 d) (take (length passports - 1) (drop 1 passports)) called → bad ≡ place (field_at readings fault.link) fault.kind
+pub no_order_is : (said : Facts) (readings : List Reading) (called : Option (List ℕ)) (one : Reading) (fault : ChainFault) (bad : Place) → slice_get readings 0 ≡ Some one
+    → called ≡ (if length (drop 1 (passports_of readings)) == 0 then said.to else said.target)
+    → order_seen (Err fault) ≡ order_of one.passport (drop 1 (passports_of readings)) called → bad ≡ place (field_at readings fault.link) fault.kind
     → no_order readings (turn_of said readings) ≡ Some bad
-no_order_is said [] passports called d fault bad is some c e f = absurd (omega arith)
-no_order_is said (origin ∷ others) passports called d fault bad is some c e f =
-    ap (no_order (origin ∷ others)) (sym (asked_is said origin others passports called d is c) ∙ sym e) ∙ ap (λ x. Some x) (sym f)
+no_order_is said readings called one fault bad first c e f =
+    ap (no_order readings) (sym (asked_is said readings called one first c) ∙ sym e) ∙ ap (λ x. Some x) (sym f)
 
 -- ---- the field of a PASSporT
 

@@ -27,7 +27,6 @@ use Rattle.sip_message.specs.Reading.{read}
 use Rattle.sip_message.specs.declared.fault.FormFault.{FormFault}
 use Rattle.tn_values.specs.Local.{LocalView}
 use Rattle.verify_rules.specs.declared.facts.Facts.{Facts}
-use Rattle.verify_rules.specs.declared.readings.Mark.{Mark}
 use Rattle.verify_rules.specs.declared.settings.Settings.{Settings}
 
 -- the settings, the moment at which the call came, in Unix seconds, and its message, or why the bytes are none
@@ -115,6 +114,12 @@ facts call = facts_in call.settings.local call.message
 -- what a PASSporT in its compact form leaves to the message and to its field (RFC 8225, section 7)
 abbrev pub given_to_compact : Facts → Parts → CallView
 given_to_compact said parts = record { iat = said.date; orig = said.calling; dest = said.to; info = parts.info; ppt = parts.ppt }
+
+-- the mark of a PASSporT: the number of its Identity field, counted from 1, the digest of what was signed, and the signature
+pub record Mark : Type 0 where
+  pub field : ℕ
+  pub digest : List ℕ
+  pub signature : List ℕ
 
 -- a PASSporT as it is read: what it says, what was signed as it, and its mark, which is the number of its field, its ticket and its signature
 pub record Reading : Type 0 where

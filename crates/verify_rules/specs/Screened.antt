@@ -1,12 +1,11 @@
 -- What comes of a call by rules 1 to 9.
-use Rattle.std.specs.Prelude.{◌≡◌, ⊤, ℕ, ◌+◌, ◌-◌, ◌<◌, ◌≤◌, List, [], ◌∷◌, ◌++◌, length, take, slice_index, Option, Some, None, Result, Ok, Err}
+use Rattle.std.specs.Prelude.{◌≡◌, ⊤, ℕ, ◌+◌, ◌-◌, ◌<◌, ◌≤◌, List, ◌++◌, length, take, slice_index, Option, Some, None, Result, Ok, Err}
 use Rattle.std.specs.List.{slice_get}
 use Rattle.std.specs.Option.{option_map}
 use Rattle.passport_claims.specs.Links.{IsOneOf}
-use Rattle.passport_claims.specs.Passport.{ClaimsView}
 use Rattle.verify_rules.specs.Call.{Call, Reading, in_call_order, reading}
 use Rattle.verify_rules.specs.Rules.{HoldAll, IsFirst, Rule, first}
-use Rattle.verify_rules.specs.declared.readings.Beside.{Beside}
+use Rattle.verify_rules.specs.declared.judged_passport.JudgedPassport.{JudgedPassport}
 use Rattle.verify_rules.specs.declared.refusal.ScreenFault.{ScreenFault}
 use Rattle.verify_rules.specs.declared.refusal.ScreenFault.TheVariants.{Refused, Memory}
 use Rattle.verify_rules.specs.declared.settings.Settings.{Settings}
@@ -49,11 +48,9 @@ last_of_call call = iat_or_none (last_of (in_call_order call)) + call.settings.p
 
 -- ---- how they are kept
 
--- PASSporTs with what is kept beside them
-abbrev pub paired : List ClaimsView → List Beside → List Reading
-paired [] beside = []
-paired (passport ∷ others) [] = []
-paired (passport ∷ others) (one ∷ beside) = reading passport one.signed one.mark ∷ paired others beside
+-- a judged PASSporT as it is kept
+abbrev pub judged_seen : JudgedPassport → Reading
+judged_seen one = reading one.claims one.signed (record { field = one.field; digest = one.digest; signature = one.signature })
 
 -- an order of so many links after the originating PASSporT: each of its numbers is that of a link
 pub record IsTurned (readings : List Reading) (count : ℕ) (turn : List ℕ) : Type 0 where

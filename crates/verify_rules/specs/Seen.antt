@@ -5,22 +5,18 @@ use Rattle.identity_header.specs.Parts.{Parts}
 use Rattle.identity_header.specs.declared.field.FieldFault.{FieldFault}
 use Rattle.passport_claims.specs.Links.{IsLink}
 use Rattle.passport_claims.specs.declared.order.Order.{Order}
-use Rattle.verify_rules.specs.Call.{IdentityField, Reading, links, numbered, reading, readings_of, turn_of}
+use Rattle.verify_rules.specs.Call.{IdentityField, Reading, links, numbered, readings_of, turn_of}
 use Rattle.verify_rules.specs.Rules.{bad_field, each, no_order, place, unreadable}
-use Rattle.verify_rules.specs.Screened.{IsTurned}
+use Rattle.verify_rules.specs.Screened.{IsTurned, judged_seen}
 use Rattle.verify_rules.specs.declared.facts.Facts.{Facts}
 use Rattle.verify_rules.specs.declared.identity_field.NumberedField.{NumberedField}
-use Rattle.verify_rules.specs.declared.passports.Marked.{Marked}
-use Rattle.verify_rules.specs.declared.readings.Taken.{Taken}
+use Rattle.verify_rules.specs.declared.judged_passport.JudgedPassport.{JudgedPassport}
 use Rattle.verify_rules.specs.declared.refusal.Place.{Place}
 use Rattle.verify_rules.specs.declared.refusal.Stop.{Stop}
 use Rattle.verify_rules.specs.declared.refusal.Stop.TheVariants.{Broken, Memory}
 
 abbrev pub field_seen : NumberedField → IdentityField
 field_seen field = record { number = field.number; parts = field.parts }
-
-abbrev pub marked_seen : Marked → Reading
-marked_seen one = reading one.passport one.beside.signed one.beside.mark
 
 -- ---- the Identity fields
 
@@ -61,8 +57,8 @@ pub record Serves (said full : Facts) (fields : List IdentityField) : Type 0 whe
 -- ---- the PASSporTs
 
 -- the PASSporT of the field with this number is read; or it is broken there
-abbrev pub GivesReading : ℕ → Result Marked Stop → Result Reading ℕ → Type 0
-GivesReading number (Ok one) read = read ≡ Ok (marked_seen one)
+abbrev pub GivesReading : ℕ → Result JudgedPassport Stop → Result Reading ℕ → Type 0
+GivesReading number (Ok one) read = read ≡ Ok (judged_seen one)
 GivesReading number (Err (Broken bad)) read = (part : ℕ) × (read ≡ Err part) × (bad ≡ place number part)
 GivesReading number (Err Memory) read = ⊤
 
@@ -96,8 +92,3 @@ pub record ReadSoFar (said : Facts) (origin : IdentityField) (fields : List Numb
 abbrev pub GivesOrder : Facts → List Reading → Result Order Place → Type 0
 GivesOrder said readings (Ok order) = (turn_of said readings ≡ Ok (take order.length order.turn)) × IsTurned readings order.length order.turn
 GivesOrder said readings (Err bad) = no_order readings (turn_of said readings) ≡ Some bad
-
--- ---- one PASSporT
-
-abbrev pub taken_seen : Taken → Reading
-taken_seen one = reading one.passport.now one.signed.now one.mark.now

@@ -5,13 +5,13 @@ ghost use Rattle.std.specs.Option.{option_copied};
 ghost use Rattle.stir_outside.specs.Count.{HasCause};
 ghost use Rattle.verify_rules.specs.Asking.{IsAsked};
 ghost use Rattle.verify_rules.specs.Late.{at_asking, is_signed_by, unless_signed};
-ghost use Rattle.verify_rules.specs.Seen.{taken_seen};
+ghost use Rattle.verify_rules.specs.Screened.{judged_seen};
 ghost use Rattle.verify_rules.specs.States.{seen};
 ghost use Rattle.verify_rules.specs.Verdict.{HasLeaf};
 
 use crate::chains::{ChainState, Chains};
+use crate::judged_passport::JudgedPassport;
 use crate::late::Event;
-use crate::readings::Taken;
 use crate::refusal::{Place, Refusal};
 use crate::screened::Screened;
 use stir_outside::{Failed, Provider};
@@ -32,10 +32,10 @@ pub(crate) fn ask<C: Chains, P: Provider>(
     ensures provider { ProviderStays P.Provider provider.old provider.new }
 {
     'passports: for i in 0..screened.count() {
-        let one = screened.taken(i);
-        let asked = match ask_at(&one, chains.state(i), provider) {
+        let one = screened.at(i);
+        let asked = match ask_at(one, chains.state(i), provider) {
             Ok(asked) => asked,
-            Err(Failed) => return Err(Place::new(one.mark.field, 0)),
+            Err(Failed) => return Err(Place::new(one.field, 0)),
         };
         if let Some(event) = asked {
             return Ok(Some(event));
@@ -47,11 +47,11 @@ pub(crate) fn ask<C: Chains, P: Provider>(
 /// What rule 16 makes of one of them.
 #[tactic(auto, unfolding(crate::specs::Late::at_asking))]
 fn ask_at<P: Provider>(
-    one: &Taken<'_>,
+    one: &JudgedPassport,
     state: ChainState<'_>,
     provider: &mut P,
 ) -> Result<Option<Event>, Failed>
-    ensures answer { IfOk result (λ event. event ≡ at_asking (P.says provider.old) (taken_seen one.now) (seen state.entry)) }
+    ensures answer { IfOk result (λ event. event ≡ at_asking (P.says provider.old) (judged_seen one.now) (seen state.entry)) }
     ensures leaf { OnErr result (HasLeaf (seen state.entry)) }
     ensures cause { HasCause (P.faults provider.old) (P.faults provider.new) result }
     ensures asks { P.asks provider.new ≤ P.asks provider.old + 1 }
@@ -59,7 +59,7 @@ fn ask_at<P: Provider>(
     ensures same_says { P.says provider.new ≡ P.says provider.old }
     ensures same_signs { P.signs provider.new ≡ P.signs provider.old }
 {
-    let field = one.mark.field;
+    let field = one.field;
     match state {
         ChainState::Have(judged) => match is_signed(one, judged.leaf(), provider) {
             Ok(good) => Ok(unless_signed(field, good)),
@@ -85,11 +85,11 @@ fn unless_signed(field: u32, good: bool) -> Option<Event>
 
 /// Whether the signature of a PASSporT is good under the leaf's key; it isn't if there is no leaf.
 fn is_signed<P: Provider>(
-    one: &Taken<'_>,
+    one: &JudgedPassport,
     leaf: Option<&Certificate>,
     provider: &mut P,
 ) -> Result<bool, Failed>
-    ensures answer { IfOk result (λ good. good ≡ is_signed_by (P.says provider.old) (taken_seen one.now) (option_copied leaf.entry)) }
+    ensures answer { IfOk result (λ good. good ≡ is_signed_by (P.says provider.old) (judged_seen one.now) (option_copied leaf.entry)) }
     ensures leaf { OnErr result (IsSome (option_copied leaf.entry)) }
     ensures cause { HasCause (P.faults provider.old) (P.faults provider.new) result }
     ensures asks { P.asks provider.new ≤ P.asks provider.old + 1 }
@@ -98,7 +98,7 @@ fn is_signed<P: Provider>(
     ensures same_signs { P.signs provider.new ≡ P.signs provider.old }
 {
     match leaf {
-        Some(leaf) => provider.confirm(leaf.key(), &one.mark.digest, &one.mark.signature),
+        Some(leaf) => provider.confirm(leaf.key(), &one.digest, &one.signature),
         None => Ok(false),
     }
 }

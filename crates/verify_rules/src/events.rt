@@ -1,12 +1,12 @@
 //! The first that rules make of the PASSporTs of a call, in the order in which it went.
 ghost use Rattle.std.specs.Prelude.{◌≡◌, length};
 ghost use Rattle.verify_rules.specs.Late.{at_rule, first_rule, rule_event};
-ghost use Rattle.verify_rules.specs.Seen.{taken_seen};
+ghost use Rattle.verify_rules.specs.Screened.{judged_seen};
 ghost use Rattle.verify_rules.specs.States.{seen};
 
 use crate::chains::{ChainState, Chains};
+use crate::judged_passport::JudgedPassport;
 use crate::late::{Event, LateRule, RuleResult};
-use crate::readings::Taken;
 use crate::refusal::{Place, Refusal};
 use crate::screened::Screened;
 use tn_auth_list::CodeTable;
@@ -44,8 +44,8 @@ fn rule_event<C: Chains>(
     ensures { result ≡ rule_event rule table.now moment screened.now.readings (C.states chains.now) }
 {
     'passports: for i in 0..screened.count() {
-        let one = screened.taken(i);
-        if let Some(event) = event_at(rule, &one, chains.state(i), moment, table) {
+        let one = screened.at(i);
+        if let Some(event) = event_at(rule, one, chains.state(i), moment, table) {
             return Some(event);
         }
     }
@@ -56,14 +56,14 @@ fn rule_event<C: Chains>(
 #[tactic(auto, unfolding(crate::specs::Late::at_rule))]
 fn event_at(
     rule: LateRule,
-    one: &Taken<'_>,
+    one: &JudgedPassport,
     state: ChainState<'_>,
     moment: u64,
     table: &CodeTable,
 ) -> Option<Event>
-    ensures { result ≡ at_rule rule table.now moment (taken_seen one.now) (seen state.entry) }
+    ensures { result ≡ at_rule rule table.now moment (judged_seen one.now) (seen state.entry) }
 {
-    let field = one.mark.field;
+    let field = one.field;
     match rule.tell(table, moment, one, state) {
         RuleResult::Holds => None,
         RuleResult::Broken(part) => Some(Event::Refused(Refusal {

@@ -1,12 +1,12 @@
 //! Rules 10 to 15, 17 and 19, each asked of one PASSporT and of what is known of its chain.
 ghost use Rattle.std.specs.Prelude.{◌≡◌};
 ghost use Rattle.verify_rules.specs.Late.{by_answer, by_part, number, or_broken, tell, tell_judged, tell_long, tell_missing};
-ghost use Rattle.verify_rules.specs.Seen.{taken_seen};
+ghost use Rattle.verify_rules.specs.Screened.{judged_seen};
 ghost use Rattle.verify_rules.specs.States.{seen};
 
 use crate::chains::ChainState;
+use crate::judged_passport::JudgedPassport;
 use crate::leaf_authority::covers_leaf;
-use crate::readings::Taken;
 use crate::refusal::{Place, Refusal};
 use crate::unmet::first_unmet;
 use cert_store::{Asked, Judged};
@@ -79,10 +79,10 @@ impl LateRule {
         self,
         table: &CodeTable,
         moment: u64,
-        one: &Taken<'_>,
+        one: &JudgedPassport,
         state: ChainState<'_>,
     ) -> RuleResult
-        ensures { result ≡ tell self table.now moment (taken_seen one.now) (seen state.entry) }
+        ensures { result ≡ tell self table.now moment (judged_seen one.now) (seen state.entry) }
     {
         match state {
             ChainState::Have(judged) => self.tell_judged(table, moment, one, judged),
@@ -97,10 +97,10 @@ impl LateRule {
         self,
         table: &CodeTable,
         moment: u64,
-        one: &Taken<'_>,
+        one: &JudgedPassport,
         judged: &Judged,
     ) -> RuleResult
-        ensures { result ≡ tell_judged self table.now moment (taken_seen one.now) judged.now }
+        ensures { result ≡ tell_judged self table.now moment (judged_seen one.now) judged.now }
     {
         match self {
             LateRule::Listed => RuleResult::Holds,
@@ -109,8 +109,8 @@ impl LateRule {
             LateRule::Dates => by_part(judged.out_of_date(moment)),
             LateRule::Authority => by_part(judged.authority()),
             LateRule::Asked => by_answer(judged.asked()),
-            LateRule::Covers => or_broken(covers_leaf(table, one.passport, judged.leaf())),
-            LateRule::Constraints => by_part(first_unmet(judged, one.signed)),
+            LateRule::Covers => or_broken(covers_leaf(table, &one.claims, judged.leaf())),
+            LateRule::Constraints => by_part(first_unmet(judged, &one.signed)),
         }
     }
 

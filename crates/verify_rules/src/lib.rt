@@ -48,6 +48,7 @@ mod events;
 mod facts;
 mod fields;
 mod identity_field;
+mod judged_passport;
 mod late;
 mod laws;
 mod leaf_authority;

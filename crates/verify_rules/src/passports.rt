@@ -10,7 +10,8 @@ ghost use Rattle.verify_rules.specs.Seen.{AreReadings, GivesReading, IsChainable
 use crate::facts::Facts;
 use crate::fields::is_link;
 use crate::identity_field::NumberedField;
-use crate::readings::{Beside, Mark, Readings};
+use crate::judged_passport::JudgedPassport;
+use crate::readings::Readings;
 use crate::refusal::{Place, Stop};
 use crate::signed_token::SignedToken;
 use identity_header::Field;
@@ -21,13 +22,6 @@ use text_grammar::uri_law;
 
 /// The number of a broken claim is this and its own.
 const CLAIMS: u32 = 10;
-
-/// A PASSporT with what is kept beside it.
-#[derive(Drop)]
-pub(crate) struct Marked {
-    pub(crate) passport: Passport,
-    pub(crate) beside: Beside,
-}
 
 /// The PASSporTs of the originating field and of the links among the fields, in message order.
 #[tactic(auto, using(crate::proofs::ReadSteps::read_start, crate::proofs::ReadSteps::read_more, crate::proofs::ReadSteps::read_bad, crate::proofs::ReadSteps::read_past, crate::proofs::ReadSteps::first_bad, crate::proofs::ReadSteps::all_good, crate::proofs::ReadSteps::all_read, crate::proofs::Known::known_link))]
@@ -45,7 +39,7 @@ pub(crate) fn read_all(
     let mut readings = Readings::new(alloc);
     match read_passport(alloc, facts, origin) {
         Ok(one) => {
-            if readings.push(one.passport, one.beside).is_err() {
+            if readings.push(one).is_err() {
                 return Err(Stop::Memory);
             }
         }
@@ -55,7 +49,7 @@ pub(crate) fn read_all(
         if is_link(field) {
             match read_passport(alloc, facts, field) {
                 Ok(one) => {
-                    if readings.push(one.passport, one.beside).is_err() {
+                    if readings.push(one).is_err() {
                         return Err(Stop::Memory);
                     }
                 }
@@ -68,10 +62,14 @@ pub(crate) fn read_all(
 
 /// What the PASSporT of a field says: its token is read in either form, and then its claims.
 #[tactic(auto, unfolding(crate::specs::Call::read_field))]
-fn read_passport(alloc: Global, facts: &Facts, field: &NumberedField<'_>) -> Result<Marked, Stop>
+fn read_passport(
+    alloc: Global,
+    facts: &Facts,
+    field: &NumberedField<'_>,
+) -> Result<JudgedPassport, Stop>
     requires { IsKnown field.now.parts.ppt }
     ensures exact { GivesReading field.now.number result (read_field facts.now (field_seen field.now)) }
-    ensures kind { IfOk result (λ one. ppt_of one.passport.kind ≡ field.now.parts.ppt) }
+    ensures kind { IfOk result (λ one. ppt_of one.claims.kind ≡ field.now.parts.ppt) }
 {
     let view = given_to_compact(facts, &field.parts);
     let token = match Token::read(alloc, field.parts.token(), &view) {
@@ -81,18 +79,15 @@ fn read_passport(alloc: Global, facts: &Facts, field: &NumberedField<'_>) -> Res
             None => return Err(Stop::Memory),
         },
     };
-    let mark = Mark {
-        field: field.number,
-        digest: ticket(token.signing()),
-        signature: *token.signature(),
-    };
+    let digest = ticket(token.signing());
+    let signature = *token.signature();
     match Passport::from_token(alloc, &token, field.parts.ppt(), field.parts.info()) {
-        Ok(passport) => Ok(Marked {
-            passport,
-            beside: Beside {
-                mark,
-                signed: SignedToken::new(token),
-            },
+        Ok(claims) => Ok(JudgedPassport {
+            field: field.number,
+            claims,
+            signed: SignedToken::new(token),
+            digest,
+            signature,
         }),
         Err(fault) => match fault.number() {
             Some(number) => Err(Stop::Broken(Place::new(field.number, CLAIMS + u32::from(number)))),

@@ -5,10 +5,10 @@ ghost use Rattle.std.specs.Option.{option_map};
 ghost use Rattle.serde_json.specs.View.{view};
 ghost use Rattle.verify_rules.specs.Call.{in_turn, passport_in, payload_of, reading};
 ghost use Rattle.verify_rules.specs.Rules.{each, stale};
-ghost use Rattle.verify_rules.specs.Screened.{IsTurned, digest_in, field_in, iat_or_none, last_of, screened_by, signature_in};
-ghost use Rattle.verify_rules.specs.Seen.{taken_seen};
+ghost use Rattle.verify_rules.specs.Screened.{IsTurned, digest_in, field_in, iat_or_none, judged_seen, last_of, screened_by, signature_in};
 
-use crate::readings::{Readings, Taken};
+use crate::judged_passport::JudgedPassport;
+use crate::readings::Readings;
 use crate::refusal::Place;
 use crate::settings::Settings;
 use passport_claims::{Order, Passport};
@@ -71,7 +71,7 @@ impl Screened {
         requires { i < length self.now.readings }
         ensures { option_map passport_in (slice_get self.now.readings i) ≡ Some result.now }
     {
-        self.taken(i).passport
+        &self.at(i).claims
     }
 
     /// The number of the Identity field of the PASSporT at this index, counted from 1 in message order.
@@ -79,7 +79,7 @@ impl Screened {
         requires { i < length self.now.readings }
         ensures { option_map field_in (slice_get self.now.readings i) ≡ Some result }
     {
-        self.taken(i).mark.field
+        self.at(i).field
     }
 
     /// The digest of what was signed as the PASSporT at this index: SHA-256 (FIPS 180-4).
@@ -87,7 +87,7 @@ impl Screened {
         requires { i < length self.now.readings }
         ensures { option_map digest_in (slice_get self.now.readings i) ≡ Some result.now }
     {
-        &self.taken(i).mark.digest
+        &self.at(i).digest
     }
 
     /// The payload of the PASSporT at this index: the JSON object in what was signed (RFC 8225, section 5).
@@ -95,7 +95,7 @@ impl Screened {
         requires { i < length self.now.readings }
         ensures { option_and_then payload_of (slice_get self.now.readings i) ≡ Some (view result.now) }
     {
-        self.taken(i).signed.payload()
+        self.at(i).signed.payload()
     }
 
     /// The signature of the PASSporT at this index.
@@ -103,7 +103,7 @@ impl Screened {
         requires { i < length self.now.readings }
         ensures { option_map signature_in (slice_get self.now.readings i) ≡ Some result.now }
     {
-        &self.taken(i).mark.signature
+        &self.at(i).signature
     }
 
     /// The ticket by which the call is known again: the digest of its last PASSporT.
@@ -132,16 +132,16 @@ impl Screened {
         self.passport(count - 1).iat()
     }
 
-    /// The PASSporT at this index and its mark.
+    /// The PASSporT at this index, with what is kept of it.
     #[tactic(auto, using(crate::proofs::ScreenedLaws::turned_first, crate::proofs::ScreenedLaws::turned_low, crate::proofs::ScreenedLaws::turned_some, crate::proofs::ScreenedLaws::turned_within, crate::proofs::ScreenedLaws::turned_at))]
-    pub(crate) fn taken(&self, i: usize) -> Taken<'_>
+    pub(crate) fn at(&self, i: usize) -> &JudgedPassport
         requires { i < length self.now.readings }
-        ensures { slice_get self.now.readings i ≡ Some (taken_seen result) }
+        ensures { slice_get self.now.readings i ≡ Some (judged_seen result.now) }
     {
         if i == 0 {
-            return self.readings.taken(0);
+            return self.readings.at(0);
         }
-        self.readings.taken(usize::from(self.turn[i - 1]))
+        self.readings.at(usize::from(self.turn[i - 1]))
     }
 }
 
@@ -151,7 +151,7 @@ pub(crate) fn stale(screened: &Screened, moment: u64, settings: &Settings) -> Op
     ensures { result ≡ each (stale settings.now moment) screened.now.readings }
 {
     'readings: for i in 0..screened.count() {
-        if let Some(bad) = stale_at(&screened.taken(i), moment, settings) {
+        if let Some(bad) = stale_at(screened.at(i), moment, settings) {
             return Some(bad);
         }
     }
@@ -160,14 +160,14 @@ pub(crate) fn stale(screened: &Screened, moment: u64, settings: &Settings) -> Op
 
 /// The place of this PASSporT, if it is too old or too far ahead.
 #[tactic(auto, unfolding(crate::specs::Rules::stale))]
-fn stale_at(one: &Taken<'_>, moment: u64, settings: &Settings) -> Option<Place>
-    ensures { result ≡ stale settings.now moment (taken_seen one.now) }
+fn stale_at(one: &JudgedPassport, moment: u64, settings: &Settings) -> Option<Place>
+    ensures { result ≡ stale settings.now moment (judged_seen one.now) }
 {
-    let iat = one.passport.iat();
+    let iat = one.claims.iat();
     let is_old = moment.saturating_sub(iat) > settings.past;
     let is_early = iat.saturating_sub(moment) > settings.future;
     if is_old || is_early {
-        return Some(Place::new(one.mark.field, 0));
+        return Some(Place::new(one.field, 0));
     }
     None
 }

@@ -2,12 +2,14 @@
 ghost use Rattle.std.specs.Prelude.{◌≡◌, ◌≤◌, length, if◌then◌else◌};
 ghost use Rattle.passport_claims.specs.Passport.{is_text};
 ghost use Rattle.verify_rules.specs.Rules.{each, field_at, other_calling};
-ghost use Rattle.verify_rules.specs.Seen.{GivesOrder, IsChainable, taken_seen};
+ghost use Rattle.verify_rules.specs.Screened.{judged_seen};
+ghost use Rattle.verify_rules.specs.Seen.{GivesOrder, IsChainable};
 
 use crate::facts::Facts;
-use crate::readings::{Readings, Taken};
+use crate::judged_passport::JudgedPassport;
+use crate::readings::Readings;
 use crate::refusal::Place;
-use passport_claims::{Order, chain};
+use passport_claims::{Order, Passports, chain_of};
 use tn_values::Number;
 
 /// The place of the first PASSporT for another calling number, in message order.
@@ -16,7 +18,7 @@ pub(crate) fn other_calling(readings: &Readings, facts: &Facts) -> Option<Place>
     ensures { result ≡ each (other_calling facts.now.calling) readings.now }
 {
     'readings: for i in 0..readings.len() {
-        if let Some(bad) = foreign_orig_at(&readings.taken(i), facts) {
+        if let Some(bad) = foreign_orig_at(readings.at(i), facts) {
             return Some(bad);
         }
     }
@@ -25,13 +27,13 @@ pub(crate) fn other_calling(readings: &Readings, facts: &Facts) -> Option<Place>
 
 /// The place of this PASSporT, if it is for another calling number.
 #[tactic(auto, unfolding(crate::specs::Rules::other_calling))]
-fn foreign_orig_at(one: &Taken<'_>, facts: &Facts) -> Option<Place>
-    ensures { result ≡ other_calling facts.now.calling (taken_seen one.now) }
+fn foreign_orig_at(one: &JudgedPassport, facts: &Facts) -> Option<Place>
+    ensures { result ≡ other_calling facts.now.calling (judged_seen one.now) }
 {
-    if is_calling(facts.calling, one.passport.orig()) {
+    if is_calling(facts.calling, one.claims.orig()) {
         return None;
     }
-    Some(Place::new(one.mark.field, 0))
+    Some(Place::new(one.field, 0))
 }
 
 /// Whether this is the calling number.
@@ -51,10 +53,10 @@ pub(crate) fn order_of(readings: &Readings, facts: &Facts) -> Result<Order, Plac
     requires kept { IsChainable readings.now }
     ensures { GivesOrder facts.now readings.now result }
 {
-    let passports = readings.passports();
-    let links = &passports[1..];
-    let called = called(facts, links.is_empty());
-    match chain(&passports[0], links, called) {
+    let origin = readings.at(0);
+    let links = readings.links();
+    let called = called(facts, links.count() == 0);
+    match chain_of(&origin.claims, &links, called) {
         Ok(order) => Ok(order),
         Err(fault) => Err(Place::new(
             field_at(readings, usize::from(fault.link)),
@@ -76,7 +78,7 @@ fn field_at(readings: &Readings, i: usize) -> u32
     ensures { result ≡ field_at readings.now i }
 {
     if i < readings.len() {
-        readings.taken(i).mark.field
+        readings.at(i).field
     } else {
         0
     }

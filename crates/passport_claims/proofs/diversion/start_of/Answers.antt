@@ -6,8 +6,8 @@ use Rattle.passport_claims.proofs.WayLaws.{starts}
 use Rattle.passport_claims.proofs.diversion.start_of.Goals as goal
 
 pub returns-then-not-contains-clause-exact : goal.returns-then-not-contains-clause-exact
-returns-then-not-contains-clause-exact c =
-    let links = c.args.links.now in
+returns-then-not-contains-clause-exact g c =
+    let links = g.L.Passports.list c.args.links.now in
     let start = c.in-Some.start in
     let first : first_from (may_start links) 1 (length links) ≡ Some start = let none_before : length links ≡ length links - 0 = omega arith in ap (first_from (may_start links) 1) none_before ∙ sym c.start_behind.ensures.first ∙ c.in-Some.is in
     let second : first_from (may_start links) (start + 1) (length links - start) ≡ None = search rules in
@@ -15,8 +15,8 @@ returns-then-not-contains-clause-exact c =
     ap (λ fault. Err fault) c.new-then-not-contains.ensures ∙ sym (starts c.args.origin.now.dest links start false first second called)
 
 pub returns-clause-exact : goal.returns-clause-exact
-returns-clause-exact c =
-    let links = c.args.links.now in
+returns-clause-exact g c =
+    let links = g.L.Passports.list c.args.links.now in
     let start = c.in-Some.start in
     let first : first_from (may_start links) 1 (length links) ≡ Some start = let none_before : length links ≡ length links - 0 = omega arith in ap (first_from (may_start links) 1) none_before ∙ sym c.start_behind.ensures.first ∙ c.in-Some.is in
     let second : first_from (may_start links) (start + 1) (length links - start) ≡ None = search rules in

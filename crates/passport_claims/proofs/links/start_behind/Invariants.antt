@@ -4,4 +4,4 @@ use Rattle.passport_claims.specs.OrderReading.{first_from, may_start}
 use Rattle.passport_claims.proofs.links.start_behind.Given as goal
 
 abbrev pub invariant-loop-link : goal.invariant-loop-link
-invariant-loop-link l = first_from (may_start l.links) l.link (length l.links + 1 - l.link) ≡ first_from (may_start l.links) (l.before + 1) (length l.links - l.before)
+invariant-loop-link g l = first_from (may_start (g.L.Passports.list l.links)) l.link (length (g.L.Passports.list l.links) + 1 - l.link) ≡ first_from (may_start (g.L.Passports.list l.links)) (l.before + 1) (length (g.L.Passports.list l.links) - l.before)

@@ -1,9 +1,9 @@
 -- The link of the fault is the one that is named.
-use Rattle.std.proofs.Common.{rules}
-use Rattle.verify_rules.proofs.TurnSteps.{no_order_is}
+use Rattle.std.proofs.Common.{sym, subst}
+use Rattle.std.specs.List.{All}
+use Rattle.passport_claims.specs.Links.{IsLink}
+use Rattle.verify_rules.proofs.TurnSteps.{rest_links}
 use Rattle.verify_rules.proofs.turns.order_of.Goals as goal
 
-pub returns-in-Err : goal.returns-in-Err
-returns-in-Err c =
-    no_order_is c.args.facts.now c.args.readings.now c.passports-passports.result.now c.called-called.result c.index-passports-0.result c.in-Err.fault c.new.result (search rules) c.requires.some (search rules)
-    (search rules) (search rules)
+pub chain_of-requires : goal.chain_of-requires
+chain_of-requires c = record { links = subst (All IsLink) (sym c.links-links.ensures) (rest_links c.args.readings.now c.requires.kept) }
