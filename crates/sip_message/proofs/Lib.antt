@@ -1,11 +1,11 @@
 pub mod AddedAccessors
 pub mod AddedLaws
-pub mod AddedSteps
 pub mod AddressLaws
 pub mod AnswerLaws
 pub mod Bytes
 pub mod ContinuationSteps
 pub mod DateLaws
+pub mod EndLaws
 pub mod FieldLineLaws
 pub mod FieldNumberLaws
 pub mod FieldSteps

@@ -32,7 +32,7 @@ unfolding total
 total_pieces [] = omega arith
 total_pieces (b ∷ bs) = total_by b bs (b == 10) (total_pieces bs)
 
-abbrev are_within : ℕ → List LineView → Bool
+abbrev pub are_within : ℕ → List LineView → Bool
 are_within most lines = list_all (λ (line : LineView). nat_le line.place most) lines
 
 lines_within : (most place : ℕ) (ps : List (List ℕ)) → place + total ps ≤ most → are_within most (lines_from place ps) ≡ true
@@ -43,7 +43,7 @@ lines_within most place (p ∷ ps) h =
     let next : (place + length p + 1) + total ps ≤ most = omega arith in
     rw (here, lines_within most (place + length p + 1) ps next) refl
 
-within : (bytes : List ℕ) → are_within (length bytes) (lines_of bytes) ≡ true
+pub within : (bytes : List ℕ) → are_within (length bytes) (lines_of bytes) ≡ true
 within bytes = lines_within (length bytes) 0 (pieces bytes) (omega (arith, total_pieces bytes))
 
 -- ---- the places of groups

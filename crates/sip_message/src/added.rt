@@ -1,6 +1,6 @@
 //! A message with one more header field.
 ghost use Rattle.std.specs.Prelude.{◌≡◌, ◌≤◌, length, Ok, IfOk, IsTrue};
-ghost use Rattle.sip_message.specs.Added.{added, head_end, is_addable, is_field_value, with_last, with_line, with_line_at};
+ghost use Rattle.sip_message.specs.Added.{added, is_addable, is_field_value, with_last, with_line_at};
 ghost use Rattle.sip_message.specs.Head.{Head};
 ghost use Rattle.sip_message.specs.Message.{MessageView};
 ghost use Rattle.sip_message.specs.Reading.{read};
@@ -10,11 +10,9 @@ ghost use Rattle.text_grammar.specs.Cut.{lacks};
 use crate::alphabet::is_name;
 use crate::fault::{FormFault, MessageFault};
 use crate::known::Known;
-use crate::lines::without_return;
-use crate::message::{MOST_BYTES, Message, SIZE};
+use crate::message::{MOST_BYTES, SIZE, read_parts};
 use crate::value::trimmed;
 use std::alloc::{AllocError, Global};
-use text_grammar::cut;
 
 /// Whether a header field of this name may be added to a message: it is a field name (RFC 3261, section 25.1) other than From and To and
 /// their short forms, of which a message has exactly one each.
@@ -69,7 +67,7 @@ pub fn with_field(
 }
 
 /// The same, or the first fault.
-#[tactic(auto, unfolding(crate::specs::Added::added))]
+#[tactic(auto, unfolding(crate::specs::Added::added), using(crate::proofs::EndLaws::end_within))]
 fn with_field_exactly(
     alloc: Global,
     bytes: &[u8],
@@ -78,8 +76,8 @@ fn with_field_exactly(
 ) -> Result<Vec<u8>, MessageFault>
     ensures { Gives (λ out. out.items) result (added bytes.now name.now value.now) }
 {
-    Message::read(alloc, bytes)?;
-    let out = with_line(alloc, bytes, name, value)?;
+    let parts = read_parts(alloc, bytes)?;
+    let out = with_line_at(alloc, bytes, parts.end as usize, name, value)?;
     if out.len() > MOST_BYTES {
         return Err(MessageFault::Form(FormFault {
             kind: SIZE,
@@ -89,11 +87,18 @@ fn with_field_exactly(
     Ok(out)
 }
 
-/// The bytes with the field in a line before the first empty one.
-fn with_line(alloc: Global, bytes: &[u8], name: &[u8], value: &[u8]) -> Result<Vec<u8>, AllocError>
-    ensures { IfOk result (λ out. out.items ≡ with_line bytes.now name.now value.now) }
+/// The bytes with the field in a line at this place.
+fn with_line_at(
+    alloc: Global,
+    bytes: &[u8],
+    place: usize,
+    name: &[u8],
+    value: &[u8],
+) -> Result<Vec<u8>, AllocError>
+    requires { place ≤ length bytes.now }
+    ensures { IfOk result (λ out. out.items ≡ with_line_at place bytes.now name.now value.now) }
 {
-    let (head, rest) = bytes.split_at(head_end(bytes));
+    let (head, rest) = bytes.split_at(place);
     let mut out = Vec::new(alloc);
     out.extend_from_slice(head)?;
     out.extend_from_slice(name)?;
@@ -102,22 +107,4 @@ fn with_line(alloc: Global, bytes: &[u8], name: &[u8], value: &[u8]) -> Result<V
     out.extend_from_slice(b"\r\n")?;
     out.extend_from_slice(rest)?;
     Ok(out)
-}
-
-/// The place of the first empty line, 0 if there is none.
-#[tactic(auto, using(crate::proofs::AddedSteps::ends_here, crate::proofs::AddedSteps::ends_behind, crate::proofs::LineSteps::none_left, crate::proofs::LineSteps::line_size))]
-fn head_end(bytes: &[u8]) -> usize
-    ensures exact { result ≡ head_end bytes.now }
-    ensures within { result ≤ length bytes.now }
-{
-    let mut place = 0;
-    let mut rest = bytes;
-    'lines: while let Some((piece, behind)) = cut(rest, b'\n') {
-        if without_return(piece).is_empty() {
-            return place;
-        }
-        place = place + piece.len() + 1;
-        rest = behind;
-    }
-    0
 }

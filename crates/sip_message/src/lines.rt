@@ -79,7 +79,7 @@ impl<'a> Lines<'a> {
 }
 
 /// A line without one CR at its end.
-pub(crate) fn without_return(line: &[u8]) -> &[u8]
+fn without_return(line: &[u8]) -> &[u8]
     ensures { result.now ≡ strip_carriage_return line.now }
 {
     match line {

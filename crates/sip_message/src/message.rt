@@ -1,5 +1,6 @@
 //! A message and what is asked of it.
 ghost use Rattle.std.specs.Prelude.{◌≡◌, ◌<◌, ◌≤◌, ℕ, List, length, slice_index_or, [], Some, Ok, Err, IfOk, IfSome};
+ghost use Rattle.sip_message.specs.Added.{head_end};
 ghost use Rattle.sip_message.specs.Answer.{IfForm, IsFault};
 ghost use Rattle.sip_message.specs.FieldDate.{IsTimeOf};
 ghost use Rattle.sip_message.specs.FieldNumber.{IsCalling, IsFirstNumber, IsNumberOf};
@@ -53,12 +54,13 @@ pub struct Message<'a> {
     fields: Vec<Field<'a>>,
 }
 
-/// Method, URI and header fields as they are read, before it is known how long the values are.
+/// Method, URI and header fields as they are read, before it is known how long the values are, and the offset of the empty line that ends the head.
 #[derive(Drop)]
 pub(crate) struct Parts<'a> {
     pub method: &'a [u8],
     pub uri: &'a [u8],
     pub fields: Vec<Field<'a>>,
+    pub end: u32,
 }
 
 impl<'a> Model for Message<'a> {
@@ -192,6 +194,7 @@ fn read_message<'a>(alloc: Global, bytes: &'a [u8]) -> Result<Message<'a>, Messa
         method,
         uri,
         fields,
+        end: _,
     } = read_parts(alloc, bytes)?;
     Ok(Message {
         method,
@@ -202,8 +205,9 @@ fn read_message<'a>(alloc: Global, bytes: &'a [u8]) -> Result<Message<'a>, Messa
 
 /// The parts of the message that the bytes are.
 #[tactic(auto, unfolding(crate::specs::Reading::read))]
-fn read_parts<'a>(alloc: Global, bytes: &'a [u8]) -> Result<Parts<'a>, MessageFault>
-    ensures { Gives parts_seen result (read bytes.now) }
+pub(crate) fn read_parts<'a>(alloc: Global, bytes: &'a [u8]) -> Result<Parts<'a>, MessageFault>
+    ensures exact { Gives parts_seen result (read bytes.now) }
+    ensures end { IfOk result (λ parts. parts.end ≡ head_end bytes.now) }
 {
     if bytes.len() > MOST_BYTES {
         return fault(SIZE, MOST_BYTES as u32);
@@ -233,7 +237,8 @@ fn checked<'a>(
     uri: &'a [u8],
     head: HeadFields<'a>,
 ) -> Result<Parts<'a>, MessageFault>
-    ensures { Gives parts_seen result (checked (method.now, uri.now) (Ok (head_seen head.entry))) }
+    ensures exact { Gives parts_seen result (checked (method.now, uri.now) (Ok (head_seen head.entry))) }
+    ensures end { IfOk result (λ parts. parts.end ≡ head.entry.end) }
 {
     if let Some(place) = head.surplus(Known::From) {
         return fault(FROM, place);
@@ -241,10 +246,11 @@ fn checked<'a>(
     if let Some(place) = head.surplus(Known::To) {
         return fault(TO, place);
     }
-    let HeadFields { fields, end: _ } = head;
+    let HeadFields { fields, end } = head;
     Ok(Parts {
         method,
         uri,
         fields,
+        end,
     })
 }
