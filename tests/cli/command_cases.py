@@ -24,8 +24,8 @@ A piece is `[COUNT*]TEXT`, and a text is `$NAME`, `x:HEX`, or plain text in whic
 one entry of a call log with that message. A line that can't be read fails the run.
 
 The program runs in a folder of its own and must write nothing to standard error. More cases stand elsewhere: the words of
-tests/vectors/words.py, logs that are made here, one of 100,000 calls, one that comes slowly, and one of replays on each number of workers, and
-lists of tickets that tests/vectors/tickets.py draws, on each number of workers.
+tests/vectors/words.py, logs that are made here, one of 100,000 calls, one that comes slowly, and one of replays on each number of workers, state
+files of as many bytes as may be and of one more, and lists of tickets that tests/vectors/tickets.py draws, on each number of workers.
 """
 import contextlib
 import functools
@@ -68,11 +68,13 @@ def output(streams):
     return contextlib.nullcontext()
 
 
-def run(program, words, given, files, streams=()):
-    """Status, standard output and standard error of one run in a folder of its own with these files."""
+def run(program, words, given, files, streams=(), sizes=()):
+    """Status, standard output and standard error of one run in a folder of its own with these files, some of which are brought to a size by zeros."""
     with tempfile.TemporaryDirectory() as folder, output(streams) as out:
         for name, data in files.items():
             pathlib.Path(folder, name).write_bytes(data)
+        for name, size in sizes:
+            os.truncate(pathlib.Path(folder, name), size)
         done = subprocess.run([os.fsencode(program)] + words, input=given, stdout=out or subprocess.PIPE, stderr=subprocess.PIPE,
                               cwd=folder, timeout=60, preexec_fn=closing(streams))
     return done.returncode, done.stdout or b'', done.stderr
@@ -234,6 +236,18 @@ def worker_case(workers, program):
     return (1, [True, (1, [True], half), (1, [True], half)], b''), (status, winners_told(report, tickets), errors)
 
 
+MOST_BYTES_OF_A_STATE = 536_870_912
+
+
+def large_state_case(more, status, said, program):
+    """A file that begins with a state, of as many bytes as a state file may have and of so many more. What comes after the state isn't read."""
+    file = Rows()
+    file.named('NAMED IN state.rows')
+    words = file.line_of_words(['verify', '+FILES', '--state=first'])
+    got = run(program, words, file.log(['@1443208346', '$CALL']), file.files, sizes=[('first', MOST_BYTES_OF_A_STATE + more)])
+    return (status, file.text(said), b''), got
+
+
 TICKET_LISTS = 60
 
 
@@ -262,5 +276,7 @@ def cases():
     yield 'slow log', slow_log_case
     for workers in range(1, 9):
         yield f'{workers} workers', functools.partial(worker_case, workers)
+    yield 'state of the most bytes', functools.partial(large_state_case, 0, 1, ['$REPLAY', '$SECOND_STATE'])
+    yield 'state of a byte more', functools.partial(large_state_case, 1, 5, [r'long\sfirst\n'])
     for number in range(TICKET_LISTS):
         yield f'tickets {number}', functools.partial(ticket_case, number)
