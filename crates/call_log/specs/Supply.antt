@@ -1,6 +1,7 @@
 -- The bytes that a reader takes of a source ahead of their use, in blocks of 65,536, and how often it asks the source for them.
 use Rattle.std.specs.Prelude.{◌≡◌, ⊤, ℕ, ◌+◌, ◌*◌, ◌≤◌, Bool, true, false, List, [], ◌∷◌, length, Option, Some, None}
 use Rattle.std.specs.Io.KnownBytes.{IsAtEnd, prepend_known}
+use Rattle.stir_outside.specs.Count.{Rose}
 use Rattle.stir_outside.specs.declared.source.Source.{Ghosts as SourceOf}
 
 -- the bytes that were taken and not used yet, and whether the source has said that it has ended
@@ -69,3 +70,9 @@ pub record Draws (before now : Supply) : Type 0 where
 abbrev pub DrawsEach : Supply → List Supply → Supply → Type 0
 DrawsEach before [] now = Draws before now
 DrawsEach before (between ∷ others) now = Draws before between × DrawsEach between others now
+
+-- What a reader asks of the source over the bytes ahead. If the source's own fault is answered, the source counted it in this call, and no byte is ahead.
+pub record Asks {I : Type 0} (source : SourceOf I) (ahead : AheadState) (before : I) (ahead_now : AheadState) (now : I) (is_failed : Type 0) : Type 0 where
+  pub draws : Draws (supply_of source ahead.ended before) (supply_of source ahead_now.ended now)
+  pub rose : is_failed → Rose (source.faults before) (source.faults now)
+  pub drained : is_failed → available ahead_now (source.left now) ≡ source.left now

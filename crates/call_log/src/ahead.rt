@@ -3,7 +3,7 @@ ghost use Rattle.std.specs.Io.KnownBytes.{Consumes, IsAtEnd};
 ghost use Rattle.stir_outside.specs.Count.{Rose};
 ghost use Rattle.stir_outside.specs.declared.transfer.ReadFault.{ReadFault};
 ghost use Rattle.call_log.specs.Bytes.{ByteFrom, PieceFrom};
-ghost use Rattle.call_log.specs.Supply.{Draws, available, supply_of};
+ghost use Rattle.call_log.specs.Supply.{Asks, Draws, available, supply_of};
 
 use std::marker::Model;
 use stir_outside::{Failed, ReadFault, Source};
@@ -93,9 +93,7 @@ impl Ahead {
         requires { 0 < most }
         ensures piece { PieceFrom most
             (available self.old (I.left source.old)) (available self.new (I.left source.new)) bytes.old.items bytes.new.items result }
-        ensures draws { Draws (supply_of I.Source self.old.ended source.old) (supply_of I.Source self.new.ended source.new) }
-        ensures rose { result ≡ Err ReadFault.Source → Rose (I.faults source.old) (I.faults source.new) }
-        ensures drained { result ≡ Err ReadFault.Source → available self.new (I.left source.new) ≡ I.left source.new }
+        ensures asks { Asks I.Source self.old source.old self.new source.new (result ≡ Err ReadFault.Source) }
     {
         self.fill(source)?;
         let count = most.min(self.end - self.start);

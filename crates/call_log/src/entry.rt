@@ -1,10 +1,9 @@
 ghost use Rattle.std.specs.Prelude.{◌≡◌, ◌^◌, ◌-◌, ◌+◌, ◌<◌, ◌≤◌, [], ◌∷◌, ◌++◌, Err};
 ghost use Rattle.std.specs.Fmt.{decimal};
-ghost use Rattle.stir_outside.specs.Count.{Rose};
 ghost use Rattle.call_log.specs.Entry.{headed, most_entries, most_message_length};
 ghost use Rattle.call_log.specs.Number.{IsNumber};
 ghost use Rattle.call_log.specs.Reading.{Finds};
-ghost use Rattle.call_log.specs.Supply.{Draws, available, supply_of};
+ghost use Rattle.call_log.specs.Supply.{Asks, available};
 ghost use Rattle.text_grammar.specs.Moment.{last_second};
 
 use crate::ahead::Ahead;
@@ -54,9 +53,7 @@ pub(crate) fn next_entry<I: Source>(
     requires number { passed.number < 2 ^ 32 - 1 }
     ensures found { Finds passed []
         (available ahead.old (I.left source.old)) (available ahead.new (I.left source.new)) result }
-    ensures draws { Draws (supply_of I.Source ahead.old.ended source.old) (supply_of I.Source ahead.new.ended source.new) }
-    ensures rose { result ≡ Err LogFault.Source → Rose (I.faults source.old) (I.faults source.new) }
-    ensures drained { result ≡ Err LogFault.Source → available ahead.new (I.left source.new) ≡ I.left source.new }
+    ensures asks { Asks I.Source ahead.old source.old ahead.new source.new (result ≡ Err LogFault.Source) }
 {
     let place = passed.place;
     let Some(first) = ahead.next_byte(source)? else {
@@ -83,9 +80,7 @@ fn after_at<I: Source>(
     requires number { passed.number < 2 ^ 32 - 1 }
     ensures found { Finds passed (64 ∷ [])
         (available ahead.old (I.left source.old)) (available ahead.new (I.left source.new)) result }
-    ensures draws { Draws (supply_of I.Source ahead.old.ended source.old) (supply_of I.Source ahead.new.ended source.new) }
-    ensures rose { result ≡ Err LogFault.Source → Rose (I.faults source.old) (I.faults source.new) }
-    ensures drained { result ≡ Err LogFault.Source → available ahead.new (I.left source.new) ≡ I.left source.new }
+    ensures asks { Asks I.Source ahead.old source.old ahead.new source.new (result ≡ Err LogFault.Source) }
 {
     let Some(moment) = next_number(ahead, source, LAST_SECOND, b' ')? else {
         return Err(LogFault::Grammar {
@@ -109,9 +104,7 @@ fn after_moment<I: Source>(
     requires moment { IsNumber last_second moment }
     ensures found { Finds passed (64 ∷ (decimal moment.value ++ 32 ∷ []))
         (available ahead.old (I.left source.old)) (available ahead.new (I.left source.new)) result }
-    ensures draws { Draws (supply_of I.Source ahead.old.ended source.old) (supply_of I.Source ahead.new.ended source.new) }
-    ensures rose { result ≡ Err LogFault.Source → Rose (I.faults source.old) (I.faults source.new) }
-    ensures drained { result ≡ Err LogFault.Source → available ahead.new (I.left source.new) ≡ I.left source.new }
+    ensures asks { Asks I.Source ahead.old source.old ahead.new source.new (result ≡ Err LogFault.Source) }
 {
     let place = passed.place;
     let Some(length) = next_number(ahead, source, MOST_LENGTH, b'\n')? else {
@@ -140,9 +133,7 @@ fn after_header<I: Source>(
     requires forward { passed.moment ≤ moment.value }
     ensures found { Finds passed (headed moment.value length.value [])
         (available ahead.old (I.left source.old)) (available ahead.new (I.left source.new)) result }
-    ensures draws { Draws (supply_of I.Source ahead.old.ended source.old) (supply_of I.Source ahead.new.ended source.new) }
-    ensures rose { result ≡ Err LogFault.Source → Rose (I.faults source.old) (I.faults source.new) }
-    ensures drained { result ≡ Err LogFault.Source → available ahead.new (I.left source.new) ≡ I.left source.new }
+    ensures asks { Asks I.Source ahead.old source.old ahead.new source.new (result ≡ Err LogFault.Source) }
 {
     let Some(message) = next_message(alloc, ahead, source, length.value as usize)? else {
         return Err(LogFault::Grammar {

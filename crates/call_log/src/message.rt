@@ -1,7 +1,6 @@
 ghost use Rattle.std.specs.Prelude.{◌≡◌, ◌≤◌, [], Err};
-ghost use Rattle.stir_outside.specs.Count.{Rose};
 ghost use Rattle.call_log.specs.Bytes.{MessageFrom};
-ghost use Rattle.call_log.specs.Supply.{Draws, available, supply_of};
+ghost use Rattle.call_log.specs.Supply.{Asks, available};
 
 use crate::ahead::Ahead;
 use std::alloc::Global;
@@ -17,9 +16,7 @@ pub(crate) fn next_message<I: Source>(
 ) -> Result<Option<Vec<u8>>, ReadFault>
     ensures message { MessageFrom length
         (available ahead.old (I.left source.old)) (available ahead.new (I.left source.new)) result }
-    ensures draws { Draws (supply_of I.Source ahead.old.ended source.old) (supply_of I.Source ahead.new.ended source.new) }
-    ensures rose { result ≡ Err ReadFault.Source → Rose (I.faults source.old) (I.faults source.new) }
-    ensures drained { result ≡ Err ReadFault.Source → available ahead.new (I.left source.new) ≡ I.left source.new }
+    ensures asks { Asks I.Source ahead.old source.old ahead.new source.new (result ≡ Err ReadFault.Source) }
 {
     let mut message = Vec::with_capacity(alloc, length)?;
     while message.len() < length {

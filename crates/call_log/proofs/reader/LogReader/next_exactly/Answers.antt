@@ -32,5 +32,5 @@ pub returns-in-Err-clause-drained : goal.returns-in-Err-clause-drained
 returns-in-Err-clause-drained g c =
     let now : LogState = record { passed = c.self.inside.passed; ahead = c.next_entry.new.ahead.bytes; ended = c.next_entry.new.ahead.ended; fault = None } in
     let here : ◌≡◌ {A = Result (Option Call) LogFault} (Err c.in-Err.fault) (Err Source) → left_to now (g.I.Source.left c.next_entry.new.source) ≡ g.I.Source.left c.next_entry.new.source =
-    λ source. let same : c.in-Err.fault ≡ Source = cc in c.in-Err.ensures.drained (ap Err same) in
+    λ source. let same : c.in-Err.fault ≡ Source = cc in c.in-Err.ensures.asks.drained (ap Err same) in
     where_none _ here
