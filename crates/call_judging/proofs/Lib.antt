@@ -1,4 +1,5 @@
 pub mod CauseLaws
+pub mod FetchedLaws
 pub mod ListLaws
 pub mod ReadLaws
 mod JudgeLaws

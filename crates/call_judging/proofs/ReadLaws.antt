@@ -11,9 +11,7 @@ use Rattle.passport_claims.specs.Passport.{ClaimsView}
 use Rattle.verify_rules.specs.Call.{Reading, passport_in}
 use Rattle.verify_rules.specs.States.{State, have, no_chain, long, unread}
 use Rattle.verify_rules.specs.World.{World, AreRight, IsRight}
-use Rattle.call_judging.specs.Chains.{AreRightWhere, IsOfBytes, IsRightWhere, state_of, world_by}
-use Rattle.call_judging.specs.declared.chains.ChainStatus.{ChainStatus}
-use Rattle.call_judging.specs.declared.chains.ChainStatus.TheVariants as status
+use Rattle.call_judging.specs.Chains.{AreRightWhere, IsRightWhere, world_by}
 use Rattle.cert_store.specs.declared.world.World.{World as Materials}
 
 pub right_unlisted : (told : Option Files) (materials : Materials) (says : Says) (x5u : List ℕ)
@@ -99,17 +97,3 @@ right_next told told_now materials says says_now readings states i passport x5u 
     subst (λ (t : List ℕ). IsRightWhere told materials says t state) (text ∙ ap (λ (p : ClaimsView). p.x5u) (sym at.says)) two in
     subst (λ (rs : List Reading). AreRightWhere told materials says rs (states ++ state ∷ [])) (sym at.more)
     (right_more told materials says (take i readings) states at.one state law right three)
-
--- ---- a file that was read and judged
-
-pub judged_right : {E : Type 0} → (told : Option Files) (materials : Materials) (says : Says) (x5u name content bytes : List ℕ) (result : Result ChainStatus E)
-    → ((world : World) (x5u name bytes : List ℕ) (judged : JudgedView) → listed world.chains x5u ≡ Some name → file name world.files ≡ Some bytes
-    → length bytes ≤ 49152 → JudgedAs (judged_of world.anchors world.table world.says bytes) judged → IsRight world x5u (have judged))
-    → listed materials.chains x5u ≡ Some name → OfFile told name (λ held. held ≡ Some content) → bytes ≡ content → length bytes ≤ 49152
-    → IfOk result (IsOfBytes materials says bytes) → IfOk result (λ chain. IsRightWhere told materials says x5u (state_of chain))
-judged_right told materials says x5u name content bytes (Ok (status.Judged judged)) law is found same short so =
-    right_judged told materials says x5u name bytes judged law is (subst (λ (b : List ℕ). OfFile told name (λ held. held ≡ Some b)) (sym same) found) short so
-judged_right told materials says x5u name content bytes (Ok status.Missing) law is found same short so = absurd so
-judged_right told materials says x5u name content bytes (Ok status.TooLong) law is found same short so = absurd so
-judged_right told materials says x5u name content bytes (Ok status.Unread) law is found same short so = absurd so
-judged_right told materials says x5u name content bytes (Err fault) law is found same short so = tt

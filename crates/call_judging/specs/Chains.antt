@@ -2,7 +2,6 @@
 use Rattle.std.specs.Prelude.{⊤, ℕ, Bool, true, false, List, Option, Some, None}
 use Rattle.stir_outside.specs.Files.{Files}
 use Rattle.cert_store.specs.Asking.{is_failed}
-use Rattle.cert_store.specs.Judged.{JudgedAs, judged_of}
 use Rattle.cert_store.specs.Rules.{Says}
 use Rattle.verify_rules.specs.Call.{Reading}
 use Rattle.verify_rules.specs.States.{State, have, no_chain, long, unread}
@@ -40,13 +39,6 @@ IsRightWhere (Some files) materials says x5u state = IsRight (world_by materials
 abbrev pub AreRightWhere : Option Files → Materials → Says → List Reading → List State → Type 0
 AreRightWhere None materials says readings states = ⊤
 AreRightWhere (Some files) materials says readings states = AreRight (world_by materials files says) readings states
-
--- it is what the rules on a chain say of these bytes, as far as the provider answered
-abbrev pub IsOfBytes : Materials → Says → List ℕ → ChainStatus → Type 0
-IsOfBytes materials says bytes (status.Judged judged) = JudgedAs (judged_of materials.anchors materials.table says bytes) judged
-IsOfBytes materials says bytes status.Missing = ⊥
-IsOfBytes materials says bytes status.TooLong = ⊥
-IsOfBytes materials says bytes status.Unread = ⊥
 
 -- ---- what wasn't answered
 

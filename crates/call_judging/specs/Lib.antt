@@ -1,5 +1,6 @@
 pub mod Causes
 pub mod Chains
+pub mod Fetched
 pub mod Judging
 pub mod AlwaysYes
 pub mod AskLines

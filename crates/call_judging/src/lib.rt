@@ -45,6 +45,7 @@
 mod always_yes;
 mod chains;
 mod explaining;
+mod fetching;
 mod finding;
 mod judge;
 mod laws;
@@ -55,6 +56,7 @@ mod rule_numbers;
 pub use always_yes::AlwaysYes;
 pub use chains::{CallChains, ChainStatus};
 pub use explaining::explained;
+pub use fetching::{Fetched, fetch, fetch_file, judge_file};
 pub use finding::{Finding, Pass};
 pub use judge::{judge_call, judge_screened, pass_of};
 pub use laws::{

@@ -1,18 +1,19 @@
 //! Reading the chains of a call.
 ghost use Rattle.stir_outside.specs.Stays.{ProviderStays, ShelfStays};
-ghost use Rattle.std.specs.Prelude.{◌≡◌, ◌≤◌, ℕ, List, length, true, IfOk, OnOk, Some};
+ghost use Rattle.std.specs.Prelude.{◌≡◌, ◌≤◌, ℕ, List, length, true, IfOk, OnOk, Option, Some};
 ghost use Rattle.std.specs.List.{list_any};
 ghost use Rattle.cert_store.specs.ChainMap.{listed};
-ghost use Rattle.stir_outside.specs.Files.{CountsGoOn};
+ghost use Rattle.stir_outside.specs.Files.{CountsGoOn, Files};
+ghost use Rattle.call_judging.specs.Fetched.{IsFetched, is_unread_file};
 ghost use Rattle.call_judging.specs.Causes.{HasCauseIf};
-ghost use Rattle.call_judging.specs.Chains.{AreRightWhere, IsOfBytes, IsRightWhere, is_unasked, is_unread, state_of};
+ghost use Rattle.call_judging.specs.Chains.{AreRightWhere, IsRightWhere, is_unasked, is_unread, state_of};
 
 use crate::chains::{CallChains, ChainStatus};
-use cert_store::{World, judge_chain};
+use crate::fetching::{Fetched, fetch, fetch_file, judge_file};
+use cert_store::World;
 use std::alloc::{AllocError, Global};
-use stir_outside::{Provider, Shelf, ShelfFault};
+use stir_outside::{Provider, Shelf};
 use verify_rules::{Screened, right_law};
-use x509_profile::MOST_CHAIN_BYTES;
 
 /// Reads and judges the chain of each PASSporT of a call, in the order in which the call went, in place of those that there were.
 pub fn read_chains<S: Shelf, P: Provider>(
@@ -57,11 +58,8 @@ fn chain_of<S: Shelf, P: Provider>(
     ensures shelf { ShelfStays S.Shelf shelf.old shelf.new }
     ensures provider { ProviderStays P.Provider provider.old provider.new }
 {
-    right_law();
-    match world.chains.file(x5u) {
-        Some(name) => chain_in(alloc, world, shelf, provider, name),
-        None => Ok(ChainStatus::Missing),
-    }
+    let file = fetch(alloc, world, shelf, x5u)?;
+    judge_fetched(alloc, world, provider, &file)
 }
 
 /// What is known of the chain in the file of this name, which the chain map lists. `AllocError` is the only error.
@@ -79,29 +77,23 @@ pub fn chain_in<S: Shelf, P: Provider>(
     ensures shelf { ShelfStays S.Shelf shelf.old shelf.new }
     ensures provider { ProviderStays P.Provider provider.old provider.new }
 {
-    right_law();
-    match shelf.read(alloc, name, MOST_CHAIN_BYTES) {
-        Ok(bytes) => judged(alloc, world, provider, bytes.as_slice()),
-        Err(fault) => match fault {
-            ShelfFault::Missing => Ok(ChainStatus::Missing),
-            ShelfFault::Long => Ok(ChainStatus::TooLong),
-            ShelfFault::Failed => Ok(ChainStatus::Unread),
-            ShelfFault::Memory => Err(AllocError),
-        },
-    }
+    let file = fetch_file(alloc, world, shelf, name)?;
+    judge_fetched(alloc, world, provider, &file)
 }
 
-/// The chain that these bytes are.
-fn judged<P: Provider>(
+/// What is known of the chain in a file that was read.
+fn judge_fetched<P: Provider>(
     alloc: Global,
     world: &World,
     provider: &mut P,
-    bytes: &[u8],
+    file: &Fetched,
 ) -> Result<ChainStatus, AllocError>
-    ensures judged { IfOk result (IsOfBytes world.now (P.says provider.old) bytes.now) }
+    ensures right { (told : Option Files) (x5u : List ℕ) → IsFetched told world.now x5u file.now
+        → IfOk result (λ chain. IsRightWhere told world.now (P.says provider.old) x5u (state_of chain)) }
+    ensures unread { IfOk result (λ chain. is_unread (state_of chain) ≡ is_unread_file file.now) }
     ensures unasked { IfOk result (λ chain. HasCauseIf (is_unasked (state_of chain)) (P.faults provider.old) (P.faults provider.new)) }
     ensures provider { ProviderStays P.Provider provider.old provider.new }
 {
-    let judged = judge_chain(alloc, bytes, &world.anchors, &world.table, provider)?;
-    Ok(ChainStatus::Judged(judged))
+    let judged = judge_file(alloc, world, file, provider)?;
+    Ok(file.status(judged))
 }

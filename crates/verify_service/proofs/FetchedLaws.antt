@@ -4,9 +4,9 @@ use Rattle.std.specs.List.{slice_get}
 use Rattle.std.proofs.lemmas.Option.{same_Some}
 use Rattle.cert_store.specs.declared.world.World.{World as Materials}
 use Rattle.stir_outside.specs.Files.{Files}
-use Rattle.verify_service.specs.Fetched.{IsFetched}
+use Rattle.call_judging.specs.Fetched.{IsFetched}
 use Rattle.verify_service.specs.Judging.{EachPair}
-use Rattle.verify_service.specs.declared.fetching.Fetched.{Fetched}
+use Rattle.call_judging.specs.declared.fetching.Fetched.{Fetched}
 use Rattle.verify_service.proofs.ListLaws.{each_more}
 
 -- the elements up to an index, and the one there

@@ -9,12 +9,15 @@ use Rattle.stir_outside.specs.Files.{Counts, Files}
 use Rattle.verify_rules.specs.States.{State}
 use Rattle.verify_service.specs.Causes.{AreCounted}
 use Rattle.call_judging.specs.Chains.{is_unasked, is_unread}
-use Rattle.verify_service.specs.Fetched.{IsFetched, is_read_file, is_unread_file}
+use Rattle.call_judging.specs.Fetched.{IsFetched, is_read_file, is_unread_file}
 use Rattle.verify_service.specs.Judging.{EachPair}
-use Rattle.verify_service.specs.RoundRead.{HasAskedOwn, IsKnownRight, KnownBy, all_certificates, certificates_of, file_state, is_judged, own_of, states_from}
-use Rattle.verify_service.specs.WorkerChains.{ChainsCounted, CountedUnless, EachOwn, EachOwnUnless, IsOwn, certificates, certificates_in, has_failed}
-use Rattle.verify_service.specs.declared.fetching.Fetched.{Fetched}
-use Rattle.verify_service.specs.declared.fetching.Fetched.TheVariants as fetched
+use Rattle.call_judging.specs.Fetched.{file_state}
+use Rattle.verify_service.specs.RoundRead.{HasAskedOwn, IsKnownRight, KnownBy, all_certificates, certificates_of, is_judged, own_of, states_from}
+use Rattle.call_judging.specs.Fetched.{certificates_in, has_failed}
+use Rattle.verify_service.specs.WorkerChains.{ChainsCounted, CountedUnless, EachOwn, EachOwnUnless, IsOwn, certificates}
+use Rattle.call_judging.specs.declared.fetching.Fetched.{Fetched}
+use Rattle.call_judging.specs.declared.fetching.Fetched.TheVariants as fetched
+use Rattle.call_judging.proofs.FetchedLaws.{failed_one, unread_one}
 use Rattle.verify_service.proofs.CountLaws.{counted_as}
 
 -- ---- one chain
@@ -23,37 +26,23 @@ known_one : (told : Option Files) (materials : Materials) (says : Says) (x5u : L
     → IsOwn materials says true file chain → IsKnownRight told materials says x5u (file_state file chain)
 known_one told materials says x5u (fetched.Bytes bytes) (Some judged) read own = record { right = read says judged own; question = own.question }
 known_one told materials says x5u (fetched.Bytes bytes) None read own = absurd own
-known_one told materials says x5u fetched.NoChain chain read own = record { right = read says; question = tt }
-known_one told materials says x5u fetched.Long chain read own = record { right = read says; question = tt }
+known_one told materials says x5u fetched.Missing chain read own = record { right = read says; question = tt }
+known_one told materials says x5u fetched.TooLong chain read own = record { right = read says; question = tt }
 known_one told materials says x5u fetched.Unread chain read own = record { right = read says; question = tt }
-
-unread_one : (file : Fetched) (chain : Option JudgedView) → is_unread (file_state file chain) ≡ is_unread_file file
-unread_one (fetched.Bytes bytes) (Some judged) = refl
-unread_one (fetched.Bytes bytes) None = refl
-unread_one fetched.NoChain chain = refl
-unread_one fetched.Long chain = refl
-unread_one fetched.Unread chain = refl
 
 judged_one : (materials : Materials) (says : Says) (file : Fetched) (chain : Option JudgedView) → IsOwn materials says true file chain → is_judged (file_state file chain) ≡ is_read_file file
 judged_one materials says (fetched.Bytes bytes) (Some judged) own = refl
 judged_one materials says (fetched.Bytes bytes) None own = absurd own
-judged_one materials says fetched.NoChain chain own = refl
-judged_one materials says fetched.Long chain own = refl
+judged_one materials says fetched.Missing chain own = refl
+judged_one materials says fetched.TooLong chain own = refl
 judged_one materials says fetched.Unread chain own = refl
-
-failed_one : (materials : Materials) (says : Says) (file : Fetched) (chain : Option JudgedView) → IsOwn materials says true file chain → is_unasked (file_state file chain) ≡ has_failed chain
-failed_one materials says (fetched.Bytes bytes) (Some judged) own = refl
-failed_one materials says (fetched.Bytes bytes) None own = absurd own
-failed_one materials says fetched.NoChain chain own = sym (ap has_failed own)
-failed_one materials says fetched.Long chain own = sym (ap has_failed own)
-failed_one materials says fetched.Unread chain own = sym (ap has_failed own)
 
 certificates_one : (materials : Materials) (says : Says) (file : Fetched) (chain : Option JudgedView) → IsOwn materials says true file chain
     → certificates_of (file_state file chain) ≡ certificates_in chain
 certificates_one materials says (fetched.Bytes bytes) (Some judged) own = refl
 certificates_one materials says (fetched.Bytes bytes) None own = absurd own
-certificates_one materials says fetched.NoChain chain own = sym (ap certificates_in own)
-certificates_one materials says fetched.Long chain own = sym (ap certificates_in own)
+certificates_one materials says fetched.Missing chain own = sym (ap certificates_in own)
+certificates_one materials says fetched.TooLong chain own = sym (ap certificates_in own)
 certificates_one materials says fetched.Unread chain own = sym (ap certificates_in own)
 
 -- ---- of files in turn, by what was judged at each place

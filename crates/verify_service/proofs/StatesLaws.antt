@@ -2,8 +2,9 @@
 use Rattle.std.proofs.Common.{◌≡◌, ℕ, zero, suc, ◌+◌, ◌<◌, ◌%◌, List, [], ◌∷◌, ◌++◌, length, get_or, take, Option, None, refl, sym, ap, ◌∙◌, arith, zero-add}
 use Rattle.cert_store.specs.Judged.{JudgedView}
 use Rattle.verify_rules.specs.States.{State}
-use Rattle.verify_service.specs.RoundRead.{file_state, states_from}
-use Rattle.verify_service.specs.declared.fetching.Fetched.{Fetched}
+use Rattle.call_judging.specs.Fetched.{file_state}
+use Rattle.verify_service.specs.RoundRead.{states_from}
+use Rattle.call_judging.specs.declared.fetching.Fetched.{Fetched}
 
 pub states_count : (place : ℕ) (judged : ℕ → Option JudgedView) (files : List Fetched) → length (states_from place judged files) ≡ length files
 states_count place judged [] = refl

@@ -4,8 +4,9 @@ use Rattle.cert_store.specs.Judged.{JudgedView}
 use Rattle.cert_store.specs.Rules.{Says}
 use Rattle.cert_store.specs.declared.world.World.{World as Materials}
 use Rattle.call_judging.specs.Causes.{HasCauseIf}
-use Rattle.verify_service.specs.WorkerChains.{ChainsCounted, EachOwn, IsOwn, certificates, certificates_in, has_failed}
-use Rattle.verify_service.specs.declared.fetching.Fetched.{Fetched}
+use Rattle.call_judging.specs.Fetched.{certificates_in, has_failed}
+use Rattle.verify_service.specs.WorkerChains.{ChainsCounted, EachOwn, IsOwn, certificates}
+use Rattle.call_judging.specs.declared.fetching.Fetched.{Fetched}
 use Rattle.verify_service.proofs.CountLaws.{counted_more}
 use Rattle.verify_service.proofs.ListLaws.{take_item}
 

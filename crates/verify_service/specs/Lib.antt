@@ -6,7 +6,6 @@ pub mod Rows
 pub mod Service
 pub mod Screening
 pub mod Needed
-pub mod Fetched
 pub mod WorkerChains
 pub mod Kept
 pub mod RightChains

@@ -1,5 +1,5 @@
 -- What a round knows of the chains of its texts, and which of them are held or kept from then on.
-use Rattle.std.specs.Prelude.{◌≡◌, ⊤, ℕ, suc, ◌+◌, ◌≤◌, ◌%◌, ◌==◌, Bool, true, false, List, [], ◌∷◌, length, filter, take, Option, Some, None, if◌then◌else◌}
+use Rattle.std.specs.Prelude.{◌≡◌, ⊤, ℕ, suc, ◌+◌, ◌≤◌, ◌%◌, ◌==◌, Bool, true, false, List, [], ◌∷◌, length, filter, take, Option, if◌then◌else◌}
 use Rattle.cert_store.specs.Asking.{FailedAt}
 use Rattle.cert_store.specs.Holding.{Chains, Holding}
 use Rattle.cert_store.specs.Judged.{JudgedView}
@@ -10,24 +10,16 @@ use Rattle.stir_outside.specs.Files.{Counts, Files}
 use Rattle.verify_rules.specs.States.{State, have, long, no_chain, unread}
 use Rattle.verify_service.specs.Causes.{AreCounted}
 use Rattle.call_judging.specs.Chains.{IsRightWhere, is_unasked, is_unread}
+use Rattle.call_judging.specs.Fetched.{file_state}
 use Rattle.verify_service.specs.Judging.{EachPair}
 use Rattle.verify_service.specs.Kept.{Kept, StoresChain}
 use Rattle.verify_service.specs.Needed.{all_named, round_texts, touch_all}
-use Rattle.verify_service.specs.declared.fetching.Fetched.{Fetched}
-use Rattle.verify_service.specs.declared.fetching.Fetched.TheVariants as fetched
+use Rattle.call_judging.specs.declared.fetching.Fetched.{Fetched}
 use Rattle.verify_service.specs.declared.screening.ReadyCall.{ReadyCall}
 
--- ---- what is known by a file that was fetched
+-- ---- what is known by files that were fetched
 
--- by the file, and what was judged of its bytes
-abbrev pub file_state : Fetched → Option JudgedView → State
-file_state (fetched.Bytes bytes) (Some judged) = have judged
-file_state (fetched.Bytes bytes) None = no_chain
-file_state fetched.NoChain judged = no_chain
-file_state fetched.Long judged = long
-file_state fetched.Unread judged = unread
-
--- of each of these files, from this place on
+-- of each of these, from this place on, and what was judged there
 abbrev pub states_from : ℕ → (ℕ → Option JudgedView) → List Fetched → List State
 states_from place judged [] = []
 states_from place judged (file ∷ files) = file_state file (judged place) ∷ states_from (suc place) judged files

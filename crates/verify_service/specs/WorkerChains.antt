@@ -1,27 +1,17 @@
 -- The chains that a worker judged of a round's texts, place by place.
-use Rattle.std.specs.Prelude.{◌≡◌, ℕ, suc, ◌%◌, ◌==◌, ◌+◌, ◌≤◌, ⊤, List, [], ◌∷◌, Bool, true, false, Option, Some, None, length}
-use Rattle.cert_store.specs.Asking.{is_failed}
-use Rattle.cert_store.specs.Judged.{JudgedAs, JudgedView, judged_of}
+use Rattle.std.specs.Prelude.{◌≡◌, ℕ, suc, ◌%◌, ◌==◌, ◌+◌, ◌≤◌, ⊤, List, [], ◌∷◌, Bool, true, false, Option, None}
+use Rattle.cert_store.specs.Judged.{JudgedView}
 use Rattle.cert_store.specs.Rules.{Says}
 use Rattle.cert_store.specs.declared.world.World.{World as Materials}
 use Rattle.verify_service.specs.Causes.{AreCounted}
-use Rattle.verify_service.specs.declared.fetching.Fetched.{Fetched}
-use Rattle.verify_service.specs.declared.fetching.Fetched.TheVariants as fetched
+use Rattle.call_judging.specs.declared.fetching.Fetched.{Fetched}
+use Rattle.call_judging.specs.Fetched.{IsJudgedFile, certificates_in, has_failed}
 
 -- ---- which are judged
 
--- what the rules on a chain say of these bytes, as far as the provider answered
-abbrev pub IsChainOf : Materials → Says → List ℕ → Option JudgedView → Type 0
-IsChainOf materials says bytes (Some judged) = JudgedAs (judged_of materials.anchors materials.table says bytes) judged
-IsChainOf materials says bytes None = ⊥
-
--- A place of the worker's own has what the rules say of the bytes that were read there, or nothing if none were read. The place of another
--- worker has nothing.
+-- A place of the worker's own has what was judged of the file there. The place of another worker has nothing.
 abbrev pub IsOwn : Materials → Says → Bool → Fetched → Option JudgedView → Type 0
-IsOwn materials says true (fetched.Bytes bytes) chain = IsChainOf materials says bytes.items chain
-IsOwn materials says true fetched.NoChain chain = chain ≡ None
-IsOwn materials says true fetched.Long chain = chain ≡ None
-IsOwn materials says true fetched.Unread chain = chain ≡ None
+IsOwn materials says true file chain = IsJudgedFile materials says file chain
 IsOwn materials says false file chain = chain ≡ None
 
 -- The same of each place from this one on, for the worker of this index among so many. Its own are those that leave its index as remainder.
@@ -39,19 +29,9 @@ EachOwnUnless false materials says index count files chains = EachOwn materials 
 
 -- ---- what is asked for them
 
--- how many certificates were judged here
-abbrev pub certificates_in : Option JudgedView → ℕ
-certificates_in None = 0
-certificates_in (Some judged) = length judged.certificates
-
 abbrev pub certificates : List (Option JudgedView) → ℕ
 certificates [] = 0
 certificates (chain ∷ chains) = certificates_in chain + certificates chains
-
--- the provider failed at a signature of this chain
-abbrev pub has_failed : Option JudgedView → Bool
-has_failed None = false
-has_failed (Some judged) = is_failed judged.asked
 
 -- A worker asked its provider no more questions than there are certificates in the chains that it judged. At most as many of these chains
 -- have a question that failed as faults of its provider were counted, and one only if the count rose.

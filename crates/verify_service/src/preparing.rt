@@ -7,7 +7,7 @@ ghost use Rattle.verify_service.specs.RightChains.{AreRightHeld};
 ghost use Rattle.verify_service.specs.RoundRead.{HasAskedOwn, KnownBy, RoundReads, states_from, texts_of};
 ghost use Rattle.verify_service.specs.Screening.{IsReady, is_open};
 
-use crate::fetching::{Fetched, fetch_all};
+use crate::fetching::fetch_all;
 use crate::kept::KeptChains;
 use crate::laws::stored_law;
 use crate::screening::{ReadyCall, Screening, screen_all};
@@ -15,6 +15,7 @@ use crate::storing::store_all;
 use crate::texts::{Texts, gather_calls};
 use crate::worker::Worker;
 use crate::worker_chains::judge_texts;
+use call_judging::Fetched;
 use call_log::Call;
 use cert_store::{Cache, World};
 use std::alloc::{AllocError, Global};

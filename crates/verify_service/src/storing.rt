@@ -1,13 +1,13 @@
 //! Storing the chains of a round's texts: in the cache, or for the round alone.
 ghost use Rattle.std.specs.Prelude.{◌≡◌, ◌≢◌, ◌<◌, ◌%◌, ℕ, None, length, get_or, slice_index_or, OnOk};
 ghost use Rattle.call_judging.specs.Chains.{state_of};
-ghost use Rattle.verify_service.specs.RoundRead.{StoresAll, StoresSome, file_state, states_from};
+ghost use Rattle.call_judging.specs.Fetched.{file_state};
+ghost use Rattle.verify_service.specs.RoundRead.{StoresAll, StoresSome, states_from};
 
-use crate::fetching::Fetched;
 use crate::kept::{KeptChains, store_chain};
 use crate::texts::Texts;
 use crate::worker::Worker;
-use call_judging::ChainStatus;
+use call_judging::Fetched;
 use cert_store::{Cache, Judged};
 use std::alloc::{AllocError, Global};
 
@@ -35,7 +35,7 @@ pub(crate) fn store_all<P, G>(
     'files: for (place, file) in files.iter().enumerate() {
         cache.answered();
         let judged = take_judged(&mut workers[place % count], place);
-        let chain = chain_by(file, judged);
+        let chain = file.status(judged);
         store_chain(alloc, texts.text(place), chain, cache, kept)?;
     }
     Ok(())
@@ -50,20 +50,5 @@ fn take_judged<P, G>(worker: &mut Worker<P, G>, place: usize) -> Option<Judged>
     match worker.judged.get_mut(place) {
         Some(judged) => judged.take(),
         None => None,
-    }
-}
-
-/// What is known of a chain by its file, and what was judged of the bytes.
-fn chain_by(file: &Fetched, judged: Option<Judged>) -> ChainStatus
-    ensures { state_of result ≡ file_state file.now judged }
-{
-    match file {
-        Fetched::Bytes(_) => match judged {
-            Some(judged) => ChainStatus::Judged(judged),
-            None => ChainStatus::Missing,
-        },
-        Fetched::NoChain => ChainStatus::Missing,
-        Fetched::Long => ChainStatus::TooLong,
-        Fetched::Unread => ChainStatus::Unread,
     }
 }

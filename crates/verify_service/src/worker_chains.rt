@@ -2,11 +2,12 @@
 ghost use Rattle.std.specs.Prelude.{◌≡◌, ◌<◌, ◌≤◌, ◌==◌, ◌%◌, ◌+◌, ℕ, [], length, slice_index_or, IfOk, OnOk};
 ghost use Rattle.stir_outside.specs.Stays.{ProviderStays};
 ghost use Rattle.call_judging.specs.Causes.{HasCauseIf};
-ghost use Rattle.verify_service.specs.WorkerChains.{ChainsCounted, CountedUnless, EachOwn, EachOwnUnless, IsChainOf, IsOwn, certificates_in, has_failed};
+ghost use Rattle.call_judging.specs.Fetched.{IsChainOf, certificates_in, has_failed};
+ghost use Rattle.verify_service.specs.WorkerChains.{ChainsCounted, CountedUnless, EachOwn, EachOwnUnless, IsOwn};
 
-use crate::fetching::Fetched;
 use crate::worker::Worker;
-use cert_store::{Judged, World, judge_chain};
+use call_judging::Fetched;
+use cert_store::{Judged, World};
 use std::alloc::{AllocError, Global};
 use std::thread;
 use std::thread::Threads;
@@ -111,27 +112,5 @@ fn judge_file<P: Provider>(
     if !own {
         return Ok(None);
     }
-    match file {
-        Fetched::Bytes(bytes) => judge_bytes(alloc, world, bytes.as_slice(), provider),
-        Fetched::NoChain => Ok(None),
-        Fetched::Long => Ok(None),
-        Fetched::Unread => Ok(None),
-    }
-}
-
-/// Judges the chain that these bytes are.
-fn judge_bytes<P: Provider>(
-    alloc: Global,
-    world: &World,
-    bytes: &[u8],
-    provider: &mut P,
-) -> Result<Option<Judged>, AllocError>
-    ensures judged { IfOk result (IsChainOf world.now (P.says provider.old) bytes.now) }
-    ensures asked { IfOk result (λ chain. P.asks provider.new ≤ P.asks provider.old + certificates_in chain) }
-    ensures failed { IfOk result (λ chain. HasCauseIf (has_failed chain) (P.faults provider.old) (P.faults provider.new)) }
-    ensures asks { P.asks provider.old ≤ P.asks provider.new }
-    ensures provider { ProviderStays P.Provider provider.old provider.new }
-{
-    let judged = judge_chain(alloc, bytes, &world.anchors, &world.table, provider)?;
-    Ok(Some(judged))
+    call_judging::judge_file(alloc, world, file, provider)
 }

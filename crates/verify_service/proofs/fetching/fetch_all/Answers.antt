@@ -2,9 +2,9 @@
 use Rattle.std.proofs.Common.{◌≡◌, ◌+◌, [], ◌∷◌, ◌++◌, List, length, filter, take, ap, sym, ◌∙◌, subst, arith}
 use Rattle.stir_outside.proofs.CountLaws.{go_on}
 use Rattle.verify_service.specs.Causes.{AreCounted}
-use Rattle.verify_service.specs.Fetched.{IsFetched, is_read_file, is_unread_file}
+use Rattle.call_judging.specs.Fetched.{IsFetched, is_read_file, is_unread_file}
 use Rattle.verify_service.specs.Judging.{EachPair}
-use Rattle.verify_service.specs.declared.fetching.Fetched.{Fetched}
+use Rattle.call_judging.specs.declared.fetching.Fetched.{Fetched}
 use Rattle.verify_service.proofs.CountLaws.{counted_more, filter_more}
 use Rattle.verify_service.proofs.FetchedLaws.{fetched_next}
 use Rattle.verify_service.proofs.fetching.fetch_all.Goals as goal

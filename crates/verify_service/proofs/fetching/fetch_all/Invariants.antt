@@ -2,7 +2,7 @@
 use Rattle.std.proofs.Common.{◌≡◌, ◌≤◌, ◌+◌, length, filter, take, vec_len}
 use Rattle.stir_outside.specs.Files.{CountsGoOn}
 use Rattle.verify_service.specs.Causes.{AreCounted}
-use Rattle.verify_service.specs.Fetched.{IsFetched, is_read_file, is_unread_file}
+use Rattle.call_judging.specs.Fetched.{IsFetched, is_read_file, is_unread_file}
 use Rattle.verify_service.specs.Judging.{EachPair}
 use Rattle.verify_service.proofs.fetching.fetch_all.Given as goal
 

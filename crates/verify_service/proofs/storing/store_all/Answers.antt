@@ -2,7 +2,8 @@
 use Rattle.std.proofs.Common.{◌≡◌, ℕ, ◌+◌, ◌<◌, ◌≤◌, ◌%◌, List, Option, None, get_or, length, refl, sym, ap, ◌∙◌, subst, arith, mod-lt}
 use Rattle.cert_store.specs.Holding.{Holding}
 use Rattle.cert_store.specs.Judged.{JudgedView}
-use Rattle.verify_service.specs.RoundRead.{file_state, states_from}
+use Rattle.call_judging.specs.Fetched.{file_state}
+use Rattle.verify_service.specs.RoundRead.{states_from}
 use Rattle.verify_service.specs.declared.worker.Worker.{Worker}
 use Rattle.verify_service.proofs.ItemLaws.{each_item, same_item, set_many}
 use Rattle.verify_service.proofs.StatesLaws.{state_next, states_count}
@@ -34,7 +35,7 @@ files-preserved g c =
           store_next c.args.texts.now (states_from 0 judged c.args.files.now) place c.text.result.now _ (file_state c.index-files-place.result (judged place)) c.args.cache.now c.files.cache
           c.store_chain.new.cache c.args.kept.now c.files.kept c.store_chain.new.kept c.text.ensures
           (state_next judged c.args.files.now place c.index-files-place.result c.index-files-place.result within c.index-files-place.is)
-          (c.chain_by-chain.ensures ∙ ap (file_state c.index-files-place.result) (c.take_judged-judged.ensures.judged ∙ known)) c.answered.ensures.once (c.files.invariant.stored d)
+          (c.status-chain.ensures ∙ ap (file_state c.index-files-place.result) (c.take_judged-judged.ensures.judged ∙ known)) c.answered.ensures.once (c.files.invariant.stored d)
           c.in_ok-store_chain.ensures.stored;
       capacity = one_capacity c.text.result.now _ c.files.cache c.store_chain.new.cache c.files.kept c.store_chain.new.kept c.in_ok-store_chain.ensures.stored ∙ c.files.invariant.capacity;
       others = λ d k less.

@@ -2,7 +2,7 @@
 use Rattle.std.proofs.Common.{◌≤◌, Err, length, ap, arith}
 use Rattle.stir_outside.specs.declared.shelf.ShelfFault.{ShelfFault}
 use Rattle.call_judging.proofs.ReadLaws.{right_judged, right_long, right_missing}
-use Rattle.verify_service.proofs.fetching.fetch_file.Goals as goal
+use Rattle.call_judging.proofs.fetching.fetch_file.Goals as goal
 
 pub returns-in-Ok-clause-fetched : goal.returns-in-Ok-clause-fetched
 returns-in-Ok-clause-fetched g c =
