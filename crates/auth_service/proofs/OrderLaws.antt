@@ -1,32 +1,19 @@
 -- What is promised of what is wanted is promised of the order that it comes from.
-use Rattle.std.proofs.Common.{◌≡◌, refl, ℕ, List, Option, Result, IfOk, IsTrue, sym, subst}
-use Rattle.std.specs.Prelude.{IfErr}
-use Rattle.lists.specs.Given.{Gives}
-use Rattle.auth_service.specs.Answer.{decided}
+use Rattle.std.proofs.Common.{◌≡◌, refl, ℕ, List, Option, Result, IsTrue, sym, subst}
 use Rattle.auth_service.specs.Asking.{IsLeftAlone}
-use Rattle.auth_service.specs.Causes.{IsCaused, IsWithheld}
+use Rattle.auth_service.specs.Causes.{IsWithheld}
 use Rattle.auth_service.specs.Order.{HolderView, IsInForm, OrderView, is_order, shape_of}
 use Rattle.passport_claims.specs.declared.form.Form.{Form}
 use Rattle.passport_claims.specs.declared.form.Form.TheVariants as forms
-use Rattle.auth_service.specs.Outcome.{IsSigned}
 use Rattle.auth_service.specs.Promise.{IsPromised}
-use Rattle.auth_service.specs.Signed.{signed}
 use Rattle.auth_service.specs.declared.fault.SignFault.{SignFault}
 
 pub valid_as : (wanted order : OrderView) → wanted ≡ order → IsTrue (is_order order) → IsTrue (is_order wanted)
 valid_as wanted order same h = subst (λ (x : OrderView). IsTrue (is_order x)) (sym same) h
 
-pub exact_as : {X : Type 0} (seen : X → List ℕ) (bytes : List ℕ) (wanted order : OrderView) (holder : Option HolderView) (signs : List ℕ → List ℕ → Option (List ℕ)) (result : Result X SignFault)
-    → IsPromised seen bytes wanted holder signs result → wanted ≡ order → Gives decided seen result (signed bytes order holder signs)
-exact_as seen bytes wanted order holder signs result p same = subst (λ (x : OrderView). Gives decided seen result (signed bytes x holder signs)) same p.exact
-
-pub signed_as : {X : Type 0} (seen : X → List ℕ) (bytes : List ℕ) (wanted order : OrderView) (holder : Option HolderView) (signs : List ℕ → List ℕ → Option (List ℕ)) (result : Result X SignFault)
-    → IsPromised seen bytes wanted holder signs result → wanted ≡ order → IfOk result (λ out. IsSigned bytes order holder signs (seen out))
-signed_as seen bytes wanted order holder signs result p same = subst (λ (x : OrderView). IfOk result (λ out. IsSigned bytes x holder signs (seen out))) same p.is_signed
-
-pub caused_as : {X : Type 0} (seen : X → List ℕ) (bytes : List ℕ) (wanted order : OrderView) (holder : Option HolderView) (signs : List ℕ → List ℕ → Option (List ℕ)) (result : Result X SignFault)
-    → IsPromised seen bytes wanted holder signs result → wanted ≡ order → IfErr result (λ fault. IsCaused bytes order holder signs fault)
-caused_as seen bytes wanted order holder signs result p same = subst (λ (x : OrderView). IfErr result (λ fault. IsCaused bytes x holder signs fault)) same p.causes
+pub promised_as : {X : Type 0} (seen : X → List ℕ) (bytes : List ℕ) (wanted order : OrderView) (holder : Option HolderView) (signs : List ℕ → List ℕ → Option (List ℕ)) (result : Result X SignFault)
+    → IsPromised seen bytes wanted holder signs result → wanted ≡ order → IsPromised seen bytes order holder signs result
+promised_as seen bytes wanted order holder signs result p same = subst (λ (x : OrderView). IsPromised seen bytes x holder signs result) same p
 
 pub withheld_as : {X : Type 0} (bytes : List ℕ) (wanted order : OrderView) (holder : Option HolderView) (before now : ℕ) (result : Result X SignFault)
     → (IsWithheld bytes wanted holder → IsLeftAlone before now result) → wanted ≡ order → IsWithheld bytes order holder → IsLeftAlone before now result

@@ -1,11 +1,10 @@
 //! Signing a message.
-ghost use Rattle.std.specs.Prelude.{◌≡◌, ◌+◌, ◌≤◌, false, true, Err, IfErr, IfOk, IsTrue};
+ghost use Rattle.std.specs.Prelude.{◌≡◌, Err, IfOk, IsTrue};
 ghost use Rattle.lists.specs.Given.{Gives};
-ghost use Rattle.stir_outside.specs.Count.{Rose};
 ghost use Rattle.stir_outside.specs.Stays.{ProviderStays};
-ghost use Rattle.auth_service.specs.Answer.{names_provider, decided};
-ghost use Rattle.auth_service.specs.Asking.{IsAskedOnce, IsLeftAlone, stand};
-ghost use Rattle.auth_service.specs.Causes.{IsCaused, IsWithheld};
+ghost use Rattle.auth_service.specs.Answer.{decided};
+ghost use Rattle.auth_service.specs.Asking.{IsAskedOnce, IsLeftAlone};
+ghost use Rattle.auth_service.specs.Causes.{IsWithheld};
 ghost use Rattle.auth_service.specs.Order.{IsInForm, divert_order_of, holder_seen, is_order, order_of, wanted_of};
 ghost use Rattle.auth_service.specs.Outcome.{IsSigned};
 ghost use Rattle.auth_service.specs.Promise.{IsPromised};
@@ -29,7 +28,7 @@ use verify_rules::covers_kind_law;
 ///
 /// The faults are tried in the order of [`SignFault`]. The provider is asked at most once, and only if `Form`, `NoNumber` and `Authority` don't come.
 /// `Provider` comes only if its count of faults rose, and `Memory` only if memory ran out.
-#[tactic(auto, using(crate::proofs::OrderLaws::valid_as, crate::proofs::OrderLaws::exact_as, crate::proofs::OrderLaws::signed_as, crate::proofs::OrderLaws::caused_as, crate::proofs::OrderLaws::in_form))]
+#[tactic(auto, using(crate::proofs::OrderLaws::valid_as, crate::proofs::OrderLaws::in_form))]
 pub fn sign<P: Provider>(
     alloc: Global,
     bytes: &[u8],
@@ -39,28 +38,16 @@ pub fn sign<P: Provider>(
 ) -> Result<Vec<u8>, SignFault>
     requires { IsTrue (is_order (order_of order.now)) }
 
-    // The bytes that come out, or the first fault of the four that message, order, holder and key decide.
-    ensures exact { Gives decided (λ out. out.items) result (signed bytes.now (order_of order.now) (holder_seen holder.entry) (P.signs provider.old)) }
-
-    // What was signed: the message with one more field, which is read as the PASSporT of the message's numbers and the key's signature.
-    ensures signed { IfOk result (λ out. IsSigned bytes.now (order_of order.now) (holder_seen holder.entry) (P.signs provider.old) out.items) }
+    // The bytes that come out, or the first fault of the four that message, order, holder and key decide. What was signed: the message with one more
+    // field, which is read as the PASSporT of the message's numbers and the key's signature. And each of these faults in the words of what shows it.
+    ensures promised { IsPromised (λ out. out.items) bytes.now (order_of order.now) (holder_seen holder.entry) (P.signs provider.old) result }
 
     // It is of the form's type, and compact exactly if the form is.
     ensures form { IsInForm order.now.form (order_of order.now).shape }
 
-    // Each of these faults in the words of what shows it.
-    ensures causes { IfErr result (λ fault. IsCaused bytes.now (order_of order.now) (holder_seen holder.entry) (P.signs provider.old) fault) }
-
-    // The provider's failure has its count.
-    ensures failed { names_provider result ≡ true → Rose (P.faults provider.old) (P.faults provider.new) }
-
-    // If one of the first three faults is there, the provider isn't asked, and isn't named.
-    ensures unasked { IsWithheld bytes.now (order_of order.now) (holder_seen holder.entry) → P.asks provider.new ≡ P.asks provider.old }
-    ensures unnamed { IsWithheld bytes.now (order_of order.now) (holder_seen holder.entry) → names_provider result ≡ false }
-
-    // What the call does to the provider.
-    ensures asks { P.asks provider.new ≤ P.asks provider.old + 1 }
-    ensures asks_stay { P.asks provider.old ≤ P.asks provider.new }
+    // The provider is asked at most once, and its failure has its count. If one of the first three faults is there, it isn't asked, and isn't named.
+    ensures asked { IsAskedOnce P.Provider provider.old provider.new result }
+    ensures withheld { IsWithheld bytes.now (order_of order.now) (holder_seen holder.entry) → IsLeftAlone (P.asks provider.old) (P.asks provider.new) result }
     ensures provider { ProviderStays P.Provider provider.old provider.new }
 {
     let wanted = order.wanted();
@@ -71,7 +58,7 @@ pub fn sign<P: Provider>(
 /// from the calling number to that of the request URI, and its diverted number is the order's earlier one. The order is one that
 /// [`is_valid`](DivertOrder::is_valid) takes. The faults are those of [`sign`], with the request URI in place of To; the holder has to
 /// cover the earlier number.
-#[tactic(auto, using(crate::proofs::OrderLaws::valid_as, crate::proofs::OrderLaws::exact_as, crate::proofs::OrderLaws::signed_as, crate::proofs::OrderLaws::caused_as))]
+#[tactic(auto, using(crate::proofs::OrderLaws::valid_as))]
 pub fn divert<P: Provider>(
     alloc: Global,
     bytes: &[u8],
@@ -82,14 +69,9 @@ pub fn divert<P: Provider>(
     requires { IsTrue (is_order (divert_order_of order.now)) }
 
     // What is said of `sign`, by what this order wants.
-    ensures exact { Gives decided (λ out. out.items) result (signed bytes.now (divert_order_of order.now) (holder_seen holder.entry) (P.signs provider.old)) }
-    ensures signed { IfOk result (λ out. IsSigned bytes.now (divert_order_of order.now) (holder_seen holder.entry) (P.signs provider.old) out.items) }
-    ensures causes { IfErr result (λ fault. IsCaused bytes.now (divert_order_of order.now) (holder_seen holder.entry) (P.signs provider.old) fault) }
-    ensures failed { names_provider result ≡ true → Rose (P.faults provider.old) (P.faults provider.new) }
-    ensures unasked { IsWithheld bytes.now (divert_order_of order.now) (holder_seen holder.entry) → P.asks provider.new ≡ P.asks provider.old }
-    ensures unnamed { IsWithheld bytes.now (divert_order_of order.now) (holder_seen holder.entry) → names_provider result ≡ false }
-    ensures asks { P.asks provider.new ≤ P.asks provider.old + 1 }
-    ensures asks_stay { P.asks provider.old ≤ P.asks provider.new }
+    ensures promised { IsPromised (λ out. out.items) bytes.now (divert_order_of order.now) (holder_seen holder.entry) (P.signs provider.old) result }
+    ensures asked { IsAskedOnce P.Provider provider.old provider.new result }
+    ensures withheld { IsWithheld bytes.now (divert_order_of order.now) (holder_seen holder.entry) → IsLeftAlone (P.asks provider.old) (P.asks provider.new) result }
     ensures provider { ProviderStays P.Provider provider.old provider.new }
 {
     let wanted = order.wanted();
@@ -106,8 +88,8 @@ fn sign_wanted<P: Provider>(
 ) -> Result<Vec<u8>, SignFault>
     requires { IsTrue (is_order (wanted_of wanted.now)) }
     ensures promised { IsPromised (λ out. out.items) bytes.now (wanted_of wanted.now) (holder_seen holder.entry) (P.signs provider.old) result }
-    ensures asked { IsAskedOnce (stand (P.says provider.old) (P.signs provider.old) (P.asks provider.old) (P.faults provider.old))
-        (stand (P.says provider.new) (P.signs provider.new) (P.asks provider.new) (P.faults provider.new)) result }
+    ensures asked { IsAskedOnce P.Provider provider.old provider.new result }
+    ensures provider { ProviderStays P.Provider provider.old provider.new }
     ensures withheld { IsWithheld bytes.now (wanted_of wanted.now) (holder_seen holder.entry) → IsLeftAlone (P.asks provider.old) (P.asks provider.new) result }
 {
     head_law();
@@ -128,8 +110,8 @@ fn sign_exactly<P: Provider>(
     requires { IsTrue (is_order (wanted_of wanted.now)) }
     ensures exact { Gives decided (λ out. out.items) result (signed bytes.now (wanted_of wanted.now) (holder_seen holder.entry) (P.signs provider.old)) }
     ensures signed { IfOk result (λ out. IsSigned bytes.now (wanted_of wanted.now) (holder_seen holder.entry) (P.signs provider.old) out.items) }
-    ensures asked { IsAskedOnce (stand (P.says provider.old) (P.signs provider.old) (P.asks provider.old) (P.faults provider.old))
-        (stand (P.says provider.new) (P.signs provider.new) (P.asks provider.new) (P.faults provider.new)) result }
+    ensures asked { IsAskedOnce P.Provider provider.old provider.new result }
+    ensures provider { ProviderStays P.Provider provider.old provider.new }
     ensures withheld { (fault : SignFault) → claims_for bytes.now (wanted_of wanted.now) (holder_seen holder.entry) ≡ Err fault
         → IsLeftAlone (P.asks provider.old) (P.asks provider.new) result }
 {
@@ -149,8 +131,8 @@ fn signature_of<P: Provider>(
     provider: &mut P,
 ) -> Result<[u8; 64], SignFault>
     ensures exact { Gives decided (λ signature. signature) result (signature_of (P.signs provider.old) key.now signing.now) }
-    ensures asked { IsAskedOnce (stand (P.says provider.old) (P.signs provider.old) (P.asks provider.old) (P.faults provider.old))
-        (stand (P.says provider.new) (P.signs provider.new) (P.asks provider.new) (P.faults provider.new)) result }
+    ensures asked { IsAskedOnce P.Provider provider.old provider.new result }
+    ensures provider { ProviderStays P.Provider provider.old provider.new }
 {
     let digest = ticket(signing);
     match provider.sign(key, &digest) {

@@ -3,6 +3,7 @@ use Rattle.std.proofs.Common.{◌≡◌, ℕ, ◌≤◌, true, false, List, leng
 use Rattle.std.specs.Prelude.{IfErr}
 use Rattle.lists.specs.Given.{Gives, IsFaultOf}
 use Rattle.cert_store.specs.Rules.{Says}
+use Rattle.stir_outside.specs.declared.provider.Provider.{Ghosts as ProviderOf}
 use Rattle.sip_message.specs.Message.{MessageView}
 use Rattle.sip_message.specs.Reading.{read}
 use Rattle.sip_message.specs.declared.fault.FormFault.{FormFault}
@@ -10,7 +11,6 @@ use Rattle.verify_rules.specs.Call.{Call, Reading, called_by, facts_of}
 use Rattle.verify_rules.specs.Screened.{ScreenedView}
 use Rattle.verify_rules.specs.States.{State}
 use Rattle.verify_rules.specs.World.{AreRight, First, IsJudgedBy, World}
-use Rattle.auth_service.specs.Asking.{Stand}
 use Rattle.auth_service.specs.Order.{HolderView}
 use Rattle.retarget.specs.Answer.{decided, is_provider}
 use Rattle.retarget.specs.Asking.{IsAskedOnce}
@@ -159,15 +159,8 @@ causes_err laws bytes readings hop holder signs message earlier fault i e =
     ((stopped bytes readings hop message earlier fault i e).caused holder signs)
 
 -- the provider wasn't asked
-pub not_asked : {X : Type 0} (stands_so : Stand) (fault : HopFault) → is_provider fault ≡ false → IsAskedOnce {X = X} stands_so stands_so (Err fault)
-not_asked stands_so fault unnamed = record {
-  failed = λ (h : is_provider fault ≡ true). absurd cc;
-  faults = omega arith;
-  asks = omega arith;
-  asks_stay = omega arith;
-  same_says = refl;
-  same_signs = refl;
-}
+pub not_asked : {P X : Type 0} (provider : ProviderOf P) (now : P) (fault : HopFault) → is_provider fault ≡ false → IsAskedOnce {X = X} provider now now (Err fault)
+not_asked provider now fault unnamed = record { failed = λ (h : is_provider fault ≡ true). absurd cc; asks = omega arith; asks_stay = omega arith }
 
 -- ---- the next hop
 

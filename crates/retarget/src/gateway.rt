@@ -2,7 +2,6 @@
 ghost use Rattle.std.specs.Prelude.{◌≡◌, ◌+◌, ◌≤◌, ℕ, true, length, IfErr, IfOk, IsTrue};
 ghost use Rattle.stir_outside.specs.Count.{Rose};
 ghost use Rattle.stir_outside.specs.Stays.{ProviderStays};
-ghost use Rattle.auth_service.specs.Asking.{stand};
 ghost use Rattle.auth_service.specs.Order.{holder_of};
 ghost use Rattle.retarget.specs.Answer.{names_provider};
 ghost use Rattle.retarget.specs.Asking.{AsksNoMore, IsAskedOnce, IsLeftAlone, IsUnasked};
@@ -105,8 +104,8 @@ fn pass_on<P: Provider>(
     ensures exact { GivesOnward (λ out. out.items) bytes.now screened.now.readings (hop_of hop.now) (holder_of holder.now) (P.signs provider.old) result }
     ensures written { IfOk result (λ out. IsRetargeted bytes.now screened.now.readings (hop_of hop.now) (holder_of holder.now) (P.signs provider.old) out.items) }
     ensures causes { IfErr result (λ fault. CausedOnward bytes.now screened.now.readings (hop_of hop.now) (holder_of holder.now) (P.signs provider.old) fault) }
-    ensures asked { IsAskedOnce (stand (P.says provider.old) (P.signs provider.old) (P.asks provider.old) (P.faults provider.old))
-        (stand (P.says provider.new) (P.signs provider.new) (P.asks provider.new) (P.faults provider.new)) result }
+    ensures asked { IsAskedOnce P.Provider provider.old provider.new result }
+    ensures provider { ProviderStays P.Provider provider.old provider.new }
     ensures withheld { MayNotSign bytes.now screened.now.readings (hop_of hop.now) (holder_of holder.now) → IsLeftAlone (P.asks provider.old) (P.asks provider.new) result }
     ensures passed { IfErr result IsAfterVerdict }
 {

@@ -1,11 +1,11 @@
 //! The message that goes on.
 ghost use Rattle.std.specs.Prelude.{◌≡◌, ◌+◌, ◌≤◌, IfErr, IfOk, IsTrue};
 ghost use Rattle.lists.specs.Given.{Gives};
+ghost use Rattle.stir_outside.specs.Stays.{ProviderStays};
 ghost use Rattle.auth_service.specs.Order.{holder_of};
 ghost use Rattle.sip_message.specs.HeadAlphabet.{is_target};
 ghost use Rattle.retarget.specs.Answer.{decided};
 ghost use Rattle.retarget.specs.Asking.{IsAskedOnce, IsLeftAlone};
-ghost use Rattle.auth_service.specs.Asking.{stand};
 ghost use Rattle.retarget.specs.Hop.{hop_of, is_hop};
 ghost use Rattle.retarget.specs.Written.{CannotSign, IsWritten, Why, written_to};
 
@@ -33,8 +33,8 @@ pub(crate) fn written<P: Provider>(
     ensures exact { Gives decided (λ out. out.items) result (written_to bytes.now earlier (hop_of hop.now) (holder_of holder.now) (P.signs provider.old)) }
     ensures is_written { IfOk result (λ out. IsWritten bytes.now earlier (hop_of hop.now) (holder_of holder.now) (P.signs provider.old) out.items) }
     ensures causes { IfErr result (λ fault. Why bytes.now earlier (hop_of hop.now) (holder_of holder.now) (P.signs provider.old) fault) }
-    ensures asked { IsAskedOnce (stand (P.says provider.old) (P.signs provider.old) (P.asks provider.old) (P.faults provider.old))
-        (stand (P.says provider.new) (P.signs provider.new) (P.asks provider.new) (P.faults provider.new)) result }
+    ensures asked { IsAskedOnce P.Provider provider.old provider.new result }
+    ensures provider { ProviderStays P.Provider provider.old provider.new }
     ensures withheld { CannotSign bytes.now earlier (hop_of hop.now) (holder_of holder.now) → IsLeftAlone (P.asks provider.old) (P.asks provider.new) result }
 {
     let moved = match with_target(alloc, bytes, hop.target) {

@@ -1,12 +1,9 @@
 -- What is signed of a message, from what the authentication service says; and what is told of it.
 use Rattle.std.proofs.Common.{◌≡◌, ℕ, ◌≤◌, ◌==◌, Bool, true, false, List, length, Option, Some, None, Result, Ok, Err, IfErr, IfOk, inl, inr, refl, sym, ◌∙◌, subst, arith, if◌then◌else◌}
 use Rattle.std.proofs.lemmas.Option.{same_Some}
-use Rattle.lists.specs.Given.{Gives}
-use Rattle.auth_service.specs.Answer.{decided, is_provider, names_provider}
-use Rattle.auth_service.specs.Causes.{IsCaused}
+use Rattle.auth_service.specs.Answer.{is_provider, names_provider}
 use Rattle.auth_service.specs.Order.{HolderView, OrderView}
-use Rattle.auth_service.specs.Outcome.{IsSigned}
-use Rattle.auth_service.specs.Signed.{signed}
+use Rattle.auth_service.specs.Promise.{IsPromised}
 use Rattle.auth_service.specs.declared.fault.SignFault.{SignFault}
 use Rattle.auth_service.specs.declared.fault.SignFault.TheVariants as refusals
 use Rattle.stir_outside.specs.Count.{Rose}
@@ -24,24 +21,22 @@ use Rattle.stir_c.proofs.ToldLaws.{faulty_kind, input_kind, numbered}
 -- ---- what the service gives
 
 pub gives_of : {V : Type 0} (items : V → List ℕ) (bytes : List ℕ) (order : OrderView) (holder : HolderView) (made : Option (List ℕ)) (result : Result V SignFault)
-    → Gives decided items result (signed bytes order (Some holder) (signs_of made)) → IfOk result (λ out. IsSigned bytes order (Some holder) (signs_of made) (items out))
-    → IfOk result (λ out. GivesMessage bytes order holder made (items out))
-gives_of items bytes order holder made (Ok out) exact says = record { gives = exact; says = says }
-gives_of items bytes order holder made (Err fault) exact says = tt
+    → IsPromised items bytes order (Some holder) (signs_of made) result → IfOk result (λ out. GivesMessage bytes order holder made (items out))
+gives_of items bytes order holder made (Ok out) p = record { gives = p.exact; says = p.is_signed }
+gives_of items bytes order holder made (Err fault) p = tt
 
 never : Rose 0 0 → ⊥
 never rose = omega (arith, rose (λ e. omega (arith, e)))
 
 pub why_unsigned : {V : Type 0} (items : V → List ℕ) (bytes : List ℕ) (order : OrderView) (holder : HolderView) (made : Option (List ℕ)) (result : Result V SignFault)
-    → Gives decided items result (signed bytes order (Some holder) (signs_of made)) → IfErr result (λ fault. IsCaused bytes order (Some holder) (signs_of made) fault)
-    → IfErr result (λ fault. IsUnsignedBy bytes order holder made (why_of fault))
-why_unsigned items bytes order holder made (Ok out) exact caused = tt
-why_unsigned items bytes order holder made (Err refusals.Form) exact caused = record { fault = refusals.Form; number_is = refl; few = omega arith; comes = record { gives = exact; caused = caused } }
-why_unsigned items bytes order holder made (Err refusals.NoNumber) exact caused = record { fault = refusals.NoNumber; number_is = refl; few = omega arith; comes = record { gives = exact; caused = caused } }
-why_unsigned items bytes order holder made (Err refusals.Authority) exact caused = record { fault = refusals.Authority; number_is = refl; few = omega arith; comes = record { gives = exact; caused = caused } }
-why_unsigned items bytes order holder made (Err (refusals.NoSignature digest)) exact caused = record { gives = exact; caused = caused }
-why_unsigned items bytes order holder made (Err refusals.Provider) exact caused = refl
-why_unsigned items bytes order holder made (Err refusals.Memory) exact caused = refl
+    → IsPromised items bytes order (Some holder) (signs_of made) result → IfErr result (λ fault. IsUnsignedBy bytes order holder made (why_of fault))
+why_unsigned items bytes order holder made (Ok out) p = tt
+why_unsigned items bytes order holder made (Err refusals.Form) p = record { fault = refusals.Form; number_is = refl; few = omega arith; comes = record { gives = p.exact; caused = p.causes } }
+why_unsigned items bytes order holder made (Err refusals.NoNumber) p = record { fault = refusals.NoNumber; number_is = refl; few = omega arith; comes = record { gives = p.exact; caused = p.causes } }
+why_unsigned items bytes order holder made (Err refusals.Authority) p = record { fault = refusals.Authority; number_is = refl; few = omega arith; comes = record { gives = p.exact; caused = p.causes } }
+why_unsigned items bytes order holder made (Err (refusals.NoSignature digest)) p = record { gives = p.exact; caused = p.causes }
+why_unsigned items bytes order holder made (Err refusals.Provider) p = refl
+why_unsigned items bytes order holder made (Err refusals.Memory) p = refl
 
 pub never_fails : {V : Type 0} (result : Result V SignFault) → (names_provider result ≡ true → Rose 0 0) → IfErr result (λ fault. is_provider fault ≡ false)
 never_fails (Ok out) failed = tt

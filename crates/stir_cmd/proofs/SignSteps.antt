@@ -1,18 +1,15 @@
 -- The steps of `sign` and `divert`: what the call gives of bytes is what is answered to them.
 use Rattle.std.proofs.Common.{◌≡◌, ℕ, ◌+◌, ◌≤◌, inl, inr, nat_le, true, List, length, Option, Some, None, Result, Ok, Err, IfErr, IfOk, IsTrue, refl, ◌∙◌, ap, subst, arith}
 use Rattle.std.proofs.lemmas.Bool.Decides.{nat_tests}
-use Rattle.lists.specs.Given.{Gives}
 use Rattle.text_grammar.specs.Moment.{last_second}
 use Rattle.text_grammar.specs.Uri.{is_uri}
 use Rattle.passport_claims.specs.Form.{form_kind}
 use Rattle.passport_claims.specs.Made.{has_origid}
 use Rattle.passport_claims.specs.declared.form.Form.{Form}
 use Rattle.passport_claims.specs.declared.form.Form.TheVariants as forms
-use Rattle.auth_service.specs.Answer.{decided, names_provider}
-use Rattle.auth_service.specs.Causes.{IsCaused}
+use Rattle.auth_service.specs.Answer.{names_provider}
 use Rattle.auth_service.specs.Order.{HolderView, OrderView, is_order, kind_of, shape_of}
-use Rattle.auth_service.specs.Outcome.{IsSigned}
-use Rattle.auth_service.specs.Signed.{signed}
+use Rattle.auth_service.specs.Promise.{IsPromised}
 use Rattle.auth_service.specs.declared.fault.SignFault.{SignFault}
 use Rattle.auth_service.specs.declared.fault.SignFault.TheVariants as faults
 use Rattle.stir_files.specs.Named.{NamedFile}
@@ -38,24 +35,22 @@ Signs = List ℕ → List ℕ → Option (List ℕ)
 -- ---- what the call gives
 
 pub gives_of : {V : Type 0} (items : V → List ℕ) (order : OrderView) (holder : Option HolderView) (signs : Signs) (bytes : List ℕ) (result : Result V SignFault)
-    → Gives decided items result (signed bytes order holder signs) → IfOk result (λ out. IsSigned bytes order holder signs (items out))
-    → IfOk result (λ out. GivesMessage order holder signs bytes (items out))
-gives_of items order holder signs bytes (Ok out) exact says = record { gives = exact; says = says }
-gives_of items order holder signs bytes (Err why) exact says = tt
+    → IsPromised items bytes order holder signs result → IfOk result (λ out. GivesMessage order holder signs bytes (items out))
+gives_of items order holder signs bytes (Ok out) p = record { gives = p.exact; says = p.is_signed }
+gives_of items order holder signs bytes (Err why) p = tt
 
 never : Rose 0 0 → ⊥
 never rose = omega (arith, rose (λ e. omega (arith, e)))
 
 pub refuses_of : {V : Type 0} (items : V → List ℕ) (order : OrderView) (holder : Option HolderView) (signs : Signs) (bytes : List ℕ) (result : Result V SignFault)
-    → Gives decided items result (signed bytes order holder signs) → IfErr result (λ why. IsCaused bytes order holder signs why) → (names_provider result ≡ true → Rose 0 0)
-    → IfErr result (GivesWhy order holder signs bytes)
-refuses_of items order holder signs bytes (Ok out) exact caused failed = tt
-refuses_of items order holder signs bytes (Err faults.Form) exact caused failed = record { decided = refl; gives = exact; caused = caused }
-refuses_of items order holder signs bytes (Err faults.NoNumber) exact caused failed = record { decided = refl; gives = exact; caused = caused }
-refuses_of items order holder signs bytes (Err faults.Authority) exact caused failed = record { decided = refl; gives = exact; caused = caused }
-refuses_of items order holder signs bytes (Err (faults.NoSignature digest)) exact caused failed = record { decided = refl; gives = exact; caused = caused }
-refuses_of items order holder signs bytes (Err faults.Provider) exact caused failed = absurd (never (failed refl))
-refuses_of items order holder signs bytes (Err faults.Memory) exact caused failed = tt
+    → IsPromised items bytes order holder signs result → (names_provider result ≡ true → Rose 0 0) → IfErr result (GivesWhy order holder signs bytes)
+refuses_of items order holder signs bytes (Ok out) p failed = tt
+refuses_of items order holder signs bytes (Err faults.Form) p failed = record { decided = refl; gives = p.exact; caused = p.causes }
+refuses_of items order holder signs bytes (Err faults.NoNumber) p failed = record { decided = refl; gives = p.exact; caused = p.causes }
+refuses_of items order holder signs bytes (Err faults.Authority) p failed = record { decided = refl; gives = p.exact; caused = p.causes }
+refuses_of items order holder signs bytes (Err (faults.NoSignature digest)) p failed = record { decided = refl; gives = p.exact; caused = p.causes }
+refuses_of items order holder signs bytes (Err faults.Provider) p failed = absurd (never (failed refl))
+refuses_of items order holder signs bytes (Err faults.Memory) p failed = tt
 
 pub has_line : (order : OrderView) (holder : Option HolderView) (signs : Signs) (bytes : List ℕ) (why : SignFault) → GivesWhy order holder signs bytes why → HasLine why
 has_line order holder signs bytes faults.Form h = tt

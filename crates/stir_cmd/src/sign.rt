@@ -1,12 +1,9 @@
 //! The commands `sign` and `divert`: a message with one more Identity header field (RFC 8224, section 4.1; RFC 8946, section 4.1).
 ghost use Rattle.std.specs.Prelude.{unwrap_or, ◌≡◌, ◌≤◌, [], true, is_some, length, string_bytes, IfErr, IfOk, IsTrue};
 ghost use Rattle.std.specs.Option.{option_map};
-ghost use Rattle.lists.specs.Given.{Gives};
-ghost use Rattle.auth_service.specs.Answer.{decided, names_provider};
-ghost use Rattle.auth_service.specs.Causes.{IsCaused};
+ghost use Rattle.auth_service.specs.Answer.{names_provider};
 ghost use Rattle.auth_service.specs.Order.{holder_seen, is_order};
-ghost use Rattle.auth_service.specs.Outcome.{IsSigned};
-ghost use Rattle.auth_service.specs.Signed.{signed};
+ghost use Rattle.auth_service.specs.Promise.{IsPromised};
 ghost use Rattle.stir_outside.specs.Count.{Rose};
 ghost use Rattle.stir_outside.specs.Held.{held_signs};
 ghost use Rattle.stir_outside.specs.Status.{status_number};
@@ -77,9 +74,7 @@ impl<'a> SignerCommand<'a> {
         provider: &mut SteadyProvider<'_>,
     ) -> Result<Vec<u8>, SignFault>
         requires { IsTrue (is_order (command_of self.now).order) }
-        ensures exact { Gives decided (λ out. out.items) result (signed bytes.now (command_of self.now).order (holder_seen holder.entry) (held_signs provider.old.held)) }
-        ensures signed { IfOk result (λ out. IsSigned bytes.now (command_of self.now).order (holder_seen holder.entry) (held_signs provider.old.held) out.items) }
-        ensures causes { IfErr result (λ fault. IsCaused bytes.now (command_of self.now).order (holder_seen holder.entry) (held_signs provider.old.held) fault) }
+        ensures promised { IsPromised (λ out. out.items) bytes.now (command_of self.now).order (holder_seen holder.entry) (held_signs provider.old.held) result }
         ensures failed { names_provider result ≡ true → Rose 0 0 }
     {
         match self {

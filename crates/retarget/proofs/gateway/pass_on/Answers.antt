@@ -43,7 +43,7 @@ returns-clause-causes g c =
 pub returns-clause-asked : goal.returns-clause-asked
 returns-clause-asked g c =
     let read : IsRead c.args.bytes.now c.args.screened.now.readings (hop_of c.args.hop.now) c.in-Ok.message c.in-Some.earlier = (record { is_read = c.in-Ok.ensures.exact; called = sym c.in-Some.ensures.called; some = c.in-Some.ensures.some }) in
-    not_asked _ c.in-Err-onward.fault (stopped _ _ _ _ _ c.in-Err-onward.fault read c.in-Err-onward.ensures).unnamed
+    not_asked g.P.Provider _ c.in-Err-onward.fault (stopped _ _ _ _ _ c.in-Err-onward.fault read c.in-Err-onward.ensures).unnamed
 
 pub returns-clause-withheld : goal.returns-clause-withheld
 returns-clause-withheld g c =

@@ -5,4 +5,4 @@ use Rattle.stir_c.proofs.signing.sign_once.Goals as goal
 
 pub returns-clause-unsigned : goal.returns-clause-unsigned
 returns-clause-unsigned c =
-    why_unsigned _ c.args.bytes.now (order_of c.args.order.now) (holder_of c.args.holder.now) c.args.made c.sign.result c.sign.ensures.exact c.sign.ensures.causes
+    why_unsigned _ c.args.bytes.now (order_of c.args.order.now) (holder_of c.args.holder.now) c.args.made c.sign.result c.sign.ensures.promised
