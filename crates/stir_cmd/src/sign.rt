@@ -40,8 +40,8 @@ impl<'a> SignerCommand<'a> {
         ensures { result.now ≡ (command_of self.now).order.key }
     {
         match self {
-            SignerCommand::Sign(signing) => signing.key,
-            SignerCommand::Divert(diverting) => diverting.key,
+            SignerCommand::Sign(signing) => signing.signer.key,
+            SignerCommand::Divert(diverting) => diverting.signer.key,
         }
     }
 
@@ -50,8 +50,8 @@ impl<'a> SignerCommand<'a> {
         ensures { result.now ≡ (command_of self.now).answers }
     {
         match self {
-            SignerCommand::Sign(signing) => signing.answers,
-            SignerCommand::Divert(diverting) => diverting.answers,
+            SignerCommand::Sign(signing) => signing.signer.answers,
+            SignerCommand::Divert(diverting) => diverting.signer.answers,
         }
     }
 
@@ -60,8 +60,8 @@ impl<'a> SignerCommand<'a> {
         ensures { option_map holder_view result ≡ (command_of self.now).holder }
     {
         match self {
-            SignerCommand::Sign(signing) => signing.holder,
-            SignerCommand::Divert(diverting) => diverting.holder,
+            SignerCommand::Sign(signing) => signing.signer.holder,
+            SignerCommand::Divert(diverting) => diverting.signer.holder,
         }
     }
 
@@ -81,20 +81,20 @@ impl<'a> SignerCommand<'a> {
             SignerCommand::Sign(signing) => {
                 let order = SignOrder {
                     form: signing.form,
-                    key: signing.key.as_bytes(),
-                    x5u: signing.x5u.as_bytes(),
-                    iat: signing.iat,
-                    local: signing.local,
+                    key: signing.signer.key.as_bytes(),
+                    x5u: signing.signer.x5u.as_bytes(),
+                    iat: signing.signer.iat,
+                    local: signing.signer.local,
                 };
                 sign(alloc, bytes, &order, holder, provider)
             }
             SignerCommand::Divert(diverting) => {
                 let order = DivertOrder {
                     earlier: diverting.earlier,
-                    key: diverting.key.as_bytes(),
-                    x5u: diverting.x5u.as_bytes(),
-                    iat: diverting.iat,
-                    local: diverting.local,
+                    key: diverting.signer.key.as_bytes(),
+                    x5u: diverting.signer.x5u.as_bytes(),
+                    iat: diverting.signer.iat,
+                    local: diverting.signer.local,
                 };
                 divert(alloc, bytes, &order, holder, provider)
             }

@@ -72,23 +72,23 @@ signer_view signer = record {
 abbrev pub signing_view : Signing → SigningView
 signing_view signing = record {
   form = signing.form;
-  key = signing.key.now;
-  x5u = signing.x5u.now;
-  iat = signing.iat;
-  local = signing.local;
-  answers = signing.answers.now;
-  holder = option_map holder_view signing.holder;
+  key = signing.signer.key.now;
+  x5u = signing.signer.x5u.now;
+  iat = signing.signer.iat;
+  local = signing.signer.local;
+  answers = signing.signer.answers.now;
+  holder = option_map holder_view signing.signer.holder;
 }
 
 abbrev pub diverting_view : Diverting → DivertingView
 diverting_view diverting = record {
   earlier = diverting.earlier;
-  key = diverting.key.now;
-  x5u = diverting.x5u.now;
-  iat = diverting.iat;
-  local = diverting.local;
-  answers = diverting.answers.now;
-  holder = option_map holder_view diverting.holder;
+  key = diverting.signer.key.now;
+  x5u = diverting.signer.x5u.now;
+  iat = diverting.signer.iat;
+  local = diverting.signer.local;
+  answers = diverting.signer.answers.now;
+  holder = option_map holder_view diverting.signer.holder;
 }
 
 abbrev pub retargeting_view : Retargeting → RetargetingView

@@ -43,5 +43,5 @@ pub use fault::WordsFault;
 pub use order::{Asking, Judging, Order};
 pub use retargeting::Retargeting;
 pub use settings::Settings;
-pub use signing::{Diverting, HolderFiles, Signing};
+pub use signing::{Diverting, HolderFiles, Signer, Signing};
 pub use verifying::Verifying;

@@ -19,11 +19,9 @@ pub struct HolderFiles<'a> {
     pub table: &'a str,
 }
 
-/// What is to be signed of a call, and how.
+/// By which key it is signed, when, and for whom.
 #[derive(Clone, Copy, Debug)]
-pub struct Signing<'a> {
-    /// The form of the PASSporT.
-    pub form: Form,
+pub struct Signer<'a> {
     /// The name by which the provider of signatures knows the key: 1 to 64 bytes of visible ASCII other than `;`, `,`, `"`, `<`, `>` and
     /// backslash.
     pub key: &'a str,
@@ -39,34 +37,20 @@ pub struct Signing<'a> {
     pub holder: Option<HolderFiles<'a>>,
 }
 
+/// What is to be signed of a call, and how.
+#[derive(Clone, Copy, Debug)]
+pub struct Signing<'a> {
+    /// The form of the PASSporT.
+    pub form: Form,
+    pub signer: Signer<'a>,
+}
+
 /// How the diversion of a call is to be signed.
 #[derive(Clone, Copy, Debug)]
 pub struct Diverting<'a> {
     /// The number that was called before the diversion.
     pub earlier: Number,
-    /// The name by which the provider of signatures knows the key, as in [`Signing`].
-    pub key: &'a str,
-    /// The URI of the key's certificates, as in [`Signing`].
-    pub x5u: &'a str,
-    /// When it is signed, in Unix seconds, at most 253,402,300,799.
-    pub iat: u64,
-    /// How numbers without `+` are read.
-    pub local: Local,
-    /// The name of the file with the answers of the provider of signatures.
-    pub answers: &'a str,
-    /// Whose key it is, if that is looked at.
-    pub holder: Option<HolderFiles<'a>>,
-}
-
-/// What both have in common.
-#[derive(Clone, Copy, Debug)]
-pub(crate) struct Signer<'a> {
-    pub(crate) key: &'a str,
-    pub(crate) x5u: &'a str,
-    pub(crate) iat: u64,
-    pub(crate) local: Local,
-    pub(crate) answers: &'a str,
-    pub(crate) holder: Option<HolderFiles<'a>>,
+    pub signer: Signer<'a>,
 }
 
 /// What is to be signed of a call.
@@ -79,15 +63,7 @@ pub(crate) fn signing_of<'a>(given: &ArgMatches<'a>) -> Option<Signing<'a>>
     let Some(signer) = signer_of(given) else {
         return None;
     };
-    Some(Signing {
-        form,
-        key: signer.key,
-        x5u: signer.x5u,
-        iat: signer.iat,
-        local: signer.local,
-        answers: signer.answers,
-        holder: signer.holder,
-    })
+    Some(Signing { form, signer })
 }
 
 /// How a diversion is to be signed.
@@ -100,15 +76,7 @@ pub(crate) fn diverting_of<'a>(given: &ArgMatches<'a>) -> Option<Diverting<'a>>
     let Some(signer) = signer_of(given) else {
         return None;
     };
-    Some(Diverting {
-        earlier,
-        key: signer.key,
-        x5u: signer.x5u,
-        iat: signer.iat,
-        local: signer.local,
-        answers: signer.answers,
-        holder: signer.holder,
-    })
+    Some(Diverting { earlier, signer })
 }
 
 /// The key, when it signs, and for whom.

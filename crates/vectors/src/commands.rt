@@ -6,7 +6,7 @@ use stir_files::read_materials;
 use stir_outside::ShelfMem;
 use stir_words::{
     Asking, Claiming, Diverting, Drilling, HolderFiles, Judging, Order, Retargeting, Settings,
-    Signing, Verifying, WordsFault,
+    Signer, Signing, Verifying, WordsFault,
 };
 use vector_table::{Answer, Unread, files_of, numbers_of, put_local, text, word};
 
@@ -89,26 +89,24 @@ fn put_settings(answer: Answer, settings: &Settings) -> Answer {
     )
 }
 
-/// Puts what is to be signed of a call after other words. These are the form, with the attestation and the identifier if it has them,
-/// the key, the URI, the second, the local numbering, and the files of the answers and of the holder.
+/// Puts what is to be signed of a call after other words. This is the form, with the attestation and the identifier if it has them, and then by which key.
 fn put_signing(answer: Answer, signing: &Signing<'_>) -> Answer {
-    let answer = put_form(answer, &signing.form)
-        .text(signing.key.as_bytes())
-        .text(signing.x5u.as_bytes())
-        .word(signing.iat);
-    let answer = put_local(answer, &signing.local).text(signing.answers.as_bytes());
-    put_holder(answer, &signing.holder)
+    put_signer(put_form(answer, &signing.form), &signing.signer)
 }
 
-/// Puts how a diversion is to be signed after other words: the earlier number, and the others as above.
+/// Puts how a diversion is to be signed after other words: the earlier number, and then by which key.
 fn put_diverting(answer: Answer, diverting: &Diverting<'_>) -> Answer {
+    put_signer(answer.word(diverting.earlier), &diverting.signer)
+}
+
+/// Puts the key, the URI, the second, the local numbering, and the files of the answers and of the holder after other words.
+fn put_signer(answer: Answer, signer: &Signer<'_>) -> Answer {
     let answer = answer
-        .word(diverting.earlier)
-        .text(diverting.key.as_bytes())
-        .text(diverting.x5u.as_bytes())
-        .word(diverting.iat);
-    let answer = put_local(answer, &diverting.local).text(diverting.answers.as_bytes());
-    put_holder(answer, &diverting.holder)
+        .text(signer.key.as_bytes())
+        .text(signer.x5u.as_bytes())
+        .word(signer.iat);
+    let answer = put_local(answer, &signer.local).text(signer.answers.as_bytes());
+    put_holder(answer, &signer.holder)
 }
 
 /// Puts by what a call is judged after other words, then how its diversion is signed, where it goes on, the file of the certificate, and the moment.
