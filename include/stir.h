@@ -16,7 +16,7 @@
  *
  * What is proved, and of what, is in docs/PROVED.md. Not proved, but so by the way the library is made, is what this page says of:
  * - malloc and threads: that nothing is kept, and that any number of threads may be inside;
- * - the order in which bad inputs are looked at (that of stir_withheld is proved), and the fields that are 0;
+ * - that stir_signed looks at the signature before its other inputs, and the fields that are 0;
  * - what is enough: which trust anchors and which lines of a code table a call needs, and how much room.
  *
  * A program is linked with libstir_c.a and then with liblibc_c.a of the Rattle kit.

@@ -5,6 +5,7 @@ pub mod LineLaws
 pub mod ChainsLaws
 pub mod AskedLaws
 pub mod HandingLaws
+pub mod FirstLaws
 pub mod ToldLaws
 pub mod ExplainingLaws
 pub mod ClaimsLaws

@@ -1,5 +1,5 @@
 -- What is signed of a message, from what the authentication service says; and what is told of it.
-use Rattle.std.proofs.Common.{◌≡◌, ℕ, ◌≤◌, ◌==◌, Bool, true, false, List, length, Option, Some, None, Result, Ok, Err, IfErr, IfOk, inl, inr, refl, sym, ◌∙◌, subst, arith, if◌then◌else◌}
+use Rattle.std.proofs.Common.{◌≡◌, ℕ, ◌≤◌, ◌==◌, Bool, true, false, List, length, Option, Some, None, Result, Ok, Err, IfErr, IfOk, inl, inr, refl, sym, ◌∙◌, ap, subst, arith, if◌then◌else◌}
 use Rattle.std.proofs.lemmas.Option.{same_Some}
 use Rattle.auth_service.specs.Answer.{is_provider, names_provider}
 use Rattle.auth_service.specs.Order.{HolderView, OrderView}
@@ -7,15 +7,17 @@ use Rattle.auth_service.specs.Promise.{IsPromised}
 use Rattle.auth_service.specs.declared.fault.SignFault.{SignFault}
 use Rattle.auth_service.specs.declared.fault.SignFault.TheVariants as refusals
 use Rattle.stir_outside.specs.Count.{Rose}
-use Rattle.stir_c.specs.Order.{HandedOrder, IsOrderFaulty, IsOrderRead}
-use Rattle.stir_c.specs.Signing.{GivesMessage, HasFaultWith, HasNoRoomForMessage, HasOrderFault, IsSignedBy, IsToSign, IsUnsignedBy, IsUnsignedFor, IsUnsignedWith, IsWithheldFor, SignedInto, ToldSigned, said_of_unsigned, signature_in, signs_of, why_of}
+use Rattle.stir_c.specs.Order.{HandedOrder, HasOrderFault, IsOrderFaulty, IsOrderRead}
+use Rattle.stir_c.specs.Signing.{GivesMessage, HasFaultWith, HasNoRoomForMessage, IsFaultyWith, IsSignedBy, IsToSign, IsUnsignedBy, IsUnsignedFor, IsUnsignedWith, IsWithheldFor, SignedInto, ToldSigned, said_of_unsigned, signature_in, signs_of, why_of}
 use Rattle.stir_c.specs.Told.{input_of, said_by_input}
+use Rattle.stir_c.specs.declared.inputs.Fault.{Fault}
 use Rattle.stir_c.specs.declared.inputs.Fault.TheVariants as faults
 use Rattle.stir_c.specs.declared.said.Said.{Said}
 use Rattle.stir_c.specs.declared.signing.Unsigned.{Unsigned}
 use Rattle.stir_c.specs.declared.signing.Unsigned.TheVariants as unsigned
 use Rattle.stir_c.specs.declared.writing.Text.{Text}
 use Rattle.stir_c.proofs.TextLaws.{high_unwritten, no_middle, text_into, text_kinds, text_more}
+use Rattle.stir_c.proofs.OrderLaws.{has_order_fault}
 use Rattle.stir_c.proofs.ToldLaws.{faulty_kind, input_kind, numbered}
 
 -- ---- what the service gives
@@ -142,7 +144,7 @@ withheld_told given made came said is by one =
 
 fault_as : (given : HandedOrder) (made : Option (List ℕ)) (came : Unsigned) → IsUnsignedFor given made came → (said_of_unsigned came).kind ≡ 2
     → HasOrderFault given (said_of_unsigned came).input
-fault_as given made (unsigned.Input fault) by is = record { fault = fault; number = numbered (input_of fault) is; cause = by }
+fault_as given made (unsigned.Input fault) by is = has_order_fault given fault _ (numbered (input_of fault) is) by
 fault_as given made (unsigned.Withheld number) by is = absurd (omega arith)
 fault_as given made (unsigned.Digest digest) by is = absurd (omega arith)
 
@@ -192,9 +194,13 @@ message_withheld given signature (Ok text) before now said why so one =
 message_withheld given signature (Err came) before now said why so one =
     subst (λ (s : Said). IsWithheldFor given (Some signature) s.rule) (sym so.told_is) (with_withheld given signature came why (subst (λ (s : Said). s.kind ≡ 1) so.told_is one))
 
+fault_with : (given : HandedOrder) (signature : List ℕ) (fault : Fault) (input : ℕ) → input_of fault ≡ Some input → IsFaultyWith given signature fault → HasFaultWith given signature input
+fault_with given signature fault input number (inl cause) = inr (has_order_fault given fault input number cause)
+fault_with given signature fault input number (inr (is, short)) = inl (same_Some input 9 (sym number ∙ ap input_of is), short)
+
 with_fault : (given : HandedOrder) (signature : List ℕ) (came : Unsigned) → IsUnsignedWith given signature came → (said_of_unsigned came).kind ≡ 2
     → HasFaultWith given signature (said_of_unsigned came).input
-with_fault given signature (unsigned.Input fault) by is = record { fault = fault; number = numbered (input_of fault) is; cause = by }
+with_fault given signature (unsigned.Input fault) by is = fault_with given signature fault _ (numbered (input_of fault) is) by
 with_fault given signature (unsigned.Withheld number) by is = absurd (omega arith)
 with_fault given signature (unsigned.Digest digest) by is = absurd by
 

@@ -5,8 +5,8 @@ use Rattle.verify_rules.specs.Call.{Call}
 use Rattle.verify_rules.specs.World.{World}
 use Rattle.stir_c.specs.Found.{IsFound}
 use Rattle.stir_c.specs.Handing.{AskedOf, FoundBy}
-use Rattle.stir_c.specs.Inputs.{Handed, IsFaulty}
-use Rattle.stir_c.specs.Told.{AskedInto, HasFault, HasNoRoom, JudgedBy, Tells, input_of, said_by_input, said_for, said_of, told}
+use Rattle.stir_c.specs.Inputs.{Handed, HasFault, IsFaulty}
+use Rattle.stir_c.specs.Told.{AskedInto, HasNoRoom, IsFirst, JudgedBy, Tells, input_of, said_by_input, said_for, said_of, told}
 use Rattle.stir_c.specs.Written.{HasWritten}
 use Rattle.stir_c.specs.Telling.{ToldFor}
 use Rattle.stir_c.specs.declared.asking.Asked.{Asked}
@@ -14,6 +14,7 @@ use Rattle.stir_c.specs.declared.found.Found.{Found}
 use Rattle.stir_c.specs.declared.found.Found.TheVariants.{Refused, Passes}
 use Rattle.stir_c.specs.declared.inputs.Fault.{Fault}
 use Rattle.stir_c.specs.declared.said.Said.{Said}
+use Rattle.stir_c.proofs.FirstLaws.{has_fault}
 
 tells : (world : World) (call : Call) (found : Found) (size : ℕ) → IsFound world call found → Tells world call (said_of found size)
 tells world call (Refused refused) size is = record { passes = λ (e : 1 ≡ 0). absurd (omega arith); breaks = λ e. record { first = is; code_is = refl } }
@@ -59,14 +60,15 @@ pub judged_by : (given : Handed) (answers : List ℕ) (came : Result Found Fault
 judged_by given answers came said is by low =
     subst (JudgedBy given answers) (sym is) (judged_as given answers came by (subst (λ (s : Said). s.kind ≤ 1) is low))
 
-fault_as : (given : Handed) (answers : List ℕ) (came : Result Found Fault) → IfErr came (IsFaulty given answers) → (said_for came).kind ≡ 2 → HasFault given answers (said_for came).input
-fault_as given answers (Ok found) faulty is = absurd (not_bad found 0 is)
-fault_as given answers (Err fault) faulty is = record { fault = fault; number = numbered (input_of fault) is; cause = faulty }
+fault_as : (given : Handed) (answers : List ℕ) (came : Result Found Fault) → IfErr came (IsFaulty given answers) → IfErr came (IsFirst given) → (said_for came).kind ≡ 2
+    → HasFault given answers (said_for came).input
+fault_as given answers (Ok found) faulty first is = absurd (not_bad found 0 is)
+fault_as given answers (Err fault) faulty first is = let number = numbered (input_of fault) is in has_fault given answers fault _ number faulty (first _ number)
 
-pub faulty_by : (given : Handed) (answers : List ℕ) (came : Result Found Fault) (said : Said) → said ≡ said_for came → IfErr came (IsFaulty given answers) → said.kind ≡ 2
-    → HasFault given answers said.input
-faulty_by given answers came said is faulty bad =
-    subst (λ (s : Said). HasFault given answers s.input) (sym is) (fault_as given answers came faulty (subst (λ (s : Said). s.kind ≡ 2) is bad))
+pub faulty_by : (given : Handed) (answers : List ℕ) (came : Result Found Fault) (said : Said) → said ≡ said_for came → IfErr came (IsFaulty given answers) → IfErr came (IsFirst given)
+    → said.kind ≡ 2 → HasFault given answers said.input
+faulty_by given answers came said is faulty first bad =
+    subst (λ (s : Said). HasFault given answers s.input) (sym is) (fault_as given answers came faulty first (subst (λ (s : Said). s.kind ≡ 2) is bad))
 
 kind_as : (came : Result Found Fault) → (said_for came).kind ≤ 3
 kind_as (Ok found) = found_kind found 0
@@ -151,13 +153,13 @@ pub kinds_told : (came : Result Asked Fault) (before now : List ℕ) (said : Sai
 kinds_told (Ok asked) before now said so = subst (λ (s : Said). s.kind ≤ 4) (sym so.told_is) (told_kind asked.found (length asked.lines.items) so.written)
 kinds_told (Err fault) before now said so = subst (λ (s : Said). s.kind ≤ 4) (sym so.told_is) (let low = input_kind (input_of fault) in omega (arith, low))
 
-pub fault_told : (given : Handed) (answers : List ℕ) (came : Result Asked Fault) (before now : List ℕ) (said : Said) → IfErr came (IsFaulty given answers) → ToldFor came before now said
-    → said.kind ≡ 2 → HasFault given answers said.input
-fault_told given answers (Ok asked) before now said faulty so is =
+pub fault_told : (given : Handed) (answers : List ℕ) (came : Result Asked Fault) (before now : List ℕ) (said : Said) → IfErr came (IsFaulty given answers) → IfErr came (IsFirst given)
+    → ToldFor came before now said → said.kind ≡ 2 → HasFault given answers said.input
+fault_told given answers (Ok asked) before now said faulty first so is =
     absurd (told_good asked.found (length asked.lines.items) so.written (subst (λ (s : Said). s.kind ≡ 2) so.told_is is))
-fault_told given answers (Err fault) before now said faulty so is =
-    subst (λ (s : Said). HasFault given answers s.input) (sym so.told_is)
-    (record { fault = fault; number = numbered (input_of fault) (subst (λ (s : Said). s.kind ≡ 2) so.told_is is); cause = faulty })
+fault_told given answers (Err fault) before now said faulty first so is =
+    let number = numbered (input_of fault) (subst (λ (s : Said). s.kind ≡ 2) so.told_is is) in
+    subst (λ (s : Said). HasFault given answers s.input) (sym so.told_is) (has_fault given answers fault _ number faulty (first _ number))
 
 pub was_told : (came : Result Asked Fault) (before now : List ℕ) (said : Said) → ToldFor came before now said → 2 ≤ said.kind → now ≡ before
 was_told (Ok asked) before now said so high =

@@ -1,9 +1,11 @@
 -- What is handed in to be judged, as bytes, and what it is read as.
 use Rattle.std.specs.Prelude.{◌≡◌, ⊤, ◌⊎◌, ℕ, ◌<◌, ◌≤◌, List, Some, None, length}
 use Rattle.cert_store.specs.ChainMap.{FirstBad as BadMap, MapOf}
+use Rattle.cert_store.specs.Files.{Files}
 use Rattle.cert_store.specs.Rules.{Says}
 use Rattle.cert_store.specs.declared.world.World.{World as Materials}
 use Rattle.delegation.specs.Anchors.{AnchorText, EndsAt}
+use Rattle.delegation.specs.Coverage.{Table}
 use Rattle.stir_outside.specs.AnswersText.{FirstBad as BadAnswers}
 use Rattle.tn_auth_list.specs.CodeTable.{FirstBad as BadTable}
 use Rattle.tn_auth_list.specs.Grant.{TableOf}
@@ -11,6 +13,7 @@ use Rattle.tn_values.specs.Local.{local_of}
 use Rattle.verify_rules.specs.Call.{Call, call_of}
 use Rattle.verify_rules.specs.World.{World}
 use Rattle.verify_rules.specs.declared.settings.Settings.{Settings}
+use Rattle.x509_profile.specs.View.{CertView}
 use Rattle.call_judging.specs.Chains.{world_by}
 use Rattle.stir_c.specs.Files.{files_of}
 use Rattle.stir_c.specs.declared.inputs.Inputs.{Inputs}
@@ -103,3 +106,43 @@ IsFaulty given answers faults.Signature = ⊥
 IsFaulty given answers faults.Order = ⊥
 IsFaulty given answers faults.Certificate = ⊥
 IsFaulty given answers faults.Memory = ⊤
+
+-- ---- in which order they are looked at
+
+-- there are such settings, such a chain map, such trust anchors, and such a code table
+pub record HasSettings (given : Handed) : Type 0 where
+  pub settings : Settings
+  pub set : AreSettings given.past given.future given.country given.national settings
+
+pub record HasMap (given : Handed) : Type 0 where
+  pub files : Files
+  pub read : MapOf given.listed files
+
+pub record HasAnchors (given : Handed) : Type 0 where
+  pub certificates : List CertView
+  pub read : AnchorText given.anchors certificates
+
+pub record HasTable (given : Handed) : Type 0 where
+  pub codes : Table
+  pub read : TableOf given.table codes
+
+-- Those that are looked at before the input of this number are within their grammars and their limits.
+pub record ReadBefore (given : Handed) (input : ℕ) : Type 0 where
+  pub settings : 2 ≤ input → HasSettings given
+  pub listed : 3 ≤ input → HasMap given
+  pub chains : 4 ≤ input → length given.sizes ≤ 9
+  pub anchors : 5 ≤ input → HasAnchors given
+  pub table : 6 ≤ input → HasTable given
+
+-- An input of this number is outside its grammar or its limits: 1 the settings, 2 the chain map, 3 the chains, 4 the trust anchors, 5 the code table, 6
+-- the answers. Those that are looked at before it aren't.
+pub record HasFault (given : Handed) (answers : List ℕ) (input : ℕ) : Type 0 where
+  pub least : 1 ≤ input
+  pub most : input ≤ 6
+  pub settings : input ≡ 1 → AreNoSettings given.past given.future given.country given.national
+  pub listed : input ≡ 2 → IsBadText 16777216 BadMap given.listed
+  pub chains : input ≡ 3 → 9 < length given.sizes
+  pub anchors : input ≡ 4 → AreNoAnchors given.anchors
+  pub table : input ≡ 5 → IsBadText 16777216 BadTable given.table
+  pub answers_are : input ≡ 6 → IsBadText 67108864 BadAnswers answers
+  pub before : ReadBefore given input

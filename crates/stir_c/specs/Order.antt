@@ -1,5 +1,6 @@
 -- What is handed in to be signed, as bytes, and what it is read as.
-use Rattle.std.specs.Prelude.{◌≡◌, ⊤, ℕ, ◌==◌, true, List, [], Option, Some, None, IsTrue, is_some, if◌then◌else◌}
+use Rattle.std.specs.Prelude.{◌≡◌, ⊤, ◌⊎◌, ℕ, ◌==◌, true, List, [], Option, Some, None, IsTrue, is_some, if◌then◌else◌}
+use Rattle.delegation.specs.Coverage.{Table}
 use Rattle.auth_service.specs.Order.{HolderView, OrderView, is_order, order_of, shape_of}
 use Rattle.auth_service.specs.declared.order.SignOrder.{SignOrder}
 use Rattle.passport_claims.specs.Origid.{is_origid}
@@ -96,15 +97,50 @@ pub record IsOrderRead (given : HandedOrder) (order : OrderView) (holder : Holde
   pub order_is : IsOrderOf given local order
   pub holder_is : IsHolderOf given holder
 
+-- ---- what isn't read, after what is looked at before it
+
+-- the local numbering is one, and the certificate is none with an authority list
+pub record IsBadHolder (given : HandedOrder) : Type 0 where
+  pub local : LocalView
+  pub local_is : local_of given.country given.national ≡ Some local
+  pub none : IsNoHolder given.certificate
+
+-- both are read, and the lines are no code table
+pub record IsBadTable (given : HandedOrder) : Type 0 where
+  pub local : LocalView
+  pub local_is : local_of given.country given.national ≡ Some local
+  pub certificate : CertView
+  pub holder : IsHolder given.certificate certificate
+  pub bad : IsBadText 16777216 BadTable given.table
+
+-- all three are read, and the form with its parts is no order
+pub record IsNoOrder (given : HandedOrder) : Type 0 where
+  pub local : LocalView
+  pub local_is : local_of given.country given.national ≡ Some local
+  pub certificate : CertView
+  pub holder : IsHolder given.certificate certificate
+  pub codes : Table
+  pub table : TableOf given.table codes
+  pub none : (order : OrderView) → IsOrderOf given local order → ⊥
+
 -- Which input is outside its grammar or its limits; memory may always run out.
 abbrev pub IsOrderFaulty : HandedOrder → Fault → Type 0
 IsOrderFaulty given faults.Settings = ◌≡◌ {A = Option LocalView} (local_of given.country given.national) None
 IsOrderFaulty given faults.Map = ⊥
 IsOrderFaulty given faults.Chains = ⊥
 IsOrderFaulty given faults.Anchors = ⊥
-IsOrderFaulty given faults.Table = IsBadText 16777216 BadTable given.table
+IsOrderFaulty given faults.Table = IsBadTable given
 IsOrderFaulty given faults.Answers = ⊥
-IsOrderFaulty given faults.Certificate = IsNoHolder given.certificate
-IsOrderFaulty given faults.Order = (local : LocalView) (order : OrderView) → local_of given.country given.national ≡ Some local → IsOrderOf given local order → ⊥
+IsOrderFaulty given faults.Certificate = IsBadHolder given
+IsOrderFaulty given faults.Order = IsNoOrder given
 IsOrderFaulty given faults.Signature = ⊥
 IsOrderFaulty given faults.Memory = ⊤
+
+-- An input of this number is outside its grammar or its limits: 1 the local numbering, 7 the certificate, 5 the code table, 8 the order. Those that are
+-- looked at before it, in this order, aren't.
+pub record HasOrderFault (given : HandedOrder) (input : ℕ) : Type 0 where
+  pub one_of : (input ≡ 1) ⊎ ((input ≡ 7) ⊎ ((input ≡ 5) ⊎ (input ≡ 8)))
+  pub settings : input ≡ 1 → ◌≡◌ {A = Option LocalView} (local_of given.country given.national) None
+  pub certificate : input ≡ 7 → IsBadHolder given
+  pub table : input ≡ 5 → IsBadTable given
+  pub order : input ≡ 8 → IsNoOrder given

@@ -7,8 +7,8 @@ use Rattle.auth_service.specs.Outcome.{IsSigned}
 use Rattle.auth_service.specs.Signed.{signed}
 use Rattle.auth_service.specs.declared.fault.SignFault.{SignFault}
 use Rattle.auth_service.specs.declared.fault.SignFault.TheVariants as refusals
-use Rattle.stir_c.specs.Order.{HandedOrder, IsOrderFaulty, IsOrderRead}
-use Rattle.stir_c.specs.Told.{input_of, no_ticket, said_of_fault}
+use Rattle.stir_c.specs.Order.{HandedOrder, HasOrderFault, IsOrderFaulty, IsOrderRead}
+use Rattle.stir_c.specs.Told.{no_ticket, said_of_fault}
 use Rattle.stir_c.specs.WrittenText.{ToldText}
 use Rattle.stir_c.specs.declared.inputs.Fault.{Fault}
 use Rattle.stir_c.specs.declared.inputs.Fault.TheVariants as faults
@@ -100,17 +100,9 @@ IsToSign given digest = IsRefusedBy given None (refusals.NoSignature digest)
 abbrev pub IsWithheldFor : HandedOrder → Option (List ℕ) → ℕ → Type 0
 IsWithheldFor given made number = IsNumbered (IsRefusedBy given made) number
 
--- an input is outside its grammar or its limits, and this is its number
-pub record HasOrderFault (given : HandedOrder) (input : ℕ) : Type 0 where
-  pub fault : Fault
-  pub number : input_of fault ≡ Some input
-  pub cause : IsOrderFaulty given fault
-
--- an input is, or the signature
-pub record HasFaultWith (given : HandedOrder) (signature : List ℕ) (input : ℕ) : Type 0 where
-  pub fault : Fault
-  pub number : input_of fault ≡ Some input
-  pub cause : IsFaultyWith given signature fault
+-- the signature hasn't 64 bytes; or another input is outside its grammar or its limits
+abbrev pub HasFaultWith : HandedOrder → List ℕ → ℕ → Type 0
+HasFaultWith given signature input = ((input ≡ 9) × (length signature ≢ 64)) ⊎ HasOrderFault given input
 
 -- the signed message is in the room, and it is said how many bytes it has; what is after it is as it was
 pub record SignedInto (given : HandedOrder) (signature before now : List ℕ) (said : Said) : Type 0 where

@@ -12,7 +12,7 @@ use Rattle.call_judging.specs.Judging.{IsKnownBy}
 use Rattle.cert_store.specs.Rules.{Says}
 use Rattle.stir_c.specs.Asked.{Confirms, asked_for}
 use Rattle.stir_c.specs.Files.{files_of}
-use Rattle.stir_c.specs.Inputs.{Handed, IsFaulty, IsRead, call_in, world_in}
+use Rattle.stir_c.specs.Inputs.{Handed, IsRead, ReadBefore, call_in, world_in}
 use Rattle.stir_c.specs.declared.found.Found.{Found}
 use Rattle.stir_c.specs.declared.found.Found.TheVariants.{Refused, Passes}
 use Rattle.stir_c.specs.declared.inputs.Fault.{Fault}
@@ -91,11 +91,9 @@ pub record JudgedBy (given : Handed) (answers : List ℕ) (said : Said) : Type 0
   pub answered : AnswersOf answers held
   pub tells : Tells (world_in given materials (held_says held)) (call_in given settings) said
 
--- An input is outside its grammar or its limits, and this is its number.
-pub record HasFault (given : Handed) (answers : List ℕ) (input : ℕ) : Type 0 where
-  pub fault : Fault
-  pub number : input_of fault ≡ Some input
-  pub cause : IsFaulty given answers fault
+-- If the fault is of an input, those that are looked at before it are read.
+abbrev pub IsFirst : Handed → Fault → Type 0
+IsFirst given fault = (input : ℕ) → input_of fault ≡ Some input → ReadBefore given input
 
 -- ---- a call that is asked for
 

@@ -6,6 +6,7 @@ ghost use Rattle.stir_c.specs.Files.{files_of};
 ghost use Rattle.stir_c.specs.Found.{IsFound};
 ghost use Rattle.stir_c.specs.Handing.{AskedOf, FoundBy};
 ghost use Rattle.stir_c.specs.Inputs.{IsFaulty, call_in, handed, world_in};
+ghost use Rattle.stir_c.specs.Told.{IsFirst};
 
 use crate::asking::{Asked, ask_screened};
 use crate::found::Found;
@@ -17,10 +18,11 @@ use stir_outside::Provider;
 use verify_rules::{ScreenFault, Settings, screen, screened_law};
 
 /// What comes of a call by answers.
-#[tactic(auto, using(crate::proofs::InputLaws::settings_faulty, crate::proofs::InputLaws::answers_faulty, crate::proofs::HandingLaws::found_by))]
+#[tactic(auto, using(crate::proofs::InputLaws::settings_faulty, crate::proofs::InputLaws::answers_faulty, crate::proofs::HandingLaws::found_by, crate::proofs::FirstLaws::first_settings, crate::proofs::FirstLaws::first_answers, crate::proofs::FirstLaws::first_memory))]
 pub(crate) fn judge(alloc: Global, inputs: &Inputs<'_>, answers: &[u8]) -> Result<Found, Fault>
     ensures found { IfOk result (FoundBy (handed inputs.now) answers.now) }
     ensures fault { IfErr result (IsFaulty (handed inputs.now) answers.now) }
+    ensures first { IfErr result (IsFirst (handed inputs.now)) }
 {
     let settings = match inputs.setting.read() {
         Ok(settings) => settings,
@@ -50,6 +52,7 @@ pub(crate) fn explain(
 ) -> Result<Asked, Fault>
     ensures explained { IfOk result (λ asked. ExplainedOf (handed inputs.now) number answers.now asked.lines.items asked.found) }
     ensures fault { IfErr result (IsFaulty (handed inputs.now) answers.now) }
+    ensures first { IfErr result (IsFirst (handed inputs.now)) }
 {
     explain_law();
     let found = match judge(alloc, inputs, answers) {
@@ -66,10 +69,11 @@ pub(crate) fn explain(
 }
 
 /// What is asked for a call, and what comes of it if all of that is confirmed.
-#[tactic(auto, using(crate::proofs::InputLaws::settings_faulty, crate::proofs::HandingLaws::asked_by))]
+#[tactic(auto, using(crate::proofs::InputLaws::settings_faulty, crate::proofs::HandingLaws::asked_by, crate::proofs::FirstLaws::first_settings, crate::proofs::FirstLaws::first_memory))]
 pub(crate) fn ask(alloc: Global, inputs: &Inputs<'_>) -> Result<Asked, Fault>
     ensures asked { IfOk result (λ asked. AskedOf (handed inputs.now) asked.lines.items asked.found) }
     ensures fault { (answers : List ℕ) → IfErr result (IsFaulty (handed inputs.now) answers) }
+    ensures first { IfErr result (IsFirst (handed inputs.now)) }
 {
     let settings = match inputs.setting.read() {
         Ok(settings) => settings,

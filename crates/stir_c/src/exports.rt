@@ -3,9 +3,9 @@ ghost use Rattle.std.specs.Prelude.{◌≡◌, ◌≤◌, ℕ, List};
 ghost use Rattle.verify_rules.specs.Call.{Reading, payload_of};
 ghost use Rattle.stir_c.specs.Claims.{IsOneLine, claims_line, said_text};
 ghost use Rattle.stir_c.specs.Explaining.{ExplainedInto, HasNoRoomFor};
-ghost use Rattle.stir_c.specs.Inputs.{AreNoSettings};
+ghost use Rattle.stir_c.specs.Inputs.{AreNoSettings, HasFault};
 ghost use Rattle.stir_c.specs.Listing.{ListedInto, ListsMore};
-ghost use Rattle.stir_c.specs.Told.{AskedInto, HasFault, HasNoRoom, JudgedBy};
+ghost use Rattle.stir_c.specs.Told.{AskedInto, HasNoRoom, JudgedBy};
 ghost use Rattle.stir_c.specs.Telling.{ToldFor, ToldOf};
 ghost use Rattle.stir_c.specs.X5us.{x5u_line};
 

@@ -1,6 +1,7 @@
 //! What C calls to have a message signed. `include/stir.h` declares the same.
 ghost use Rattle.std.specs.Prelude.{◌≡◌, ◌≤◌, None, Some};
-ghost use Rattle.stir_c.specs.Signing.{HasFaultWith, HasNoRoomForMessage, HasOrderFault, IsToSign, IsWithheldFor, SignedInto, ToldSigned};
+ghost use Rattle.stir_c.specs.Order.{HasOrderFault};
+ghost use Rattle.stir_c.specs.Signing.{HasFaultWith, HasNoRoomForMessage, IsToSign, IsWithheldFor, SignedInto, ToldSigned};
 
 use crate::order::Ordered;
 use crate::said::{Said, said_of_unsigned};

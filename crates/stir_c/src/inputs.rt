@@ -6,8 +6,8 @@ ghost use Rattle.stir_outside.specs.AnswersText.{FirstBad as BadAnswers};
 ghost use Rattle.stir_outside.specs.Held.{AnswersOf};
 ghost use Rattle.tn_auth_list.specs.CodeTable.{FirstBad as BadTable};
 ghost use Rattle.tn_auth_list.specs.Grant.{TableOf};
-ghost use Rattle.stir_c.specs.Inputs.{AreMaterials, AreNoAnchors, AreNoSettings, AreSettings, IsBadText, IsFaultFor, IsFaulty, handed};
-ghost use Rattle.stir_c.specs.Told.{input_of};
+ghost use Rattle.stir_c.specs.Inputs.{AreMaterials, AreNoAnchors, AreNoSettings, AreSettings, HasSettings, IsBadText, IsFaultFor, IsFaulty, handed};
+ghost use Rattle.stir_c.specs.Told.{IsFirst, input_of};
 
 use crate::chains::{ChainFiles, MOST_CHAINS};
 use cert_store::{ChainMap, MapFault, World};
@@ -171,10 +171,11 @@ impl<'a> Inputs<'a> {
     }
 
     /// What the call is judged by, or the first input that isn't read.
-    #[tactic(auto, using(crate::proofs::InputLaws::map_faulty, crate::proofs::InputLaws::anchors_faulty, crate::proofs::InputLaws::table_faulty))]
+    #[tactic(auto, using(crate::proofs::InputLaws::map_faulty, crate::proofs::InputLaws::anchors_faulty, crate::proofs::InputLaws::table_faulty, crate::proofs::FirstLaws::first_map, crate::proofs::FirstLaws::first_chains, crate::proofs::FirstLaws::first_anchors, crate::proofs::FirstLaws::first_table))]
     pub(crate) fn read_world(&self, alloc: Global) -> Result<World, Fault>
         ensures read { IfOk result (AreMaterials (handed self.now)) }
         ensures fault { (answers : List ℕ) → IfErr result (IsFaulty (handed self.now) answers) }
+        ensures first { HasSettings (handed self.now) → IfErr result (IsFirst (handed self.now)) }
     {
         let chains = match read_map(alloc, self.listed) {
             Ok(chains) => chains,

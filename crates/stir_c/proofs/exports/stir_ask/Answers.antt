@@ -1,7 +1,7 @@
 -- What is told of a call that is asked for.
 use Rattle.std.proofs.Common.{◌≡◌, ◌≤◌, subst}
-use Rattle.stir_c.specs.Inputs.{Handed}
-use Rattle.stir_c.specs.Told.{AskedInto, HasFault, HasNoRoom}
+use Rattle.stir_c.specs.Inputs.{Handed, HasFault}
+use Rattle.stir_c.specs.Told.{AskedInto, HasNoRoom}
 use Rattle.stir_c.proofs.ToldLaws.{asked_told, fault_told, kinds_told, room_told, was_told}
 use Rattle.stir_c.proofs.exports.stir_ask.Goals as goal
 
@@ -16,7 +16,7 @@ returns-clause-asked c =
 pub returns-clause-faulty : goal.returns-clause-faulty
 returns-clause-faulty c = λ answers.
     subst (λ (given : Handed). c.told_asked.result.kind ≡ 2 → HasFault given answers c.told_asked.result.input) c.new-inputs.ensures
-    (fault_told _ answers _ _ _ _ (c.ask.ensures.fault answers) c.told_asked.ensures)
+    (fault_told _ answers _ _ _ _ (c.ask.ensures.fault answers) c.ask.ensures.first c.told_asked.ensures)
 
 pub returns-clause-no_room : goal.returns-clause-no_room
 returns-clause-no_room c =

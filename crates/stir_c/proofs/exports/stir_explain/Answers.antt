@@ -1,8 +1,7 @@
 -- What is told of a call that is explained.
 use Rattle.std.proofs.Common.{◌≡◌, ◌≤◌, subst}
 use Rattle.stir_c.specs.Explaining.{ExplainedInto, HasNoRoomFor}
-use Rattle.stir_c.specs.Inputs.{Handed}
-use Rattle.stir_c.specs.Told.{HasFault}
+use Rattle.stir_c.specs.Inputs.{Handed, HasFault}
 use Rattle.stir_c.proofs.ExplainingLaws.{explained_told, no_room_told}
 use Rattle.stir_c.proofs.ToldLaws.{fault_told, kinds_told, was_told}
 use Rattle.stir_c.proofs.exports.stir_explain.Goals as goal
@@ -18,7 +17,7 @@ returns-clause-explained c =
 pub returns-clause-faulty : goal.returns-clause-faulty
 returns-clause-faulty c =
     subst (λ (given : Handed). c.told_asked.result.kind ≡ 2 → HasFault given c.args.answers.now c.told_asked.result.input) c.new-inputs.ensures
-    (fault_told _ _ _ _ _ _ c.explain.ensures.fault c.told_asked.ensures)
+    (fault_told _ _ _ _ _ _ c.explain.ensures.fault c.explain.ensures.first c.told_asked.ensures)
 
 pub returns-clause-no_room : goal.returns-clause-no_room
 returns-clause-no_room c =

@@ -1,7 +1,7 @@
 -- What is told of a call that is judged.
 use Rattle.std.proofs.Common.{◌≡◌, ◌≤◌, subst}
-use Rattle.stir_c.specs.Inputs.{Handed}
-use Rattle.stir_c.specs.Told.{HasFault, JudgedBy}
+use Rattle.stir_c.specs.Inputs.{Handed, HasFault}
+use Rattle.stir_c.specs.Told.{JudgedBy}
 use Rattle.stir_c.proofs.ToldLaws.{faulty_by, judged_by, kinds_of}
 use Rattle.stir_c.proofs.exports.stir_judge.Goals as goal
 
@@ -14,4 +14,4 @@ returns-clause-judged c = subst (λ (given : Handed). c.said_for.result.kind ≤
 
 pub returns-clause-faulty : goal.returns-clause-faulty
 returns-clause-faulty c = subst (λ (given : Handed). c.said_for.result.kind ≡ 2 → HasFault given c.args.answers.now c.said_for.result.input) c.new-inputs.ensures
-    (faulty_by _ _ _ _ c.said_for.ensures c.judge.ensures.fault)
+    (faulty_by _ _ _ _ c.said_for.ensures c.judge.ensures.fault c.judge.ensures.first)

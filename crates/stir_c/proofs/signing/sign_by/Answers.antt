@@ -6,10 +6,14 @@ use Rattle.stir_c.proofs.SigningLaws.{signed_by, unsigned_for}
 use Rattle.stir_c.proofs.signing.sign_by.Goals as goal
 
 pub returns-in-Err-read_table-clause-unsigned : goal.returns-in-Err-read_table-clause-unsigned
-returns-in-Err-read_table-clause-unsigned c = table_faulty (handed_order c.args.given.now) c.in-Err-read_table.fault c.in-Err-read_table.ensures.fault
+returns-in-Err-read_table-clause-unsigned c =
+    table_faulty (handed_order c.args.given.now) c.in-Some.local c.in-Ok.certificate c.in-Err-read_table.fault c.in-Some.ensures c.in-Ok.ensures.read
+    c.in-Err-read_table.ensures.fault
 
 pub returns-in-None-clause-unsigned : goal.returns-in-None-clause-unsigned
-returns-in-None-clause-unsigned c = order_faulty (handed_order c.args.given.now) c.in-Some.local c.in-Some.ensures c.in-None.ensures
+returns-in-None-clause-unsigned c =
+    order_faulty (handed_order c.args.given.now) c.in-Some.local c.in-Ok.certificate c.in-Ok-read_table.table c.in-Some.ensures c.in-Ok.ensures.read
+    c.in-Ok-read_table.ensures.read c.in-None.ensures
 
 pub returns-clause-signed : goal.returns-clause-signed
 returns-clause-signed c =
