@@ -20,3 +20,4 @@ pub mod Carrying
 pub mod Adding
 pub mod Carried
 pub mod Handing
+pub mod Workers

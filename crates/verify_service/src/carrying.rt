@@ -1,5 +1,5 @@
 //! Carrying out a round that is prepared.
-ghost use Rattle.std.specs.Prelude.{◌≡◌, ◌<◌, ◌≤◌, ℕ, List, length, map, vec_len, slice_index_or};
+ghost use Rattle.std.specs.Prelude.{◌≡◌, ◌<◌, ◌≤◌, List, length, map, vec_len, slice_index_or};
 ghost use Rattle.std.specs.List.{slice_get};
 ghost use Rattle.call_log.specs.Entry.{Entry};
 ghost use Rattle.replay_desk.specs.Pairs.{whole};
@@ -14,6 +14,7 @@ ghost use Rattle.verify_service.specs.Ready.{AreAllReady, AreClassed, AreNumbere
 ghost use Rattle.verify_service.specs.RightChains.{FailAtQuestions};
 ghost use Rattle.verify_service.specs.Screening.{IsReady};
 ghost use Rattle.verify_service.specs.Service.{IsSameConfig};
+ghost use Rattle.verify_service.specs.Workers.{EachWorker};
 ghost use Rattle.verify_service.specs.declared.outcome.Outcome.{Outcome};
 
 use crate::carried::Carried;
@@ -58,9 +59,8 @@ impl Service {
         ensures said { (d : _) → AreSaid (basis_in self.old prepared)
             (λ w. provided P.Provider (slice_index_or workers.old w d).provider (slice_index_or workers.new w d).provider)
             (length workers.old) prepared.calls result.outcomes }
-        ensures answered { (w : ℕ) (d : _) → w < length workers.old → HasAnswered (basis_in self.old prepared)
-            (provided P.Provider (slice_index_or workers.old w d).provider (slice_index_or workers.new w d).provider)
-            prepared.calls (length workers.old) w result.outcomes }
+        ensures answered { EachWorker workers.old workers.new (λ w before now. HasAnswered (basis_in self.old prepared)
+            (provided P.Provider before.provider now.provider) prepared.calls (length workers.old) w result.outcomes) }
 
         // The seat has exactly the wins of the valid calls, and the losses of the replays whose ticket the past hasn't. The valid calls are kept.
         ensures claims { HasClaims self.old.past prepared.calls result.outcomes result.seat }
@@ -80,8 +80,7 @@ impl Service {
         ensures moment { self.new.moment ≡ self.old.moment }
         ensures begun { self.new.begun ≡ self.old.begun }
         ensures workers { length workers.new ≡ length workers.old }
-        ensures provider { (w : ℕ) (d : _) → w < length workers.old
-            → ProviderStays P.Provider (slice_index_or workers.old w d).provider (slice_index_or workers.new w d).provider }
+        ensures provider { EachWorker workers.old workers.new (λ _ before now. ProviderStays P.Provider before.provider now.provider) }
     {
         let Prepared {
             round,
@@ -136,10 +135,9 @@ pub(crate) fn carry_round<R: Threads + Sync, P: Provider + Send, G: Gate + Send>
     ensures said { (d : _) → AreSaid (record { materials = materials.now; held = cache.now.entries; kept = round.kept; past = past.old })
         (λ w. provided P.Provider (slice_index_or workers.old w d).provider (slice_index_or workers.new w d).provider)
         (length workers.old) round.calls.items result.outcomes }
-    ensures answered { (w : ℕ) (d : _) → w < length workers.old
-        → HasAnswered (record { materials = materials.now; held = cache.now.entries; kept = round.kept; past = past.old })
-        (provided P.Provider (slice_index_or workers.old w d).provider (slice_index_or workers.new w d).provider)
-        round.calls.items (length workers.old) w result.outcomes }
+    ensures answered { EachWorker workers.old workers.new (λ w before now.
+        HasAnswered (record { materials = materials.now; held = cache.now.entries; kept = round.kept; past = past.old })
+        (provided P.Provider before.provider now.provider) round.calls.items (length workers.old) w result.outcomes) }
 
     // The seat has exactly the wins of the valid calls, and the losses of the replays whose ticket the past hasn't. The valid calls are kept.
     ensures claims { HasClaims past.old round.calls.items result.outcomes result.seat }
@@ -154,8 +152,7 @@ pub(crate) fn carry_round<R: Threads + Sync, P: Provider + Send, G: Gate + Send>
         (λ w. P.says (slice_index_or workers.old w d).provider) (length workers.old) result.outcomes }
 
     ensures workers { length workers.new ≡ length workers.old }
-    ensures provider { (w : ℕ) (d : _) → w < length workers.old
-        → ProviderStays P.Provider (slice_index_or workers.old w d).provider (slice_index_or workers.new w d).provider }
+    ensures provider { EachWorker workers.old workers.new (λ _ before now. ProviderStays P.Provider before.provider now.provider) }
 {
     screened_law();
     let Round { calls, kept, desk } = round;
@@ -199,12 +196,10 @@ fn carry_calls<R: Threads + Sync, P: Provider + Send, G: Gate + Send>(
     ensures share { result.1.share ≡ whole }
     ensures desk { result.1.desk ≡ lent.now.desk.now }
     ensures turn { length workers.old ≡ 1 → IsInTurn lent.now.past.now calls.now result.0.items }
-    ensures answered { (w : ℕ) (d : _) → w < length workers.old → HasAnswered (basis_of lent.now)
-        (provided P.Provider (slice_index_or workers.old w d).provider (slice_index_or workers.new w d).provider)
-        calls.now (length workers.old) w result.0.items }
+    ensures answered { EachWorker workers.old workers.new (λ w before now. HasAnswered (basis_of lent.now)
+        (provided P.Provider before.provider now.provider) calls.now (length workers.old) w result.0.items) }
     ensures workers { length workers.new ≡ length workers.old }
-    ensures provider { (w : ℕ) (d : _) → w < length workers.old
-        → ProviderStays P.Provider (slice_index_or workers.old w d).provider (slice_index_or workers.new w d).provider }
+    ensures provider { EachWorker workers.old workers.new (λ _ before now. ProviderStays P.Provider before.provider now.provider) }
 {
     let seat = run_workers(rt, lent, calls, seats, workers);
     let outcomes = gather(workers, outcomes);
@@ -233,12 +228,10 @@ fn run_workers<R: Threads + Sync, P: Provider + Send, G: Gate + Send>(
     ensures turn { (d : _) (outs : List Outcome) → length workers.old ≡ 1
         → AreGathered (λ w. (slice_index_or workers.new w d).outcomes) (length workers.old) (length calls.now) outs
         → IsInTurn lent.now.past.now calls.now outs }
-    ensures answered { (w : ℕ) (d : _) → w < length workers.old → HasAnswered (basis_of lent.now)
-        (provided P.Provider (slice_index_or workers.old w d).provider (slice_index_or workers.new w d).provider)
-        calls.now (length workers.old) w (slice_index_or workers.new w d).outcomes }
+    ensures answered { EachWorker workers.old workers.new (λ w before now. HasAnswered (basis_of lent.now)
+        (provided P.Provider before.provider now.provider) calls.now (length workers.old) w now.outcomes) }
     ensures workers { length workers.new ≡ length workers.old }
-    ensures provider { (w : ℕ) (d : _) → w < length workers.old
-        → ProviderStays P.Provider (slice_index_or workers.old w d).provider (slice_index_or workers.new w d).provider }
+    ensures provider { EachWorker workers.old workers.new (λ _ before now. ProviderStays P.Provider before.provider now.provider) }
 {
     seat_all(workers, seats);
     work_all(rt, lent, calls, workers);
@@ -252,8 +245,8 @@ fn run_workers<R: Threads + Sync, P: Provider + Send, G: Gate + Send>(
 fn seat_all<P, G>(workers: &mut [Worker<P, G>], mut seats: Vec<Seat>)
     requires counted { vec_len seats ≡ length workers.old }
     ensures counted { length workers.new ≡ length workers.old }
-    ensures seats { (w : ℕ) (d : _) → w < length workers.old → (slice_index_or workers.new w d).seat ≡ slice_get seats.items w }
-    ensures providers { (w : ℕ) (d : _) → w < length workers.old → (slice_index_or workers.new w d).provider ≡ (slice_index_or workers.old w d).provider }
+    ensures seats { EachWorker workers.old workers.new (λ w _ now. now.seat ≡ slice_get seats.items w) }
+    ensures providers { EachWorker workers.old workers.new (λ _ before now. now.provider ≡ before.provider) }
 {
     'workers: for w in 0..workers.len() {
         let seat = seats.remove(0);

@@ -4,6 +4,7 @@ ghost use Rattle.replay_desk.specs.Past.{found};
 ghost use Rattle.verify_service.specs.Adding.{AddsCall, AddsOne, IsAdded, IsOnceValid, is_valid, valid_upto};
 ghost use Rattle.verify_service.specs.Carrying.{IsOfDesk, joined_from, joined_two, one_if, out_at};
 ghost use Rattle.verify_service.specs.Ready.{is_passed, ticket_in};
+ghost use Rattle.verify_service.specs.Workers.{EachWorker};
 
 use crate::outcome::Outcome;
 use crate::screening::{ReadyCall, Screening};
@@ -15,8 +16,8 @@ pub(crate) fn join_all<P, G>(desk: &Desk, workers: &mut [Worker<P, G>]) -> Optio
     requires seats { (w : ℕ) (d : _) → w < length workers.old → IsOfDesk desk.now (slice_index_or workers.old w d).seat }
     ensures joined { result ≡ joined_from None (map (λ worker. worker.seat) workers.old) }
     ensures counted { length workers.new ≡ length workers.old }
-    ensures outcomes { (w : ℕ) (d : _) → w < length workers.old → (slice_index_or workers.new w d).outcomes ≡ (slice_index_or workers.old w d).outcomes }
-    ensures providers { (w : ℕ) (d : _) → w < length workers.old → (slice_index_or workers.new w d).provider ≡ (slice_index_or workers.old w d).provider }
+    ensures outcomes { EachWorker workers.old workers.new (λ _ before now. now.outcomes ≡ before.outcomes) }
+    ensures providers { EachWorker workers.old workers.new (λ _ before now. now.provider ≡ before.provider) }
 {
     let mut seat = None;
     'workers: for w in 0..workers.len() {

@@ -12,6 +12,7 @@ ghost use Rattle.verify_service.specs.RoundRead.{HasAskedOwn, RoundReads};
 ghost use Rattle.verify_service.specs.Rows.{held};
 ghost use Rattle.verify_service.specs.Screening.{IsReady};
 ghost use Rattle.verify_service.specs.Service.{AreOfRound, Follow, HoldsRight, IsPurged, IsSameConfig, last_moment_of, last_number, materials_of};
+ghost use Rattle.verify_service.specs.Workers.{EachWorker, SayTheSame};
 
 use crate::classing::class_calls;
 use crate::laws::{stored_law, texts_law};
@@ -47,7 +48,7 @@ impl Service {
     ) -> Result<Prepared, AllocError>
         requires some { 0 < length workers.old }
         requires few { length workers.old ≤ 8 }
-        requires agree { (w : ℕ) (d : _) → w < length workers.old → P.says (slice_index_or workers.old w d).provider ≡ P.says (slice_index_or workers.old 0 d).provider }
+        requires agree { SayTheSame P.Provider workers.old }
         requires follow { Follow self.old.number self.old.moment calls.now }
         requires right { (d : _) → HoldsRight (S.files shelf.old) (P.says (slice_index_or workers.old 0 d).provider) self.old }
 
@@ -83,8 +84,7 @@ impl Service {
         // What the shelf and the providers tell stays, and their counts never fall.
         ensures workers { length workers.new ≡ length workers.old }
         ensures shelf { ShelfStays S.Shelf shelf.old shelf.new }
-        ensures provider { (w : ℕ) (d : _) → w < length workers.old
-            → ProviderStays P.Provider (slice_index_or workers.old w d).provider (slice_index_or workers.new w d).provider }
+        ensures provider { EachWorker workers.old workers.new (λ _ before now. ProviderStays P.Provider before.provider now.provider) }
     {
         self.begin(calls);
         let ready = self.screened(rt, alloc, workers.len(), calls)?;
@@ -141,7 +141,7 @@ fn prepare_round<R: Threads + Sync, S: Shelf, P: Provider + Send, G: Gate + Send
 ) -> Result<Prepared, AllocError>
     requires some { 0 < length workers.old }
     requires few { length workers.old ≤ 8 }
-    requires agree { (w : ℕ) (d : _) → w < length workers.old → P.says (slice_index_or workers.old w d).provider ≡ P.says (slice_index_or workers.old 0 d).provider }
+    requires agree { SayTheSame P.Provider workers.old }
     requires follow { AreOfRound calls.now }
     requires ready { EachPair (IsReady settings.now) calls.now ready.items }
     requires capacity { cache.old.capacity ≡ 4096 }
@@ -166,8 +166,7 @@ fn prepare_round<R: Threads + Sync, S: Shelf, P: Provider + Send, G: Gate + Send
     ensures capacity { cache.new.capacity ≡ cache.old.capacity }
     ensures workers { length workers.new ≡ length workers.old }
     ensures shelf { ShelfStays S.Shelf shelf.old shelf.new }
-    ensures provider { (w : ℕ) (d : _) → w < length workers.old
-        → ProviderStays P.Provider (slice_index_or workers.old w d).provider (slice_index_or workers.new w d).provider }
+    ensures provider { EachWorker workers.old workers.new (λ _ before now. ProviderStays P.Provider before.provider now.provider) }
 {
     screened_law();
     texts_law();

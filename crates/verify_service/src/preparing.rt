@@ -6,6 +6,7 @@ ghost use Rattle.verify_service.specs.Judging.{EachPair};
 ghost use Rattle.verify_service.specs.RightChains.{AreRightHeld};
 ghost use Rattle.verify_service.specs.RoundRead.{HasAskedOwn, KnownBy, RoundReads, states_from, texts_of};
 ghost use Rattle.verify_service.specs.Screening.{IsReady, is_open};
+ghost use Rattle.verify_service.specs.Workers.{EachWorker, SayTheSame};
 
 use crate::fetching::fetch_all;
 use crate::kept::KeptChains;
@@ -86,7 +87,7 @@ pub(crate) fn ready_chains<R: Threads + Sync, S: Shelf, P: Provider + Send, G: G
     cache: &mut Cache,
 ) -> Result<KeptChains, AllocError>
     requires some { 0 < length workers.old }
-    requires agree { (w : ℕ) (d : _) → w < length workers.old → P.says (slice_index_or workers.old w d).provider ≡ P.says (slice_index_or workers.old 0 d).provider }
+    requires agree { SayTheSame P.Provider workers.old }
     ensures reads { (d : _) → IfOk result (RoundReads (S.files shelf.old) world.now (P.says (slice_index_or workers.old 0 d).provider) calls.now
         (S.counts shelf.old) (S.counts shelf.new) (λ states. (w : ℕ) → w < length workers.old → HasAskedOwn w (length workers.old)
         (P.asks (slice_index_or workers.old w d).provider) (P.asks (slice_index_or workers.new w d).provider)
@@ -100,8 +101,7 @@ pub(crate) fn ready_chains<R: Threads + Sync, S: Shelf, P: Provider + Send, G: G
     ensures capacity { cache.new.capacity ≡ cache.old.capacity }
     ensures counted { length workers.new ≡ length workers.old }
     ensures shelf { ShelfStays S.Shelf shelf.old shelf.new }
-    ensures provider { (w : ℕ) (d : _) → w < length workers.old
-        → ProviderStays P.Provider (slice_index_or workers.old w d).provider (slice_index_or workers.new w d).provider }
+    ensures provider { EachWorker workers.old workers.new (λ _ before now. ProviderStays P.Provider before.provider now.provider) }
 {
     stored_law();
     let mut texts = Texts::new(alloc);
@@ -122,7 +122,7 @@ fn fetch_and_judge<R: Threads + Sync, S: Shelf, P: Provider + Send, G: Gate + Se
     texts: &Texts,
 ) -> Result<Vec<Fetched>, AllocError>
     requires some { 0 < length workers.old }
-    requires agree { (w : ℕ) (d : _) → w < length workers.old → P.says (slice_index_or workers.old w d).provider ≡ P.says (slice_index_or workers.old 0 d).provider }
+    requires agree { SayTheSame P.Provider workers.old }
     ensures counted_files { IfOk result (λ files. vec_len files ≡ length texts.now) }
     ensures known { (d : _) → IfOk result (λ files. KnownBy (S.files shelf.old) world.now (P.says (slice_index_or workers.old 0 d).provider) texts.now
         (S.counts shelf.old) (S.counts shelf.new) (λ states. (w : ℕ) → w < length workers.old → HasAskedOwn w (length workers.old)
@@ -132,8 +132,7 @@ fn fetch_and_judge<R: Threads + Sync, S: Shelf, P: Provider + Send, G: Gate + Se
     ensures most { (S.counts shelf.new).reads ≤ (S.counts shelf.old).reads + length texts.now }
     ensures counted { length workers.new ≡ length workers.old }
     ensures shelf { ShelfStays S.Shelf shelf.old shelf.new }
-    ensures provider { (w : ℕ) (d : _) → w < length workers.old
-        → ProviderStays P.Provider (slice_index_or workers.old w d).provider (slice_index_or workers.new w d).provider }
+    ensures provider { EachWorker workers.old workers.new (λ _ before now. ProviderStays P.Provider before.provider now.provider) }
 {
     if texts.count() == 0 {
         return Ok(Vec::new(alloc));

@@ -14,6 +14,7 @@ ghost use Rattle.verify_service.specs.Reads.{HasAsked, HasJudged, ReadsFew, Stay
 ghost use Rattle.verify_service.specs.RoundRead.{own_of};
 ghost use Rattle.verify_service.specs.Rows.{EachOwed, RoundLegal, held, rows_of};
 ghost use Rattle.verify_service.specs.Service.{AreJudged, Follow, HoldsRight, IsPurged, IsSameConfig, first_moment_of, held_texts, last_moment_of, last_number, materials_of, texts_in, world_of};
+ghost use Rattle.verify_service.specs.Workers.{EachWorker, SayTheSame};
 
 use crate::carried::Carried;
 use crate::laws::{call_law, stored_law, texts_law};
@@ -44,7 +45,7 @@ impl Service {
     ) -> Result<Carried, AllocError>
         requires some { 0 < length workers.old }
         requires most { length workers.old ≤ 8 }
-        requires agree { (w : ℕ) (d : _) → w < length workers.old → P.says (slice_index_or workers.old w d).provider ≡ P.says (slice_index_or workers.old 0 d).provider }
+        requires agree { SayTheSame P.Provider workers.old }
         requires follow { Follow self.old.number self.old.moment calls.now }
         requires right { (d : _) → HoldsRight (S.files shelf.old) (P.says (slice_index_or workers.old 0 d).provider) self.old }
 
@@ -72,9 +73,9 @@ impl Service {
 
         // A call is set aside only for a fault outside that was counted: of the shelf, or of the provider of the worker whose text or call it is.
         ensures unread { IfOk result (λ carried. UnreadIsCounted self.old.settings calls.now (S.counts shelf.old).faults (S.counts shelf.new).faults carried.outcomes) }
-        ensures unasked { (w : ℕ) (d : _) → w < length workers.old → IfOk result (λ carried. UnaskedIsCounted self.old.settings calls.now
-            (own_of w (length workers.old) 0 (texts_in self.old calls.now)) (own_of w (length workers.old) 0 carried.outcomes)
-            (P.faults (slice_index_or workers.old w d).provider) (P.faults (slice_index_or workers.new w d).provider) carried.outcomes) }
+        ensures unasked { EachWorker workers.old workers.new (λ w before now. IfOk result (λ carried. UnaskedIsCounted self.old.settings
+            calls.now (own_of w (length workers.old) 0 (texts_in self.old calls.now)) (own_of w (length workers.old) 0 carried.outcomes)
+            (P.faults before.provider) (P.faults now.provider) carried.outcomes)) }
         ensures unasked_among { IfOk result (λ carried. AreAmong (unasked_texts self.old.settings calls.now carried.outcomes) (texts_in self.old calls.now)) }
         ensures quiet_shelf { NotRisen (S.counts shelf.old).faults (S.counts shelf.new).faults → IfOk result (λ carried. NoneUnread carried.outcomes) }
         ensures quiet { (d : _) → ((w : ℕ) → w < length workers.old → NotRisen (P.faults (slice_index_or workers.old w d).provider) (P.faults (slice_index_or workers.new w d).provider))
@@ -104,8 +105,7 @@ impl Service {
         // What the shelf and the providers tell stays, and their counts never fall.
         ensures workers { length workers.new ≡ length workers.old }
         ensures shelf { ShelfStays S.Shelf shelf.old shelf.new }
-        ensures provider { (w : ℕ) (d : _) → w < length workers.old
-            → ProviderStays P.Provider (slice_index_or workers.old w d).provider (slice_index_or workers.new w d).provider }
+        ensures provider { EachWorker workers.old workers.new (λ _ before now. ProviderStays P.Provider before.provider now.provider) }
     {
         same_is_one();
         one_field_law();

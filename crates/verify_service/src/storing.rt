@@ -1,8 +1,7 @@
 //! Storing the chains of a round's texts: in the cache, or for the round alone.
 ghost use Rattle.std.specs.Prelude.{◌≡◌, ◌≢◌, ◌<◌, ◌%◌, ℕ, None, length, get_or, slice_index_or, OnOk};
-ghost use Rattle.call_judging.specs.Chains.{state_of};
-ghost use Rattle.call_judging.specs.Fetched.{file_state};
 ghost use Rattle.verify_service.specs.RoundRead.{StoresAll, StoresSome, states_from};
+ghost use Rattle.verify_service.specs.Workers.{EachWorker};
 
 use crate::kept::{KeptChains, store_chain};
 use crate::texts::Texts;
@@ -29,7 +28,7 @@ pub(crate) fn store_all<P, G>(
         (states_from 0 (λ place. get_or (slice_index_or workers.old (place % length workers.old) d).judged.items place None) files.now) cache.old cache.new kept.old }
     ensures capacity { cache.new.capacity ≡ cache.old.capacity }
     ensures counted { length workers.new ≡ length workers.old }
-    ensures same { (w : ℕ) (d : _) → w < length workers.old → (slice_index_or workers.new w d).provider ≡ (slice_index_or workers.old w d).provider }
+    ensures same { EachWorker workers.old workers.new (λ _ before now. now.provider ≡ before.provider) }
 {
     let count = workers.len();
     'files: for (place, file) in files.iter().enumerate() {

@@ -1,9 +1,10 @@
 //! Judging the chains of a round's texts, each by the worker whose text it is.
-ghost use Rattle.std.specs.Prelude.{◌≡◌, ◌<◌, ◌≤◌, ◌==◌, ◌%◌, ◌+◌, ℕ, [], length, slice_index_or, IfOk, OnOk};
+ghost use Rattle.std.specs.Prelude.{◌≡◌, ◌<◌, ◌≤◌, ◌+◌, [], length, IfOk, OnOk};
 ghost use Rattle.stir_outside.specs.Stays.{ProviderStays};
 ghost use Rattle.call_judging.specs.Causes.{HasCauseIf};
-ghost use Rattle.call_judging.specs.Fetched.{IsChainOf, certificates_in, has_failed};
+ghost use Rattle.call_judging.specs.Fetched.{certificates_in, has_failed};
 ghost use Rattle.verify_service.specs.WorkerChains.{ChainsCounted, CountedUnless, EachOwn, EachOwnUnless, IsOwn};
+ghost use Rattle.verify_service.specs.Workers.{EachWorker};
 
 use crate::worker::Worker;
 use call_judging::Fetched;
@@ -24,14 +25,11 @@ pub(crate) fn judge_texts<R: Threads + Sync, P: Provider + Send, G: Gate + Send>
 )
     requires some { 0 < length workers.old }
     ensures counted { length workers.new ≡ length workers.old }
-    ensures judged { (w : ℕ) (d : _) → w < length workers.old → EachOwnUnless (slice_index_or workers.new w d).out_of_memory world.now
-        (P.says (slice_index_or workers.old w d).provider) w (length workers.old) files.now (slice_index_or workers.new w d).judged.items }
-    ensures asked { (w : ℕ) (d : _) → w < length workers.old → CountedUnless (slice_index_or workers.new w d).out_of_memory
-        (P.asks (slice_index_or workers.old w d).provider) (P.asks (slice_index_or workers.new w d).provider)
-        (P.faults (slice_index_or workers.old w d).provider) (P.faults (slice_index_or workers.new w d).provider)
-        (slice_index_or workers.new w d).judged.items }
-    ensures provider { (w : ℕ) (d : _) → w < length workers.old
-        → ProviderStays P.Provider (slice_index_or workers.old w d).provider (slice_index_or workers.new w d).provider }
+    ensures judged { EachWorker workers.old workers.new (λ w before now. EachOwnUnless now.out_of_memory world.now (P.says before.provider)
+        w (length workers.old) files.now now.judged.items) }
+    ensures asked { EachWorker workers.old workers.new (λ _ before now. CountedUnless now.out_of_memory
+        (P.asks before.provider) (P.asks now.provider) (P.faults before.provider) (P.faults now.provider) now.judged.items) }
+    ensures provider { EachWorker workers.old workers.new (λ _ before now. ProviderStays P.Provider before.provider now.provider) }
 {
     let count = workers.len();
     thread::for_each_mut(

@@ -4,6 +4,7 @@ ghost use Rattle.stir_outside.specs.Stays.{ProviderStays};
 ghost use Rattle.verify_service.specs.Carrying.{Claimed, HasAnswered, HasClaimed, HasSeat};
 ghost use Rattle.verify_service.specs.Ready.{AreAllReady, IsFresh, basis_of, provided};
 ghost use Rattle.verify_service.specs.RightChains.{FailAtQuestions};
+ghost use Rattle.verify_service.specs.Workers.{EachWorker};
 
 use crate::claiming::judge_ready;
 use crate::outcome::Outcome;
@@ -30,13 +31,11 @@ pub(crate) fn work_all<R: Threads + Sync, P: Provider + Send, G: Gate + Send>(
     requires parts { FailAtQuestions lent.now.kept.now }
     requires seats { (w : ℕ) (d : _) → w < length workers.old → HasSeat lent.now.desk.now (slice_index_or workers.old w d).seat }
     ensures counted { length workers.new ≡ length workers.old }
-    ensures claimed { (w : ℕ) (d : _) → w < length workers.old → HasClaimed lent.now.past.now calls.now (length workers.old) w
-        (slice_index_or workers.old w d).seat (slice_index_or workers.new w d).seat (slice_index_or workers.new w d).outcomes }
-    ensures answered { (w : ℕ) (d : _) → w < length workers.old → HasAnswered (basis_of lent.now)
-        (provided P.Provider (slice_index_or workers.old w d).provider (slice_index_or workers.new w d).provider)
-        calls.now (length workers.old) w (slice_index_or workers.new w d).outcomes }
-    ensures provider { (w : ℕ) (d : _) → w < length workers.old
-        → ProviderStays P.Provider (slice_index_or workers.old w d).provider (slice_index_or workers.new w d).provider }
+    ensures claimed { EachWorker workers.old workers.new (λ w before now. HasClaimed lent.now.past.now calls.now (length workers.old) w
+        before.seat now.seat now.outcomes) }
+    ensures answered { EachWorker workers.old workers.new (λ w before now. HasAnswered (basis_of lent.now)
+        (provided P.Provider before.provider now.provider) calls.now (length workers.old) w now.outcomes) }
+    ensures provider { EachWorker workers.old workers.new (λ _ before now. ProviderStays P.Provider before.provider now.provider) }
 {
     let count = workers.len();
     let threads = threads_for(workers);
