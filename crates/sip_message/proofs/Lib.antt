@@ -13,6 +13,7 @@ pub mod FormLaws
 pub mod HeadLaws
 pub mod HeadSteps
 pub mod KnownLaws
+pub mod LengthLaws
 pub mod LineSteps
 pub mod PlaceLaws
 pub mod SchemeLaws

@@ -1,5 +1,5 @@
 //! The header fields that have a meaning here.
-ghost use Rattle.std.specs.Prelude.{◌≡◌};
+ghost use Rattle.std.specs.Prelude.{◌≡◌, find};
 ghost use Rattle.sip_message.specs.Known.{is_named, kind_of};
 ghost use Rattle.sip_message.specs.Names.{is_either};
 
@@ -14,19 +14,19 @@ pub(crate) enum Known {
 }
 
 impl Known {
-    /// The one of this name, None if a field of this name has no meaning here.
-    #[tactic(auto, unfolding(crate::specs::Known::kind_of))]
+    /// The one of this name, None if a field of this name has no meaning here. A name is compared only with those of its length.
+    #[tactic(auto, using(crate::proofs::LengthLaws::of_one, crate::proofs::LengthLaws::of_two, crate::proofs::LengthLaws::of_four, crate::proofs::LengthLaws::of_eight, crate::proofs::LengthLaws::of_nineteen, crate::proofs::LengthLaws::of_another))]
     pub(crate) fn of(name: &[u8]) -> Option<Known>
         ensures { result ≡ kind_of name.now }
     {
-        let all = [
-            Known::From,
-            Known::To,
-            Known::Identity,
-            Known::Asserted,
-            Known::Date,
-        ];
-        all.into_iter().find(|known| known.is_named(name))
+        match name.len() {
+            1 => first_named(&[Known::From, Known::To, Known::Identity], name),
+            2 => first_named(&[Known::To], name),
+            4 => first_named(&[Known::From, Known::Date], name),
+            8 => first_named(&[Known::Identity], name),
+            19 => first_named(&[Known::Asserted], name),
+            _ => None,
+        }
     }
 
     /// Whether a field of this name is such a one. Names are compared without case, and some have a short form.
@@ -41,6 +41,13 @@ impl Known {
             Known::Date => name.eq_ignore_ascii_case(b"date"),
         }
     }
+}
+
+/// The first of these that has this name.
+fn first_named(all: &[Known], name: &[u8]) -> Option<Known>
+    ensures { result ≡ find (λ known. is_named known name.now) all.now }
+{
+    all.iter().copied().find(|known| known.is_named(name))
 }
 
 /// Whether a name is one of two, in letters of either case.
