@@ -12,6 +12,7 @@ pub mod HeadAlphabet
 pub mod Known
 pub mod Lines
 pub mod Message
+pub mod MessageText
 pub mod Names
 pub mod Quoted
 pub mod Quoting

@@ -1,6 +1,6 @@
 //! A message with one more header field.
 ghost use Rattle.std.specs.Prelude.{◌≡◌, ◌≤◌, length, Ok, IfOk, IsTrue};
-ghost use Rattle.sip_message.specs.Added.{added, is_addable, is_field_value, with_last, with_line_at};
+ghost use Rattle.sip_message.specs.Added.{added, is_addable, is_field_value, sized, with_last, with_line_at};
 ghost use Rattle.sip_message.specs.Head.{Head};
 ghost use Rattle.sip_message.specs.Message.{MessageView};
 ghost use Rattle.sip_message.specs.Reading.{read};
@@ -10,7 +10,8 @@ ghost use Rattle.text_grammar.specs.Cut.{lacks};
 use crate::alphabet::is_name;
 use crate::fault::{FormFault, MessageFault};
 use crate::known::Known;
-use crate::message::{MOST_BYTES, SIZE, read_parts};
+use crate::message::{MOST_BYTES, SIZE};
+use crate::text::MessageText;
 use crate::value::trimmed;
 use std::alloc::{AllocError, Global};
 
@@ -67,7 +68,7 @@ pub fn with_field(
 }
 
 /// The same, or the first fault.
-#[tactic(auto, unfolding(crate::specs::Added::added), using(crate::proofs::EndLaws::end_within))]
+#[tactic(auto, unfolding(crate::specs::Added::added))]
 fn with_field_exactly(
     alloc: Global,
     bytes: &[u8],
@@ -76,8 +77,22 @@ fn with_field_exactly(
 ) -> Result<Vec<u8>, MessageFault>
     ensures { Gives (λ out. out.items) result (added bytes.now name.now value.now) }
 {
-    let parts = read_parts(alloc, bytes)?;
-    let out = with_line_at(alloc, bytes, parts.end as usize, name, value)?;
+    let text = MessageText::read(alloc, bytes)?;
+    text.with_field_exactly(alloc, name, value)
+}
+
+/// The bytes with the field in a line at this place, if they aren't too many.
+pub(crate) fn sized_with_line_at(
+    alloc: Global,
+    bytes: &[u8],
+    place: usize,
+    name: &[u8],
+    value: &[u8],
+) -> Result<Vec<u8>, MessageFault>
+    requires { place ≤ length bytes.now }
+    ensures { Gives (λ out. out.items) result (sized (with_line_at place bytes.now name.now value.now)) }
+{
+    let out = with_line_at(alloc, bytes, place, name, value)?;
     if out.len() > MOST_BYTES {
         return Err(MessageFault::Form(FormFault {
             kind: SIZE,

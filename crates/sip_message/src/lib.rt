@@ -11,7 +11,8 @@
 //! - the Identity header fields, as values: [`Message::identity_count`] and [`Message::identity`].
 //!
 //! [`with_field`] goes the other way: it puts one more header field into the bytes of a message, if [`is_addable`] and [`is_field_value`] allow it.
-//! [`with_target`] puts another request URI into them, if [`is_target`] allows it; [`uri_number`]
+//! A [`MessageText`] keeps the bytes beside the message, for one that is asked and then given a field. [`with_target`] puts another request URI into the
+//! bytes, if [`is_target`] allows it; [`uri_number`]
 //! gives that URI's number.
 //!
 //! ```rust
@@ -50,6 +51,7 @@ mod message;
 mod name;
 mod start_line;
 mod target;
+mod text;
 mod value;
 
 pub use added::{is_addable, is_field_value, with_field};
@@ -59,3 +61,4 @@ pub use fault::{FormFault, MessageFault};
 pub use laws::{added_field_law, head_law, target_law};
 pub use message::{MOST_BYTES, Message};
 pub use target::with_target;
+pub use text::MessageText;

@@ -187,20 +187,30 @@ impl<'a> Message<'a> {
 }
 
 /// Of what is read no value is longer than all bytes.
+#[tactic(auto, using(crate::proofs::ShortLaws::read_short))]
 fn read_message<'a>(alloc: Global, bytes: &'a [u8]) -> Result<Message<'a>, MessageFault>
     ensures { Gives (λ message. message) result (read bytes.now) }
+{
+    let parts = read_parts(alloc, bytes)?;
+    Ok(message_of(parts))
+}
+
+/// The message of these parts, no value of which is longer than 65,535 bytes.
+pub(crate) fn message_of<'a>(parts: Parts<'a>) -> Message<'a>
+    requires { AreShort (parts_seen parts).fields }
+    ensures { result ≡ parts_seen parts.entry }
 {
     let Parts {
         method,
         uri,
         fields,
         end: _,
-    } = read_parts(alloc, bytes)?;
-    Ok(Message {
+    } = parts;
+    Message {
         method,
         uri,
         fields,
-    })
+    }
 }
 
 /// The parts of the message that the bytes are.
