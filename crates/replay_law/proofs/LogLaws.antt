@@ -8,7 +8,7 @@ use Rattle.replay_law.specs.Row.{Answer, valid, replay, Row, Uses, Stands}
 use Rattle.replay_law.specs.Round.{Round}
 use Rattle.replay_law.specs.Log.{row_at, StandsIn, IsBefore, LogWinner}
 use Rattle.replay_law.specs.Turn.{EachFirstWins}
-use Rattle.replay_law.specs.Law.{FirstOfAll, NumbersRise, ReplayNamesOne}
+use Rattle.replay_law.specs.Law.{FirstOfAll, LegalPassesOnce, NumbersRise, ReplayNamesOne}
 use Rattle.replay_law.proofs.Users.{valid_passes, replay_passes}
 
 -- two places are one, or one comes before the other
@@ -72,6 +72,30 @@ first_of_all rounds legal each round place other_round other winner row stands w
             omega arith
       ]
       | inr replayed ↦ let both : valid ≡ replay w.winner.number = sym wins ∙ replayed in absurd (cc)
+    ]
+
+-- ---- a valid call is alone
+
+-- it stands where the valid call of its ticket does
+at_winner : (rounds : List Round) (ticket : List ℕ) (w : LogWinner rounds ticket) (round place : ℕ) (row : Row) → StandsIn rounds round place row
+    → Uses ticket row → row.answer ≡ valid → AreOne round place w.round w.place
+at_winner rounds ticket w round place row stands uses wins =
+    elim (valid_or_replay rounds ticket w round place row stands uses) [
+      | inl one ↦ one
+      | inr replayed ↦ let both : valid ≡ replay w.winner.number = sym wins ∙ replayed in absurd (cc)
+    ]
+
+pub passes_once : LegalPassesOnce
+passes_once rounds legal round place other_round other row same stands wins there uses =
+    let passes = valid_passes row (legal.refused round place row stands) wins in
+    let w = legal.once round place row stands passes in
+    let mine = at_winner rounds row.ticket w round place row stands (record { passes = passes; same = refl }) wins in
+    let is = one_row rounds round place w.round w.place row w.winner mine stands w.stands in
+    let first : w.round ≤ other_round = w.first other_round other same there uses in
+    let here : round ≡ w.round = mine.0 in
+    elim (valid_or_replay rounds row.ticket w other_round other same there uses) [
+      | inl one ↦ inl (one.0 ∙ sym mine.0, one.1 ∙ sym mine.1)
+      | inr replayed ↦ inr (replayed ∙ ap (λ (r : Row). replay r.number) (sym is), omega (arith, first, here))
     ]
 
 -- ---- the call that a replay names

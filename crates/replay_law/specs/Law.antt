@@ -1,7 +1,7 @@
 -- The laws: what follows for a log from what holds of each of its rounds, and for a round from what holds of each call.
-use Rattle.std.specs.Prelude.{◌≡◌, ℕ, ◌<◌, ◌≤◌, true, List, [], ◌∷◌, ◌++◌, Some}
+use Rattle.std.specs.Prelude.{◌≡◌, ℕ, ◌<◌, ◌≤◌, ◌⊎◌, true, List, [], ◌∷◌, ◌++◌, Some}
 use Rattle.std.specs.List.{slice_get}
-use Rattle.replay_law.specs.Row.{replay, Row, Uses}
+use Rattle.replay_law.specs.Row.{valid, replay, Row, Uses}
 use Rattle.replay_law.specs.Held.{Held, nothing, Same, purged}
 use Rattle.replay_law.specs.Round.{Round, purge_at, Settled, RoundSettled, Rounds}
 use Rattle.replay_law.specs.Log.{StandsIn, IsBefore, NamesOne, RowsLegal}
@@ -43,10 +43,22 @@ OneByOne = (held next : Held) (rows : List Row) → Turns held rows next → Set
 abbrev pub FirstOfAll : Type 0
 FirstOfAll = (rounds : List Round) → RowsLegal rounds → EachFirstWins rounds → FirstOfLogWins rounds
 
--- a replay names exactly one call: the valid one of its ticket
+-- each replay names exactly one call: the valid one of its ticket
+abbrev pub EachNamesOne : List Round → Type 0
+EachNamesOne rounds = (round place number : ℕ) (row : Row) → StandsIn rounds round place row → row.answer ≡ replay number → NamesOne rounds row.ticket number
+
+-- it does, if numbers rise
 abbrev pub ReplayNamesOne : Type 0
-ReplayNamesOne = (rounds : List Round) → RowsLegal rounds → NumbersRise rounds → (round place number : ℕ) (row : Row) → StandsIn rounds round place row
-    → row.answer ≡ replay number → NamesOne rounds row.ticket number
+ReplayNamesOne = (rounds : List Round) → RowsLegal rounds → NumbersRise rounds → EachNamesOne rounds
+
+-- any other call that passes with the ticket of a valid one is a replay that names it, and is in no earlier round
+abbrev pub PassOnce : List Round → Type 0
+PassOnce rounds = (round place other_round other : ℕ) (row same : Row) → StandsIn rounds round place row → row.answer ≡ valid → StandsIn rounds other_round other same
+    → Uses row.ticket same → ((other_round ≡ round) × (other ≡ place)) ⊎ ((same.answer ≡ replay row.number) × (round ≤ other_round))
+
+-- so it is if the answers are legal
+abbrev pub LegalPassesOnce : Type 0
+LegalPassesOnce = (rounds : List Round) → RowsLegal rounds → PassOnce rounds
 
 -- one round more
 abbrev pub OneRoundMore : Type 0

@@ -12,7 +12,7 @@
 //! ```
 //!
 //! - A round: [`one_turn_more`], [`one_by_one`], [`purged_alone`], [`same_is_one`].
-//! - A log of rounds: [`one_round_more`], [`more_rounds`], [`legal_together`], [`first_of_all`], [`replay_names_one`], [`one_answer`].
+//! - A log of rounds: [`one_round_more`], [`more_rounds`], [`legal_together`], [`first_of_all`], [`passes_once`], [`replay_names_one`], [`one_answer`].
 //! - Runs that hand their past on: [`legal_in_runs`].
 //! - A log that is answered by the first call of each ticket: [`first_is_legal`], [`legal_is_first`],
 //!   [`one_by_first`], [`day_after_day`].
@@ -23,7 +23,7 @@
 //! All of it is proved, and there is nothing to test: `docs/PROVED.md`, "Rounds", has the laws.
 #![tactic(auto)]
 
-ghost use Rattle.replay_law.specs.Law.{LegalTogether, FirstOfAll, ReplayNamesOne, OneByOne, OneRoundMore, MoreRounds, PurgedAlone, OneTurnMore, SameIsOne, OneAnswer};
+ghost use Rattle.replay_law.specs.Law.{LegalPassesOnce, LegalTogether, FirstOfAll, ReplayNamesOne, OneByOne, OneRoundMore, MoreRounds, PurgedAlone, OneTurnMore, SameIsOne, OneAnswer};
 ghost use Rattle.replay_law.specs.ByFirst.{DayAfterDay, FirstIsLegal, LegalIsFirst, OneByFirst};
 ghost use Rattle.replay_law.specs.Runs.{LegalInRuns};
 
@@ -41,6 +41,11 @@ pub fn one_by_one()
 /// If this is so in each round, the first call of the whole log that passes with a ticket is the valid one.
 pub fn first_of_all()
     ensures { FirstOfAll }
+{}
+
+/// If a call is valid, any other call of the log that passes with its ticket is a replay that names it, and is in no earlier round.
+pub fn passes_once()
+    ensures { LegalPassesOnce }
 {}
 
 /// If numbers rise, a replay names exactly one call of the log: the valid one of its ticket.

@@ -54,3 +54,5 @@ mod SeatingLaws
 mod PreparedLaws
 mod PrepareLaws
 mod AheadLaws
+mod RunTimeLaws
+mod RunLaws

@@ -21,3 +21,4 @@ pub mod Adding
 pub mod Carried
 pub mod Handing
 pub mod Workers
+pub mod Runs

@@ -27,10 +27,12 @@ ghost use Rattle.verify_service.specs.Kept.{Kept, StoresChain};
 ghost use Rattle.cert_store.specs.Using.{IsOnce, has, names};
 ghost use Rattle.verify_service.specs.Needed.{BeginsWith, all_named, named, needed, once, round_texts};
 ghost use Rattle.verify_service.specs.RightChains.{AreRightHeld, IsThere, IsThereUnless, held_count};
+ghost use Rattle.verify_service.specs.Runs.{JudgedSaysFirst, LegalNamesOne, LegalPassOnce, RoundsRise, RunsAreLegal};
 ghost use Rattle.verify_service.specs.Screening.{IsReady};
 ghost use Rattle.verify_service.specs.declared.screening.ReadyCall.{ReadyCall};
 
 use cert_store::{cache_law, use_law};
+use replay_law::{legal_in_runs, passes_once, purged_alone, replay_names_one};
 use verify_rules::{code_law, last_second_law, right_law};
 
 /// A call of a log is judged as what its message and its moment are.
@@ -51,6 +53,27 @@ pub fn report_law()
         → report number xs ≡ report number ys → xs ≡ ys }
 {
     code_law();
+}
+
+/// Rounds of a service that is new, and of services that go on from its state, are legal together. Each outcome may be given to its call; and of the calls
+/// of all rounds that pass with one ticket exactly one is valid, in the first round that has such a call, and each other is a replay of it.
+///
+/// The rounds are those of [`Service::round`](crate::Service::round), answered or not, and the states those of `Service::state` and `Service::restore`.
+/// Moments never fall, and all settings have one `past`. No two different texts that were signed as last PASSporTs have one SHA-256.
+pub fn rounds_law()
+    ensures rise { RoundsRise }
+    ensures legal { RunsAreLegal }
+
+    // The same in other words: any other call that passes with the ticket of a valid one is a replay that names it, and a replay names exactly one call
+    // of all, if their numbers rise. What is judged is refused by the first rule that it breaks.
+    ensures once { LegalPassOnce }
+    ensures names { LegalNamesOne }
+    ensures first { JudgedSaysFirst }
+{
+    legal_in_runs();
+    passes_once();
+    purged_alone();
+    replay_names_one();
 }
 
 /// The texts of a round: those that its calls name, in the order of the log, each once; and how many there are at most.
