@@ -47,3 +47,4 @@ pub mod OneField
 pub mod SameWorldLaws
 pub mod MoreLaws
 pub mod MovedLaws
+pub mod UnaskedLaws

@@ -28,7 +28,9 @@ ghost use Rattle.verify_rules.specs.World.{AreRight, First, HoldsBytes, IsJudged
 ghost use Rattle.verify_rules.specs.declared.refusal.Refusal.{Refusal};
 ghost use Rattle.verify_rules.specs.declared.refusal.ScreenFault.TheVariants.{Refused};
 ghost use Rattle.verify_rules.specs.declared.settings.Settings.{Settings};
+ghost use Rattle.verify_rules.specs.Verdict.{IsVerdict};
 ghost use Rattle.verify_rules.specs.declared.verdict.Verdict.{Verdict};
+ghost use Rattle.verify_rules.specs.declared.verdict.Verdict.TheVariants as verdicts;
 
 use cert_store::judged_law;
 use claim_constraints::constraints_law;
@@ -137,6 +139,13 @@ pub fn provider_law()
     ensures signatures { (world : World) (other : Says) (call : Call) → truths (with_says world other) (in_call_order call) ≡ truths world (in_call_order call)
         → each (forged (with_says world other)) (in_call_order call) ≡ each (forged world) (in_call_order call)
         → first (signature_rules (with_says world other)) call ≡ first (signature_rules world) call }
+{}
+
+/// A refusal by one of rules 10 to 15 comes before the PASSporTs' own signatures are asked for (RFC 8224, section 6.2): it is the same whatever a
+/// provider says of them.
+pub fn unasked_law()
+    ensures { (says other : Says) (table : Table) (moment : ℕ) (readings : List Reading) (states : List State) (refused : Refusal) → refused.rule ≤ 15
+        → IsVerdict says table moment readings states 0 0 (verdicts.Refused refused) → IsVerdict other table moment readings states 0 0 (verdicts.Refused refused) }
 {}
 
 /// Two PASSporTs of a call that are read from one Identity field are one and the same.

@@ -69,7 +69,8 @@ pub use codes::code;
 pub use early::screen;
 pub use laws::{
     code_law, covers_kind_law, first_law, last_second_law, late_words_law, numbers_law,
-    one_field_law, provider_law, right_law, same_world_law, screened_law, signed_law, words_law,
+    one_field_law, provider_law, right_law, same_world_law, screened_law, signed_law, unasked_law,
+    words_law,
 };
 pub use leaf_authority::covers_passport;
 pub use next_hop::{more_law, moved_law};
