@@ -1,0 +1,4 @@
+-- What the contracts of this crate say.
+pub mod Order
+pub mod Key
+pub mod Signing
