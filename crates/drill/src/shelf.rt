@@ -1,7 +1,7 @@
 //! The shelf of the drill.
 ghost use Rattle.std.specs.Prelude.{◌≡◌, ℕ, ◌≤◌, [], Option, Some, None, Err, IfOk, is_ok, vec_len, if◌then◌else◌};
 ghost use Rattle.stir_outside.specs.Count.{Rose, one_more};
-ghost use Rattle.stir_outside.specs.Files.{CountsGoOn, HoldBytesWhere, IsLonger, OfFile};
+ghost use Rattle.stir_outside.specs.Files.{CountsGoOn, IsLonger, OfFile};
 
 use std::alloc::Global;
 use std::marker::Model;
@@ -41,9 +41,5 @@ impl Shelf for DrillShelf {
 
     fn read(&mut self, alloc: Global, name: &str, limit: usize) -> Result<Vec<u8>, ShelfFault> {
         self.shelf.read(alloc, name, limit)
-    }
-
-    fn holds_bytes(&self) {
-        self.shelf.holds_bytes();
     }
 }

@@ -15,7 +15,7 @@ use log_run::{AnswerError, BatchAnswer, LogCommand};
 use replay_law::more_rounds;
 use std::alloc::{AllocError, Global};
 use std::thread::Threads;
-use stir_outside::Shelf;
+use stir_outside::{Shelf, files_law};
 use verify_rules::words_law;
 use verify_service::{Carried, State};
 
@@ -63,7 +63,7 @@ impl<'a> LogVerifier<'a> {
         ensures shelf { ShelfStays S.Shelf shelf.old shelf.new }
     {
         words_law();
-        shelf.holds_bytes();
+        files_law();
         let mut workers = workers_of(alloc, self.answers, self.workers)?;
         self.service
             .round(rt, alloc, shelf, workers.as_mut_slice(), calls)

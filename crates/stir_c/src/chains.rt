@@ -2,12 +2,12 @@
 ghost use Rattle.std.specs.Prelude.{◌≡◌, ◌≤◌, ℕ, drop, if◌then◌else◌, is_ok, length, take, vec_len, Err, IfOk, None, Option, Some};
 ghost use Rattle.std.specs.Option.{option_copied};
 ghost use Rattle.stir_outside.specs.Count.{Rose, one_more};
-ghost use Rattle.stir_outside.specs.Files.{AreBytes, CountsGoOn, HoldBytesWhere, IsLonger, OfFile, file};
+ghost use Rattle.stir_outside.specs.Files.{CountsGoOn, IsLonger, OfFile, bytes_of, file};
 ghost use Rattle.stir_c.specs.Files.{files_of};
 
 use std::alloc::Global;
 use std::marker::Model;
-use stir_outside::{Shelf, ShelfFault};
+use stir_outside::{Shelf, ShelfFault, files_law};
 
 /// The name of the first chain: the digit 1.
 const FIRST_NAME: u8 = b'1';
@@ -81,17 +81,15 @@ impl<'a> Shelf for ChainShelf<'a> {
         self.reads = self.reads.saturating_add(1);
         Ok(bytes)
     }
-
-    #[tactic(auto, using(crate::proofs::FileLaws::hold_bytes))]
-    fn holds_bytes(&self) {
-        is_bytes(self.files.chains);
-    }
 }
 
-/// Does nothing: that what a slice holds are bytes is known of a parameter alone.
-fn is_bytes(content: &[u8])
-    ensures { AreBytes content.now }
-{}
+/// What a file holds, as it is: these are bytes.
+fn held(content: &[u8]) -> &[u8]
+    ensures { result.now ≡ bytes_of content.now }
+{
+    files_law();
+    content
+}
 
 /// The chain of this name.
 #[tactic(auto, using(crate::proofs::FileLaws::goes_on, crate::proofs::FileLaws::is_here, crate::proofs::FileLaws::is_absent))]
@@ -104,7 +102,7 @@ pub(crate) fn find<'a>(sizes: &[usize], chains: &'a [u8], name: &[u8]) -> Option
     'chains: for size in sizes {
         let (chain, rest) = cut(left, *size);
         if name == [number].as_slice() {
-            return Some(chain);
+            return Some(held(chain));
         }
         left = rest;
         number += 1;

@@ -1,5 +1,5 @@
 -- What a shelf holds and counts.
-use Rattle.std.specs.Prelude.{◌≡◌, ℕ, ◌<◌, ⊤, List, [], ◌∷◌, length, slice_index, Option, Some, None, if◌then◌else◌}
+use Rattle.std.specs.Prelude.{◌≡◌, ℕ, ◌<◌, nat_lt, ⊤, List, [], ◌∷◌, map, length, slice_index, Option, Some, None, if◌then◌else◌}
 use Rattle.std.specs.Str.{bytes_eq}
 use Rattle.stir_outside.specs.Count.{GoesOn}
 
@@ -7,10 +7,18 @@ use Rattle.stir_outside.specs.Count.{GoesOn}
 abbrev pub Files : Type 0
 Files = List (List ℕ × List ℕ)
 
+-- a number as a byte: each from 0 to 255 is one, and a greater one counts as 255
+abbrev pub as_byte : ℕ → ℕ
+as_byte n = if nat_lt n 256 then n else 255
+
+-- what a file holds are bytes, each number of its content one
+unfoldable pub bytes_of : List ℕ → List ℕ
+bytes_of content = map as_byte content
+
 -- the content of the file of that name, if there is one
 abbrev pub file : List ℕ → Files → Option (List ℕ)
 file name [] = None
-file name (entry ∷ others) = if bytes_eq name entry.0 then Some entry.1 else file name others
+file name (entry ∷ others) = if bytes_eq name entry.0 then Some (bytes_of entry.1) else file name others
 
 -- a fact about the file of that name, if the shelf tells its files
 abbrev pub OfFile : Option Files → List ℕ → (Option (List ℕ) → Type 0) → Type 0

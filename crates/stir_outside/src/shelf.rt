@@ -1,6 +1,6 @@
 ghost use Rattle.std.specs.Prelude.{◌≡◌, ℕ, ◌≤◌, Option, Some, None, Err, IfOk, is_ok, vec_len, if◌then◌else◌};
 ghost use Rattle.stir_outside.specs.Count.{Rose, one_more};
-ghost use Rattle.stir_outside.specs.Files.{Files, Counts, CountsGoOn, HoldBytesWhere, OfFile, IsLonger};
+ghost use Rattle.stir_outside.specs.Files.{Files, Counts, CountsGoOn, OfFile, IsLonger};
 
 use std::alloc::Global;
 
@@ -19,8 +19,8 @@ pub enum ShelfFault {
 
 /// A shelf of named files, as a folder of the file system.
 ///
-/// `files` is the map from names to contents, if the shelf tells it; no call changes it. `counts` are its counts of
-/// files read, missing, too long and failed, each in 64 bits.
+/// `files` is the map from names to contents, if the shelf tells it; no call changes it. What a file holds are bytes: its content is what
+/// the map says, each number as a byte. `counts` are its counts of files read, missing, too long and failed, each in 64 bits.
 pub trait Shelf {
     ghost files: { Self → Option Files };
 
@@ -42,8 +42,4 @@ pub trait Shelf {
         ensures long { result ≡ Err ShelfFault.Long → OfFile (files self.old) name.now (IsLonger limit) }
 
         ensures failed_rose { result ≡ Err ShelfFault.Failed → Rose (counts self.old).faults (counts self.new).faults };
-
-    /// What the files hold are bytes. It reads nothing.
-    fn holds_bytes(&self)
-        ensures { HoldBytesWhere (files self.now) };
 }

@@ -104,8 +104,6 @@ impl<R: Files + Drop> Shelf for FileShelf<R> {
         }
         result
     }
-
-    fn holds_bytes(&self) {}
 }
 
 /// The file of that name, opened and read whole.

@@ -1,7 +1,7 @@
 ghost use Rattle.std.specs.Prelude.{◌≡◌, ℕ, ◌≤◌, Option, Some, None, Err, IfOk, is_ok, vec_len, map, false, if◌then◌else◌};
 ghost use Rattle.std.specs.Option.{option_copied};
 ghost use Rattle.stir_outside.specs.Count.{Rose, one_more};
-ghost use Rattle.stir_outside.specs.Files.{AreBytes, CountsGoOn, HoldBytes, OfFile, IsLonger, file};
+ghost use Rattle.stir_outside.specs.Files.{CountsGoOn, OfFile, IsLonger, bytes_of, file};
 ghost use Rattle.stir_outside.specs.Memory.{is_failing};
 ghost use Rattle.stir_outside.specs.Shelf.{counted, is_failed};
 
@@ -134,25 +134,7 @@ impl Shelf for ShelfMem {
         self.reads = self.reads.saturating_add(1);
         Ok(bytes)
     }
-
-    fn holds_bytes(&self) {
-        are_bytes(self.files.as_slice());
-    }
 }
-
-/// What these files hold are bytes, since each content is.
-fn are_bytes(files: &[(Vec<u8>, Vec<u8>)])
-    ensures { HoldBytes (map (λ entry. (entry.0.items, entry.1.items)) files.now) }
-{
-    for (_, content) in files {
-        is_bytes(content.as_slice());
-    }
-}
-
-/// Does nothing: that what a slice holds are bytes is known of a parameter alone.
-fn is_bytes(content: &[u8])
-    ensures { AreBytes content.now }
-{}
 
 /// The content of the first file of this name.
 fn find<'a>(files: &'a [(Vec<u8>, Vec<u8>)], name: &[u8]) -> Option<&'a [u8]>
@@ -160,8 +142,15 @@ fn find<'a>(files: &'a [(Vec<u8>, Vec<u8>)], name: &[u8]) -> Option<&'a [u8]>
 {
     for (key, content) in files {
         if name == key.as_slice() {
-            return Some(content.as_slice());
+            return Some(held(content.as_slice()));
         }
     }
     None
+}
+
+/// What a file holds, as it is: these are bytes.
+fn held(content: &[u8]) -> &[u8]
+    ensures { result.now ≡ bytes_of content.now }
+{
+    content
 }

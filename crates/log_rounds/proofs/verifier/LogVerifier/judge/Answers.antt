@@ -27,7 +27,7 @@ returns-clause-round g c =
     let some : 0 < length c.as_mut_slice.result.now = omega (arith, many, c.args.self.now.some) in
     let one = head_of c.as_mut_slice.result.now some in
     round_judged c.words_law.ensures (λ (v : CarriedView). v.outcomes) c.args.self.now.service c.round.new.self c.args.self.now.answers.now c.args.self.now.workers _
-    (g.S.Shelf.files c.args.shelf.now) (g.S.Shelf.counts c.args.shelf.now) (g.S.Shelf.counts c.round.new.shelf) c.args.calls.now c.round.result c.holds_bytes.ensures
+    (g.S.Shelf.files c.args.shelf.now) (g.S.Shelf.counts c.args.shelf.now) (g.S.Shelf.counts c.round.new.shelf) c.args.calls.now c.round.result (c.files_law.ensures.bytes (g.S.Shelf.files c.args.shelf.now))
     (ap held_says (each 0 one some))
     (c.round.ensures.judged one) c.round.ensures.settled c.round.ensures.owed (λ is. c.round.ensures.first (many ∙ is)) c.round.ensures.unread c.round.ensures.quiet_shelf
     (λ stayed. c.round.ensures.quiet one (λ w less. stayed)) (λ stayed. c.round.ensures.few one (λ w less. stayed))
