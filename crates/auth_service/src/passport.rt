@@ -44,7 +44,7 @@ pub(crate) fn to_sign(
 {
     token_bytes_law();
     let passport = passport_for(alloc, bytes, order)?;
-    let signing = passport.signing_text(alloc)?;
+    let signing = passport.signing_text()?;
     if is_too_long(bytes, order, &signing) {
         return Err(SignFault::Form);
     }

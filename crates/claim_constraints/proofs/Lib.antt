@@ -2,9 +2,9 @@ pub mod ElementLaws
 pub mod FaultLaws
 pub mod MeetLaws
 pub mod NameLaws
-pub mod PieceLaws
 pub mod PlaceLaws
 pub mod SizeLaws
 pub mod TextLaws
+pub mod TextsLaws
 pub mod WholeLaws
 pub mod WriteLaws

@@ -1,6 +1,6 @@
 -- Constraints on the claims of PASSporTs (after RFC 8226, section 8; form and meaning are this project's own): which claims must be there, and which
 -- values some may have.
-use Rattle.std.specs.Prelude.{◌≡◌, ◌⊎◌, ℕ, ◌≤◌, Bool, true, ◌&&◌, nat_le, List, [], length, drop, get_or}
+use Rattle.std.specs.Prelude.{◌≡◌, ◌⊎◌, ℕ, ◌≤◌, Bool, true, ◌&&◌, nat_le, List, [], map, length, drop, get_or, Vec}
 use Rattle.std.specs.List.{list_all}
 use Rattle.std.specs.Str.{is_utf8}
 
@@ -17,6 +17,13 @@ pub record ConstraintsView : Type 0 where
 -- the claim of these texts: its name is the first of them
 abbrev pub permit_of : List (List ℕ) → PermitView
 permit_of texts = record { claim = get_or texts 0 []; values = drop 1 texts }
+
+-- the texts that vectors of bytes are, and the claims with values that pairs of a name and values are
+abbrev pub texts_of : {A : Type 0} → List (Vec ℕ A) → List (List ℕ)
+texts_of texts = map (λ text. text.items) texts
+
+abbrev pub permits_of : {A B C : Type 0} → List (Vec ℕ A × Vec (Vec ℕ B) C) → List PermitView
+permits_of permits = map (λ entry. record { claim = entry.0.items; values = texts_of entry.1.items }) permits
 
 -- the values of the permitted claim at an index
 abbrev pub values_at : ConstraintsView → ℕ → List (List ℕ)

@@ -4,7 +4,6 @@ pub mod Elements
 pub mod Fault
 pub mod Form
 pub mod Meets
-pub mod Pieces
 pub mod Read
 pub mod Refused
 pub mod Size

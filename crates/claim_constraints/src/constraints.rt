@@ -4,7 +4,7 @@ ghost use Rattle.std.specs.List.{slice_get};
 ghost use Rattle.der_reader.specs.Elem.{AllBytes};
 ghost use Rattle.der_reader.specs.declared.part.Fault.{Fault};
 ghost use Rattle.serde_json.specs.View.{view};
-ghost use Rattle.claim_constraints.specs.Constraints.{ConstraintsView, IsConstraints, PermitView, values_at};
+ghost use Rattle.claim_constraints.specs.Constraints.{ConstraintsView, IsConstraints, PermitView, permits_of, texts_of, values_at};
 ghost use Rattle.claim_constraints.specs.ConstraintsText.{ConstraintsText, constraints_text};
 ghost use Rattle.claim_constraints.specs.Fault.{Gives};
 ghost use Rattle.claim_constraints.specs.Meets.{Meets, meets};
@@ -14,7 +14,7 @@ ghost use Rattle.claim_constraints.specs.Refused.{IsRefused, Refused};
 use crate::fault::ConstraintFault;
 use crate::form::Form;
 use crate::meeting::{all_permitted, all_stand};
-use crate::permit::Permit;
+use crate::permit::Permits;
 use crate::reading::read_constraints;
 use crate::rules::{are_of, are_permits};
 use crate::sizes::constraints_size;
@@ -30,7 +30,7 @@ use std::marker::Model;
 #[derive(Drop)]
 pub struct Constraints {
     must: Texts,
-    permits: Vec<Permit>,
+    permits: Permits,
 }
 
 impl Model for Constraints {
@@ -38,9 +38,9 @@ impl Model for Constraints {
 
     ghost Value = { ConstraintsView };
 
-    ghost view = { λ c. record { must = c.must; permits = c.permits.items } };
+    ghost view = { λ c. record { must = c.must; permits = c.permits } };
 
-    ghost invariant = { λ c. IsConstraints (record { must = c.must; permits = c.permits.items }) };
+    ghost invariant = { λ c. IsConstraints (record { must = c.must; permits = c.permits }) };
 }
 
 impl Constraints {
@@ -69,13 +69,21 @@ impl Constraints {
         read_exactly(alloc, bytes)
     }
 
-    /// The constraints by which these claims must be there, and these may have their values alone. None if both lists are empty, a list of
-    /// values is, or a name or value is outside its form.
-    pub fn build(must: Texts, permits: Vec<Permit>) -> Option<Constraints>
-        ensures exact { IfSome result (λ c. c ≡ record { must = must; permits = permits.items }) }
-        ensures rules { IsSome result ↔ IsConstraints (record { must = must; permits = permits.items }) }
+    /// The constraints by which these claims must be there, and these may have their values alone: each of `permits` is a claim's name with its
+    /// values. None if both lists are empty, a list of values is, or a name or value is outside its form.
+    pub fn build(must: Vec<Vec<u8>>, permits: Vec<(Vec<u8>, Vec<Vec<u8>>)>) -> Option<Constraints>
+        ensures exact { IfSome result (λ c. c ≡ record { must = texts_of must.items; permits = permits_of permits.items }) }
+        ensures rules { IsSome result ↔ IsConstraints (record { must = texts_of must.items; permits = permits_of permits.items }) }
     {
-        if (must.count() == 0 && permits.is_empty())
+        Constraints::of(Texts::of(must), Permits::of(permits))
+    }
+
+    /// The same, of names and of claims with values.
+    fn of(must: Texts, permits: Permits) -> Option<Constraints>
+        ensures exact { IfSome result (λ c. c ≡ record { must = must; permits = permits }) }
+        ensures rules { IsSome result ↔ IsConstraints (record { must = must; permits = permits }) }
+    {
+        if (must.count() == 0 && permits.count() == 0)
             || !are_of(&must, Form::Name)
             || !are_permits(&permits)
         {
@@ -103,7 +111,7 @@ impl Constraints {
     pub fn permit_count(&self) -> usize
         ensures { result ≡ length self.now.permits }
     {
-        self.permits.len()
+        self.permits.count()
     }
 
     /// The name of the claim at this index of those with permitted values.
@@ -111,7 +119,7 @@ impl Constraints {
         requires { index < length self.now.permits }
         ensures { option_map (λ (permit : PermitView). permit.claim) (slice_get self.now.permits index) ≡ Some result.now }
     {
-        self.permits[index].claim()
+        self.permits.permit(index).claim()
     }
 
     /// How many values are permitted to the claim at this index.
@@ -119,7 +127,7 @@ impl Constraints {
         requires { index < length self.now.permits }
         ensures { result ≡ length (values_at self.now index) }
     {
-        self.permits[index].value_count()
+        self.permits.permit(index).value_count()
     }
 
     /// The value at the second index of those that are permitted to the claim at the first.
@@ -128,7 +136,7 @@ impl Constraints {
         requires value { index < length (values_at self.now claim) }
         ensures { slice_get (values_at self.now claim) index ≡ Some result.now }
     {
-        self.permits[claim].value(index)
+        self.permits.permit(claim).value(index)
     }
 
     /// Whether the text of the constraints is at most 65,535 bytes, so that it can be written.
@@ -140,7 +148,7 @@ impl Constraints {
 
     /// The one DER text of the constraints, which is at most 65,535 bytes. `Memory` comes if there is no memory for it.
     #[tactic(auto, using(crate::proofs::WholeLaws::read_again, crate::proofs::WholeLaws::written_text, crate::proofs::WholeLaws::only_text), unfolding(crate::specs::ConstraintsText::constraints_text))]
-    pub fn write(&self, alloc: Global) -> Result<Vec<u8>, AllocError>
+    pub fn write(&self) -> Result<Vec<u8>, AllocError>
         requires size { length (constraints_text self.now) ≤ 65535 }
 
         // The text, and reading it gives these constraints.
@@ -150,7 +158,7 @@ impl Constraints {
         // Bytes that are the text of these constraints are what it writes.
         ensures only { IfOk result (λ text. (bytes : List ℕ) → ConstraintsText bytes self.now → text.items ≡ bytes) }
     {
-        write_constraints(alloc, &self.must, &self.permits)
+        write_constraints(self.permits.alloc(), &self.must, &self.permits)
     }
 
     /// Whether a payload meets the constraints: each claim that must be there is a member of it, and each claim with permitted values that is a

@@ -3,7 +3,7 @@
 //! They follow the JWTClaimConstraints of RFC 8226, section 8, but their form and their meaning are this project's own.
 //!
 //! - [`Constraints::read`] takes their DER, and [`Constraints::write`] gives their one DER text, if [`Constraints::is_writable`].
-//! - [`Constraints::build`] makes them of names in [`Texts`] and of [`Permit`]s, each a claim with its permitted values.
+//! - [`Constraints::build`] makes them of names, and of claims, each with its permitted values.
 //! - [`Constraints::meets`] asks whether a payload meets them.
 //!
 //! ```rust
@@ -36,7 +36,5 @@ mod writing;
 pub use constraints::Constraints;
 pub use fault::ConstraintFault;
 pub use laws::constraints_law;
-pub use permit::Permit;
-pub use texts::Texts;
 /// Memory ran out.
 pub use std::alloc::AllocError as Memory;

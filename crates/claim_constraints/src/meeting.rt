@@ -7,7 +7,7 @@ ghost use Rattle.serde_json.specs.View.{view};
 ghost use Rattle.claim_constraints.specs.Constraints.{is_name, is_permit};
 ghost use Rattle.claim_constraints.specs.Meets.{is_one_of, permits, stands};
 
-use crate::permit::Permit;
+use crate::permit::{Permit, Permits};
 use crate::texts::Texts;
 use serde_json::Value;
 use std::str;
@@ -27,12 +27,13 @@ pub(crate) fn all_stand(names: &Texts, payload: &Value) -> bool
 }
 
 /// Whether each of these claims that is a member of the payload has one of its values there.
-pub(crate) fn all_permitted(list: &[Permit], payload: &Value) -> bool
+#[tactic(auto, using(crate::proofs::PlaceLaws::fails_at, crate::proofs::PlaceLaws::passes_at, crate::proofs::PlaceLaws::all_next))]
+pub(crate) fn all_permitted(list: &Permits, payload: &Value) -> bool
     requires { list_all is_permit list.now ≡ true }
     ensures { result ≡ list_all (permits (view payload.now)) list.now }
 {
-    for permit in list {
-        if !is_permitted(permit, payload) {
+    for index in 0..list.count() {
+        if !is_permitted(&list.permit(index), payload) {
             return false;
         }
     }
@@ -60,7 +61,7 @@ fn stands(name: &[u8], payload: &Value) -> bool
 }
 
 /// Whether the claim is no member of the payload, or has one of its values there.
-fn is_permitted(permit: &Permit, payload: &Value) -> bool
+fn is_permitted(permit: &Permit<'_>, payload: &Value) -> bool
     requires { is_name permit.now.claim ≡ true }
     ensures { result ≡ permits (view payload.now) permit.now }
 {
@@ -71,7 +72,7 @@ fn is_permitted(permit: &Permit, payload: &Value) -> bool
 }
 
 /// Whether this is a text that is one of the claim's values.
-fn has_value(permit: &Permit, value: &Value) -> bool
+fn has_value(permit: &Permit<'_>, value: &Value) -> bool
     ensures { result ≡ is_one_of permit.now.values (view value.now) }
 {
     match value.as_str() {
@@ -82,7 +83,7 @@ fn has_value(permit: &Permit, value: &Value) -> bool
 
 /// Whether one of the claim's values is this text.
 #[tactic(auto, using(crate::proofs::PlaceLaws::one_at, crate::proofs::PlaceLaws::any_next))]
-fn has_text(permit: &Permit, text: &[u8]) -> bool
+fn has_text(permit: &Permit<'_>, text: &[u8]) -> bool
     ensures { result ≡ list_any (bytes_eq text.now) permit.now.values }
 {
     for index in 0..permit.value_count() {

@@ -1,5 +1,5 @@
-//! A claim, and the values that it may have.
-ghost use Rattle.std.specs.Prelude.{◌≡◌, ◌≤◌, ◌<◌, ◌++◌, ◌∷◌, [], length, IfOk, OnErr, OnOk, Some};
+//! Claims, and the values that they may have.
+ghost use Rattle.std.specs.Prelude.{◌≡◌, ◌≤◌, ◌<◌, ◌++◌, ◌∷◌, [], length, map, OnErr, OnOk, Some};
 ghost use Rattle.std.specs.List.{slice_get};
 ghost use Rattle.claim_constraints.specs.Constraints.{PermitView, permit_of};
 
@@ -7,69 +7,111 @@ use crate::texts::Texts;
 use std::alloc::{AllocError, Global};
 use std::marker::Model;
 
-/// A claim's name, and the values that the claim may have.
+/// Claims, each by its name with the values that it may have. In contracts they are the list of these.
 #[derive(Drop)]
-pub struct Permit {
-    /// The name, and the values after it.
-    texts: Texts,
+pub(crate) struct Permits {
+    list: Vec<(Vec<u8>, Vec<Vec<u8>>)>,
 }
 
-impl Model for Permit {
-    ghost use Rattle.std.specs.Prelude.{◌≤◌, length};
-    ghost use Rattle.claim_constraints.specs.Constraints.{PermitView, permit_of};
+impl Model for Permits {
+    ghost use Rattle.std.specs.Prelude.{List, map};
+    ghost use Rattle.claim_constraints.specs.Constraints.{PermitView};
+
+    ghost Value = { List PermitView };
+
+    ghost view = { λ p. map (λ entry. record { claim = entry.0.items; values = map (λ value. value.items) entry.1.items }) p.list.items };
+}
+
+impl Permits {
+    /// None yet.
+    pub(crate) fn new(alloc: Global) -> Permits
+        ensures { result ≡ [] }
+    {
+        Permits {
+            list: Vec::new(alloc),
+        }
+    }
+
+    /// These claims, each a name and its values. It takes no memory.
+    pub(crate) fn of(list: Vec<(Vec<u8>, Vec<Vec<u8>>)>) -> Permits
+        ensures { result ≡ map (λ entry. record { claim = entry.0.items; values = map (λ value. value.items) entry.1.items }) list.items }
+    {
+        Permits { list }
+    }
+
+    /// The allocator of the list.
+    pub(crate) fn alloc(&self) -> Global {
+        *self.list.allocator()
+    }
+
+    /// Adds after the others the claim that these texts are, its name first. If there is no memory for it, they stay as they are.
+    #[tactic(auto, using(crate::proofs::TextsLaws::permit_more))]
+    pub(crate) fn push(&mut self, texts: Texts) -> Result<(), AllocError>
+        requires { 1 ≤ length texts }
+        ensures added { OnOk result (self.new ≡ self.old ++ permit_of texts ∷ []) }
+        ensures kept { OnErr result (self.new ≡ self.old) }
+    {
+        let mut values = texts.into_texts();
+        let claim = values.remove(0);
+        self.list.push((claim, values))?;
+        Ok(())
+    }
+
+    /// How many they are.
+    pub(crate) fn count(&self) -> usize
+        ensures { result ≡ length self.now }
+    {
+        self.list.len()
+    }
+
+    /// The one at this index.
+    #[tactic(auto, using(crate::proofs::TextsLaws::permit_at))]
+    pub(crate) fn permit(&self, index: usize) -> Permit<'_>
+        requires { index < length self.now }
+        ensures { slice_get self.now index ≡ Some result }
+    {
+        let (claim, values) = &self.list[index];
+        Permit { claim, values }
+    }
+}
+
+/// A claim's name, and the values that the claim may have.
+#[derive(Drop)]
+pub(crate) struct Permit<'a> {
+    claim: &'a [u8],
+    values: &'a Vec<Vec<u8>>,
+}
+
+impl<'a> Model for Permit<'a> {
+    ghost use Rattle.std.specs.Prelude.{map};
+    ghost use Rattle.claim_constraints.specs.Constraints.{PermitView};
 
     ghost Value = { PermitView };
 
-    ghost view = { λ p. permit_of p.texts };
-
-    ghost invariant = { λ p. 1 ≤ length p.texts };
+    ghost view = { λ p. record { claim = p.claim.now; values = map (λ value. value.items) p.values.now.items } };
 }
 
-impl Permit {
-    /// The claim of this name, without values yet.
-    pub fn new(alloc: Global, claim: &[u8]) -> Result<Permit, AllocError>
-        ensures { IfOk result (λ permit. permit ≡ record { claim = claim.now; values = [] }) }
-    {
-        let mut texts = Texts::new(alloc);
-        texts.push(claim)?;
-        Ok(Permit { texts })
-    }
-
-    /// Adds a copy of this value after the others. If there is no memory for it, they stay as they are.
-    pub fn push(&mut self, value: &[u8]) -> Result<(), AllocError>
-        ensures added { OnOk result (self.new ≡ record { claim = self.old.claim; values = self.old.values ++ value.now ∷ [] }) }
-        ensures kept { OnErr result (self.new ≡ self.old) }
-    {
-        self.texts.push(value)
-    }
-
-    /// The claim and the values that these texts are, the claim's name first.
-    pub(crate) fn of(texts: Texts) -> Permit
-        requires { 1 ≤ length texts }
-        ensures { result ≡ permit_of texts }
-    {
-        Permit { texts }
-    }
-
+impl<'a> Permit<'a> {
     /// The claim's name.
-    pub fn claim(&self) -> &[u8]
+    pub(crate) fn claim(&self) -> &'a [u8]
         ensures { result.now ≡ self.now.claim }
     {
-        self.texts.text(0)
+        self.claim
     }
 
     /// How many values there are.
-    pub fn value_count(&self) -> usize
+    pub(crate) fn value_count(&self) -> usize
         ensures { result ≡ length self.now.values }
     {
-        self.texts.count() - 1
+        self.values.len()
     }
 
     /// The value at this index.
-    pub fn value(&self, index: usize) -> &[u8]
+    #[tactic(auto, using(crate::proofs::TextsLaws::text_at))]
+    pub(crate) fn value(&self, index: usize) -> &'a [u8]
         requires { index < length self.now.values }
         ensures { slice_get self.now.values index ≡ Some result.now }
     {
-        self.texts.text_after(index)
+        &self.values[index]
     }
 }

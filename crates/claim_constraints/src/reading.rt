@@ -3,6 +3,7 @@ ghost use Rattle.std.specs.Prelude.{◌≡◌, ◌≤◌, ◌<◌, [], length, I
 ghost use Rattle.der_reader.specs.Each.{each_in};
 ghost use Rattle.der_reader.specs.Elem.{AllBytes};
 ghost use Rattle.der_reader.specs.Part.{item_of, part_of};
+ghost use Rattle.claim_constraints.specs.Constraints.{permit_of};
 ghost use Rattle.claim_constraints.specs.ConstraintsText.{must_tag, permits_tag};
 ghost use Rattle.claim_constraints.specs.Fault.{Gives};
 ghost use Rattle.claim_constraints.specs.Read.{begins, filled, optional_in, parts_in, permit_in, permit_with, read_constraints, some_in, part_view, text_with};
@@ -10,7 +11,7 @@ ghost use Rattle.claim_constraints.specs.declared.form.Form.TheVariants.{Name};
 
 use crate::fault::ConstraintFault;
 use crate::form::Form;
-use crate::permit::Permit;
+use crate::permit::Permits;
 use crate::texts::Texts;
 use der_reader::tags::SEQUENCE;
 use der_reader::{Fault, Item, Outer, Part};
@@ -23,12 +24,12 @@ pub(crate) const MUST: u8 = 0xA0;
 pub(crate) const PERMITS: u8 = 0xA1;
 
 /// The claims that must be there, and those of which some values are permitted.
-pub(crate) type Parts = (Texts, Vec<Permit>);
+pub(crate) type Parts = (Texts, Permits);
 
 /// The parts of the constraints that the bytes are.
 #[tactic(auto, unfolding(crate::specs::Read::read_constraints))]
 pub(crate) fn read_constraints(alloc: Global, bytes: &[u8]) -> Result<Parts, ConstraintFault>
-    ensures exact { Gives (λ parts. record { must = parts.0; permits = parts.1.items }) result (read_constraints bytes.now) }
+    ensures exact { Gives (λ parts. record { must = parts.0; permits = parts.1 }) result (read_constraints bytes.now) }
     ensures bytes { AllBytes bytes.now }
 {
     let sequence = Outer::read(bytes, SEQUENCE)?;
@@ -47,7 +48,7 @@ pub(crate) fn read_constraints(alloc: Global, bytes: &[u8]) -> Result<Parts, Con
 /// The two parts, of which one may be absent.
 #[tactic(auto, unfolding(crate::specs::Read::parts_in))]
 fn parts_in(alloc: Global, part: &Part) -> Result<Parts, ConstraintFault>
-    ensures exact { Gives (λ parts. record { must = parts.0; permits = parts.1.items }) result (parts_in (part_of part.now)) }
+    ensures exact { Gives (λ parts. record { must = parts.0; permits = parts.1 }) result (parts_in (part_of part.now)) }
 {
     let (must, rest) = must_in(alloc, part)?;
     let (permits, rest) = permits_in(alloc, &rest)?;
@@ -73,14 +74,11 @@ fn must_in<'a>(alloc: Global, part: &Part<'a>) -> Result<(Texts, Part<'a>), Cons
 
 /// The claims of which some values are permitted, none if their part is absent, and what comes after it.
 #[tactic(auto, unfolding(crate::specs::Read::optional_in, crate::specs::Read::marked_in, crate::specs::Read::some_in))]
-fn permits_in<'a>(
-    alloc: Global,
-    part: &Part<'a>,
-) -> Result<(Vec<Permit>, Part<'a>), ConstraintFault>
-    ensures exact { Gives (λ found. (found.0.items, part_of found.1)) result (optional_in permits_tag permit_with (part_of part.now)) }
+fn permits_in<'a>(alloc: Global, part: &Part<'a>) -> Result<(Permits, Part<'a>), ConstraintFault>
+    ensures exact { Gives (λ found. (found.0, part_of found.1)) result (optional_in permits_tag permit_with (part_of part.now)) }
 {
     if !begins(part.left, PERMITS) {
-        return Ok((Vec::new(alloc), *part));
+        return Ok((Permits::new(alloc), *part));
     }
     let marked = part.element(PERMITS)?;
     let sequence = marked.content().element(SEQUENCE)?;
@@ -112,10 +110,10 @@ fn filled<'a>(sequence: &Item<'a>) -> Result<Part<'a>, Fault>
 
 /// The claims of the part, with their values, one after another.
 #[tactic(auto, using(der_reader::proofs::EachLaws::at_first))]
-fn each_permit(alloc: Global, part: &Part) -> Result<Vec<Permit>, ConstraintFault>
-    ensures exact { Gives (λ permits. permits.items) result (each_in permit_with [] (part_of part.now)) }
+fn each_permit(alloc: Global, part: &Part) -> Result<Permits, ConstraintFault>
+    ensures exact { Gives (λ permits. permits) result (each_in permit_with [] (part_of part.now)) }
 {
-    let mut permits = Vec::new(alloc);
+    let mut permits = Permits::new(alloc);
     let mut rest = *part;
     'permits: while !rest.left.is_empty() {
         let item = rest.item()?;
@@ -127,8 +125,8 @@ fn each_permit(alloc: Global, part: &Part) -> Result<Vec<Permit>, ConstraintFaul
 
 /// Adds the claim with its values that an element is.
 #[tactic(auto, unfolding(crate::specs::Read::permit_with))]
-fn add_permit(alloc: Global, permits: &mut Vec<Permit>, item: &Item) -> Result<(), ConstraintFault>
-    ensures exact { Gives (λ _. permits.new.items) result (permit_with permits.old.items (item_of item.now)) }
+fn add_permit(alloc: Global, permits: &mut Permits, item: &Item) -> Result<(), ConstraintFault>
+    ensures exact { Gives (λ _. permits.new) result (permit_with permits.old (item_of item.now)) }
 {
     if item.der.tag != SEQUENCE {
         return Err(item.fault(ConstraintFault::DER).into());
@@ -138,10 +136,11 @@ fn add_permit(alloc: Global, permits: &mut Vec<Permit>, item: &Item) -> Result<(
     Ok(())
 }
 
-/// A claim and its values.
+/// A claim and its values, as texts of which the claim's name is the first.
 #[tactic(auto, unfolding(crate::specs::Read::permit_in))]
-fn permit_in(alloc: Global, part: &Part) -> Result<Permit, ConstraintFault>
-    ensures exact { Gives (λ permit. permit) result (permit_in (part_of part.now)) }
+fn permit_in(alloc: Global, part: &Part) -> Result<Texts, ConstraintFault>
+    ensures exact { Gives permit_of result (permit_in (part_of part.now)) }
+    ensures some { IfOk result (λ texts. 1 ≤ length texts) }
 {
     let name = part.item()?;
     let mut claim = Texts::new(alloc);
@@ -149,7 +148,7 @@ fn permit_in(alloc: Global, part: &Part) -> Result<Permit, ConstraintFault>
     let sequence = name.behind.element(SEQUENCE)?;
     let texts = some_texts(claim, &sequence, Form::Value)?;
     sequence.behind.end(())?;
-    Ok(Permit::of(texts))
+    Ok(texts)
 }
 
 /// These texts, and after them those of a SEQUENCE, of which there is one at least.

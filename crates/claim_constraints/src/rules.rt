@@ -6,7 +6,7 @@ ghost use Rattle.claim_constraints.specs.Form.{passes};
 ghost use Rattle.claim_constraints.specs.declared.form.Form.TheVariants.{Value};
 
 use crate::form::Form;
-use crate::permit::Permit;
+use crate::permit::{Permit, Permits};
 use crate::texts::Texts;
 
 /// Whether all of these texts are of this form.
@@ -23,14 +23,20 @@ pub(crate) fn are_of(texts: &Texts, form: Form) -> bool
 }
 
 /// Whether all of these are claims with values.
-pub(crate) fn are_permits(permits: &[Permit]) -> bool
+#[tactic(auto, using(crate::proofs::PlaceLaws::fails_at, crate::proofs::PlaceLaws::all_next))]
+pub(crate) fn are_permits(permits: &Permits) -> bool
     ensures { result ≡ list_all is_permit permits.now }
 {
-    permits.iter().all(is_permit)
+    for index in 0..permits.count() {
+        if !is_permit(&permits.permit(index)) {
+            return false;
+        }
+    }
+    true
 }
 
 /// Whether it is a name with a value or more.
-fn is_permit(permit: &Permit) -> bool
+fn is_permit(permit: &Permit<'_>) -> bool
     ensures { result ≡ is_permit permit.now }
 {
     Form::Name.passes(permit.claim()) && (permit.value_count() > 0 && are_values(permit))
@@ -38,7 +44,7 @@ fn is_permit(permit: &Permit) -> bool
 
 /// Whether all values of a claim are values.
 #[tactic(auto, using(crate::proofs::PlaceLaws::fails_at, crate::proofs::PlaceLaws::all_next))]
-fn are_values(permit: &Permit) -> bool
+fn are_values(permit: &Permit<'_>) -> bool
     ensures { result ≡ list_all (passes Value) permit.now.values }
 {
     for index in 0..permit.value_count() {

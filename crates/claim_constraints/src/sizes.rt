@@ -5,14 +5,14 @@ ghost use Rattle.der_reader.specs.Tags.{sequence_tag};
 ghost use Rattle.claim_constraints.specs.ConstraintsText.{constraints_text, elements, must_part, names_text, permit_content, permits_part, values_text};
 ghost use Rattle.claim_constraints.specs.Size.{capped};
 
-use crate::permit::Permit;
+use crate::permit::{Permit, Permits};
 use crate::texts::Texts;
 
 /// All sizes from here on are one: they are past the limit of a text.
 const CAP: usize = 65_536;
 
 /// How long the text of constraints of these parts is, up to 65,536.
-pub(crate) fn constraints_size(must: &Texts, permits: &[Permit]) -> usize
+pub(crate) fn constraints_size(must: &Texts, permits: &Permits) -> usize
     ensures { result ≡ capped (length (constraints_text (record { must = must.now; permits = permits.now }))) }
 {
     element_size(sum(must_size(must), permits_size(permits)))
@@ -29,28 +29,29 @@ fn must_size(names: &Texts) -> usize
 }
 
 /// How long the part of the claims of which some values are permitted is, up to 65,536.
-fn permits_size(permits: &[Permit]) -> usize
+fn permits_size(permits: &Permits) -> usize
     ensures { result ≡ capped (length (permits_part permits.now)) }
 {
-    if permits.is_empty() {
+    if permits.count() == 0 {
         return 0;
     }
     element_size(element_size(entries_size(permits)))
 }
 
 /// How long the entries of claims with their values are, up to 65,536.
-fn entries_size(permits: &[Permit]) -> usize
+fn entries_size(permits: &Permits) -> usize
     ensures { result ≡ capped (length (elements sequence_tag permit_content permits.now)) }
 {
     let mut size = 0;
-    'permits: for permit in permits {
-        size = sum(size, element_size(permit_size(permit)));
+    'permits: for index in 0..permits.count() {
+        let permit = permits.permit(index);
+        size = sum(size, element_size(permit_size(&permit)));
     }
     size
 }
 
 /// How long the name of a claim and the SEQUENCE of its values are, up to 65,536.
-fn permit_size(permit: &Permit) -> usize
+fn permit_size(permit: &Permit<'_>) -> usize
     ensures { result ≡ capped (length (permit_content permit.now)) }
 {
     sum(text_size(permit.claim()), element_size(values_size(permit)))
@@ -68,7 +69,7 @@ fn names_size(names: &Texts) -> usize
 }
 
 /// How long the elements of a claim's values are, up to 65,536.
-fn values_size(permit: &Permit) -> usize
+fn values_size(permit: &Permit<'_>) -> usize
     ensures { result ≡ capped (length (values_text permit.now.values)) }
 {
     let mut size = 0;

@@ -4,7 +4,7 @@ ghost use Rattle.der_reader.specs.Tags.{sequence_tag};
 ghost use Rattle.claim_constraints.specs.ConstraintsText.{constraints_text, elements, must_part, names_text, permit_content, permits_part, values_text};
 
 use crate::form::Form;
-use crate::permit::Permit;
+use crate::permit::{Permit, Permits};
 use crate::reading::{MUST, PERMITS};
 use crate::texts::Texts;
 use der_reader::tags::SEQUENCE;
@@ -16,7 +16,7 @@ use std::alloc::{AllocError, Global};
 pub(crate) fn write_constraints(
     alloc: Global,
     must: &Texts,
-    permits: &[Permit],
+    permits: &Permits,
 ) -> Result<Vec<u8>, AllocError>
     requires { length (constraints_text (record { must = must.now; permits = permits.now })) ≤ 65535 }
     ensures { IfOk result (λ text. text.items ≡ constraints_text (record { must = must.now; permits = permits.now })) }
@@ -43,11 +43,11 @@ fn must_part(alloc: Global, names: &Texts) -> Result<Vec<u8>, AllocError>
 
 /// The part of the claims of which some values are permitted.
 #[tactic(auto, using(crate::proofs::WriteLaws::inner_small, crate::proofs::WholeLaws::part_some))]
-fn permits_part(alloc: Global, permits: &[Permit]) -> Result<Vec<u8>, AllocError>
+fn permits_part(alloc: Global, permits: &Permits) -> Result<Vec<u8>, AllocError>
     requires { length (permits_part permits.now) < 65536 }
     ensures { IfOk result (λ text. text.items ≡ permits_part permits.now) }
 {
-    if permits.is_empty() {
+    if permits.count() == 0 {
         return Ok(Vec::new(alloc));
     }
     let each = permit_texts(alloc, permits)?;
@@ -56,13 +56,14 @@ fn permits_part(alloc: Global, permits: &[Permit]) -> Result<Vec<u8>, AllocError
 }
 
 /// The elements of claims with their values, one after another.
-fn permit_texts(alloc: Global, permits: &[Permit]) -> Result<Vec<u8>, AllocError>
+fn permit_texts(alloc: Global, permits: &Permits) -> Result<Vec<u8>, AllocError>
     requires { length (elements sequence_tag permit_content permits.now) < 65536 }
     ensures { IfOk result (λ text. text.items ≡ elements sequence_tag permit_content permits.now) }
 {
     let mut out = Vec::new(alloc);
-    'permits: for permit in permits {
-        let content = permit_content(alloc, permit)?;
+    'permits: for index in 0..permits.count() {
+        let permit = permits.permit(index);
+        let content = permit_content(alloc, &permit)?;
         put(&mut out, SEQUENCE, &content)?;
     }
     Ok(out)
@@ -70,7 +71,7 @@ fn permit_texts(alloc: Global, permits: &[Permit]) -> Result<Vec<u8>, AllocError
 
 /// The name of a claim and the SEQUENCE of its values.
 #[tactic(auto, using(crate::proofs::WriteLaws::permit_small))]
-fn permit_content(alloc: Global, permit: &Permit) -> Result<Vec<u8>, AllocError>
+fn permit_content(alloc: Global, permit: &Permit<'_>) -> Result<Vec<u8>, AllocError>
     requires { length (permit_content permit.now) < 65536 }
     ensures { IfOk result (λ text. text.items ≡ permit_content permit.now) }
 {
@@ -93,7 +94,7 @@ fn names_text(alloc: Global, names: &Texts) -> Result<Vec<u8>, AllocError>
 }
 
 /// The elements of a claim's values, one after another.
-fn values_text(alloc: Global, permit: &Permit) -> Result<Vec<u8>, AllocError>
+fn values_text(alloc: Global, permit: &Permit<'_>) -> Result<Vec<u8>, AllocError>
     requires { length (values_text permit.now.values) < 65536 }
     ensures { IfOk result (λ text. text.items ≡ values_text permit.now.values) }
 {

@@ -64,7 +64,7 @@ impl<'a> LogCommand for HandingVerifier<'a> {
     fn closing(&mut self, alloc: Global) -> Result<Vec<u8>, AllocError> {
         let state = self.verifier.hand_on(alloc)?;
         let _rules = state.kept();
-        state.write(alloc)
+        state.write()
     }
 }
 

@@ -127,6 +127,11 @@ impl Passport {
         &self.x5u
     }
 
+    /// The allocator of its collections.
+    pub(crate) fn alloc(&self) -> Global {
+        *self.dest.allocator()
+    }
+
     /// When it was issued, in Unix seconds, at most 253,402,300,799 (RFC 8225, section 5.1.1).
     pub fn iat(&self) -> u64
         ensures value { result ≡ self.now.iat }

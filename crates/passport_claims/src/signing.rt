@@ -18,7 +18,7 @@ impl Passport {
     ///
     /// With any signature it is a token of this PASSporT: reading it and its claims gives the same again. So it is in the compact form
     /// (RFC 8225, section 7), for a call that gives what the PASSporT says.
-    pub fn signing_text(&self, alloc: Global) -> Result<Vec<u8>, AllocError>
+    pub fn signing_text(&self) -> Result<Vec<u8>, AllocError>
         ensures exact { IfOk result (λ text. text.items ≡ signing_of self.now) }
         ensures signable { IfOk result (λ text. IsSignable self.now) }
     {
@@ -26,8 +26,8 @@ impl Passport {
         compact_text_law();
         token_law();
         token_bytes_law();
-        let values = self.to_values(alloc)?;
-        signing_of(alloc, &values.0, &values.1)
+        let values = self.to_values()?;
+        signing_of(self.alloc(), &values.0, &values.1)
     }
 }
 

@@ -23,13 +23,14 @@ impl Passport {
     /// The deterministic header and payload (RFC 8225, sections 4, 5 and 9). Both can be written by
     /// [`deterministic`](passport_json::deterministic), and reading them gives the same PASSporT. An error says that
     /// memory ran out.
-    pub fn to_values(&self, alloc: Global) -> Result<(Value, Value), AllocError>
+    pub fn to_values(&self) -> Result<(Value, Value), AllocError>
         ensures header { IfOk result (λ values. view values.0 ≡ Header (members_of self.now)) }
         ensures payload { IfOk result (λ values. view values.1 ≡ Payload (members_of self.now)) }
         ensures writable { IfOk result (λ values. IsWritable (view values.0) × IsWritable (view values.1)) }
         ensures reads_back { IfOk result (λ values. Claims (view values.0) (view values.1) (ppt_of self.now.kind) self.now.x5u self.now) }
         ensures read_again { IfOk result (λ values. read_claims (view values.0) (view values.1) (ppt_of self.now.kind) self.now.x5u ≡ Ok self.now) }
     {
+        let alloc = self.alloc();
         let header = self.header(alloc)?;
         let payload = self.payload(alloc)?;
         Ok((header, payload))

@@ -16,6 +16,8 @@ use std::marker::Model;
 /// A contract sees a finite map, and `spare`: how many tickets can be added without memory.
 #[derive(Drop)]
 pub struct Past {
+    /// The allocator, for the list of all calls.
+    alloc: Global,
     /// The calls by ticket.
     calls: HashMap<[u8; 32], Kept>,
     /// How many tickets can be added; the map may have room for more.
@@ -40,6 +42,7 @@ impl Past {
         ensures { (ticket : List ℕ) → found result ticket ≡ None }
     {
         Past {
+            alloc,
             calls: HashMap::new(alloc),
             spare: 0,
         }
@@ -94,20 +97,20 @@ impl Past {
     }
 
     /// All tickets with their calls, in rising order of tickets. The only error is that memory runs out.
-    pub fn list(&self, alloc: Global) -> Result<Vec<([u8; 32], Kept)>, AllocError>
+    pub fn list(&self) -> Result<Vec<([u8; 32], Kept)>, AllocError>
         ensures same { IfOk result (λ list. (ticket : List ℕ) → lookup (bytes_eq ticket) list.items ≡ found self.now ticket) }
         ensures rises { IfOk result (λ list. Rises None list.items) }
     {
-        let list = self.entries(alloc)?;
+        let list = self.entries()?;
         Ok(sorted(list))
     }
 
     /// All tickets with their calls, in no order.
-    fn entries(&self, alloc: Global) -> Result<Vec<([u8; 32], Kept)>, AllocError>
+    fn entries(&self) -> Result<Vec<([u8; 32], Kept)>, AllocError>
         ensures same { IfOk result (λ list. list.items ≡ self.now.entries) }
         ensures unique { IfOk result (λ list. IsDistinct bytes_eq (keys_of list.items)) }
     {
-        let mut list = Vec::new(alloc);
+        let mut list = Vec::new(self.alloc);
         for (ticket, kept) in self.calls.iter() {
             list.push((*ticket, *kept))?;
         }

@@ -9,7 +9,7 @@
 //!
 //! ```rust
 //! let state = State::read(alloc, text, 60)?;
-//! let text = state.write(alloc)?;                           // reading that gives the same state
+//! let text = state.write()?;                                // reading that gives the same state
 //! ```
 //!
 //! Nothing is judged here. The past that a service asks is `replay_desk`'s, which gives its entries as a list ([`State::kept`] has the same form).

@@ -123,20 +123,21 @@ impl State {
     ///
     /// Reading it gives the same state if the number of its call is at most 4,000,000,000.
     #[tactic(auto, using(crate::proofs::AnswerLaws::handed_on, crate::proofs::AnswerLaws::text_again))]
-    pub fn write(&self, alloc: Global) -> Result<Vec<u8>, AllocError>
+    pub fn write(&self) -> Result<Vec<u8>, AllocError>
         ensures exact { IfOk result (λ text. text.items ≡ state_text self.now) }
         ensures text { self.now.call ≤ 4000000000 → IfOk result (λ text. StateText text.items self.now) }
         ensures read_again { self.now.call ≤ 4000000000 → IfOk result (λ text. length text.items < 2 ^ 32 - 1 → (past : ℕ) → read_state past text.items ≡ Ok self.now) }
     {
         let _ = &self.window;
-        self.write_exactly(alloc)
+        self.write_exactly()
     }
 
     /// The same, of one exit.
     #[tactic(auto, using(crate::proofs::WriteLaws::written_by))]
-    fn write_exactly(&self, alloc: Global) -> Result<Vec<u8>, AllocError>
+    fn write_exactly(&self) -> Result<Vec<u8>, AllocError>
         ensures { IfOk result (λ text. text.items ≡ state_text self.now) }
     {
+        let alloc = *self.kept.allocator();
         let mut text = head_text(alloc, self.window, self.call, self.moment)?;
         add_entries(&mut text, alloc, &self.kept)?;
         let count = self.kept.len();

@@ -254,5 +254,5 @@ fn numbers_text(alloc: Global) -> Result<Vec<u8>, Memory>
     let Some(list) = AuthList::build(entries) else {
         unreachable!()
     };
-    list.write(alloc)
+    list.write()
 }

@@ -96,7 +96,7 @@ impl AuthList {
 
     /// The one DER text of the list. `Memory` comes if there is no memory for it.
     #[tactic(auto, using(crate::proofs::ListLaws::list_again, crate::proofs::ListLaws::one_text))]
-    pub fn write(&self, alloc: Global) -> Result<Vec<u8>, Memory>
+    pub fn write(&self) -> Result<Vec<u8>, Memory>
         // The text, and reading it gives this list.
         ensures text { IfOk result (λ text. ListText text.items self.now) }
         ensures reads_back { IfOk result (λ text. read_list text.items ≡ Ok self.now) }
@@ -104,7 +104,7 @@ impl AuthList {
         // Bytes from which this list is read are what it writes.
         ensures only { IfOk result (λ text. (bytes : List ℕ) → AllBytes bytes → read_list bytes ≡ Ok self.now → text.items ≡ bytes) }
     {
-        let text = list_text(alloc, &self.entries)?;
+        let text = list_text(*self.entries.allocator(), &self.entries)?;
         Ok(text)
     }
 }

@@ -128,7 +128,7 @@ fn write(alloc: Global, words: &[&[u8]]) -> Result<String, Unread> {
     let Ok(list) = AuthList::read(alloc, bytes) else {
         return Err(Unread::Value);
     };
-    let written = list.write(alloc)?;
+    let written = list.write()?;
     Answer::new(alloc).hex(written.as_slice()).line()
 }
 

@@ -78,7 +78,7 @@ pub(crate) fn demanded(alloc: Global, constraints: Option<&Constraints>) -> Resu
     if !constraints.is_writable() {
         return Err(Unread::Value);
     }
-    let text = constraints.write(alloc)?;
+    let text = constraints.write()?;
     Answer::new(alloc).hex(text.as_slice()).line()
 }
 

@@ -129,7 +129,7 @@ fn made_by(
 
 /// Header and payload in their deterministic form.
 fn values(alloc: Global, passport: &Passport) -> Result<String, Unread> {
-    let (header, payload) = passport.to_values(alloc)?;
+    let (header, payload) = passport.to_values()?;
     let answer = Answer::new(alloc).word("ok");
     let answer = put_value(alloc, answer, &header)?;
     put_value(alloc, answer, &payload)?.line()

@@ -1,7 +1,7 @@
 //! Constraints on claims: the calls of `claim_constraints`.
 ghost use Rattle.std.specs.Prelude.{◌<◌, length};
 
-use claim_constraints::{ConstraintFault, Constraints, Permit, Texts};
+use claim_constraints::{ConstraintFault, Constraints};
 use serde_json::Value;
 use std::alloc::Global;
 use vector_table::{Answer, Unread, fault, number, text, word};
@@ -67,7 +67,7 @@ fn write(alloc: Global, words: &[&[u8]]) -> Result<String, Unread> {
     if !constraints.is_writable() {
         return word(alloc, "long");
     }
-    let written = constraints.write(alloc)?;
+    let written = constraints.write()?;
     Answer::new(alloc).hex(written.as_slice()).line()
 }
 
@@ -92,26 +92,29 @@ fn texts_of<'a, 'b>(
     alloc: Global,
     count: &[u8],
     words: &'b [&'a [u8]],
-) -> Result<(Texts, &'b [&'a [u8]]), Unread> {
-    let mut texts = Texts::new(alloc);
+) -> Result<(Vec<Vec<u8>>, &'b [&'a [u8]]), Unread> {
+    let mut texts = Vec::new(alloc);
     let mut words = words;
     for _ in 0..number::<u32>(count)? {
         let [text, rest @ ..] = words else {
             return Err(Unread::Call);
         };
-        texts.push(text)?;
+        texts.push(Vec::from_slice(alloc, text)?)?;
         words = rest;
     }
     Ok((texts, words))
 }
 
+/// Claims, each by its name with its values.
+type Permits = Vec<(Vec<u8>, Vec<Vec<u8>>)>;
+
 /// So many claims with their values, after others, from the words that say them.
 fn permits_of(
     alloc: Global,
-    before: Vec<Permit>,
+    before: Permits,
     count: u32,
     words: &[&[u8]],
-) -> Result<Vec<Permit>, Unread> {
+) -> Result<Permits, Unread> {
     if count == 0 {
         return Ok(before);
     }
@@ -120,17 +123,8 @@ fn permits_of(
     };
     let (values, rest) = texts_of(alloc, size, rest)?;
     let mut permits = before;
-    permits.push(permit_of(alloc, claim, &values)?)?;
+    permits.push((Vec::from_slice(alloc, claim)?, values))?;
     permits_of(alloc, permits, count - 1, rest)
-}
-
-/// The claim of this name with these values.
-fn permit_of(alloc: Global, claim: &[u8], values: &Texts) -> Result<Permit, Unread> {
-    let mut permit = Permit::new(alloc, claim)?;
-    for index in 0..values.count() {
-        permit.push(values.text(index))?;
-    }
-    Ok(permit)
 }
 
 /// Whether a payload meets the constraints.

@@ -36,6 +36,6 @@ fn added(alloc: Global, words: &[&[u8]]) -> Result<String, Unread> {
 /// What is signed of a PASSporT of these parts.
 fn text(alloc: Global, words: &[&[u8]]) -> Result<String, Unread> {
     let passport = passport_of(alloc, words)?;
-    let signing = passport.signing_text(alloc)?;
+    let signing = passport.signing_text()?;
     Answer::new(alloc).text(signing.as_slice()).line()
 }

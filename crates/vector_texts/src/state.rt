@@ -42,7 +42,7 @@ fn write(alloc: Global, words: &[&[u8]]) -> Result<String, Unread> {
     let kept = entries_of(alloc, entries)?;
     match State::new(number(window)?, number(call)?, number(moment)?, kept) {
         Some(state) => {
-            let text = state.write(alloc)?;
+            let text = state.write()?;
             Answer::new(alloc).text(text.as_slice()).line()
         }
         None => word(alloc, "none"),
@@ -59,7 +59,7 @@ fn list(alloc: Global, words: &[&[u8]]) -> Result<String, Unread> {
             past.add(*ticket, *kept);
         }
     }
-    let list = past.list(alloc)?;
+    let list = past.list()?;
     put_entries(Answer::new(alloc), list.as_slice()).line()
 }
 

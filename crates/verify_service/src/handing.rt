@@ -53,7 +53,7 @@ impl Service {
         let window = self.window();
         self.begun = false;
         self.past.purge(self.moment);
-        let kept = self.past.list(alloc)?;
+        let kept = self.past.list()?;
         match State::new(window, self.number, self.moment, kept) {
             Some(state) => Ok(state),
             None => unreachable!(),

@@ -5,5 +5,5 @@ use Rattle.serde_json.specs.View.{view}
 use Rattle.claim_constraints.specs.Meets.{permits}
 use Rattle.claim_constraints.proofs.meeting.all_permitted.Given as goal
 
-abbrev pub invariant-loop-permit : goal.invariant-loop-permit
-invariant-loop-permit l = list_all (permits (view l.payload)) (drop l.permit-index l.list) ≡ list_all (permits (view l.payload)) l.list
+abbrev pub invariant-loop-index : goal.invariant-loop-index
+invariant-loop-index l = list_all (permits (view l.payload)) (drop l.index l.list) ≡ list_all (permits (view l.payload)) l.list

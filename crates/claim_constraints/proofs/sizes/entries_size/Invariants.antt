@@ -8,4 +8,4 @@ use Rattle.claim_constraints.proofs.sizes.entries_size.Given as goal
 abbrev pub invariant-permits : goal.invariant-permits
 invariant-permits l =
     (passed : ℕ) × (l.size ≡ capped passed)
-    × (passed + length (elements sequence_tag permit_content (drop l.permit-index l.permits)) ≡ length (elements sequence_tag permit_content l.permits))
+    × (passed + length (elements sequence_tag permit_content (drop l.index l.permits)) ≡ length (elements sequence_tag permit_content l.permits))
