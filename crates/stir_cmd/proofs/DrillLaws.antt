@@ -84,7 +84,7 @@ keeps_all drilling = record {
 same_files : (seed count : ℕ) (mine yours : DrillFiles) → FilesOf seed count mine → FilesOf seed count yours → SayTheSame (world_of mine) (world_of yours)
 same_files seed count mine yours a b = record {
   chains = one_map chain_map_text mine.world.chains yours.world.chains a.chains b.chains;
-  files = refl;
+  files = λ name. refl;
   anchors = one_ok mine.world.anchors yours.world.anchors _ a.anchors b.anchors;
   grants = one_table table_text mine.world.table yours.world.table a.table b.table;
   says = one_answers (answers_of seed count) mine.answers yours.answers a.answers b.answers;

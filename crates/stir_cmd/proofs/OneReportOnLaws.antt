@@ -37,7 +37,7 @@ use Rattle.verify_service.specs.Service.{last_moment_of, last_number}
 use Rattle.verify_service.specs.declared.outcome.Outcome.{Outcome}
 use Rattle.stir_cmd.specs.Calls.{config_by, settings_by, world_by}
 use Rattle.stir_cmd.specs.Headline.{AreJudgedOn, VerifiedFrom, VerifiedOn}
-use Rattle.stir_cmd.specs.OneReport.{AreOneReport, GivesOneFrom, IsOneReportOn}
+use Rattle.stir_cmd.specs.OneReport.{AreOneMap, AreOneReport, GivesOneFrom, IsOneReportOn}
 use Rattle.stir_cmd.specs.Outside.{IfTold, Outside}
 use Rattle.stir_cmd.specs.Verifying.{start_at}
 use Rattle.stir_cmd.proofs.AnswersAlike.{AllAlike, NoneAside, RoundsAlike, all_same, rounds_alike, same_cut}
@@ -47,11 +47,12 @@ use Rattle.stir_cmd.proofs.SameReadings.{SameWorldLaw, one_content, one_ok, same
 
 -- ---- the state that was read
 
-one_start : (files : Files) (judging : JudgingView) (name : List ℕ) (mine yours : GoingMaterials) → GoingOf (Some files) judging name mine → GoingOf (Some files) judging name yours
+one_start : (files others : Files) → AreOneMap files others → (judging : JudgingView) (name : List ℕ) (mine yours : GoingMaterials) → GoingOf (Some files) judging name mine
+    → GoingOf (Some others) judging name yours
     → mine.state ≡ yours.state
-one_start files judging name mine yours a b =
+one_start files others same judging name mine yours a b =
     one_ok mine.state yours.state (read_state judging.settings.past b.state.content)
-    (subst (λ content. read_state judging.settings.past content ≡ Ok mine.state) (one_content files (state_file judging.settings.past name) _ _ a.state b.state) a.state.holds.read)
+    (subst (λ content. read_state judging.settings.past content ≡ Ok mine.state) (one_content files others same (state_file judging.settings.past name) _ _ a.state b.state) a.state.holds.read)
     b.state.holds.read
 
 -- ---- the rounds, as the replay rule sees them
@@ -113,12 +114,13 @@ none_aside : (settings : Settings) (workers : ℕ) (materials : Materials) (file
     → AreJudgedOn settings workers materials files past before now rounds next → NotRisen before.counts.faults now.counts.faults → NoneAside (outcomes_in rounds)
 none_aside settings workers materials files past before now rounds next judged quiet = record { read = judged.quiet quiet; asked = judged.answered }
 
-module _ (one_log : OneLog) (same_world : SameWorldLaw) (verifying : VerifyingView) (name : List ℕ) (single : verifying.workers ≡ 1) (files : Files) (bytes : List ℕ)
+module _ (one_log : OneLog) (same_world : SameWorldLaw) (verifying : VerifyingView) (name : List ℕ) (single : verifying.workers ≡ 1) (files others : Files)
+    (one_map : AreOneMap files others) (bytes : List ℕ)
     (before now other other_now : Outside) (status other_status : ℕ) (mine : VerifiedOn verifying name files bytes before now status)
-    (yours : VerifiedOn verifying name files bytes other other_now other_status) (quiet : NotRisen before.counts.faults now.counts.faults)
+    (yours : VerifiedOn verifying name others bytes other other_now other_status) (quiet : NotRisen before.counts.faults now.counts.faults)
     (quiet_other : NotRisen other.counts.faults other_now.counts.faults) where
   read_once : mine.materials.state ≡ yours.materials.state
-  read_once = one_start files verifying.judging name mine.materials yours.materials mine.stands yours.stands
+  read_once = one_start files others one_map verifying.judging name mine.materials yours.materials mine.stands yours.stands
 
   same_calls : calls_in mine.rounds ≡ calls_in yours.rounds
   same_calls =
@@ -126,17 +128,17 @@ module _ (one_log : OneLog) (same_world : SameWorldLaw) (verifying : VerifyingVi
       (subst (λ (s : StateView). LogText (start_at s) bytes (calls_in yours.rounds) []) (sym read_once) yours.log)).0
 
   same_first : (entry : Entry) → First (world_by mine.materials.judging files) (call_in (settings_by verifying.judging.settings) entry)
-      ≡ First (world_by yours.materials.judging files) (call_in (settings_by verifying.judging.settings) entry)
+      ≡ First (world_by yours.materials.judging others) (call_in (settings_by verifying.judging.settings) entry)
   same_first entry =
-      same_world (world_by mine.materials.judging files) (world_by yours.materials.judging files)
-      (same_says files verifying.judging mine.materials.judging yours.materials.judging mine.stands.judging yours.stands.judging) (call_in (settings_by verifying.judging.settings) entry)
+      same_world (world_by mine.materials.judging files) (world_by yours.materials.judging others)
+      (same_says files others one_map verifying.judging mine.materials.judging yours.materials.judging mine.stands.judging yours.stands.judging) (call_in (settings_by verifying.judging.settings) entry)
 
   alike : RoundsAlike mine.rounds yours.rounds
   alike =
-      rounds_alike (world_by mine.materials.judging files) (world_by yours.materials.judging files) (settings_by verifying.judging.settings) same_first mine.rounds yours.rounds
+      rounds_alike (world_by mine.materials.judging files) (world_by yours.materials.judging others) (settings_by verifying.judging.settings) same_first mine.rounds yours.rounds
       (same_cut mine.rounds yours.rounds mine.judged.cut yours.judged.cut same_calls) mine.judged.each yours.judged.each
       (none_aside (settings_by verifying.judging.settings) verifying.workers mine.materials.judging files (kept_by mine.materials.state.kept) before now mine.rounds mine.next mine.judged quiet)
-      (none_aside (settings_by verifying.judging.settings) verifying.workers yours.materials.judging files (kept_by yours.materials.state.kept) other other_now yours.rounds yours.next yours.judged quiet_other)
+      (none_aside (settings_by verifying.judging.settings) verifying.workers yours.materials.judging others (kept_by yours.materials.state.kept) other other_now yours.rounds yours.next yours.judged quiet_other)
 
   came : CameToOne (row_rounds (config_by (settings_by verifying.judging.settings) verifying.workers) mine.rounds)
       (row_rounds (config_by (settings_by verifying.judging.settings) verifying.workers) yours.rounds) mine.next yours.next
@@ -149,7 +151,7 @@ module _ (one_log : OneLog) (same_world : SameWorldLaw) (verifying : VerifyingVi
 
   same_outcomes : outcomes_in mine.rounds ≡ outcomes_in yours.rounds
   same_outcomes =
-      all_same (world_by mine.materials.judging files) (world_by yours.materials.judging files) (config_by (settings_by verifying.judging.settings) verifying.workers) mine.rounds yours.rounds alike
+      all_same (world_by mine.materials.judging files) (world_by yours.materials.judging others) (config_by (settings_by verifying.judging.settings) verifying.workers) mine.rounds yours.rounds alike
       mine.judged.each yours.judged.each came.answers
 
   same_state : mine.state ≡ yours.state
@@ -176,8 +178,8 @@ gives_by one_log same_world verifying name named single before now status None l
 gives_by one_log same_world verifying name named single before now status (Some files) None quiet said = tt
 gives_by one_log same_world verifying name named single before now status (Some files) (Some bytes) quiet said = record {
   same = λ other other_now other_status ran.
-      one_report_on one_log same_world verifying name single files bytes before now other other_now status other_status said
-      (told_of (VerifiedOn verifying name) files bytes other other_now other_status ran.same_files ran.same_log
+      one_report_on one_log same_world verifying name single files ran.others ran.same_files bytes before now other other_now status other_status said
+      (told_of (VerifiedOn verifying name) ran.others bytes other other_now other_status ran.told ran.same_log
       (subst (λ (x : Option (List ℕ)). IfTold other.files other.left (VerifiedFrom verifying x other other_now other_status)) named (ran.headline ran.done))) quiet ran.quiet;
 }
 

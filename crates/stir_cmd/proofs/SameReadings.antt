@@ -17,6 +17,7 @@ use Rattle.verify_rules.specs.Call.{Call}
 use Rattle.verify_rules.specs.SameWorld.{SayTheSame}
 use Rattle.verify_rules.specs.World.{First, World}
 use Rattle.stir_cmd.specs.Calls.{world_by}
+use Rattle.stir_cmd.specs.OneReport.{AreOneMap}
 use Rattle.stir_cmd.specs.Outside.{IfTold, Outside}
 
 pub one_ok : {X : Type 0} (a b : X) (r : Result X ℕ) → r ≡ Ok a → r ≡ Ok b → a ≡ b
@@ -38,21 +39,23 @@ one_answers content mine yours a b = a.says ∙ ap says_in (one_ok a.rows b.rows
 
 -- ---- what was read of the same files
 
--- one file was read twice
-pub one_content : (files : Files) (named : NamedFile) (P Q : List ℕ → Type 0) (mine : ReadOf (Some files) named P) (yours : ReadOf (Some files) named Q) → mine.content ≡ yours.content
-one_content files named P Q mine yours = let first = mine.told in let second = yours.told in same_Some mine.content yours.content (sym first ∙ second)
+-- one file was read twice, of files that are the same as maps
+pub one_content : (files others : Files) → AreOneMap files others → (named : NamedFile) (P Q : List ℕ → Type 0) (mine : ReadOf (Some files) named P) (yours : ReadOf (Some others) named Q)
+    → mine.content ≡ yours.content
+one_content files others same named P Q mine yours =
+    let first = mine.told in let second = yours.told in same_Some mine.content yours.content (sym first ∙ same named.name ∙ second)
 
-pub same_says : (files : Files) (judging : JudgingView) (mine yours : Materials) → MaterialsOf (Some files) judging mine → MaterialsOf (Some files) judging yours
-    → SayTheSame (world_by mine files) (world_by yours files)
-same_says files judging mine yours a b = record {
-  chains = one_map b.chains.content mine.chains yours.chains (subst (λ c. MapOf c mine.chains) (one_content files (chain_map judging.chains) _ _ a.chains b.chains) a.chains.holds) b.chains.holds;
-  files = refl;
+pub same_says : (files others : Files) → AreOneMap files others → (judging : JudgingView) (mine yours : Materials) → MaterialsOf (Some files) judging mine → MaterialsOf (Some others) judging yours
+    → SayTheSame (world_by mine files) (world_by yours others)
+same_says files others same judging mine yours a b = record {
+  chains = one_map b.chains.content mine.chains yours.chains (subst (λ c. MapOf c mine.chains) (one_content files others same (chain_map judging.chains) _ _ a.chains b.chains) a.chains.holds) b.chains.holds;
+  files = same;
   anchors =
-      one_ok mine.anchors yours.anchors _ (subst (λ c. AnchorsOf c mine.anchors) (one_content files (anchor_file judging.anchors) _ _ a.anchors b.anchors) a.anchors.holds).read
+      one_ok mine.anchors yours.anchors _ (subst (λ c. AnchorsOf c mine.anchors) (one_content files others same (anchor_file judging.anchors) _ _ a.anchors b.anchors) a.anchors.holds).read
       b.anchors.holds.read;
-  grants = one_table b.table.content mine.table yours.table (subst (λ c. TableOf c mine.table) (one_content files (code_table judging.table) _ _ a.table b.table) a.table.holds) b.table.holds;
+  grants = one_table b.table.content mine.table yours.table (subst (λ c. TableOf c mine.table) (one_content files others same (code_table judging.table) _ _ a.table b.table) a.table.holds) b.table.holds;
   says = one_answers b.answers.content mine.answers yours.answers
-      (subst (λ c. AnswersOf c mine.answers) (one_content files (answers_file judging.answers) _ _ a.answers b.answers) a.answers.holds) b.answers.holds;
+      (subst (λ c. AnswersOf c mine.answers) (one_content files others same (answers_file judging.answers) _ _ a.answers b.answers) a.answers.holds) b.answers.holds;
 }
 
 abbrev pub SameWorldLaw : Type 0

@@ -1,11 +1,11 @@
--- What any two runs of `verify` on one worker have in common that judge one log by the same files: the report is one function of both.
+-- What any two runs of `verify` on one worker have in common that judge one log by the same files, as a map: the report is one function of both.
 use Rattle.std.specs.Prelude.{◌≡◌, ℕ, ◌≤◌, List, [], Option, Some, None}
 use Rattle.std.specs.Io.KnownBytes.{Appends}
 use Rattle.call_log.specs.Entry.{Entry}
 use Rattle.call_log.specs.Log.{LogText, start}
 use Rattle.log_rounds.specs.Rounds.{IsApart}
 use Rattle.stir_outside.specs.Count.{NotRisen}
-use Rattle.stir_outside.specs.Files.{Files}
+use Rattle.stir_outside.specs.Files.{Files, file}
 use Rattle.stir_words.specs.Order.{OrderView, VerifyBy, VerifyingView}
 use Rattle.stir_cmd.specs.Calls.{config_by, settings_by}
 use Rattle.stir_cmd.specs.Headline.{Headline}
@@ -15,9 +15,15 @@ use Rattle.stir_cmd.specs.Outside.{IfTold, Outside}
 abbrev pub IsLogApart : VerifyingView → List ℕ → Type 0
 IsLogApart verifying bytes = (calls : List Entry) → LogText (start 0 0) bytes calls [] → IsApart (config_by (settings_by verifying.judging.settings) verifying.workers) calls
 
--- a run over these files and this log that kept the headline's promise, ended with 0 or 1, and in which no read of the shelf failed
+-- the same file for each name, in whatever order the files are kept
+abbrev pub AreOneMap : Files → Files → Type 0
+AreOneMap files others = (name : List ℕ) → file name files ≡ file name others
+
+-- a run over the same files, as a map, and this log that kept the headline's promise, ended with 0 or 1, and in which no read of the shelf failed
 pub record JudgedTheSame (order : Option OrderView) (files : Files) (bytes : List ℕ) (before now : Outside) (status : ℕ) : Type 0 where
-  pub same_files : before.files ≡ Some files
+  pub others : Files
+  pub told : before.files ≡ Some others
+  pub same_files : AreOneMap files others
   pub same_log : before.left ≡ Some bytes
   pub headline : Headline order before now status
   pub done : status ≤ 1

@@ -66,8 +66,9 @@ pub fn run<R: Threads + Sync, S: Shelf, I: Source, O: Sink>(
     ensures headline { Headline (order_of (texts words.now))
         (outside_of S.Shelf I.Source O.Sink shelf.old input.old sink.old)
         (outside_of S.Shelf I.Source O.Sink shelf.new input.new sink.new) result }
-    // With one worker the report is one function of the files and the log. Take any other run of the same words over the same files and the same log: if no
-    // read of a file fails in either, both write the same bytes and end with the same status, unless memory runs out.
+    // With one worker the report is one function of the files, as a map, and the log. Take any other run of the same words over the same files, in whatever
+    // order they are kept, and the same log: if no read of a file fails in either, both write the same bytes and end with the same status, unless memory
+    // runs out.
     ensures one_report { GivesOneReport (order_of (texts words.now))
         (outside_of S.Shelf I.Source O.Sink shelf.old input.old sink.old)
         (outside_of S.Shelf I.Source O.Sink shelf.new input.new sink.new) result }

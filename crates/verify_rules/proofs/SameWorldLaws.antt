@@ -121,10 +121,15 @@ truth_same_by : WithinLaw → (world other : World) → SayTheSame world other �
 truth_same_by law world other same None = refl
 truth_same_by law world other same (Some bytes) = ap (λ judged. cond (nat_lt 49152 (length bytes)) long (have judged)) (judged_in law world other same bytes)
 
+content_by : (world other : World) → SayTheSame world other → (found : Option (List ℕ))
+    → option_and_then (λ name. file name world.files) found ≡ option_and_then (λ name. file name other.files) found
+content_by world other same None = refl
+content_by world other same (Some name) = same.files name
+
 content_same : (world other : World) → SayTheSame world other → (x5u : List ℕ) → content_of world x5u ≡ content_of other x5u
 content_same world other same x5u =
     ap (λ found. option_and_then (λ name. file name world.files) found) (same.chains x5u)
-    ∙ ap (λ files. option_and_then (λ name. file name files) (listed other.chains x5u)) same.files
+    ∙ content_by world other same (listed other.chains x5u)
 
 truth_same : WithinLaw → (world other : World) → SayTheSame world other → (one : Reading) → truth_for world one ≡ truth_for other one
 unfolding truth_of
