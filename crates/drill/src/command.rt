@@ -79,8 +79,8 @@ impl<'a> LogCommand for DrillCommand<'a> {
         self.verifier.rounds_at_once()
     }
 
-    fn look_ahead<R: Threads + Sync>(&mut self, rt: &R, alloc: Global, calls: &[Call]) {
-        self.verifier.screen_ahead(rt, alloc, calls);
+    fn look_ahead<R: Threads + Sync>(&mut self, rt: &R, _alloc: Global, calls: &[Call]) {
+        self.verifier.screen_ahead(rt, calls);
     }
 
     fn answer<R: Threads + Sync, S: Shelf>(

@@ -46,8 +46,8 @@ impl<'a> LogCommand for HandingVerifier<'a> {
         self.verifier.rounds_at_once()
     }
 
-    fn look_ahead<R: Threads + Sync>(&mut self, rt: &R, alloc: Global, calls: &[Call]) {
-        self.verifier.screen_ahead(rt, alloc, calls);
+    fn look_ahead<R: Threads + Sync>(&mut self, rt: &R, _alloc: Global, calls: &[Call]) {
+        self.verifier.screen_ahead(rt, calls);
     }
 
     fn answer<R: Threads + Sync, S: Shelf>(
@@ -61,8 +61,8 @@ impl<'a> LogCommand for HandingVerifier<'a> {
         self.verifier.answer_round(rt, alloc, shelf, calls)
     }
 
-    fn closing(&mut self, alloc: Global) -> Result<Vec<u8>, AllocError> {
-        let state = self.verifier.hand_on(alloc)?;
+    fn closing(&mut self, _alloc: Global) -> Result<Vec<u8>, AllocError> {
+        let state = self.verifier.hand_on()?;
         let _rules = state.kept();
         state.write()
     }

@@ -32,13 +32,12 @@ impl<'a> LogVerifier<'a> {
     }
 
     /// Screens calls of the next rounds together, if there are several workers. Nothing that is promised depends on it.
-    pub fn screen_ahead<R: Threads + Sync>(&mut self, rt: &R, alloc: Global, calls: &[Call])
+    pub fn screen_ahead<R: Threads + Sync>(&mut self, rt: &R, calls: &[Call])
         ensures service { self.new.service ≡ self.old.service }
         ensures same { basis_of self.new ≡ basis_of self.old }
     {
         if self.workers > 1 {
-            self.service
-                .look_ahead(rt, alloc, self.workers as usize, calls);
+            self.service.look_ahead(rt, self.workers as usize, calls);
         }
     }
 
@@ -65,15 +64,14 @@ impl<'a> LogVerifier<'a> {
         words_law();
         files_law();
         let mut workers = workers_of(alloc, self.answers, self.workers)?;
-        self.service
-            .round(rt, alloc, shelf, workers.as_mut_slice(), calls)
+        self.service.round(rt, shelf, workers.as_mut_slice(), calls)
     }
 
     /// What the service hands on to the next run. `AllocError` is the only error.
-    pub(crate) fn hand_on(&mut self, alloc: Global) -> Result<State, AllocError>
+    pub(crate) fn hand_on(&mut self) -> Result<State, AllocError>
         ensures state { IfOk result (IsStateOf self.old.service) }
     {
-        self.service.state(alloc)
+        self.service.state()
     }
 
     /// Judges a round, and gives its lines. Only memory stops that.
@@ -127,8 +125,8 @@ impl<'a> LogCommand for LogVerifier<'a> {
         self.rounds_at_once()
     }
 
-    fn look_ahead<R: Threads + Sync>(&mut self, rt: &R, alloc: Global, calls: &[Call]) {
-        self.screen_ahead(rt, alloc, calls);
+    fn look_ahead<R: Threads + Sync>(&mut self, rt: &R, _alloc: Global, calls: &[Call]) {
+        self.screen_ahead(rt, calls);
     }
 
     fn answer<R: Threads + Sync, S: Shelf>(

@@ -62,7 +62,6 @@ fn prepare_log<R: Threads + Sync>(
     let mut service = service_of(alloc, world)?;
     let prepared = prepare(
         rt,
-        alloc,
         &mut service,
         &mut shelf,
         workers.as_mut_slice(),
@@ -74,7 +73,6 @@ fn prepare_log<R: Threads + Sync>(
 /// A round of these calls, prepared.
 fn prepare<R: Threads + Sync>(
     rt: &R,
-    alloc: Global,
     service: &mut Service,
     shelf: &mut ShelfMem,
     workers: &mut [Worker<AnswerProvider<'_>, NoGate>],
@@ -89,7 +87,7 @@ fn prepare<R: Threads + Sync>(
     if !service.follows(calls) {
         return Err(Unread::Value);
     }
-    Ok(service.prepare(rt, alloc, shelf, workers, calls)?)
+    Ok(service.prepare(rt, shelf, workers, calls)?)
 }
 
 /// Two seats of a prepared round: one of its own, and a half of that one.

@@ -104,15 +104,7 @@ fn judge_rounds<R: Threads + Sync, G: Gate + Send>(
     };
     for count in rounds {
         let calls = calls_of(alloc, &mut reader, &mut source, *count)?;
-        judge_round(
-            rt,
-            alloc,
-            service,
-            shelf,
-            workers,
-            calls.as_slice(),
-            &mut told,
-        )?;
+        judge_round(rt, service, shelf, workers, calls.as_slice(), &mut told)?;
     }
     Ok(told)
 }
@@ -120,7 +112,6 @@ fn judge_rounds<R: Threads + Sync, G: Gate + Send>(
 /// Puts what comes of the calls of a round after what came of those before it. What is held of chains stays right.
 fn judge_round<R: Threads + Sync, G: Gate + Send>(
     rt: &R,
-    alloc: Global,
     service: &mut Service,
     shelf: &mut ShelfMem,
     workers: &mut [Worker<AnswerProvider<'_>, G>],
@@ -136,7 +127,7 @@ fn judge_round<R: Threads + Sync, G: Gate + Send>(
     ensures right { (d : _) → HoldsRight (Some shelf.new.files) (held_says (slice_index_or workers.new 0 d).provider.held) service.new }
 {
     let before = shelf.reads();
-    let outcomes = judge(rt, alloc, service, shelf, workers, calls)?;
+    let outcomes = judge(rt, service, shelf, workers, calls)?;
     told.reads.push(shelf.reads() - before)?;
     put_lines(&mut told.lines, calls, outcomes.as_slice())
 }
@@ -144,7 +135,6 @@ fn judge_round<R: Threads + Sync, G: Gate + Send>(
 /// What comes of the calls of a round. What is held of chains stays right.
 fn judge<R: Threads + Sync, G: Gate + Send>(
     rt: &R,
-    alloc: Global,
     service: &mut Service,
     shelf: &mut ShelfMem,
     workers: &mut [Worker<AnswerProvider<'_>, G>],
@@ -162,7 +152,7 @@ fn judge<R: Threads + Sync, G: Gate + Send>(
     if !service.follows(calls) {
         return Err(Unread::Value);
     }
-    Ok(service.round(rt, alloc, shelf, workers, calls)?.close())
+    Ok(service.round(rt, shelf, workers, calls)?.close())
 }
 
 /// Puts the lines of a round after others.

@@ -15,17 +15,12 @@ use verify_rules::Settings;
 impl Service {
     /// Screens calls that come next, in the threads of so many workers, so that their rounds needn't. Nothing that is promised depends on it: a round whose
     /// calls weren't screened here screens them itself.
-    pub fn look_ahead<R: Threads + Sync>(
-        &mut self,
-        rt: &R,
-        alloc: Global,
-        workers: usize,
-        calls: &[Call],
-    )
+    pub fn look_ahead<R: Threads + Sync>(&mut self, rt: &R, workers: usize, calls: &[Call])
         requires some { 0 < workers }
         requires few { workers ≤ 8 }
         ensures same { self.new ≡ self.old }
     {
+        let alloc = self.alloc();
         let places = mem::replace(&mut self.places, Vec::new(alloc));
         let (ahead_calls, ahead) = ahead_of(rt, alloc, &self.settings, workers, calls, places);
         self.ahead_calls = ahead_calls;

@@ -44,7 +44,7 @@ impl Service {
 
     /// What is handed on to the next run: the last call, and what is left of the past after a purge by the moment of that call. Refused or not, this
     /// ends the round that is prepared: from here on it isn't the newest. `Memory` is the only error.
-    pub fn state(&mut self, alloc: Global) -> Result<State, AllocError>
+    pub fn state(&mut self) -> Result<State, AllocError>
         ensures state { IfOk result (IsStateOf self.old) }
         ensures stays { HandsOn self.old self.new }
         ensures config { IsSameConfig self.old self.new }

@@ -20,7 +20,7 @@
 //!
 //! ```rust
 //! let mut service = Service::new(alloc, settings, world)?;
-//! let carried = service.round(&rt, alloc, &mut shelf, &mut workers, &calls)?;
+//! let carried = service.round(&rt, &mut shelf, &mut workers, &calls)?;
 //! for outcome in carried.outcomes() {
 //!     // Valid, Refused(refusal), Replay { winner }, Unread(place) or Unasked(place)
 //! }

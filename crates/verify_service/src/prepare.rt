@@ -41,7 +41,6 @@ impl Service {
     pub fn prepare<R: Threads + Sync, S: Shelf, P: Provider + Send, G: Gate + Send>(
         &mut self,
         rt: &R,
-        alloc: Global,
         shelf: &mut S,
         workers: &mut [Worker<P, G>],
         calls: &[Call],
@@ -87,6 +86,7 @@ impl Service {
         ensures provider { EachWorker workers.old workers.new (λ _ before now. ProviderStays P.Provider before.provider now.provider) }
     {
         self.begin(calls);
+        let alloc = self.alloc();
         let ready = self.screened(rt, alloc, workers.len(), calls)?;
         self.past.reserve(calls.len())?;
         let prepared = prepare_round(

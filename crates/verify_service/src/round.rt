@@ -23,7 +23,7 @@ use crate::worker::Worker;
 use call_log::Call;
 use cert_store::{cache_law, use_law};
 use replay_law::same_is_one;
-use std::alloc::{AllocError, Global};
+use std::alloc::AllocError;
 use std::thread::Threads;
 use stir_outside::{Gate, Provider, Shelf};
 use verify_rules::one_field_law;
@@ -38,7 +38,6 @@ impl Service {
     pub fn round<R: Threads + Sync, S: Shelf, P: Provider + Send, G: Gate + Send>(
         &mut self,
         rt: &R,
-        alloc: Global,
         shelf: &mut S,
         workers: &mut [Worker<P, G>],
         calls: &[Call],
@@ -115,7 +114,7 @@ impl Service {
         cache_law();
         use_law();
         self.holds_many();
-        let prepared = self.prepare(rt, alloc, shelf, workers, calls)?;
+        let prepared = self.prepare(rt, shelf, workers, calls)?;
         Ok(self.carry(rt, workers, prepared))
     }
 }
