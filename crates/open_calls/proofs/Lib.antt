@@ -1,0 +1,12 @@
+pub mod FoundLaws
+pub mod ClaimsLaws
+pub mod ClaimsSteps
+pub mod ChainsLaws
+pub mod LineLaws
+pub mod ConfirmedSteps
+pub mod ChainLaws
+pub mod ListLaws
+pub mod JudgingLaws
+pub mod CallLaws
+pub mod RightLaws
+pub mod WorldLaws

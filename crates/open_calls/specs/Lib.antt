@@ -1,0 +1,9 @@
+pub mod Confirmed
+pub mod Worlds
+pub mod OpenChains
+pub mod OpenCalls
+pub mod Founds
+pub mod OwnQuestions
+pub mod Rightness
+pub mod Claims
+pub mod Steps

@@ -1,0 +1,39 @@
+-- A call that was opened: read once, and screened by rules 1 to 9.
+use Rattle.std.specs.Prelude.{◌≡◌, ℕ, List, [], Option, Some, None, Result, Ok, Err}
+use Rattle.verify_rules.specs.Call.{Call, Reading, call_of, in_call_order}
+use Rattle.verify_rules.specs.Rules.{early_rules, first}
+use Rattle.verify_rules.specs.Screened.{ScreenedView, screened_of}
+use Rattle.verify_rules.specs.Settings.{SettingsView}
+use Rattle.verify_rules.specs.declared.refusal.Refusal.{Refusal}
+
+-- the settings of the world under which it was opened, the moment at which it came, in Unix seconds, and the bytes of its message
+pub record CallView : Type 0 where
+  pub settings : SettingsView
+  pub moment : ℕ
+  pub message : List ℕ
+
+abbrev pub call_in : CallView → Call
+call_in call = call_of call.settings call.moment call.message
+
+-- the rule of 1 to 9 that it breaks first
+abbrev pub refused_early : CallView → Option Refusal
+refused_early call = first early_rules (call_in call)
+
+abbrev pub unless_refused : Option Refusal → List Reading → List Reading
+unless_refused None readings = readings
+unless_refused (Some refused) readings = []
+
+-- the PASSporTs that are judged, in the order in which the call went; none if rules 1 to 9 refuse it
+abbrev pub judged_in : CallView → List Reading
+judged_in call = unless_refused (refused_early call) (in_call_order (call_in call))
+
+-- the x5u of a PASSporT (RFC 8225, section 4.3)
+abbrev pub x5u_in : Reading → List ℕ
+x5u_in one = one.passport.x5u
+
+-- ---- how it is kept
+
+-- screened if no rule of 1 to 9 is broken, else refused by the first that is
+abbrev pub IsEarly : Call → Result ScreenedView Refusal → Type 0
+IsEarly call (Ok screened) = (first early_rules call ≡ None) × (screened ≡ screened_of call)
+IsEarly call (Err refused) = first early_rules call ≡ Some refused
