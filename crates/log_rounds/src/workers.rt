@@ -17,7 +17,7 @@ pub(crate) fn workers_of<'a>(
 {
     let mut workers = Vec::new(alloc);
     'workers: for _ in 0..count {
-        workers.push(Worker::prompt(alloc, answers.steady(), NoGate))?;
+        workers.push(Worker::new(alloc, answers.steady(), NoGate))?;
     }
     Ok(workers)
 }
