@@ -17,3 +17,4 @@ pub mod VerdictLaws
 pub mod AskedForLaws
 pub mod CallLaws
 pub mod AgreeLaws
+pub mod SizeLaws

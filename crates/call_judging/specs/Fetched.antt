@@ -1,10 +1,12 @@
 -- What a shelf gave for the chain of an x5u, and what was judged of it.
-use Rattle.std.specs.Prelude.{◌≡◌, ℕ, List, length, Bool, true, false, Option, Some, None, if◌then◌else◌}
+use Rattle.std.specs.Prelude.{◌≡◌, ⊤, ℕ, List, length, Bool, true, false, Option, Some, None, if◌then◌else◌}
 use Rattle.cert_store.specs.Asking.{is_failed}
+use Rattle.cert_store.specs.ChainMap.{listed}
 use Rattle.cert_store.specs.Judged.{JudgedAs, JudgedView, judged_of}
+use Rattle.cert_store.specs.Links.{chain_in}
 use Rattle.cert_store.specs.Rules.{Says}
 use Rattle.cert_store.specs.declared.world.World.{World as Materials}
-use Rattle.stir_outside.specs.Files.{Files}
+use Rattle.stir_outside.specs.Files.{Files, OfFile}
 use Rattle.verify_rules.specs.States.{State, have, no_chain, long, unread}
 use Rattle.call_judging.specs.Chains.{IsRightWhere}
 use Rattle.call_judging.specs.declared.fetching.Fetched.{Fetched}
@@ -29,6 +31,23 @@ is_read_file (fetched.Bytes bytes) = true
 is_read_file fetched.Missing = false
 is_read_file fetched.TooLong = false
 is_read_file fetched.Unread = false
+
+-- the bytes of the file, if it was read
+abbrev pub bytes_in : Fetched → Option (List ℕ)
+bytes_in (fetched.Bytes bytes) = Some bytes.items
+bytes_in fetched.Missing = None
+bytes_in fetched.TooLong = None
+bytes_in fetched.Unread = None
+
+-- bytes that were read are those of the file that is listed for this x5u, if the shelf tells its files
+abbrev pub IsContent : Option Files → Materials → List ℕ → Option (List ℕ) → Type 0
+IsContent told materials x5u None = ⊤
+IsContent told materials x5u (Some bytes) = (name : List ℕ) × (listed materials.chains x5u ≡ Some name) × OfFile told name (λ held. held ≡ Some bytes)
+
+-- how many certificates the chain in the bytes of a file has (RFC 5280, section 6.1); none if there are no bytes, or they aren't a chain
+abbrev pub chain_size : Option (List ℕ) → ℕ
+chain_size None = 0
+chain_size (Some bytes) = length (chain_in bytes)
 
 -- how many files this is that were read
 abbrev pub read_count : Fetched → ℕ

@@ -4,7 +4,7 @@ ghost use Rattle.cert_store.specs.ChainMap.{listed};
 ghost use Rattle.stir_outside.specs.Stays.{ProviderStays, ShelfStays};
 ghost use Rattle.call_judging.specs.Causes.{HasCauseIf};
 ghost use Rattle.call_judging.specs.Chains.{state_of};
-ghost use Rattle.call_judging.specs.Fetched.{IsChainOf, IsFetched, IsJudgedFile, certificates_in, file_state, has_failed, is_unread_file, read_count};
+ghost use Rattle.call_judging.specs.Fetched.{IsChainOf, IsContent, IsFetched, IsJudgedFile, bytes_in, certificates_in, chain_size, file_state, has_failed, is_read_file, is_unread_file, read_count};
 
 use crate::chains::ChainStatus;
 use cert_store::{Judged, World, judge_chain};
@@ -51,8 +51,10 @@ pub fn fetch<S: Shelf>(
     x5u: &[u8],
 ) -> Result<Fetched, AllocError>
     ensures fetched { IfOk result (IsFetched (S.files shelf.old) world.now x5u.now) }
+    ensures content { IfOk result (λ file. IsContent (S.files shelf.old) world.now x5u.now (bytes_in file)) }
     ensures unread { IfOk result (λ file. HasCauseIf (is_unread_file file) (S.counts shelf.old).faults (S.counts shelf.new).faults) }
     ensures read { IfOk result (λ file. (S.counts shelf.new).reads ≤ (S.counts shelf.old).reads + read_count file) }
+    ensures rose { IfOk result (λ file. HasCauseIf (is_read_file file) (S.counts shelf.old).reads (S.counts shelf.new).reads) }
     ensures reads { (S.counts shelf.new).reads ≤ (S.counts shelf.old).reads + 1 }
     ensures shelf { ShelfStays S.Shelf shelf.old shelf.new }
 {
@@ -71,8 +73,10 @@ pub fn fetch_file<S: Shelf>(
     name: &str,
 ) -> Result<Fetched, AllocError>
     ensures fetched { (x5u : List ℕ) → listed world.now.chains x5u ≡ Some name.now → IfOk result (IsFetched (S.files shelf.old) world.now x5u) }
+    ensures content { (x5u : List ℕ) → listed world.now.chains x5u ≡ Some name.now → IfOk result (λ file. IsContent (S.files shelf.old) world.now x5u (bytes_in file)) }
     ensures unread { IfOk result (λ file. HasCauseIf (is_unread_file file) (S.counts shelf.old).faults (S.counts shelf.new).faults) }
     ensures read { IfOk result (λ file. (S.counts shelf.new).reads ≤ (S.counts shelf.old).reads + read_count file) }
+    ensures rose { IfOk result (λ file. HasCauseIf (is_read_file file) (S.counts shelf.old).reads (S.counts shelf.new).reads) }
     ensures reads { (S.counts shelf.new).reads ≤ (S.counts shelf.old).reads + 1 }
     ensures shelf { ShelfStays S.Shelf shelf.old shelf.new }
 {
@@ -88,7 +92,8 @@ pub fn fetch_file<S: Shelf>(
     }
 }
 
-/// Judges the chain in a file that was read, if there are bytes of it. `AllocError` is the only error.
+/// Judges the chain in a file that was read, if there are bytes of it. `AllocError` is the only error. The provider is asked at most for each certificate of
+/// the chain, also if memory runs out.
 pub fn judge_file<P: Provider>(
     alloc: Global,
     world: &World,
@@ -97,6 +102,7 @@ pub fn judge_file<P: Provider>(
 ) -> Result<Option<Judged>, AllocError>
     ensures judged { IfOk result (IsJudgedFile world.now (P.says provider.old) file.now) }
     ensures asked { IfOk result (λ chain. P.asks provider.new ≤ P.asks provider.old + certificates_in chain) }
+    ensures most { P.asks provider.new ≤ P.asks provider.old + chain_size (bytes_in file.now) }
     ensures failed { IfOk result (λ chain. HasCauseIf (has_failed chain) (P.faults provider.old) (P.faults provider.new)) }
     ensures asks { P.asks provider.old ≤ P.asks provider.new }
     ensures provider { ProviderStays P.Provider provider.old provider.new }
@@ -118,6 +124,7 @@ fn judge_bytes<P: Provider>(
 ) -> Result<Option<Judged>, AllocError>
     ensures judged { IfOk result (IsChainOf world.now (P.says provider.old) bytes.now) }
     ensures asked { IfOk result (λ chain. P.asks provider.new ≤ P.asks provider.old + certificates_in chain) }
+    ensures most { P.asks provider.new ≤ P.asks provider.old + chain_size (Some bytes.now) }
     ensures failed { IfOk result (λ chain. HasCauseIf (has_failed chain) (P.faults provider.old) (P.faults provider.new)) }
     ensures asks { P.asks provider.old ≤ P.asks provider.new }
     ensures provider { ProviderStays P.Provider provider.old provider.new }

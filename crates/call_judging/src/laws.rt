@@ -2,7 +2,7 @@
 ghost use Rattle.std.specs.Fmt.{decimal};
 ghost use Rattle.std.specs.List.{list_any, slice_get};
 ghost use Rattle.std.specs.Option.{option_map};
-ghost use Rattle.std.specs.Prelude.{◌≡◌, ◌↔◌, ◌<◌, ◌+◌, ◌++◌, ◌∷◌, codes, [], ℕ, false, List, length, take, Option, Some, None};
+ghost use Rattle.std.specs.Prelude.{◌≡◌, ◌↔◌, ◌<◌, ◌≤◌, ◌+◌, ◌++◌, ◌∷◌, codes, [], ℕ, false, List, length, take, Option, Some, None};
 ghost use Rattle.cert_store.specs.Questions.{AgreeOn};
 ghost use Rattle.cert_store.specs.Rules.{QuestionView, Says};
 ghost use Rattle.cert_store.specs.declared.world.World.{World as Materials};
@@ -21,6 +21,7 @@ ghost use Rattle.call_judging.specs.AskedFor.{IsAmong, IsAskedFor};
 ghost use Rattle.call_judging.specs.CallQuestions.{call_questions, chains_questions, questions_over};
 ghost use Rattle.call_judging.specs.Chains.{AreRightWhere, IsRightWhere, is_unread};
 ghost use Rattle.call_judging.specs.Explain.{Explain, broken_line, broken_text, explain_rules, explained, met_text, ok_line, unread_line};
+ghost use Rattle.call_judging.specs.Fetched.{chain_size};
 ghost use Rattle.call_judging.specs.Judging.{last_second};
 ghost use Rattle.call_judging.specs.PlaceText.{place_text};
 ghost use Rattle.call_judging.specs.RuleNumbers.{numbers_before, numbers_of};
@@ -32,6 +33,11 @@ ghost use Rattle.call_judging.specs.declared.rule_numbers.TheConstants.{RULES, F
 
 use cert_store::questions_law;
 use verify_rules::{code_law, last_second_law, provider_law, right_law};
+
+/// A chain that a file holds has at most six certificates.
+pub fn chain_size_law()
+    ensures { (bytes : Option (List ℕ)) → chain_size bytes ≤ 6 }
+{}
 
 /// What is known of the chains of a call's PASSporTs, one after another, is right: of none yet, and of one PASSporT more if it is right of the
 /// chain of that one's x5u (RFC 7515, section 4.1.5).

@@ -60,8 +60,8 @@ pub use fetching::{Fetched, fetch, fetch_file, judge_file};
 pub use finding::{Finding, Pass};
 pub use judge::{judge_call, judge_screened, pass_of};
 pub use laws::{
-    call_agreement_law, call_questions_law, chains_law, explain_law, fresh_law, lines_law,
-    rule_numbers_law,
+    call_agreement_law, call_questions_law, chain_size_law, chains_law, explain_law, fresh_law,
+    lines_law, rule_numbers_law,
 };
 pub use questions::{asks_own, chain_questions, own_questions, question_line};
 pub use reading::{chain_in, read_chains};

@@ -100,6 +100,14 @@ judged_all materials says place judged (file ∷ files) own =
     (filter is_read_file files) (judged_one materials says file (judged place) (own_first materials says place judged file files own))
     (judged_all materials says (suc place) judged files (own_others materials says place judged file files own))
 
+judged_any : (materials : Materials) (says : Says) (place : ℕ) (judged : ℕ → Option JudgedView) (files : List Fetched) → AreOwn materials says place judged files
+    → list_any is_judged (states_from place judged files) ≡ list_any is_read_file files
+judged_any materials says place judged [] own = refl
+judged_any materials says place judged (file ∷ files) own =
+    any_by (is_judged (file_state file (judged place))) (is_read_file file) (list_any is_judged (states_from (suc place) judged files)) (list_any is_read_file files)
+    (judged_one materials says file (judged place) (own_first materials says place judged file files own))
+    (judged_any materials says (suc place) judged files (own_others materials says place judged file files own))
+
 -- ---- a worker's own places
 
 -- a worker's places have what it judged
@@ -204,10 +212,10 @@ is_workers count chains w i own =
 pub known_chains : (told : Option Files) (materials : Materials) (says : Says) (texts : List (List ℕ)) (counts counts_now : Counts) (count : ℕ) (asks asks_now faults faults_now : ℕ → ℕ)
     (chains : ℕ → List (Option JudgedView)) (files : List Fetched) → 0 < count → EachPair (IsFetched told materials) texts files
     → AreCounted is_unread_file files counts.faults counts_now.faults → counts_now.reads ≤ counts.reads + length (filter is_read_file files)
-    → ((w : ℕ) → w < count → EachOwn materials says w count 0 files (chains w)) → ((w : ℕ) → w < count → ChainsCounted (asks w) (asks_now w) (faults w) (faults_now w) (chains w))
+    → AreCounted is_read_file files counts.reads counts_now.reads → ((w : ℕ) → w < count → EachOwn materials says w count 0 files (chains w)) → ((w : ℕ) → w < count → ChainsCounted (asks w) (asks_now w) (faults w) (faults_now w) (chains w))
     → KnownBy told materials says texts counts counts_now (λ states. (w : ℕ) → w < count → HasAskedOwn w count (asks w) (asks_now w) (faults w) (faults_now w) states)
     (states_from 0 (λ place. get_or (chains (place % count)) place None) files)
-known_chains told materials says texts counts counts_now count asks asks_now faults faults_now chains files some each failures reads own counted =
+known_chains told materials says texts counts counts_now count asks asks_now faults faults_now chains files some each failures reads rose own counted =
     let judged : ℕ → Option JudgedView = λ place. get_or (chains (place % count)) place None in
     let are = from_workers materials says count chains files some own in
     record {
@@ -215,6 +223,8 @@ known_chains told materials says texts counts counts_now count asks asks_now fau
         right = known_all told materials says 0 judged texts files each are;
         unread = counted_as is_unread_file is_unread files (states_from 0 judged files) counts.faults counts_now.faults (unread_all 0 judged files) (unread_any 0 judged files) failures;
         reads = (let same = judged_all materials says 0 judged files are in omega arith);
+        judged = counted_as is_read_file is_judged files (states_from 0 judged files) counts.reads counts_now.reads (judged_all materials says 0 judged files are)
+            (judged_any materials says 0 judged files are) rose;
       };
       own = λ w less. asked_own materials says w count judged files (chains w) (asks w) (asks_now w) (faults w) (faults_now w) (own w less) (is_workers count chains w) (counted w less);
     }

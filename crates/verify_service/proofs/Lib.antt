@@ -54,5 +54,6 @@ mod SeatingLaws
 mod PreparedLaws
 mod PrepareLaws
 mod AheadLaws
+mod ContentLaws
 mod RunTimeLaws
 mod RunLaws

@@ -1,5 +1,5 @@
 -- All that a round says of its calls and its chains, from what it prepared and carried out.
-use Rattle.std.proofs.Common.{◌≡◌, ℕ, ◌*◌, ◌≤◌, ◌<◌, ◌%◌, Bool, true, false, ◌||◌, List, [], ◌∷◌, length, Option, Some, mod-lt, refl, sym, ap, ◌∙◌, subst, arith, length-append}
+use Rattle.std.proofs.Common.{◌≡◌, ℕ, ◌+◌, ◌*◌, ◌≤◌, ◌<◌, ◌%◌, Bool, true, false, ◌||◌, List, [], ◌∷◌, length, Option, Some, mod-lt, refl, sym, ap, ◌∙◌, subst, arith, length-append}
 use Rattle.std.specs.List.{list_any}
 use Rattle.call_log.specs.Entry.{Entry}
 use Rattle.cert_store.specs.Holding.{AreAnswered, Holding}
@@ -15,7 +15,7 @@ use Rattle.verify_rules.specs.declared.settings.Settings.{Settings}
 use Rattle.verify_service.specs.Carrying.{AreSaid, HasAnswered, out_at, own_open}
 use Rattle.verify_service.specs.Carried.{AreRuled}
 use Rattle.call_judging.specs.Causes.{HasCauseIf}
-use Rattle.verify_service.specs.Causes.{NoneUnasked, NoneUnread, UnaskedIsCounted, UnreadIsCounted, is_unasked_passport, unasked_texts}
+use Rattle.verify_service.specs.Causes.{NoneUnasked, NoneUnread, UnaskedIsCounted, UnreadIsCounted, is_unasked_passport, unasked_texts, unread_texts}
 use Rattle.verify_service.specs.Judging.{EachPair, IsJudgedWhere, call_in}
 use Rattle.verify_service.specs.Kept.{Kept}
 use Rattle.verify_service.specs.Needed.{all_named, named, named_by, round_texts, x5u_of}
@@ -34,7 +34,8 @@ use Rattle.verify_service.proofs.AsideLaws.{FieldLaw, IsAsideIn}
 use Rattle.verify_service.proofs.EachCallLaws.{each_aside}
 use Rattle.call_judging.proofs.ListLaws.{mapped_length}
 use Rattle.verify_service.proofs.ListLaws.{each_length}
-use Rattle.verify_service.proofs.RoundAsideLaws.{JoinedLaw, NoMoreLaw, none_failed, none_unasked, none_unread, unasked_among, unasked_counted, unread_counted}
+use Rattle.verify_service.proofs.OwnLaws.{own_each, own_passports_are}
+use Rattle.verify_service.proofs.RoundAsideLaws.{JoinedLaw, NoMoreLaw, none_failed, none_unasked, none_unread, unasked_among, unasked_counted, unread_apart, unread_counted}
 use Rattle.verify_service.proofs.RoundHeldLaws.{NamedLaw, has_judged, reads_few, stays_held}
 use Rattle.verify_service.proofs.RoundLaws.{all_judged, materials_same}
 use Rattle.verify_service.proofs.RoundThereLaws.{TheseLaw}
@@ -148,12 +149,23 @@ module _ (laws : RoundLaws) (told : Option Files) (service : ServiceView) (says 
           (subst (λ n. Rose n (by w).faults_now) (parts.faults_are w within) (cause refl)))
       own_none false w within cause = refl
 
-  pub judges : HasJudged told (materials_of service) says (named service.settings entries) service.held now counts.reads counts_now.reads
+  pub judges : HasJudged told (materials_of service) says (named service.settings entries) (unread_texts service.settings entries outs) service.held now counts.reads counts_now.reads
       (λ judged. (w : ℕ) → w < count → HasAsked judged (own_of w count 0 (texts_in service entries)) (named service.settings (own_of w count 0 entries)) (asks w) (by w).asks_now)
   judges =
       has_judged laws.cache laws.these laws.named told (materials_of service) says service.settings entries calls counts counts_now count asks asks_mid (λ w. (by w).asks_now) faults faults_mid service.held now
-      kept parts.ready parts.capacity parts.reads
+      kept (unread_texts service.settings entries outs) parts.ready parts.capacity parts.reads
+      (unread_apart laws.field laws.no_more laws.joined told (materials_of service) says service.settings entries calls counts counts_now count asks asks_mid faults faults_mid service.held now kept outs
+      parts.ready parts.reads aside laws.cache.named)
       (λ w less. let most = (parts.each w less).asks_most in let same = parts.asks_are w less in omega arith)
+
+  -- a worker's provider is asked at most once for each PASSporT of the worker's calls
+  pub passports : (w : ℕ) → w < count → (by w).asks_now ≤ asks_mid w + length (named service.settings (own_of w count 0 entries))
+  passports w less =
+      let most = (parts.each w less).asks_most in
+      let same = parts.asks_are w less in
+      let own = own_passports_are count w calls in
+      let named_own = ap length (laws.named service.settings (own_of w count 0 entries) (own_of w count 0 calls) (own_each (IsReady service.settings) w count 0 entries calls parts.ready)) in
+      omega arith
 
   pub stays : StaysHeld service.chains (named service.settings entries) service.held now
   stays =

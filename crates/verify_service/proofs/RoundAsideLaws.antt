@@ -1,12 +1,12 @@
 -- A call of a round is set aside only for a fault outside that was counted: of the shelf, or of the provider of the worker whose text or call it is.
-use Rattle.std.proofs.Common.{◌≡◌, ℕ, suc, ◌≤◌, ◌<◌, ◌||◌, inl, inr, Bool, true, false, cond, List, [], ◌∷◌, filter, length, Option, refl, sym, ap, ◌∙◌, subst, arith}
+use Rattle.std.proofs.Common.{◌≡◌, ℕ, suc, ◌≤◌, ◌<◌, ◌||◌, inl, inr, Bool, true, false, cond, List, [], ◌∷◌, filter, length, is_some, Option, Some, None, refl, sym, ap, ◌∙◌, subst, arith}
 use Rattle.std.specs.List.{list_any}
 use Rattle.call_log.specs.Entry.{Entry}
-use Rattle.cert_store.specs.Holding.{AreAnswered, Holding}
+use Rattle.cert_store.specs.Holding.{AreAnswered, Chains, Holding, chain_of}
 use Rattle.cert_store.specs.Judged.{JudgedView}
 use Rattle.cert_store.specs.Asking.{is_failed}
 use Rattle.cert_store.specs.Rules.{Says}
-use Rattle.cert_store.specs.Using.{AreAmong, IsOnce, has}
+use Rattle.cert_store.specs.Using.{AreAmong, IsOnce, has, names}
 use Rattle.cert_store.specs.declared.world.World.{World as Materials}
 use Rattle.stir_outside.specs.Count.{AtMost, NotRisen}
 use Rattle.stir_outside.specs.Files.{Counts, Files}
@@ -25,6 +25,7 @@ use Rattle.verify_service.specs.declared.outcome.Outcome.{Outcome}
 use Rattle.verify_service.specs.declared.screening.ReadyCall.{ReadyCall}
 use Rattle.verify_service.proofs.AsideLaws.{FieldLaw, IsAsideIn, IsKeptFailed, all_unasked, all_unread, unasked_once, unasked_some, unread_once, unread_some}
 use Rattle.verify_service.proofs.FewLaws.{once_each}
+use Rattle.verify_service.proofs.JudgedChainLaws.{judged_chains, judged_pair}
 use Rattle.verify_service.proofs.OwnLaws.{has_itself, none_own, once_some, own_each, own_open_is, own_pair, pair_among, some_among}
 use Rattle.verify_service.proofs.StoreAllLaws.{IsPair, picked, picked_count, picked_has, round_kept}
 
@@ -73,6 +74,21 @@ none_filter : (p : Outcome → Bool) (outs : List Outcome) → ((at : ℕ) → a
 none_filter p [] none = refl
 none_filter p (o ∷ outs) none = ap (λ b. length (cond b (o ∷ filter p outs) (filter p outs))) (none 0 (omega arith)) ∙ none_filter p outs (λ at less. none (suc at) (omega arith))
 
+-- a text has one state
+not_once : (x y : List ℕ) (s : State) (texts : List (List ℕ)) (states : List State) → x ≡ y → IsPair x s texts states → has y texts ≡ false → ⊥
+not_once x y s texts states same pair none = false_is_not_true (sym none ∙ (ap (λ z. has z texts) (sym same) ∙ pair_among x s texts states pair))
+
+pair_one : (x : List ℕ) (s t : State) (texts : List (List ℕ)) (states : List State) → IsOnce texts → IsPair x s texts states → IsPair x t texts states → s ≡ t
+pair_one x s t [] states once one other = absurd one
+pair_one x s t (y ∷ ys) [] once one other = absurd one
+pair_one x s t (y ∷ ys) (u ∷ us) once (inl a) (inl b) = a.1 ∙ sym b.1
+pair_one x s t (y ∷ ys) (u ∷ us) once (inl a) (inr b) = absurd (not_once x y t ys us a.0 b once.0)
+pair_one x s t (y ∷ ys) (u ∷ us) once (inr a) (inl b) = absurd (not_once x y s ys us b.0 a once.0)
+pair_one x s t (y ∷ ys) (u ∷ us) once (inr a) (inr b) = pair_one x s t ys us once.1 a b
+
+not_unread : (one : JudgedView) → have one ≡ unread → ⊥
+not_unread one e = cc
+
 -- ---- a round on so many workers
 
 module _ (field : FieldLaw) (no_more : NoMoreLaw) (joined_law : JoinedLaw) (told : Option Files) (materials : Materials) (says : Says) (settings : Settings) (entries : List Entry)
@@ -103,6 +119,17 @@ module _ (field : FieldLaw) (no_more : NoMoreLaw) (joined_law : JoinedLaw) (told
       none_by (list_any outcome_unread outs) (1 ≤ length (filter is_unread reads.states))
       (λ is. let some = unread_some settings entries outs same is in let few = unread_few in omega arith)
       (λ some. not_rose counts.faults counts_now.faults stayed (reads.known.knows.unread.cause (some_any is_unread reads.states some)))
+
+  -- the chain of a text at which a call is unread wasn't judged
+  pub unread_apart : ((x : List ℕ) (entries : Chains) → has x (names entries) ≡ is_some (chain_of x entries)) → (x : List ℕ)
+      → has x (unread_texts settings entries outs) ≡ true → has x (names (judged_chains texts reads.states)) ≡ false
+  unread_apart named x is = named x (judged_chains texts reads.states) ∙ by (chain_of x (judged_chains texts reads.states)) refl
+    where
+      by : (found : Option JudgedView) → chain_of x (judged_chains texts reads.states) ≡ found → is_some found ≡ false
+      by None found = refl
+      by (Some one) found =
+          let pair = round_kept texts reads.states (used_in calls held) now kept reads.stores x unread (all_unread field now.entries kept settings entries calls outs ready aside x is) in
+          absurd (not_unread one (pair_one x (have one) unread texts reads.states texts_once (judged_pair texts reads.states x one found) pair))
 
   -- ---- questions that failed
 

@@ -8,6 +8,7 @@ use Rattle.cert_store.specs.Holding.{Chains, Holding, chain_of}
 use Rattle.cert_store.specs.Rules.{Says}
 use Rattle.cert_store.specs.Using.{AreAmong, HeldUnless, IsOnce, has, names}
 use Rattle.cert_store.specs.declared.world.World.{World as Materials}
+use Rattle.stir_outside.specs.Count.{AtMost}
 use Rattle.stir_outside.specs.Files.{Counts, Files}
 use Rattle.verify_rules.specs.States.{State, have}
 use Rattle.verify_rules.specs.declared.settings.Settings.{Settings}
@@ -71,14 +72,15 @@ stays_held laws these same touched materials calls texts states held now kept na
 -- ---- judged
 
 pub has_judged : CacheLaws → TheseLaw → NamedLaw → (told : Option Files) (materials : Materials) (says : Says) (settings : Settings) (entries : List Entry) (calls : List ReadyCall)
-    (counts counts_now : Counts) (count : ℕ) (asks asks_mid asks_now faults faults_mid : ℕ → ℕ) (held now : Holding) (kept : Kept) → EachPair (IsReady settings) entries calls
-    → held.capacity ≡ 4096
-    → RoundReads told materials says calls counts counts_now (λ states. (w : ℕ) → w < count → HasAskedOwn w count (asks w) (asks_mid w) (faults w) (faults_mid w) states) held now kept
+    (counts counts_now : Counts) (count : ℕ) (asks asks_mid asks_now faults faults_mid : ℕ → ℕ) (held now : Holding) (kept : Kept) (unread : List (List ℕ))
+    → EachPair (IsReady settings) entries calls → held.capacity ≡ 4096
+    → (reads : RoundReads told materials says calls counts counts_now (λ states. (w : ℕ) → w < count → HasAskedOwn w count (asks w) (asks_mid w) (faults w) (faults_mid w) states) held now kept)
+    → ((x : List ℕ) → has x unread ≡ true → has x (names (judged_chains (texts_of materials held.entries calls) reads.states)) ≡ false)
     → ((w : ℕ) → w < count → asks_now w ≤ asks_mid w + own_passports count w calls (length calls))
-    → HasJudged told materials says (named settings entries) held now counts.reads counts_now.reads
+    → HasJudged told materials says (named settings entries) unread held now counts.reads counts_now.reads
     (λ judged. (w : ℕ) → w < count → HasAsked judged (own_of w count 0 (round_texts materials.chains held.entries (named settings entries)))
     (named settings (own_of w count 0 entries)) (asks w) (asks_now w))
-has_judged laws these named_law told materials says settings entries calls counts counts_now count asks asks_mid asks_now faults faults_mid held now kept ready capacity reads further =
+has_judged laws these named_law told materials says settings entries calls counts counts_now count asks asks_mid asks_now faults faults_mid held now kept unread ready capacity reads apart further =
     let mine = texts_of materials held.entries calls in
     let states = reads.states in
     let right = reads.known.knows.right in
@@ -93,6 +95,8 @@ has_judged laws these named_law told materials says settings entries calls count
       among = subst (AreAmong (names (judged_chains mine states))) are (judged_among mine states);
       right = λ x one is. (pair_known (IsKnownRight told materials says) mine states x (have one) right (judged_pair mine states x one is)).right;
       read = (let most = reads.known.knows.reads in omega arith);
+      counted = subst (λ n. AtMost n counts.reads counts_now.reads) counted reads.known.knows.judged.most;
+      apart = apart;
       asked = λ w less. subst (λ ts. HasAsked (judged_chains mine states) (own_of w count 0 ts) (named settings (own_of w count 0 entries)) (asks w) (asks_now w)) are (asked_by w less);
       kept = λ x one is answered used all.
           subst (λ n. HeldUnless n used x now.entries)

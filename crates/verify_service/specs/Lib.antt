@@ -21,4 +21,5 @@ pub mod Adding
 pub mod Carried
 pub mod Handing
 pub mod Workers
+pub mod Contents
 pub mod Runs

@@ -9,6 +9,7 @@ use Rattle.cert_store.specs.Judged.{JudgedView}
 use Rattle.cert_store.specs.Rules.{Says}
 use Rattle.cert_store.specs.Using.{AreAmong, HeldUnless, IsOnce, has, names}
 use Rattle.cert_store.specs.declared.world.World.{World as Materials}
+use Rattle.stir_outside.specs.Count.{AtMost}
 use Rattle.stir_outside.specs.Files.{Files as ShelfFiles}
 use Rattle.verify_rules.specs.States.{have}
 use Rattle.verify_rules.specs.declared.settings.Settings.{Settings}
@@ -51,16 +52,18 @@ AreUsed files held texts used = (x5u : List ℕ) → has x5u texts ≡ true → 
 pub record HasAsked (judged : Chains) (texts named_texts : List (List ℕ)) (asks asks_now : ℕ) : Type 0 where
   pub most : asks_now ≤ asks + (certificates_in (filter (λ entry. has entry.0 texts) judged) + length named_texts)
 
--- The chains that a round judged, by x5u: each of a text that its calls name, that is listed and whose chain wasn't held; and each is right. At most
--- as many files were read. Each of which every question was answered is held from then on, unless 4,096 others were used since. `Asked` is what is
+-- The chains that a round judged, by x5u: each of a text that its calls name, that is listed and whose chain wasn't held; and each is right. As many
+-- files were read in the round as there are chains, no more and no fewer, and none is the chain of a text whose file couldn't be read. Each of which every question was answered is held from then on, unless 4,096 others were used since. `Asked` is what is
 -- said of the workers' providers.
-pub record HasJudged (told : Option ShelfFiles) (materials : Materials) (says : Says) (named_texts : List (List ℕ)) (held held_now : Holding) (reads reads_now : ℕ)
+pub record HasJudged (told : Option ShelfFiles) (materials : Materials) (says : Says) (named_texts unread : List (List ℕ)) (held held_now : Holding) (reads reads_now : ℕ)
     (Asked : Chains → Type 0) : Type 0 where
   pub judged : Chains
   pub once : IsOnce (names judged)
   pub among : AreAmong (names judged) (round_texts materials.chains held.entries named_texts)
   pub right : (x5u : List ℕ) (one : JudgedView) → chain_of x5u judged ≡ Some one → IsRightWhere told materials says x5u (have one)
   pub read : reads_now ≤ reads + length judged
+  pub counted : AtMost (length judged) reads reads_now
+  pub apart : (x5u : List ℕ) → has x5u unread ≡ true → has x5u (names judged) ≡ false
   pub asked : Asked judged
   pub kept : (x5u : List ℕ) (one : JudgedView) → chain_of x5u judged ≡ Some one → is_failed one.asked ≡ false
       → (used : List (List ℕ)) → AreUsed materials.chains held.entries named_texts used → HeldUnless 4096 used x5u held_now.entries

@@ -94,11 +94,12 @@ abbrev pub used_in : List ReadyCall → Holding → Holding
 used_in calls held = record held { entries = touch_all (all_named calls) held.entries }
 
 -- The files of these texts were read, each once, and the chains of those that are there judged; what is known of them is right. At most as many
--- couldn't be read as the shelf's faults rose by, and no more files were read than chains judged.
+-- couldn't be read as the shelf's faults rose by. As many files were read as chains judged: no more, and no fewer.
 pub record KnowsChains (told : Option Files) (materials : Materials) (says : Says) (texts : List (List ℕ)) (counts counts_now : Counts) (states : List State) : Type 0 where
   pub right : EachPair (IsKnownRight told materials says) texts states
   pub unread : AreCounted is_unread states counts.faults counts_now.faults
   pub reads : counts_now.reads ≤ counts.reads + length (filter is_judged states)
+  pub judged : AreCounted is_judged states counts.reads counts_now.reads
 
 -- A worker asked no more questions than there are certificates in the chains of its texts. At most as many of these chains have a question that
 -- failed as its provider's faults rose by.

@@ -1,11 +1,13 @@
 -- The chains that a worker judged of a round's texts, place by place.
-use Rattle.std.specs.Prelude.{◌≡◌, ℕ, suc, ◌%◌, ◌==◌, ◌+◌, ◌≤◌, ⊤, List, [], ◌∷◌, Bool, true, false, Option, None}
+use Rattle.std.specs.Prelude.{◌≡◌, ℕ, suc, ◌%◌, ◌==◌, ◌+◌, ◌≤◌, ⊤, List, [], ◌∷◌, Bool, true, false, map, Option, None, if◌then◌else◌}
 use Rattle.cert_store.specs.Judged.{JudgedView}
 use Rattle.cert_store.specs.Rules.{Says}
 use Rattle.cert_store.specs.declared.world.World.{World as Materials}
 use Rattle.verify_service.specs.Causes.{AreCounted}
 use Rattle.call_judging.specs.declared.fetching.Fetched.{Fetched}
-use Rattle.call_judging.specs.Fetched.{IsJudgedFile, certificates_in, has_failed}
+use Rattle.call_judging.specs.Fetched.{IsJudgedFile, bytes_in, certificates_in, chain_size, has_failed}
+use Rattle.verify_service.specs.Contents.{chain_sizes}
+use Rattle.verify_service.specs.RoundRead.{own_of}
 
 -- ---- which are judged
 
@@ -28,6 +30,14 @@ EachOwnUnless true materials says index count files chains = ⊤
 EachOwnUnless false materials says index count files chains = EachOwn materials says index count 0 files chains
 
 -- ---- what is asked for them
+
+-- how many certificates the chain in the file has, if it is the worker's own
+abbrev pub own_size : Bool → Fetched → ℕ
+own_size own file = if own then chain_size (bytes_in file) else 0
+
+-- the same of each place from this one on
+abbrev pub own_sizes : ℕ → ℕ → ℕ → List Fetched → ℕ
+own_sizes index count place files = chain_sizes (own_of index count place (map bytes_in files))
 
 abbrev pub certificates : List (Option JudgedView) → ℕ
 certificates [] = 0

@@ -1,7 +1,7 @@
 //! Reading the chain files of a round's texts from the shelf, each once.
 ghost use Rattle.std.specs.Prelude.{◌≡◌, ◌≤◌, ◌+◌, length, vec_len, filter, IfOk};
 ghost use Rattle.stir_outside.specs.Stays.{ShelfStays};
-ghost use Rattle.call_judging.specs.Fetched.{IsFetched, is_read_file, is_unread_file};
+ghost use Rattle.call_judging.specs.Fetched.{IsContent, IsFetched, bytes_in, is_read_file, is_unread_file};
 ghost use Rattle.verify_service.specs.Causes.{AreCounted};
 ghost use Rattle.verify_service.specs.Judging.{EachPair};
 
@@ -20,10 +20,12 @@ pub(crate) fn fetch_all<S: Shelf>(
 ) -> Result<Vec<Fetched>, AllocError>
     ensures counted { IfOk result (λ files. vec_len files ≡ length texts.now) }
     ensures fetched { IfOk result (λ files. EachPair (IsFetched (S.files shelf.old) world.now) texts.now files.items) }
+    ensures contents { IfOk result (λ files. EachPair (λ x5u file. IsContent (S.files shelf.old) world.now x5u (bytes_in file)) texts.now files.items) }
 
     // At most as many files couldn't be read as faults were counted. No more were read than there are bytes of; nor than there are texts, also if
     // memory ran out.
     ensures unread { IfOk result (λ files. AreCounted is_unread_file files.items (S.counts shelf.old).faults (S.counts shelf.new).faults) }
+    ensures rose { IfOk result (λ files. AreCounted is_read_file files.items (S.counts shelf.old).reads (S.counts shelf.new).reads) }
     ensures read { IfOk result (λ files. (S.counts shelf.new).reads ≤ (S.counts shelf.old).reads + length (filter is_read_file files.items)) }
     ensures reads { (S.counts shelf.new).reads ≤ (S.counts shelf.old).reads + length texts.now }
 

@@ -1,7 +1,7 @@
 //! Laws: a function here does nothing, and its clauses are the law.
 ghost use Rattle.std.specs.List.{slice_get};
 ghost use Rattle.std.specs.Option.{option_map};
-ghost use Rattle.std.specs.Prelude.{◌≡◌, ◌<◌, ◌≤◌, ◌+◌, ◌++◌, ◌∷◌, [], ℕ, suc, true, List, length, take, Option, Some, None, Result};
+ghost use Rattle.std.specs.Prelude.{◌≡◌, ◌<◌, ◌≤◌, ◌+◌, ◌*◌, ◌++◌, ◌∷◌, [], ℕ, suc, true, List, filter, is_some, length, take, Option, Some, None, Result};
 ghost use Rattle.call_log.specs.Entry.{Entry};
 ghost use Rattle.cert_store.specs.Rules.{Says};
 ghost use Rattle.passport_claims.specs.Passport.{ClaimsView};
@@ -27,10 +27,12 @@ ghost use Rattle.verify_service.specs.Kept.{Kept, StoresChain};
 ghost use Rattle.cert_store.specs.Using.{IsOnce, has, names};
 ghost use Rattle.verify_service.specs.Needed.{BeginsWith, all_named, named, needed, once, round_texts};
 ghost use Rattle.verify_service.specs.RightChains.{AreRightHeld, IsThere, IsThereUnless, held_count};
+ghost use Rattle.verify_service.specs.Contents.{Contents, chain_sizes};
 ghost use Rattle.verify_service.specs.Runs.{JudgedSaysFirst, LegalNamesOne, LegalPassOnce, RoundsRise, RunsAreLegal};
 ghost use Rattle.verify_service.specs.Screening.{IsReady};
 ghost use Rattle.verify_service.specs.declared.screening.ReadyCall.{ReadyCall};
 
+use call_judging::chain_size_law;
 use cert_store::{cache_law, use_law};
 use replay_law::{legal_in_runs, passes_once, purged_alone, replay_names_one};
 use verify_rules::{code_law, last_second_law, right_law};
@@ -74,6 +76,13 @@ pub fn rounds_law()
     passes_once();
     purged_alone();
     replay_names_one();
+}
+
+/// The chains in the files that a round reads have at most six certificates each.
+pub fn six_law()
+    ensures { (contents : Contents) → chain_sizes contents ≤ 6 * length (filter is_some contents) }
+{
+    chain_size_law();
 }
 
 /// The texts of a round: those that its calls name, in the order of the log, each once; and how many there are at most.

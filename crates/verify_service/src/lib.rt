@@ -75,7 +75,7 @@ mod working;
 pub use call_log::{Call, LogFault, LogReader};
 pub use carried::Carried;
 pub use cert_store::World;
-pub use laws::{call_law, report_law, rounds_law};
+pub use laws::{call_law, report_law, rounds_law, six_law};
 pub use outcome::Outcome;
 pub use prepared::Prepared;
 pub use replay_desk::State;

@@ -3,6 +3,7 @@ ghost use Rattle.stir_outside.specs.Stays.{ProviderStays, ShelfStays};
 ghost use Rattle.std.specs.Prelude.{◌≡◌, ◌<◌, ◌≤◌, ◌+◌, [], ℕ, true, length, IfOk, slice_index_or};
 ghost use Rattle.cert_store.specs.Holding.{AreAnswered};
 ghost use Rattle.verify_service.specs.Carried.{AreClasses};
+ghost use Rattle.verify_service.specs.Contents.{AsksFew, HasContents};
 ghost use Rattle.verify_service.specs.Judging.{EachPair};
 ghost use Rattle.verify_service.specs.Needed.{all_named, named, round_texts};
 ghost use Rattle.verify_service.specs.Prepared.{HasWords, IsNewest, classes_of};
@@ -11,7 +12,7 @@ ghost use Rattle.verify_service.specs.RightChains.{AreRightHeld, AreThere};
 ghost use Rattle.verify_service.specs.RoundRead.{HasAskedOwn, RoundReads};
 ghost use Rattle.verify_service.specs.Rows.{held};
 ghost use Rattle.verify_service.specs.Screening.{IsReady};
-ghost use Rattle.verify_service.specs.Service.{AreOfRound, Follow, HoldsRight, IsPurged, IsSameConfig, last_moment_of, last_number, materials_of};
+ghost use Rattle.verify_service.specs.Service.{AreOfRound, Follow, HoldsRight, IsPurged, IsSameConfig, last_moment_of, last_number, materials_of, texts_in};
 ghost use Rattle.verify_service.specs.Workers.{EachWorker, SayTheSame};
 
 use crate::classing::class_calls;
@@ -71,7 +72,11 @@ impl Service {
 
         ensures answered { IfOk result (λ prepared. AreAnswered self.new.held.entries) }
 
-        // Also if memory ran out: what is held of chains is right, and the past is purged and no more.
+        // Also if memory ran out: each provider was asked at most for the certificates in the chains of its worker's texts whose files were read, what is
+        // held of chains is right, and the past is purged and no more.
+        ensures asks { (d : _) → HasContents (S.files shelf.old) (materials_of self.old) (texts_in self.old calls.now) (S.counts shelf.old).reads (S.counts shelf.new).reads
+            (λ contents. (w : ℕ) → w < length workers.old → AsksFew w (length workers.old) 0 (P.asks (slice_index_or workers.old w d).provider)
+            (P.asks (slice_index_or workers.new w d).provider) contents) }
         ensures right { (d : _) → HoldsRight (S.files shelf.new) (P.says (slice_index_or workers.new 0 d).provider) self.new }
         ensures most { (S.counts shelf.new).reads
             ≤ (S.counts shelf.old).reads + length (round_texts self.old.chains self.old.held.entries (named self.old.settings calls.now)) }
@@ -160,6 +165,9 @@ fn prepare_round<R: Threads + Sync, S: Shelf, P: Provider + Send, G: Gate + Send
         → AreRightHeld (S.files shelf.old) world.now (P.says (slice_index_or workers.old 0 d).provider) cache.new.entries [] }
     ensures known { (d : _) → AreRightHeld (S.files shelf.old) world.now (P.says (slice_index_or workers.old 0 d).provider) cache.old.entries []
         → IfOk result (λ prepared. AreRightHeld (S.files shelf.old) world.now (P.says (slice_index_or workers.old 0 d).provider) cache.new.entries prepared.kept) }
+    ensures asks { (d : _) → HasContents (S.files shelf.old) world.now (round_texts world.now.chains cache.old.entries (named settings.now calls.now)) (S.counts shelf.old).reads (S.counts shelf.new).reads
+        (λ contents. (w : ℕ) → w < length workers.old → AsksFew w (length workers.old) 0 (P.asks (slice_index_or workers.old w d).provider)
+        (P.asks (slice_index_or workers.new w d).provider) contents) }
     ensures most { (S.counts shelf.new).reads
         ≤ (S.counts shelf.old).reads + length (round_texts world.now.chains cache.old.entries (named settings.now calls.now)) }
     ensures answered { IfOk result (λ prepared. AreAnswered cache.new.entries) }

@@ -2,6 +2,7 @@
 ghost use Rattle.std.specs.Prelude.{◌≡◌, ◌<◌, ◌≤◌, ◌+◌, ◌%◌, ℕ, [], None, true, get_or, length, vec_len, slice_index_or, IfOk};
 ghost use Rattle.std.specs.List.{list_any};
 ghost use Rattle.stir_outside.specs.Stays.{ProviderStays, ShelfStays};
+ghost use Rattle.verify_service.specs.Contents.{AsksFew, HasContents};
 ghost use Rattle.verify_service.specs.Judging.{EachPair};
 ghost use Rattle.verify_service.specs.RightChains.{AreRightHeld};
 ghost use Rattle.verify_service.specs.RoundRead.{HasAskedOwn, KnownBy, RoundReads, states_from, texts_of};
@@ -93,9 +94,13 @@ pub(crate) fn ready_chains<R: Threads + Sync, S: Shelf, P: Provider + Send, G: G
         (P.asks (slice_index_or workers.old w d).provider) (P.asks (slice_index_or workers.new w d).provider)
         (P.faults (slice_index_or workers.old w d).provider) (P.faults (slice_index_or workers.new w d).provider) states) cache.old cache.new) }
 
-    // What is held stays right, and no more files were read than the round has texts, also if memory ran out.
+    // What is held stays right, no more files were read than the round has texts, and a provider was asked at most for the chains of its worker's texts
+    // that were read; also if memory ran out.
     ensures right { (d : _) → AreRightHeld (S.files shelf.old) world.now (P.says (slice_index_or workers.old 0 d).provider) cache.old.entries []
         → AreRightHeld (S.files shelf.old) world.now (P.says (slice_index_or workers.old 0 d).provider) cache.new.entries [] }
+    ensures asks { (d : _) → HasContents (S.files shelf.old) world.now (texts_of world.now cache.old.entries calls.now) (S.counts shelf.old).reads (S.counts shelf.new).reads
+        (λ contents. (w : ℕ) → w < length workers.old → AsksFew w (length workers.old) 0 (P.asks (slice_index_or workers.old w d).provider)
+        (P.asks (slice_index_or workers.new w d).provider) contents) }
     ensures most { (S.counts shelf.new).reads ≤ (S.counts shelf.old).reads + length (texts_of world.now cache.old.entries calls.now) }
 
     ensures capacity { cache.new.capacity ≡ cache.old.capacity }
@@ -129,6 +134,9 @@ fn fetch_and_judge<R: Threads + Sync, S: Shelf, P: Provider + Send, G: Gate + Se
         (P.asks (slice_index_or workers.old w d).provider) (P.asks (slice_index_or workers.new w d).provider)
         (P.faults (slice_index_or workers.old w d).provider) (P.faults (slice_index_or workers.new w d).provider) states)
         (states_from 0 (λ place. get_or (slice_index_or workers.new (place % length workers.old) d).judged.items place None) files.items)) }
+    ensures asks { (d : _) → HasContents (S.files shelf.old) world.now texts.now (S.counts shelf.old).reads (S.counts shelf.new).reads
+        (λ contents. (w : ℕ) → w < length workers.old → AsksFew w (length workers.old) 0 (P.asks (slice_index_or workers.old w d).provider)
+        (P.asks (slice_index_or workers.new w d).provider) contents) }
     ensures most { (S.counts shelf.new).reads ≤ (S.counts shelf.old).reads + length texts.now }
     ensures counted { length workers.new ≡ length workers.old }
     ensures shelf { ShelfStays S.Shelf shelf.old shelf.new }

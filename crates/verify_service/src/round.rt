@@ -8,7 +8,8 @@ ghost use Rattle.replay_law.specs.Turn.{FirstWins};
 ghost use Rattle.stir_outside.specs.Count.{NotRisen};
 ghost use Rattle.stir_outside.specs.Files.{Files};
 ghost use Rattle.verify_service.specs.Carried.{AreClasses, HasPairs};
-ghost use Rattle.verify_service.specs.Causes.{NoneUnasked, NoneUnread, UnaskedIsCounted, UnreadIsCounted, unasked_texts};
+ghost use Rattle.verify_service.specs.Causes.{NoneUnasked, NoneUnread, UnaskedIsCounted, UnreadIsCounted, unasked_texts, unread_texts};
+ghost use Rattle.verify_service.specs.Contents.{AsksFew, HasContents};
 ghost use Rattle.verify_service.specs.Needed.{named};
 ghost use Rattle.verify_service.specs.Reads.{HasAsked, HasJudged, ReadsFew, StaysHeld};
 ghost use Rattle.verify_service.specs.RoundRead.{own_of};
@@ -80,13 +81,19 @@ impl Service {
         ensures quiet { (d : _) → ((w : ℕ) → w < length workers.old → NotRisen (P.faults (slice_index_or workers.old w d).provider) (P.faults (slice_index_or workers.new w d).provider))
             → IfOk result (λ carried. NoneUnasked carried.outcomes) }
 
+        // Each provider was asked at most for the certificates in the chains of its worker's texts whose files were read, and for the PASSporTs of its
+        // worker's calls, also if memory ran out.
+        ensures asks { (d : _) → HasContents (S.files shelf.old) (materials_of self.old) (texts_in self.old calls.now) (S.counts shelf.old).reads (S.counts shelf.new).reads
+            (λ contents. (w : ℕ) → w < length workers.old → AsksFew w (length workers.old) (length (named self.old.settings (own_of w (length workers.old) 0 calls.now)))
+            (P.asks (slice_index_or workers.old w d).provider) (P.asks (slice_index_or workers.new w d).provider) contents) }
+
         // What is held of chains stays right, also if memory ran out. Each listed x5u text that a call of the round names is read once at most, and not
         // if its chain is held; and its chain, once it was judged, is held until 4,096 others were used, unless a question of it failed. A worker's
         // provider is asked no more than for the chains of the worker's texts and the PASSporTs of its calls.
         ensures right { (d : _) → HoldsRight (S.files shelf.new) (P.says (slice_index_or workers.new 0 d).provider) self.new }
         ensures most { (S.counts shelf.new).reads ≤ (S.counts shelf.old).reads + length (texts_in self.old calls.now) }
         ensures judges { (d : _) → IfOk result (λ carried. HasJudged (S.files shelf.old) (materials_of self.old) (P.says (slice_index_or workers.old 0 d).provider)
-            (named self.old.settings calls.now) self.old.held self.new.held (S.counts shelf.old).reads (S.counts shelf.new).reads
+            (named self.old.settings calls.now) (unread_texts self.old.settings calls.now carried.outcomes) self.old.held self.new.held (S.counts shelf.old).reads (S.counts shelf.new).reads
             (λ judged. (w : ℕ) → w < length workers.old → HasAsked judged (own_of w (length workers.old) 0 (texts_in self.old calls.now))
             (named self.old.settings (own_of w (length workers.old) 0 calls.now))
             (P.asks (slice_index_or workers.old w d).provider) (P.asks (slice_index_or workers.new w d).provider))) }

@@ -3,7 +3,7 @@ ghost use Rattle.std.specs.Prelude.{◌≡◌, ◌<◌, ◌≤◌, ◌+◌, [], 
 ghost use Rattle.stir_outside.specs.Stays.{ProviderStays};
 ghost use Rattle.call_judging.specs.Causes.{HasCauseIf};
 ghost use Rattle.call_judging.specs.Fetched.{certificates_in, has_failed};
-ghost use Rattle.verify_service.specs.WorkerChains.{ChainsCounted, CountedUnless, EachOwn, EachOwnUnless, IsOwn};
+ghost use Rattle.verify_service.specs.WorkerChains.{ChainsCounted, CountedUnless, EachOwn, EachOwnUnless, IsOwn, own_size, own_sizes};
 ghost use Rattle.verify_service.specs.Workers.{EachWorker};
 
 use crate::worker::Worker;
@@ -29,6 +29,7 @@ pub(crate) fn judge_texts<R: Threads + Sync, P: Provider + Send, G: Gate + Send>
         w (length workers.old) files.now now.judged.items) }
     ensures asked { EachWorker workers.old workers.new (λ _ before now. CountedUnless now.out_of_memory
         (P.asks before.provider) (P.asks now.provider) (P.faults before.provider) (P.faults now.provider) now.judged.items) }
+    ensures most { EachWorker workers.old workers.new (λ w before now. P.asks now.provider ≤ P.asks before.provider + own_sizes w (length workers.old) 0 files.now) }
     ensures provider { EachWorker workers.old workers.new (λ _ before now. ProviderStays P.Provider before.provider now.provider) }
 {
     let count = workers.len();
@@ -53,6 +54,7 @@ fn judge_own<P: Provider, G: Gate>(
     ensures judged { EachOwnUnless worker.new.out_of_memory world.now (P.says worker.old.provider) index count files.now worker.new.judged.items }
     ensures asked { CountedUnless worker.new.out_of_memory (P.asks worker.old.provider) (P.asks worker.new.provider) (P.faults worker.old.provider)
         (P.faults worker.new.provider) worker.new.judged.items }
+    ensures most { P.asks worker.new.provider ≤ P.asks worker.old.provider + own_sizes index count 0 files.now }
     ensures provider { ProviderStays P.Provider worker.old.provider worker.new.provider }
 {
     worker.judged.clear();
@@ -69,7 +71,7 @@ fn judge_own<P: Provider, G: Gate>(
 }
 
 /// Judges the chains of the worker's texts into a list that is empty: at each place its own, and nothing at the places of others.
-/// `AllocError` is the only error.
+/// `AllocError` is the only error. The provider is asked at most for each certificate of the worker's own, also if memory runs out.
 pub(crate) fn judge_files<P: Provider>(
     alloc: Global,
     world: &World,
@@ -83,6 +85,7 @@ pub(crate) fn judge_files<P: Provider>(
     requires empty { judged.old.items ≡ [] }
     ensures judged { OnOk result (EachOwn world.now (P.says provider.old) index count 0 files.now judged.new.items) }
     ensures asked { OnOk result (ChainsCounted (P.asks provider.old) (P.asks provider.new) (P.faults provider.old) (P.faults provider.new) judged.new.items) }
+    ensures most { P.asks provider.new ≤ P.asks provider.old + own_sizes index count 0 files.now }
     ensures asks { P.asks provider.old ≤ P.asks provider.new }
     ensures provider { ProviderStays P.Provider provider.old provider.new }
 {
@@ -103,6 +106,7 @@ fn judge_file<P: Provider>(
 ) -> Result<Option<Judged>, AllocError>
     ensures judged { IfOk result (IsOwn world.now (P.says provider.old) own file.now) }
     ensures asked { IfOk result (λ chain. P.asks provider.new ≤ P.asks provider.old + certificates_in chain) }
+    ensures most { P.asks provider.new ≤ P.asks provider.old + own_size own file.now }
     ensures failed { IfOk result (λ chain. HasCauseIf (has_failed chain) (P.faults provider.old) (P.faults provider.new)) }
     ensures asks { P.asks provider.old ≤ P.asks provider.new }
     ensures provider { ProviderStays P.Provider provider.old provider.new }

@@ -1,10 +1,11 @@
 -- A round is prepared: its calls are screened and classed, and its chains at hand.
-use Rattle.std.proofs.Common.{◌<◌, ℕ, List, get_or, length, ap, ◌∙◌, subst, arith}
+use Rattle.std.proofs.Common.{◌<◌, ℕ, List, get_or, length, refl, ap, ◌∙◌, subst, arith}
 use Rattle.verify_service.specs.Classes.{AreGivenClasses}
 use Rattle.verify_service.specs.Needed.{all_named, round_texts}
 use Rattle.verify_service.specs.RightChains.{AreThere}
 use Rattle.verify_service.specs.RoundRead.{HasAskedOwn, RoundReads, texts_of}
 use Rattle.verify_service.specs.declared.screening.ReadyCall.{ReadyCall}
+use Rattle.verify_service.proofs.ContentLaws.{asked_later, nothing_read}
 use Rattle.verify_service.proofs.ListLaws.{each_length}
 use Rattle.verify_service.proofs.PrepareLaws.{placed_classes, placed_named, placed_prepared, placed_ready, placed_room, placed_words}
 use Rattle.verify_service.proofs.ReadyLaws.{written_back}
@@ -42,6 +43,49 @@ returns-clause-most g c =
     let names = ap (λ ts. length (round_texts c.args.world.now.chains c.args.cache.now.entries ts))
     (c.texts_law.ensures.named c.args.settings.now c.args.calls.now _ (placed_ready c.args.settings.now c.args.calls.now c.in_ok-classes.classes olds now _ back c.requires.ready given)) in
     omega arith
+
+pub returns-in_err-classes-clause-asks : goal.returns-in_err-classes-clause-asks
+returns-in_err-classes-clause-asks g c = λ d.
+    nothing_read (g.S.Shelf.files c.args.shelf.now) c.args.world.now _ _ _ (length c.args.workers.now) (λ w. g.P.Provider.asks (get_or c.args.workers.now w d).provider)
+    (λ w. g.P.Provider.asks (get_or c.args.workers.now w d).provider) (omega arith) (λ w less. refl)
+
+pub returns-in_err-desk-clause-asks : goal.returns-in_err-desk-clause-asks
+returns-in_err-desk-clause-asks g c = λ d.
+    nothing_read (g.S.Shelf.files c.args.shelf.now) c.args.world.now _ _ _ (length c.args.workers.now) (λ w. g.P.Provider.asks (get_or c.args.workers.now w d).provider)
+    (λ w. g.P.Provider.asks (get_or c.args.workers.now w d).provider) (omega arith) (λ w less. refl)
+
+pub returns-in_err-outcomes-clause-asks : goal.returns-in_err-outcomes-clause-asks
+returns-in_err-outcomes-clause-asks g c = λ d.
+    nothing_read (g.S.Shelf.files c.args.shelf.now) c.args.world.now _ _ _ (length c.args.workers.now) (λ w. g.P.Provider.asks (get_or c.args.workers.now w d).provider)
+    (λ w. g.P.Provider.asks (get_or c.args.workers.now w d).provider) (omega arith) (λ w less. refl)
+
+pub returns-in_err-kept-clause-asks : goal.returns-in_err-kept-clause-asks
+returns-in_err-kept-clause-asks g c = λ d.
+    let olds = c.args.ready.items in
+    let now = c.class_calls.new.calls in
+    let back = written_back olds now c.args.ready.len c.args.ready.ok.0 (c.in_ok-classes.ensures.counted ∙ ap length c.deref_mut.ensures.value) in
+    let given = subst (λ (cs : List ReadyCall). AreGivenClasses c.in_ok-classes.classes cs c.class_calls.new.calls) c.deref_mut.ensures.value c.in_ok-classes.ensures.classes in
+    asked_later (g.S.Shelf.files c.args.shelf.now) c.args.world.now c.args.world.now _ _ _ _ (length c.args.workers.now)
+    (λ w. g.P.Provider.asks (get_or c.args.workers.now w d).provider) (λ w. g.P.Provider.asks (get_or c.ready_chains.new.workers w d).provider)
+    (λ w. g.P.Provider.asks (get_or c.ready_chains.new.workers w d).provider) (λ w. 0) refl
+    (ap (λ (cs : List ReadyCall). texts_of c.args.world.now c.args.cache.now.entries cs) c.deref.ensures.value
+    ∙ ap (λ ts. round_texts c.args.world.now.chains c.args.cache.now.entries ts)
+    (c.texts_law.ensures.named c.args.settings.now c.args.calls.now _ (placed_ready c.args.settings.now c.args.calls.now c.in_ok-classes.classes olds now _ back c.requires.ready given)))
+    (λ w less. omega arith) (c.ready_chains.ensures.asks d)
+
+pub returns-clause-asks : goal.returns-clause-asks
+returns-clause-asks g c = λ d.
+    let olds = c.args.ready.items in
+    let now = c.class_calls.new.calls in
+    let back = written_back olds now c.args.ready.len c.args.ready.ok.0 (c.in_ok-classes.ensures.counted ∙ ap length c.deref_mut.ensures.value) in
+    let given = subst (λ (cs : List ReadyCall). AreGivenClasses c.in_ok-classes.classes cs c.class_calls.new.calls) c.deref_mut.ensures.value c.in_ok-classes.ensures.classes in
+    asked_later (g.S.Shelf.files c.args.shelf.now) c.args.world.now c.args.world.now _ _ _ _ (length c.args.workers.now)
+    (λ w. g.P.Provider.asks (get_or c.args.workers.now w d).provider) (λ w. g.P.Provider.asks (get_or c.ready_chains.new.workers w d).provider)
+    (λ w. g.P.Provider.asks (get_or c.ready_chains.new.workers w d).provider) (λ w. 0) refl
+    (ap (λ (cs : List ReadyCall). texts_of c.args.world.now c.args.cache.now.entries cs) c.deref.ensures.value
+    ∙ ap (λ ts. round_texts c.args.world.now.chains c.args.cache.now.entries ts)
+    (c.texts_law.ensures.named c.args.settings.now c.args.calls.now _ (placed_ready c.args.settings.now c.args.calls.now c.in_ok-classes.classes olds now _ back c.requires.ready given)))
+    (λ w less. omega arith) (c.ready_chains.ensures.asks d)
 
 pub invariant_of-result : goal.invariant_of-result
 invariant_of-result g c =

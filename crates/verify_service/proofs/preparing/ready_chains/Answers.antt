@@ -1,11 +1,44 @@
 -- The chains of a round are held or kept, and stay right.
-use Rattle.std.proofs.Common.{ℕ, ◌<◌, ◌%◌, List, [], None, get_or, length, sym, ap, ◌∙◌, subst}
+use Rattle.std.proofs.Common.{ℕ, ◌<◌, ◌%◌, List, [], None, get_or, length, refl, sym, ap, ◌∙◌, subst, arith}
 use Rattle.stir_outside.specs.Stays.{ProviderStays}
 use Rattle.verify_service.specs.Needed.{all_named, needed, once}
 use Rattle.verify_service.specs.RoundRead.{states_from}
+use Rattle.verify_service.proofs.ContentLaws.{asked_later, nothing_read}
 use Rattle.verify_service.proofs.ReadyChainLaws.{own_after, right_same, round_reads, some_right}
 use Rattle.verify_service.proofs.StatesLaws.{states_same}
 use Rattle.verify_service.proofs.preparing.ready_chains.Goals as goal
+
+-- nothing was read or asked if memory ran out before
+pub returns-in_err-gather_calls-clause-asks : goal.returns-in_err-gather_calls-clause-asks
+returns-in_err-gather_calls-clause-asks g c = λ d.
+    nothing_read (g.S.Shelf.files c.args.shelf.now) c.args.world.now _ _ _ (length c.args.workers.now) (λ w. g.P.Provider.asks (get_or c.args.workers.now w d).provider)
+    (λ w. g.P.Provider.asks (get_or c.args.workers.now w d).provider) (omega arith) (λ w less. refl)
+
+pub returns-in_err-files-clause-asks : goal.returns-in_err-files-clause-asks
+returns-in_err-files-clause-asks g c = λ d.
+    asked_later (g.S.Shelf.files c.args.shelf.now) c.args.world.now c.args.world.now c.gather_calls.new.texts _ _ _ (length c.args.workers.now)
+    (λ w. g.P.Provider.asks (get_or c.args.workers.now w d).provider) (λ w. g.P.Provider.asks (get_or c.fetch_and_judge.new.workers w d).provider)
+    (λ w. g.P.Provider.asks (get_or c.fetch_and_judge.new.workers w d).provider) (λ w. 0) refl
+    (c.in_ok-gather_calls.ensures.texts ∙ ap (λ (ts : List (List ℕ)). once ts (needed c.args.world.now.chains c.args.cache.now.entries (all_named c.args.calls.now))) c.new-texts.ensures)
+    (λ w less. omega arith) (c.fetch_and_judge.ensures.asks d)
+
+pub returns-in_err-store_all-clause-asks : goal.returns-in_err-store_all-clause-asks
+returns-in_err-store_all-clause-asks g c = λ d.
+    asked_later (g.S.Shelf.files c.args.shelf.now) c.args.world.now c.args.world.now c.gather_calls.new.texts _ _ _ (length c.args.workers.now)
+    (λ w. g.P.Provider.asks (get_or c.args.workers.now w d).provider) (λ w. g.P.Provider.asks (get_or c.fetch_and_judge.new.workers w d).provider)
+    (λ w. g.P.Provider.asks (get_or c.store_all.new.workers w d).provider) (λ w. 0) refl
+    (c.in_ok-gather_calls.ensures.texts ∙ ap (λ (ts : List (List ℕ)). once ts (needed c.args.world.now.chains c.args.cache.now.entries (all_named c.args.calls.now))) c.new-texts.ensures)
+    (λ w less. let same = ap g.P.Provider.asks (c.store_all.ensures.same w d (subst (λ n. w < n) (sym c.fetch_and_judge.ensures.counted) less)) in omega (arith, same))
+    (c.fetch_and_judge.ensures.asks d)
+
+pub returns-clause-asks : goal.returns-clause-asks
+returns-clause-asks g c = λ d.
+    asked_later (g.S.Shelf.files c.args.shelf.now) c.args.world.now c.args.world.now c.gather_calls.new.texts _ _ _ (length c.args.workers.now)
+    (λ w. g.P.Provider.asks (get_or c.args.workers.now w d).provider) (λ w. g.P.Provider.asks (get_or c.fetch_and_judge.new.workers w d).provider)
+    (λ w. g.P.Provider.asks (get_or c.store_all.new.workers w d).provider) (λ w. 0) refl
+    (c.in_ok-gather_calls.ensures.texts ∙ ap (λ (ts : List (List ℕ)). once ts (needed c.args.world.now.chains c.args.cache.now.entries (all_named c.args.calls.now))) c.new-texts.ensures)
+    (λ w less. let same = ap g.P.Provider.asks (c.store_all.ensures.same w d (subst (λ n. w < n) (sym c.fetch_and_judge.ensures.counted) less)) in omega (arith, same))
+    (c.fetch_and_judge.ensures.asks d)
 
 pub returns-in_err-gather_calls-clause-right : goal.returns-in_err-gather_calls-clause-right
 returns-in_err-gather_calls-clause-right g c = λ d right. right_same _ _ _ c.args.cache.now.entries c.gather_calls.new.cache.entries [] c.in_err-gather_calls.ensures.same right

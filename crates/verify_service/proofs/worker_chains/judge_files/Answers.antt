@@ -2,6 +2,7 @@
 use Rattle.std.proofs.Common.{◌≡◌, ◌+◌, ◌<◌, [], ◌∷◌, ◌++◌, List, Option, length, take, sym, ◌∙◌, subst, arith, length-take-le}
 use Rattle.cert_store.specs.Judged.{JudgedView}
 use Rattle.verify_service.specs.WorkerChains.{ChainsCounted, EachOwn}
+use Rattle.verify_service.proofs.ContentLaws.{left_step}
 use Rattle.verify_service.proofs.WorkerChainLaws.{counted_next, own_next}
 use Rattle.verify_service.proofs.worker_chains.judge_files.Goals as goal
 
@@ -23,6 +24,8 @@ files-preserved g c =
           (counted_next (g.P.Provider.asks c.args.provider.now) (g.P.Provider.asks c.files.provider) (g.P.Provider.asks c.judge_file.new.provider) (g.P.Provider.faults c.args.provider.now)
           (g.P.Provider.faults c.files.provider) (g.P.Provider.faults c.judge_file.new.provider) c.files.judged.items c.in_ok-chain.chain so_far c.in_ok-chain.ensures.asked
           c.in_ok-chain.ensures.asks c.in_ok-chain.ensures.provider.faults c.in_ok-chain.ensures.failed);
+      most = (let so_far = c.files.invariant.most in let one = c.in_ok-chain.ensures.most in
+          let step = left_step c.args.index c.args.count c.files.place c.args.files.now c.index-files-place.result c.index-files-place.result within c.index-files-place.is in omega arith);
       same_signs = c.in_ok-chain.ensures.provider.signs ∙ c.files.invariant.same_signs;
       same_says = c.in_ok-chain.ensures.provider.says ∙ c.files.invariant.same_says;
     }

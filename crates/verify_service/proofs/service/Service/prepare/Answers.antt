@@ -1,9 +1,10 @@
 -- A round that is prepared is the newest of its service.
-use Rattle.std.proofs.Common.{◌≡◌, ◌<◌, ℕ, [], get_or, length, sym, ap, ◌∙◌, subst, arith}
+use Rattle.std.proofs.Common.{◌≡◌, ◌<◌, ℕ, [], get_or, length, refl, sym, ap, ◌∙◌, subst, arith}
 use Rattle.cert_store.specs.Holding.{Holding}
 use Rattle.cert_store.specs.declared.world.World.{World as Materials}
 use Rattle.verify_rules.specs.declared.settings.Settings.{Settings}
 use Rattle.verify_service.specs.Carried.{AreClasses}
+use Rattle.verify_service.specs.Needed.{named, round_texts}
 use Rattle.verify_service.specs.Prepared.{AreScreened, classes_of}
 use Rattle.verify_service.specs.RightChains.{AreRightHeld}
 use Rattle.verify_service.specs.RoundRead.{HasAskedOwn, RoundReads}
@@ -11,6 +12,7 @@ use Rattle.replay_desk.specs.Past.{PastView}
 use Rattle.replay_law.specs.Held.{Same, purged}
 use Rattle.verify_service.specs.Rows.{held}
 use Rattle.verify_service.specs.Service.{ServiceView, first_moment_of, materials_of}
+use Rattle.verify_service.proofs.ContentLaws.{asked_later, nothing_read}
 use Rattle.verify_service.proofs.KeepingLaws.{same_kept}
 use Rattle.verify_service.proofs.PastLaws.{held_same}
 use Rattle.verify_service.proofs.ClassLaws.{last_screened}
@@ -56,6 +58,48 @@ returns-clause-right g c = λ d.
     (materials_same c.args.self.now c.begin.new.self c.self.inside.world c.begin.ensures.config (ap (λ (s : ServiceView). s.chains) (c.self.view_is ∙ c.screened.ensures.same))
     (ap (λ (s : ServiceView). s.anchors) (c.self.view_is ∙ c.screened.ensures.same)) (ap (λ (s : ServiceView). s.table) (c.self.view_is ∙ c.screened.ensures.same)))
     (ap (λ (s : ServiceView). s.held) (c.self.view_is ∙ c.screened.ensures.same) ∙ c.begin.ensures.held) (c.prepare_round.ensures.right d) (c.requires.right d)
+
+pub returns-in_err-ready-clause-asks : goal.returns-in_err-ready-clause-asks
+returns-in_err-ready-clause-asks g c = λ d.
+    nothing_read (g.S.Shelf.files c.args.shelf.now) (materials_of c.args.self.now) _ _ _ (length c.args.workers.now) (λ w. g.P.Provider.asks (get_or c.args.workers.now w d).provider)
+    (λ w. g.P.Provider.asks (get_or c.args.workers.now w d).provider) (omega arith) (λ w less. refl)
+
+pub returns-in_err-reserve-clause-asks : goal.returns-in_err-reserve-clause-asks
+returns-in_err-reserve-clause-asks g c = λ d.
+    nothing_read (g.S.Shelf.files c.args.shelf.now) (materials_of c.args.self.now) _ _ _ (length c.args.workers.now) (λ w. g.P.Provider.asks (get_or c.args.workers.now w d).provider)
+    (λ w. g.P.Provider.asks (get_or c.args.workers.now w d).provider) (omega arith) (λ w less. refl)
+
+pub returns-in_err-prepared-clause-asks : goal.returns-in_err-prepared-clause-asks
+returns-in_err-prepared-clause-asks g c = λ d.
+    let world : c.self.inside.world ≡ materials_of c.args.self.now =
+    materials_same c.args.self.now c.begin.new.self c.self.inside.world c.begin.ensures.config (ap (λ (s : ServiceView). s.chains) (c.self.view_is ∙ c.screened.ensures.same))
+    (ap (λ (s : ServiceView). s.anchors) (c.self.view_is ∙ c.screened.ensures.same)) (ap (λ (s : ServiceView). s.table) (c.self.view_is ∙ c.screened.ensures.same)) in
+    let held : c.self.inside.cache ≡ c.args.self.now.held = ap (λ (s : ServiceView). s.held) (c.self.view_is ∙ c.screened.ensures.same) ∙ c.begin.ensures.held in
+    let settings : c.self.inside.settings ≡ c.args.self.now.settings =
+    ap (λ (s : ServiceView). s.settings) (c.self.view_is ∙ c.screened.ensures.same) ∙ c.begin.ensures.config.settings in
+    asked_later (g.S.Shelf.files c.args.shelf.now) c.self.inside.world (materials_of c.args.self.now) _ _ _ _ (length c.args.workers.now)
+    (λ w. g.P.Provider.asks (get_or c.args.workers.now w d).provider) (λ w. g.P.Provider.asks (get_or c.prepare_round.new.workers w d).provider)
+    (λ w. g.P.Provider.asks (get_or c.prepare_round.new.workers w d).provider) (λ w. 0) world
+    (ap (λ (m : Materials). round_texts m.chains c.self.inside.cache.entries (named c.self.inside.settings c.args.calls.now)) world
+    ∙ ap (λ (h : Holding). round_texts c.args.self.now.chains h.entries (named c.self.inside.settings c.args.calls.now)) held
+    ∙ ap (λ (s : Settings). round_texts c.args.self.now.chains c.args.self.now.held.entries (named s c.args.calls.now)) settings)
+    (λ w less. omega arith) (c.prepare_round.ensures.asks d)
+
+pub returns-clause-asks : goal.returns-clause-asks
+returns-clause-asks g c = λ d.
+    let world : c.self.inside.world ≡ materials_of c.args.self.now =
+    materials_same c.args.self.now c.begin.new.self c.self.inside.world c.begin.ensures.config (ap (λ (s : ServiceView). s.chains) (c.self.view_is ∙ c.screened.ensures.same))
+    (ap (λ (s : ServiceView). s.anchors) (c.self.view_is ∙ c.screened.ensures.same)) (ap (λ (s : ServiceView). s.table) (c.self.view_is ∙ c.screened.ensures.same)) in
+    let held : c.self.inside.cache ≡ c.args.self.now.held = ap (λ (s : ServiceView). s.held) (c.self.view_is ∙ c.screened.ensures.same) ∙ c.begin.ensures.held in
+    let settings : c.self.inside.settings ≡ c.args.self.now.settings =
+    ap (λ (s : ServiceView). s.settings) (c.self.view_is ∙ c.screened.ensures.same) ∙ c.begin.ensures.config.settings in
+    asked_later (g.S.Shelf.files c.args.shelf.now) c.self.inside.world (materials_of c.args.self.now) _ _ _ _ (length c.args.workers.now)
+    (λ w. g.P.Provider.asks (get_or c.args.workers.now w d).provider) (λ w. g.P.Provider.asks (get_or c.prepare_round.new.workers w d).provider)
+    (λ w. g.P.Provider.asks (get_or c.prepare_round.new.workers w d).provider) (λ w. 0) world
+    (ap (λ (m : Materials). round_texts m.chains c.self.inside.cache.entries (named c.self.inside.settings c.args.calls.now)) world
+    ∙ ap (λ (h : Holding). round_texts c.args.self.now.chains h.entries (named c.self.inside.settings c.args.calls.now)) held
+    ∙ ap (λ (s : Settings). round_texts c.args.self.now.chains c.args.self.now.held.entries (named s c.args.calls.now)) settings)
+    (λ w less. omega arith) (c.prepare_round.ensures.asks d)
 
 pub returns-clause-newest : goal.returns-clause-newest
 returns-clause-newest g c = record {

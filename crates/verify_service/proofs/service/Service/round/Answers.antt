@@ -1,11 +1,12 @@
 -- A round, from what was prepared and carried out.
-use Rattle.std.proofs.Common.{◌≡◌, ◌<◌, ℕ, get_or, length, refl, sym, ◌∙◌, subst}
+use Rattle.std.proofs.Common.{◌≡◌, ◌<◌, ℕ, get_or, length, refl, sym, ◌∙◌, subst, arith}
 use Rattle.cert_store.specs.Holding.{Holding}
 use Rattle.cert_store.specs.Using.{names}
 use Rattle.replay_law.specs.Held.{Held, purged}
 use Rattle.replay_law.specs.Round.{RoundSettled, round_of}
 use Rattle.verify_service.specs.Carried.{AreRuled, Carries, HasPairs}
 use Rattle.verify_service.specs.Carrying.{AreSaid, HasAnswered}
+use Rattle.verify_service.specs.Causes.{unread_texts}
 use Rattle.verify_service.specs.Needed.{named}
 use Rattle.verify_service.specs.Prepared.{basis_in}
 use Rattle.verify_service.specs.Ready.{provided}
@@ -14,7 +15,8 @@ use Rattle.verify_service.specs.RoundRead.{own_of}
 use Rattle.verify_service.specs.Rows.{held, rows_of}
 use Rattle.verify_service.specs.Service.{first_moment_of, held_texts, materials_of, texts_in}
 use Rattle.verify_service.specs.declared.worker.Worker.{Worker}
-use Rattle.verify_service.proofs.RoundAllLaws.{RoundLaws, RoundParts, among, counted, few, holds_same, judged, judges, legal_by, owed, quiet, quiet_shelf, stays, unasked, unread}
+use Rattle.verify_service.proofs.ContentLaws.{asked_later}
+use Rattle.verify_service.proofs.RoundAllLaws.{RoundLaws, RoundParts, among, counted, few, holds_same, judged, judges, legal_by, owed, passports, quiet, quiet_shelf, stays, unasked, unread}
 use Rattle.verify_service.proofs.RoundLaws.{materials_same, round_settled}
 use Rattle.verify_service.proofs.TogetherLaws.{head_of}
 use Rattle.verify_service.proofs.service.Service.round.Goals as goal
@@ -140,11 +142,28 @@ returns-clause-right g c = λ d.
 pub returns-clause-judges : goal.returns-clause-judges
 returns-clause-judges g c = λ d.
     subst (λ (h : Holding). HasJudged (g.S.Shelf.files c.args.shelf.now) (materials_of c.args.self.now) (g.P.Provider.says (get_or c.args.workers.now 0 d).provider)
-    (named c.args.self.now.settings c.args.calls.now) c.args.self.now.held h (g.S.Shelf.counts c.args.shelf.now).reads (g.S.Shelf.counts c.prepare.new.shelf).reads
+    (named c.args.self.now.settings c.args.calls.now) (unread_texts c.args.self.now.settings c.args.calls.now c.carry.result.outcomes) c.args.self.now.held h (g.S.Shelf.counts c.args.shelf.now).reads (g.S.Shelf.counts c.prepare.new.shelf).reads
     (λ judged. (w : ℕ) → w < length c.args.workers.now → HasAsked judged (own_of w (length c.args.workers.now) 0 (texts_in c.args.self.now c.args.calls.now))
     (named c.args.self.now.settings (own_of w (length c.args.workers.now) 0 c.args.calls.now))
     (g.P.Provider.asks (get_or c.args.workers.now w d).provider) (g.P.Provider.asks (get_or c.carry.new.workers w d).provider))) (sym c.carry.ensures.same)
     (judges (laws g c) _ _ _ _ _ _ _ _ _ _ _ _ _ _ _ _ _ (parts g c d))
+
+-- of its texts and, once the calls were judged, of its calls
+pub returns-in_err-prepared-clause-asks : goal.returns-in_err-prepared-clause-asks
+returns-in_err-prepared-clause-asks g c = λ d.
+    asked_later (g.S.Shelf.files c.args.shelf.now) (materials_of c.args.self.now) (materials_of c.args.self.now) _ _ _ _ (length c.args.workers.now)
+    (λ w. g.P.Provider.asks (get_or c.args.workers.now w d).provider) (λ w. g.P.Provider.asks (get_or c.prepare.new.workers w d).provider)
+    (λ w. g.P.Provider.asks (get_or c.prepare.new.workers w d).provider)
+    (λ w. length (named c.args.self.now.settings (own_of w (length c.args.workers.now) 0 c.args.calls.now))) refl refl
+    (λ w less. omega arith) (c.prepare.ensures.asks d)
+
+pub returns-clause-asks : goal.returns-clause-asks
+returns-clause-asks g c = λ d.
+    asked_later (g.S.Shelf.files c.args.shelf.now) (materials_of c.args.self.now) (materials_of c.args.self.now) _ _ _ _ (length c.args.workers.now)
+    (λ w. g.P.Provider.asks (get_or c.args.workers.now w d).provider) (λ w. g.P.Provider.asks (get_or c.prepare.new.workers w d).provider)
+    (λ w. g.P.Provider.asks (get_or c.carry.new.workers w d).provider)
+    (λ w. length (named c.args.self.now.settings (own_of w (length c.args.workers.now) 0 c.args.calls.now))) refl refl
+    (λ w less. passports (laws g c) _ _ _ _ _ _ _ _ _ _ _ _ _ _ _ _ _ (parts g c d) w less) (c.prepare.ensures.asks d)
 
 pub returns-clause-stays : goal.returns-clause-stays
 returns-clause-stays g c =
