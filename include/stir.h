@@ -1,29 +1,73 @@
 /*
- * stir.h: calls judged, explained and signed by the proved library libstir_c.a.
+ * stir.h: telephone calls judged, explained and signed by the proved library libstir_c.a (STIR/SHAKEN: RFC 8224, 8225, 8226, 8588, 8946 and 9060).
  *
- * What a call of the library does. It takes bytes and gives bytes, and keeps nothing: it reads no file, opens no connection, starts no thread, waits
- * for nothing, and frees all that it took from malloc before it returns. So any number of threads may be inside at once, and no call has to be paired
- * with another. It may take malloc's memory in proportion to its inputs, and if there is none it says so (STIR_NO_MEMORY).
+ * There are three values, each behind a small struct that the caller holds:
+ *
+ *     stir_world   what every call goes by: settings, trust anchors and a code table, read once
+ *     stir_chain   the certificates to which an x5u leads, judged once under a world
+ *     stir_call    one INVITE, read once under a world
+ *
+ * A world is opened when the host starts and when its files change, a chain when it is fetched, and a call when an INVITE comes:
+ *
+ * example:
+ *
+ *     // Judges a call whose PASSporTs all name one chain, with every signature tried by `is_good`: whether it may be let through.
+ *     static bool may_pass(stir_world *world, stir_chain *chain, uint64_t now, const uint8_t *invite, size_t size,
+ *                          bool (*is_good)(const uint8_t question[STIR_QUESTION]), uint8_t ticket[32]) {
+ *         uint8_t questions[STIR_MOST_QUESTIONS * STIR_QUESTION], good[STIR_MOST_QUESTIONS];
+ *         stir_call call = {0};
+ *         stir_said said = stir_call_open(world, now, invite, size, &call);
+ *         if (said.kind == STIR_PASSES) {
+ *             for (uint32_t index = 0, count = (uint32_t)said.size; index < count; index++) {
+ *                 stir_call_chain(&call, index, chain);
+ *             }
+ *             said = stir_call_questions(&call, questions, sizeof questions);
+ *         }
+ *         if (said.kind == STIR_PASSES) {
+ *             size_t count = (size_t)said.size / STIR_QUESTION;
+ *             for (size_t at = 0; at < count; at++) {
+ *                 good[at] = is_good(questions + at * STIR_QUESTION);
+ *             }
+ *             said = stir_call_judge(&call, good, count);
+ *         }
+ *         memcpy(ticket, said.ticket, 32);
+ *         stir_call_close(&call);
+ *         return said.kind == STIR_PASSES;
+ *     }
+ *
+ * (end of the example)
+ *
+ * What the library does. It takes bytes and gives bytes. It reads no file, opens no connection, starts no thread, waits for nothing and prints nothing.
+ * What it holds stands behind the caller's structs and is freed when the last share is closed. It takes malloc's memory in proportion to its inputs, and
+ * if there is none it says so (STIR_NO_MEMORY) and changes nothing.
  *
  * What the caller owes. None of this is checked:
- * - Each pointer with its length names that many bytes (or sizes) that may be read; a `room` with its length, bytes that may be written and that
- *   no other argument of the call overlaps. With length 0 the pointer may be anything but NULL. Nobody writes there while the call runs.
- * - The stack has 256 kilobytes to spare, and malloc, realloc and free are one allocator. No call is made from a signal handler.
- * - `chains` are the bytes to which the x5us of `listed` lead.
- * - What is handed in as answers, or taken for confirmed, was confirmed by an honest verifier of ES256 (RFC 7518, section 3.4).
- * - Of the calls that pass with one ticket only one is let through. Up to its second `last` a ticket has to be remembered.
- * - What is handed in as a signature was made by the key of the certificate whose URI is the x5u, and the caller may be signed for as the form says.
  *
- * What is proved, and of what, is in docs/PROVED.md. Not proved, but so by the way the library is made, is what this page says of:
- * - malloc and threads: that nothing is kept, and that any number of threads may be inside;
- * - that stir_signed looks at the signature before its other inputs, and the fields that are 0;
- * - what is enough: which trust anchors and which lines of a code table a call needs, and how much room.
+ * - Handles. A stir_world, stir_chain or stir_call is all zeros, which is a closed one, or what the library left in it. Nobody else writes in it, and no
+ *   copy of it is used beside it; it may be moved in memory between two calls. Each that was opened or shared is closed once it isn't needed. To close a
+ *   closed one does nothing, and to ask it says STIR_CLOSED. What an `out` held before is closed when it is opened anew.
+ * - One handle a call at a time. Two threads may not be inside with one handle, nor may one call have it twice. To use one value in several threads, give
+ *   each its own handle by stir_world_share or stir_chain_share: that copies nothing but a pointer. Handles may move from thread to thread between calls.
+ *   Any number of threads may be inside at once with handles of their own, also with shares of one value; none waits for another.
+ * - Memory. Each pointer with its length names that many bytes that may be read, and a `room` with its length, bytes that may be written. With length 0 the
+ *   pointer may be anything but NULL. While a call runs nobody else reads or writes its handles, its `out` or its room, and nobody writes what it reads.
+ *   None of them overlap. Structs are aligned as C aligns them; bytes need no alignment.
+ * - Stack. There are 256 kilobytes to spare. No call is made from a signal handler. malloc, realloc and free are one allocator.
+ * - fork. Between fork and exec the child makes calls only if the parent had one thread. A child that goes on has handles of its own, and closes them.
+ * - Chains. The chain that is handed to stir_call_chain for an x5u has the bytes to which that x5u leads, and was opened under the world of the call, or one
+ *   with the same anchors and code table.
+ * - Answers. A signature that is said to be good was found to be so by an honest verifier of ES256 (RFC 7518, section 3.4).
+ * - Tickets. Of the calls that pass with one ticket only one is let through. Up to its second `last` a ticket has to be remembered.
+ * - Keys. A signature that is handed in was made by the key of the chain's first certificate, and the caller may be signed for as the form says.
+ *
+ * What is proved, and of what, is in docs/PROVED.md. Not proved, but so by the way the library is made: what this page says of malloc, threads and fork.
  *
  * A program is linked with libstir_c.a and then with liblibc_c.a of the Rattle kit.
  */
 #ifndef STIR_H
 #define STIR_H
 
+#include <stdbool.h>
 #include <stddef.h>
 #include <stdint.h>
 
@@ -32,26 +76,31 @@ extern "C" {
 #endif
 
 /* The version of these declarations. A caller that was made with another one calls nothing else. */
-#define STIR_ABI 1
+#define STIR_ABI 2
+
+/* STIR_ABI of the library. */
+uint64_t stir_abi(void);
+
+/* ---- What is said ---- */
 
 /* What `kind` may be. */
 enum {
-    STIR_PASSES = 0,    /* the call breaks none of rules 1 to 17 and 19 (stir_x5u, stir_claims: 1 to 9); or what was wanted is there */
+    STIR_PASSES = 0,    /* the call breaks none of the rules that were tried; */
+    STIR_DONE = 0,      /* or what was wanted is done */
     STIR_REFUSED = 1,   /* it breaks one; or the message may not be signed */
-    STIR_BAD_INPUT = 2, /* an input is outside its grammar or its limits */
-    STIR_NO_MEMORY = 3, /* memory ran out, and nothing is said */
-    STIR_NO_ROOM = 4    /* what is to be written has `size` bytes, more than there is room for; nothing was written */
+    STIR_BAD_INPUT = 2, /* an input is outside its grammar or its limits; nothing was done */
+    STIR_NO_MEMORY = 3, /* memory ran out; nothing was done, and nothing is said */
+    STIR_NO_ROOM = 4,   /* what is to be written has `size` bytes, more than there is room for; nothing was written */
+    STIR_CLOSED = 5,    /* a handle is closed; nothing was done */
+    STIR_NONE = 6       /* there is none of this number */
 };
 
-/* Which input is a bad one: `input`, if `kind` is STIR_BAD_INPUT. To judge they are looked at in this order; to sign as stir_to_sign says. */
+/* Which input is a bad one: `input`, if `kind` is STIR_BAD_INPUT. Each function names those that it looks at, in its order. */
 enum {
     STIR_SETTINGS = 1, /* past or future is more than 86,400 seconds, or there is no such local numbering */
-    STIR_LISTED = 2,   /* the lines are no chain map, or more than 16,777,216 bytes */
-    STIR_CHAINS = 3,   /* there are more than nine */
     STIR_ANCHORS = 4,  /* they aren't certificates of authorities one after another, or more than 256 */
     STIR_TABLE = 5,    /* the lines are no code table, or more than 16,777,216 bytes */
-    STIR_ANSWERS = 6,  /* the lines are no answers file, or more than 67,108,864 bytes */
-    STIR_CERTIFICATE = 7, /* it is no certificate of the profile, or one without an authority list (RFC 8226, section 9); stir_show: no chain */
+    STIR_CERTIFICATE = 7, /* the chain isn't one of the profile, or its first certificate has no authority list (RFC 8226, section 9); stir_show: no chain */
     STIR_ORDER = 8,    /* there is no such form; the x5u is no URI of 1 to 2,048 bytes, the second is past 253,402,300,799, or the identifier of the
                           call isn't a UUID in 36 characters */
     STIR_SIGNATURE = 9 /* it hasn't 64 bytes */
@@ -66,69 +115,130 @@ typedef struct stir_said {
     uint32_t field;     /* the Identity header field in which it is broken, counted from 1; 0 if in none, */
     uint32_t part;      /* and the part of it */
     uint64_t last;      /* STIR_PASSES: the last second at which the call's last PASSporT is fresh, in Unix time */
-    uint64_t size;      /* how many bytes were written; STIR_NO_ROOM: how many are to be written */
-    uint8_t ticket[32]; /* STIR_PASSES: by what the call is known again, the SHA-256 of what was signed as its last PASSporT; stir_to_sign: the
-                           SHA-256 that is to be signed */
+    uint64_t size;      /* how many bytes were written; STIR_NO_ROOM: how many are to be written; stir_call_open: how many PASSporTs are judged */
+    uint8_t ticket[32]; /* STIR_PASSES: by what the call is known again, the SHA-256 of what was signed as its last PASSporT; to sign: the SHA-256
+                           that is to be signed */
 } stir_said;
 
-/* STIR_ABI of the library. */
-uint64_t stir_abi(void);
+/*
+ * A question to a verifier of signatures: whether this signature over this digest is good under this key. It has STIR_QUESTION bytes: an uncompressed
+ * point of P-256 (65 bytes; SEC 1, section 2.3.3), a SHA-256 (32), and r and s (32 each). Whether the point lies on the curve is the verifier's to see.
+ * Answers are handed back as bytes, one a question in the same order: 0 if the signature isn't good, and anything else if it is. A question without a
+ * byte counts as one whose signature isn't good; bytes past the questions aren't looked at.
+ */
+enum {
+    STIR_QUESTION = 161,
+    STIR_MOST_QUESTIONS = 9 /* of a call; a chain has at most six */
+};
+
+/* ---- A world: what every call goes by ---- */
+
+typedef struct stir_world {
+    bool full;
+    void *at;
+} stir_world;
+
+/* How calls are judged. */
+typedef struct stir_settings {
+    uint64_t past;        /* how many seconds the moment of a call may be after the iat of a PASSporT, and */
+    uint64_t future;      /* how many the iat may be after the moment; at most 86,400 each */
+    uint8_t country[3];   /* the digits of the own country, in ASCII, */
+    uint8_t country_size; /* how many they are, 1 to 3, */
+    uint8_t national;     /* and how many digits a number in it has, 1 to 14, and with those of the country 15 at most */
+} stir_settings;
 
 /*
- * Asks for a call. Into `room` come the lines of what a verifier of signatures is to confirm, each `confirm KEY DIGEST SIGNATURE`: an uncompressed
- * point of P-256 (65 bytes), a SHA-256 (32) and r and s (64), in hex digits, and an LF. A line may come twice. What is said (STIR_PASSES or
- * STIR_REFUSED) is what comes of the call if the verifier confirms every line: then nothing else has to be called. If he doesn't, stir_judge tells
- * by those that he does confirm.
+ * Opens a world. STIR_DONE: it is in `out`. A bad input is one of STIR_SETTINGS, STIR_ANCHORS and STIR_TABLE, looked at in this order.
  *
- * past           how many seconds the moment may be after the iat of a PASSporT, and
- * future         how many the iat may be after the moment; at most 86,400 each
- * country        the digits of the own country, 1 to 3, and
- * national       how many digits a number in it has, 1 to 14, and with those of the country 15 at most
- * moment         when the call came, in Unix seconds
- * message        the INVITE; one of more than 65,535 bytes breaks rule 1
- * listed         lines `X5U FILE` of a chain map (docs/FORMATS.md). FILE is a digit: 1 for the first of the chains, 9 for the ninth
- * chains, sizes  the chains one after another, each certificate in DER from the leaf's on; the bytes of each, and how many chains there are. A
- *                chain of more than 49,152 bytes breaks rule 11. The last size may reach past the end; bytes after the sizes aren't looked at
- * anchors        the trust anchors one after another, in DER; those whose subject stands in the chains are enough, in their order
- * table          lines of a code table (docs/FORMATS.md); those on the codes in the chains and in the trust anchors are enough (an anchor with codes
- *                is an issuer whose numbers a certificate below it can't go beyond: rule 14)
- * room           where the lines go; 20,979 bytes are always enough: at most nine chains of six certificates and nine PASSporTs are asked for, 63 lines
- *                of 333 bytes
+ * anchors  the trust anchors one after another, each in DER; of two that fit a chain the first counts
+ * table    the lines of a code table (docs/FORMATS.md)
  */
-stir_said stir_ask(uint64_t past, uint64_t future, const uint8_t *country, size_t country_size, uint8_t national, uint64_t moment,
-                   const uint8_t *message, size_t message_size, const uint8_t *listed, size_t listed_size,
-                   const uint8_t *chains, size_t chains_size, const size_t *sizes, size_t sizes_count,
-                   const uint8_t *anchors, size_t anchors_size, const uint8_t *table, size_t table_size,
-                   uint8_t *room, size_t room_size);
+stir_said stir_world_open(const stir_settings *settings, const uint8_t *anchors, size_t anchors_size, const uint8_t *table, size_t table_size,
+                          stir_world *out);
+
+/* Another handle of the same world, for another thread: in `out`. */
+stir_said stir_world_share(stir_world *world, stir_world *out);
+
+/* Closes this handle. The last one that goes, those of its chains and calls counted, frees the world. */
+void stir_world_close(stir_world *world);
+
+/* ---- A chain: the certificates to which an x5u leads ---- */
+
+typedef struct stir_chain {
+    bool full;
+    void *at;
+} stir_chain;
 
 /*
- * Judges a call by rules 1 to 17 and 19. The inputs are those of stir_ask; `answers` has the lines of it that the verifier confirmed. STIR_PASSES with a
- * ticket and its last second, or STIR_REFUSED with the first rule that is broken.
+ * Opens a chain under a world: its certificates one after another, each in DER, the leaf first. STIR_DONE: it is in `out`, judged by rules 11, 12 and 14,
+ * and none of its signatures counts as good. Any bytes are taken: those that are no chain, or more than 49,152, break rule 11 in each call.
  */
-stir_said stir_judge(uint64_t past, uint64_t future, const uint8_t *country, size_t country_size, uint8_t national, uint64_t moment,
-                     const uint8_t *message, size_t message_size, const uint8_t *listed, size_t listed_size,
-                     const uint8_t *chains, size_t chains_size, const size_t *sizes, size_t sizes_count,
-                     const uint8_t *anchors, size_t anchors_size, const uint8_t *table, size_t table_size,
-                     const uint8_t *answers, size_t answers_size);
+stir_said stir_chain_open(stir_world *world, const uint8_t *chain, size_t chain_size, stir_chain *out);
 
 /*
- * Explains a call. The inputs are those of stir_judge, and so is what is said. Into `room` come the lines of the command `explain` (docs/FORMATS.md),
- * as of the call of this number: `NUMBER RULE ok` for each rule from 1 on that the call meets, and `NUMBER RULE CODE PLACE` for the first that it
- * breaks. Both STIR_PASSES and STIR_REFUSED have lines, of `size` bytes.
+ * Asks for the signatures of the chain's certificates. Into `room` come its questions, at most six, from the leaf's on; none if the chain breaks one of
+ * rules 11, 12 and 14. They are the same before and after stir_chain_confirm.
  */
-stir_said stir_explain(uint64_t past, uint64_t future, const uint8_t *country, size_t country_size, uint8_t national, uint64_t moment,
-                       const uint8_t *message, size_t message_size, const uint8_t *listed, size_t listed_size,
-                       const uint8_t *chains, size_t chains_size, const size_t *sizes, size_t sizes_count,
-                       const uint8_t *anchors, size_t anchors_size, const uint8_t *table, size_t table_size,
-                       const uint8_t *answers, size_t answers_size, uint32_t number, uint8_t *room, size_t room_size);
+stir_said stir_chain_questions(stir_chain *chain, uint8_t *room, size_t room_size);
 
 /*
- * Lists the chains for which a call asks. Into `room` come the x5us of its PASSporTs, at most nine, in the order in which the call went, each with an
- * LF; one may come twice. The inputs are those of stir_ask. STIR_PASSES says here that none of rules 1 to 9 is broken, and has the ticket and its last
- * second: the other rules aren't tried. STIR_REFUSED says which of rules 1 to 9 is broken; then nothing is written.
+ * Says which of the chain's questions have good signatures: a byte for each. From now on this handle, and what is shared from it, is the chain with these
+ * and no others confirmed (rule 15); what was shared before stays what it was.
  */
-stir_said stir_x5u(uint64_t past, uint64_t future, const uint8_t *country, size_t country_size, uint8_t national, uint64_t moment,
-                   const uint8_t *message, size_t message_size, uint8_t *room, size_t room_size);
+stir_said stir_chain_confirm(stir_chain *chain, const uint8_t *good, size_t good_size);
+
+/* The parts of a certificate that stir_chain_part writes. */
+enum {
+    STIR_SERIAL = 1,     /* the content of its serial number, as it stands in DER (RFC 5280, section 4.1.2.2) */
+    STIR_SUBJECT = 2,    /* its subject, a whole element in DER (section 4.1.2.6) */
+    STIR_ISSUER = 3,     /* its issuer, likewise (section 4.1.2.4) */
+    STIR_CODES = 4,      /* the service provider codes of its authority list (RFC 8226, section 9), each with an LF */
+    STIR_DIGEST = 5,     /* the SHA-256 of its signed part */
+    STIR_NOT_BEFORE = 6, /* the first and */
+    STIR_NOT_AFTER = 7,  /* the last second at which it is valid, in Unix time, in decimal digits, with a hyphen before them if it is before 1970 */
+    STIR_REVOCATION = 8  /* the URIs of its CRL distribution points (RFC 5280, section 4.2.1.13), each with an LF */
+};
+
+/*
+ * Writes a part of a certificate of the chain into `room`, for whoever asks for revocation or shows it. The leaf is number 1. STIR_NONE: there is no
+ * certificate of this number, no such part, or the certificate hasn't got it; or the bytes of the chain aren't one of the profile.
+ */
+stir_said stir_chain_part(stir_chain *chain, uint32_t number, uint32_t part, uint8_t *room, size_t room_size);
+
+/* Another handle of the same chain, as it is confirmed now: in `out`. */
+stir_said stir_chain_share(stir_chain *chain, stir_chain *out);
+
+/* Closes this handle. The last one that goes, those in calls counted, frees the chain. */
+void stir_chain_close(stir_chain *chain);
+
+/* ---- A call ---- */
+
+typedef struct stir_call {
+    bool full;
+    void *at;
+} stir_call;
+
+/*
+ * Opens a call under a world: reads its message and tries rules 1 to 9. STIR_PASSES: it breaks none of them; `size` is how many PASSporTs are judged, at
+ * most nine, and the ticket and its last second are said. STIR_REFUSED: it breaks one, and no chain and no signature changes that. Either way the call
+ * is open, and in `out`; else `out` stays as it was.
+ *
+ * moment   when the call came, in Unix seconds
+ * message  the INVITE; one of more than 65,535 bytes breaks rule 1
+ */
+stir_said stir_call_open(stir_world *world, uint64_t moment, const uint8_t *message, size_t message_size, stir_call *out);
+
+/*
+ * Writes the x5u of a PASSporT into `room`. The PASSporTs that are judged are counted from 0, in the order in which the call went: the originating one is
+ * the first. Two may have one x5u. STIR_NONE: there is none of this index.
+ */
+stir_said stir_call_x5u(stir_call *call, uint32_t index, uint8_t *room, size_t room_size);
+
+/*
+ * Hands in the chain to which the x5u of a PASSporT leads: a share of it, as it is confirmed now, stands in the call until it is closed. A closed handle
+ * takes it away again; a PASSporT without a chain breaks rule 10. STIR_NONE: there is none of this index. STIR_CLOSED: the call is closed.
+ */
+stir_said stir_call_chain(stir_call *call, uint32_t index, stir_chain *chain);
 
 /*
  * Says what the PASSporTs of a call say, for a host that shows it or routes by it. Into `room` comes a line for each PASSporT that is judged, at most
@@ -142,19 +252,49 @@ stir_said stir_x5u(uint64_t past, uint64_t future, const uint8_t *country, size_
  * form (RFC 8225, section 7) they are those that the message gave. No LF stands in it; the line ends with one. A payload has no such form if a number
  * in it has a point or an exponent, is -0, or an integer past 64 bits: then PAYLOAD is a hyphen.
  *
- * The inputs are those of stir_ask, with its units and limits. STIR_PASSES says here, as of stir_x5u, that none of rules 1 to 9 is broken, and has
- * the ticket and its last second; STIR_REFUSED says which of them is broken, and then nothing is written. Rules 10 to 17 and 19 aren't tried and no
- * signature is: what is written was claimed by whoever sent the call, and is worth what stir_ask or stir_judge says of it. STIR_SETTINGS is the only
- * bad input. STIR_NO_ROOM: `size` is how many bytes the lines have.
+ * What is said is what stir_call_open said, but `size`; if that was STIR_REFUSED nothing is written. What is written was claimed by whoever sent the call,
+ * and is worth what stir_call_judge says of it.
  */
-stir_said stir_claims(uint64_t past, uint64_t future, const uint8_t *country, size_t country_size, uint8_t national, uint64_t moment,
-                      const uint8_t *message, size_t message_size, uint8_t *room, size_t room_size);
+stir_said stir_call_claims(stir_call *call, uint8_t *room, size_t room_size);
+
+/*
+ * Asks for the PASSporTs' own signatures. Into `room` come their questions, at most nine, in the order in which the call went, each under its leaf's key;
+ * none if an earlier rule is broken, by the chains that were handed in and by what of them is confirmed. What is said (STIR_PASSES or STIR_REFUSED) is
+ * what comes of the call if all of them are good.
+ */
+stir_said stir_call_questions(stir_call *call, uint8_t *room, size_t room_size);
+
+/*
+ * Judges the call by rules 1 to 17 and 19, over the chains that were handed in. `good` has a byte for each question of stir_call_questions. STIR_PASSES
+ * with a ticket and its last second, or STIR_REFUSED with the first rule that is broken.
+ */
+stir_said stir_call_judge(stir_call *call, const uint8_t *good, size_t good_size);
+
+/*
+ * Explains the call. `good` is that of stir_call_judge, and what is said too, but `size`. Into `room` come the lines of the command `explain`
+ * (docs/FORMATS.md), as of the call of this number: `NUMBER RULE ok` for each rule from 1 on that the call meets, and `NUMBER RULE CODE PLACE` for the
+ * first that it breaks.
+ */
+stir_said stir_call_explain(stir_call *call, uint32_t number, const uint8_t *good, size_t good_size, uint8_t *room, size_t room_size);
+
+/*
+ * Writes the questions of the call into `room` as lines of an answers file (docs/FORMATS.md), `confirm KEY DIGEST SIGNATURE` in hex digits with an LF: those
+ * of the chains that were handed in, in the order of the PASSporTs, and then those of stir_call_questions. A line may come twice.
+ */
+stir_said stir_call_lines(stir_call *call, uint8_t *room, size_t room_size);
+
+/* Closes this handle, and gives back what the call holds of its world and its chains. */
+void stir_call_close(stir_call *call);
+
+/* ---- What certificates say ---- */
 
 /*
  * Shows what certificates say. Into `room` come the lines of the command `show` (docs/FORMATS.md) for a chain: at most six certificates one after
- * another, in DER. STIR_PASSES, or STIR_CERTIFICATE if the bytes are no such chain. Nothing is judged.
+ * another, in DER. STIR_DONE, or STIR_CERTIFICATE if the bytes are no such chain. Nothing is judged.
  */
 stir_said stir_show(const uint8_t *chain, size_t chain_size, uint8_t *room, size_t room_size);
+
+/* ---- Messages signed ---- */
 
 /* In which form a message is signed. */
 enum {
@@ -165,7 +305,14 @@ enum {
     STIR_SHAKEN_C = 'C'
 };
 
-/* Why nothing may be signed: `rule`, if stir_to_sign or stir_signed says STIR_REFUSED. They are looked at in this order. */
+/* What is to be signed. */
+typedef struct stir_order {
+    uint64_t iat;       /* when it is signed, in Unix seconds */
+    uint8_t form;       /* one of the five above */
+    uint8_t origid[36]; /* the identifier of the call, a UUID in 36 characters, if the form is `shaken`; else it isn't looked at */
+} stir_order;
+
+/* Why nothing may be signed: `rule`, if a function below says STIR_REFUSED. They are looked at in this order. */
 enum stir_withheld {
     STIR_FORM = 1,      /* the message is no INVITE, has another Date than a compact PASSporT, or would have more than 65,535 bytes */
     STIR_NO_NUMBER = 2, /* it has no calling number, or To has none */
@@ -176,34 +323,56 @@ enum stir_withheld {
 /*
  * Tells what is to be signed so that a message gets an Identity field with the PASSporT of its calling number and that of To (RFC 8224, section
  * 4.1). STIR_PASSES: `ticket` is the digest to be signed by ES256 (RFC 7518, section 3.4). STIR_REFUSED: nothing may be signed. A bad input is one of
- * STIR_SETTINGS, STIR_CERTIFICATE, STIR_TABLE and STIR_ORDER, looked at in this order.
+ * STIR_CERTIFICATE and STIR_ORDER, looked at in this order.
  *
- * country, national  as of stir_ask
- * iat                when it is signed, in Unix seconds
- * form               one of the five above
- * origid             the identifier of the call, a UUID in 36 characters, if the form is `shaken`; else it isn't looked at
- * x5u                the URI of the certificates of the key
- * message            the INVITE
- * certificate        the certificate of the key, in DER; what it may vouch for by rule 17 is signed, and nothing else
- * table              lines of a code table (docs/FORMATS.md); those on the codes in the certificate are enough
+ * key      the chain whose first certificate is that of the key; what it may vouch for by rule 17 is signed, and nothing else. Whether the chain is trusted
+ *          and whether it is valid at `iat` isn't looked at
+ * x5u      the URI of the chain
+ * message  the INVITE
  */
-stir_said stir_to_sign(const uint8_t *country, size_t country_size, uint8_t national, uint64_t iat, uint8_t form,
-                       const uint8_t *origid, size_t origid_size, const uint8_t *x5u, size_t x5u_size,
-                       const uint8_t *message, size_t message_size, const uint8_t *certificate, size_t certificate_size,
-                       const uint8_t *table, size_t table_size);
+stir_said stir_to_sign(stir_chain *key, const stir_order *order, const uint8_t *x5u, size_t x5u_size, const uint8_t *message, size_t message_size);
 
 /*
  * Writes the message with the signed field in the last line of its head. The inputs are those of stir_to_sign, and have to be the same; `signature`
  * has r and s, 32 bytes each, over the digest that it said. That the signature is good isn't looked at. STIR_SIGNATURE is looked at first.
  */
-stir_said stir_signed(const uint8_t *country, size_t country_size, uint8_t national, uint64_t iat, uint8_t form,
-                      const uint8_t *origid, size_t origid_size, const uint8_t *x5u, size_t x5u_size,
-                      const uint8_t *message, size_t message_size, const uint8_t *certificate, size_t certificate_size,
-                      const uint8_t *table, size_t table_size, const uint8_t *signature, size_t signature_size,
-                      uint8_t *room, size_t room_size);
+stir_said stir_signed(stir_chain *key, const stir_order *order, const uint8_t *x5u, size_t x5u_size, const uint8_t *message, size_t message_size,
+                      const uint8_t *signature, size_t signature_size, uint8_t *room, size_t room_size);
+
+/*
+ * Tells what is to be signed so that a message tells of its diversion (RFC 8946, section 4.1): an Identity field with a PASSporT of the type `div`, from
+ * the number that was called before to that of the request URI. All is as of stir_to_sign, with the request URI in the place of To.
+ *
+ * iat      when it is signed, in Unix seconds
+ * earlier  the number that was called before, 1 to 15 bytes of 0-9 * #; the certificate has to cover it
+ */
+stir_said stir_to_divert(stir_chain *key, uint64_t iat, const uint8_t *earlier, size_t earlier_size, const uint8_t *x5u, size_t x5u_size,
+                         const uint8_t *message, size_t message_size);
+
+/* Writes the message with that field. All is as of stir_signed. */
+stir_said stir_diverted(stir_chain *key, uint64_t iat, const uint8_t *earlier, size_t earlier_size, const uint8_t *x5u, size_t x5u_size,
+                        const uint8_t *message, size_t message_size, const uint8_t *signature, size_t signature_size, uint8_t *room, size_t room_size);
 
 #ifdef __cplusplus
 }
 #endif
+
+/* The forms in memory, as the library has them on the machines for which it is made: x86-64, with the calling convention of System V. */
+#if defined(__cplusplus) && __cplusplus >= 201103L
+#define STIR_HOLDS(what) static_assert(what, #what)
+#elif defined(__STDC_VERSION__) && __STDC_VERSION__ >= 201112L
+#define STIR_HOLDS(what) _Static_assert(what, #what)
+#else
+#define STIR_HOLDS(what) extern int stir_holds[(what) ? 1 : -1]
+#endif
+STIR_HOLDS(sizeof(stir_world) == 16 && offsetof(stir_world, full) == 0 && offsetof(stir_world, at) == 8);
+STIR_HOLDS(sizeof(stir_chain) == 16 && offsetof(stir_chain, full) == 0 && offsetof(stir_chain, at) == 8);
+STIR_HOLDS(sizeof(stir_call) == 16 && offsetof(stir_call, full) == 0 && offsetof(stir_call, at) == 8);
+STIR_HOLDS(sizeof(stir_settings) == 24 && offsetof(stir_settings, future) == 8 && offsetof(stir_settings, country) == 16);
+STIR_HOLDS(offsetof(stir_settings, country_size) == 19 && offsetof(stir_settings, national) == 20);
+STIR_HOLDS(sizeof(stir_said) == 72 && offsetof(stir_said, part) == 20 && offsetof(stir_said, last) == 24);
+STIR_HOLDS(offsetof(stir_said, size) == 32 && offsetof(stir_said, ticket) == 40);
+STIR_HOLDS(sizeof(stir_order) == 48 && offsetof(stir_order, form) == 8 && offsetof(stir_order, origid) == 9);
+#undef STIR_HOLDS
 
 #endif

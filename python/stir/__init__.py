@@ -4,7 +4,7 @@
 
     world = stir.World.read("chains.txt", "anchors.der", "table.txt")
     call = stir.Call(moment=1443208345, message=invite)
-    print(stir.verify(call, world.materials(call), stir.confirm))
+    print(stir.verify(call, world, stir.confirm))
 
 `verify` asks what signatures a call stands on, has each confirmed, and gives the verdict: `Passes` or `Refused`. `ask` and `judge` are the two
 halves. `explain` says which rules hold, `claims` what the PASSporTs say, `sign` writes a message with an Identity field, and `show` tells what
@@ -14,10 +14,11 @@ What the library says is proved (docs/PROVED.md). What this package hands it, th
 number of threads may call at once; a thread needs a stack of 256 kilobytes and what Python takes.
 """
 from .answers import Answers
-from .calls import Asked, Call, Materials, Passes, Refused, Settings, Verdict, ask, judge, verify
+from .calls import Asked, Call, Passes, Refused, Verdict, ask, judge, verify
 from .errors import BadFile, BadInput, Input, LibraryError, OutOfMemory, StirError
 from .es256 import Question, confirm
 from .explaining import Explained, claims, explain, x5us
+from .settings import Settings
 from .showing import Authority, Certificate, show
 from .signing import Form, Order, Why, Withheld, sign, signed, signer_by, to_sign
 from .world import World
@@ -34,7 +35,6 @@ __all__ = [
     "Form",
     "Input",
     "LibraryError",
-    "Materials",
     "Order",
     "OutOfMemory",
     "Passes",

@@ -1,15 +1,19 @@
 """An answers file as a verifier of signatures: what was confirmed beforehand, as by tools/stir-confirm."""
 import hashlib
 import os
+import re
 from pathlib import Path
-from typing import FrozenSet, Union
+from typing import FrozenSet, Set, Tuple, Union
 
-from . import checks, library, texts
-from .calls import Settings
-from .errors import BadFile, BadInput
+from . import checks
+from .errors import BadFile, BadInput, Input
 from .es256 import Question
 
-CONFIRM = b"confirm "
+MOST_BYTES = 67_108_864
+
+HEX = rb"([0-9A-Fa-f]{%d})"
+CONFIRM = re.compile(rb"confirm (04[0-9A-Fa-f]{128}) " + HEX % 64 + b" " + HEX % 128)
+SIGN = re.compile(rb"sign ([!#-+\--:=?-\[\]-~]{1,64}) " + HEX % 64 + b" " + HEX % 128)
 
 
 class Answers:
@@ -22,11 +26,7 @@ class Answers:
     @classmethod
     def of(cls, text: bytes) -> "Answers":
         """The answers of a text. Raises BadInput if it is outside its grammar (docs/FORMATS.md, "Answers file")."""
-        setting = Settings().setting()
-        library.judge(setting, 0, b"", library.Texts(b"", (), b"", b""), checks.octets("text", text))
-        lines = (line for line in texts.lines(text) if line.startswith(CONFIRM))
-        confirmed = frozenset(bytes.fromhex(line[len(CONFIRM) :].replace(b" ", b"").decode()) for line in lines)
-        return cls(confirmed, hashlib.sha256(text).digest())
+        return cls(confirmed_by(checks.octets("text", text)), hashlib.sha256(text).digest())
 
     @classmethod
     def read(cls, file: Union[str, "os.PathLike[str]"]) -> "Answers":
@@ -37,4 +37,25 @@ class Answers:
             raise BadFile(f"{os.fspath(file)}: {error}") from error
 
     def __call__(self, question: Question) -> bool:
-        return question.key + question.digest + question.signature in self.confirmed
+        return question.octets() in self.confirmed
+
+
+def confirmed_by(text: bytes) -> FrozenSet[bytes]:
+    """The questions that the lines of a text confirm, in bytes."""
+    if len(text) > MOST_BYTES:
+        raise BadInput(Input.ANSWERS)
+    confirmed: Set[bytes] = set()
+    signed: Set[Tuple[bytes, bytes]] = set()
+    *lines, last = text.split(b"\n")
+    # The last line may lack its LF, and a CR that it ends with is then its own.
+    for line in [line.removesuffix(b"\r") for line in lines] + [last]:
+        if not line or line.startswith(b";"):
+            continue
+        confirm, sign = CONFIRM.fullmatch(line), SIGN.fullmatch(line)
+        if confirm:
+            confirmed.add(bytes.fromhex(b"".join(confirm.groups()).decode()))
+        elif sign and (sign[1], sign[2].lower()) not in signed:
+            signed.add((sign[1], sign[2].lower()))
+        else:
+            raise BadInput(Input.ANSWERS)
+    return frozenset(confirmed)

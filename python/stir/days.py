@@ -8,7 +8,7 @@ depends on its arguments alone.
 from dataclasses import dataclass
 from typing import Callable, Dict, Iterable, List, Mapping, Tuple
 
-from .calls import Passes, Refused, Settings, Verdict, verify
+from .calls import Passes, Refused, Verdict, verify
 from .es256 import Question
 from .logs import Part, calls_of
 from .world import World
@@ -36,9 +36,9 @@ class Report:
     all_valid: bool
 
 
-def judge_part(part: Part, world: World, confirm: Callable[[Question], bool], settings: Settings = Settings()) -> Judged:
+def judge_part(part: Part, world: World, confirm: Callable[[Question], bool]) -> Judged:
     """Judges each call of a part by itself. Raises OSError, BadFile and OutOfMemory."""
-    verdicts = (verify(call, world.materials(call, settings), confirm, settings) for call in calls_of(part))
+    verdicts = (verify(call, world, confirm) for call in calls_of(part))
     return Judged(part.first, tuple(verdicts))
 
 

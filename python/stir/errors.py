@@ -11,11 +11,9 @@ class LibraryError(StirError, ImportError):
 
 
 class Input(enum.IntEnum):
-    """Which input the library doesn't take. To judge it looks at them in this order."""
+    """Which input isn't taken. The library looks at them in this order."""
 
     SETTINGS = 1
-    LISTED = 2
-    CHAINS = 3
     ANCHORS = 4
     TABLE = 5
     ANSWERS = 6
@@ -26,8 +24,6 @@ class Input(enum.IntEnum):
 
 WHY = {
     Input.SETTINGS: "past or future is more than 86,400 seconds, or there is no such local numbering",
-    Input.LISTED: "the lines are no chain map, or more than 16,777,216 bytes",
-    Input.CHAINS: "there are more than nine chains",
     Input.ANCHORS: "the trust anchors aren't certificates of authorities one after another, or more than 256",
     Input.TABLE: "the lines are no code table, or more than 16,777,216 bytes",
     Input.ANSWERS: "the lines are no answers file, or more than 67,108,864 bytes",

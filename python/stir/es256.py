@@ -2,7 +2,7 @@
 import functools
 import re
 from dataclasses import dataclass
-from typing import Optional
+from typing import Iterator, Optional
 
 from cryptography.exceptions import InvalidSignature
 from cryptography.hazmat.primitives import hashes
@@ -11,6 +11,9 @@ from cryptography.hazmat.primitives.asymmetric import ec, utils
 from . import checks
 
 LINE = re.compile(rb"confirm ([0-9A-Fa-f]{130}) ([0-9A-Fa-f]{64}) ([0-9A-Fa-f]{128})")
+
+# The bytes of a question.
+SIZE = 161
 
 # The first byte of an uncompressed point (SEC 1, section 2.3.3).
 UNCOMPRESSED = b"\4"
@@ -36,12 +39,22 @@ class Question:
             raise ValueError(f"key must begin with the byte 4, as an uncompressed point does, and begins with {self.key[0]}")
 
     @classmethod
+    def each(cls, octets: bytes) -> Iterator["Question"]:
+        """The questions of these bytes, one after another: each has a key, a digest and a signature."""
+        for at in range(0, len(octets), SIZE):
+            yield cls(octets[at : at + 65], octets[at + 65 : at + 97], octets[at + 97 : at + SIZE])
+
+    @classmethod
     def of(cls, line: bytes) -> "Question":
         """The question of a line `confirm KEY DIGEST SIGNATURE`, without its LF. Any other line is a ValueError."""
         found = LINE.fullmatch(line)
         if not found:
             raise ValueError(f"no line `confirm KEY DIGEST SIGNATURE`: {line!r}")
         return cls(*(bytes.fromhex(word.decode()) for word in found.groups()))
+
+    def octets(self) -> bytes:
+        """All of it: 161 bytes."""
+        return self.key + self.digest + self.signature
 
     def line(self) -> bytes:
         """The line of it in an answers file, with its LF."""

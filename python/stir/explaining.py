@@ -1,11 +1,14 @@
 """Which rules a call meets, of which certificates it asks, and what its PASSporTs say."""
+import functools
 import json
 from dataclasses import dataclass
 from typing import Any, Dict, Iterable, List, Optional, Tuple
 
-from . import library
-from .calls import Call, Materials, Settings, Verdict, answers_of, given, given_call, verdict_of
+from . import checks, library
+from .calls import Call, Verdict, chosen, opened, verdict_of
 from .es256 import Question
+from .settings import Settings
+from .world import World
 
 
 @dataclass(frozen=True)
@@ -16,21 +19,31 @@ class Explained:
     verdict: Verdict
 
 
-def explain(call: Call, by: Materials, confirmed: Iterable[Question], settings: Settings = Settings()) -> Explained:
-    """Which rules a call meets by itself, if these of its questions were confirmed and no others. Replay isn't among them.
-
-    Raises BadInput if anchors or table are outside their grammars, and OutOfMemory.
-    """
-    said, lines = library.explain(*given(call, by, settings), answers_of(confirmed), 1)
+def explain(call: Call, by: World, confirmed: Iterable[Question]) -> Explained:
+    """Which rules a call meets by itself, if these of its questions were confirmed and no others. Replay isn't among them. Raises OutOfMemory."""
+    confirm = chosen(confirmed)
+    found = opened(call, by, confirm)
+    said, lines = found.explain(1, bytes(map(confirm, Question.each(found.questions()[1]))))
     words = [line.split() for line in lines.decode().splitlines()]
     return Explained(tuple(int(rule) for _, rule, *rest in words if rest == ["ok"]), verdict_of(said))
+
+
+@functools.lru_cache(maxsize=16)
+def world_of(settings: Settings) -> library.World:
+    """A world for what no chain, anchor or table is asked for."""
+    return library.World(settings.setting(), b"", b"")
+
+
+def given(call: Call, settings: Settings) -> library.Call:
+    """A call as it is read by rules 1 to 9."""
+    checks.instance("call", call, Call)
+    return library.Call(world_of(checks.instance("settings", settings, Settings)), call.moment, call.message)
 
 
 def x5us(call: Call, settings: Settings = Settings()) -> Tuple[str, ...]:
     """The x5us of the PASSporTs that are judged, at most nine, in the order in which the call went; one may come twice. None if the call breaks one of
     rules 1 to 9: then no certificates are looked at. Raises OutOfMemory."""
-    _, lines = library.x5u(*given_call(call, settings))
-    return tuple(lines.decode("ascii").splitlines())
+    return tuple(x5u.decode("ascii") for x5u in given(call, settings).x5us())
 
 
 def claims(call: Call, settings: Settings = Settings()) -> List[Dict[str, Any]]:
@@ -38,8 +51,7 @@ def claims(call: Call, settings: Settings = Settings()) -> List[Dict[str, Any]]:
     Identity header field, counted from 1, and `payload` the claims that were signed (RFC 8225, section 5), or None if a number in them is no integer of
     64 bits. Empty if the call breaks one of rules 1 to 9. No certificate and no signature is looked at: what is said is worth what `verify` says of the
     call. Raises OutOfMemory."""
-    _, lines = library.claims(*given_call(call, settings))
-    return [said_by(line) for line in lines.decode().split("\n")[:-1]]
+    return [said_by(line) for line in given(call, settings).claims().decode().split("\n")[:-1]]
 
 
 def said_by(line: str) -> Dict[str, Any]:

@@ -8,10 +8,10 @@ from typing import Callable, Optional, Tuple
 
 from . import days
 from .answers import Answers
-from .calls import Settings
 from .errors import BadFile
 from .es256 import Question, confirm
 from .logs import Name, Part
+from .settings import Settings
 from .world import World
 
 
@@ -39,7 +39,7 @@ class Job:
 
 def read(job: Job) -> Tuple[World, Callable[[Question], bool], bytes]:
     """What the calls of a job are judged by, the verifier of signatures, and the digest of both."""
-    world = World.read(job.chains, job.anchors, job.table, job.folder)
+    world = World.read(job.chains, job.anchors, job.table, job.folder, job.settings)
     if not job.answers:
         return world, confirm, world.digest
     answers = Answers.read(job.answers)
@@ -57,4 +57,4 @@ def held(job: Job) -> Tuple[World, Callable[[Question], bool]]:
 
 def judge(job: Job, part: Part) -> days.Judged:
     """Judges a part of a log, on whatever machine. Raises OSError, BadFile and OutOfMemory."""
-    return days.judge_part(part, *held(job), job.settings)
+    return days.judge_part(part, *held(job))

@@ -1,21 +1,28 @@
 """The proved library through ctypes: include/stir.h in Python. Nothing else in the package calls C.
 
 ctypes lets other threads run while a call is inside. Each call hands in bytes, which nobody can change, with their own lengths, and takes a room
-that nobody else knows; the library keeps nothing.
+that nobody else knows. A handle is in one call at a time: a world lends shares of itself, and a chain is handed on under its lock.
 """
+import contextlib
 import ctypes
 import enum
 import pathlib
-from typing import NamedTuple, Sequence, Tuple
+import threading
+from typing import Callable, Iterator, List, Tuple
 
 from .errors import BadInput, Input, LibraryError, OutOfMemory
 
-ABI = 1
+ABI = 2
 
-MOST_CHAINS = 9
-
-# What the lines of one call mostly need. A call that needs more is made once more.
+# What a call mostly writes. One that writes more is made once more.
 ROOM = 4096
+
+# A question has a key of 65 bytes, a digest of 32 and a signature of 64; a call has nine at most, and a chain six.
+QUESTION = 161
+MOST_QUESTIONS = 9
+
+# How many shares of a world that serve no call just now are kept for those to come.
+MOST_FREE = 64
 
 FILE = pathlib.Path(__file__).with_name("libstir.so")
 
@@ -28,6 +35,8 @@ class Kind(enum.IntEnum):
     BAD_INPUT = 2
     NO_MEMORY = 3
     NO_ROOM = 4
+    CLOSED = 5
+    NONE = 6
 
 
 class Said(ctypes.Structure):
@@ -46,28 +55,75 @@ class Said(ctypes.Structure):
     ]
 
 
+class Setting(ctypes.Structure):
+    """C's stir_settings."""
+
+    _fields_ = [
+        ("past", ctypes.c_uint64),
+        ("future", ctypes.c_uint64),
+        ("country", ctypes.c_char * 3),
+        ("country_size", ctypes.c_uint8),
+        ("national", ctypes.c_uint8),
+    ]
+
+
+class Order(ctypes.Structure):
+    """C's stir_order."""
+
+    _fields_ = [("iat", ctypes.c_uint64), ("form", ctypes.c_uint8), ("origid", ctypes.c_char * 36)]
+
+
+class Handle(ctypes.Structure):
+    """C's stir_world, stir_chain and stir_call: new ones are closed."""
+
+    _fields_ = [("full", ctypes.c_bool), ("at", ctypes.c_void_p)]
+
+    def __del__(self, byref: Callable[..., object] = ctypes.byref) -> None:
+        if self.full:
+            self.close(byref(self))
+
+    @staticmethod
+    def close(at: object) -> None:
+        """Closes the handle at this place."""
+
+
+class WorldHandle(Handle):
+    """A handle of a world."""
+
+
+class ChainHandle(Handle):
+    """A handle of a chain."""
+
+
+class CallHandle(Handle):
+    """A handle of a call."""
+
+
 TEXT = (ctypes.c_char_p, ctypes.c_size_t)
 ROOM_WORDS = (ctypes.c_void_p, ctypes.c_size_t)
-SIZES = ctypes.c_size_t * MOST_CHAINS
-
-# Bounds and local numbering; the moment and the message; the chain map, the chains with their sizes, the anchors and the table.
-SETTING = (ctypes.c_uint64, ctypes.c_uint64, *TEXT, ctypes.c_uint8)
-CALL = (*SETTING, ctypes.c_uint64, *TEXT)
-JUDGED = (*CALL, *TEXT, *TEXT, SIZES, ctypes.c_size_t, *TEXT, *TEXT)
-
-# Local numbering, the second and the form; the identifier, the x5u, the message, the certificate and the table.
-TO_SIGN = (*TEXT, ctypes.c_uint8, ctypes.c_uint64, ctypes.c_uint8, *TEXT, *TEXT, *TEXT, *TEXT, *TEXT)
+WORLD, CHAIN, CALL = (ctypes.POINTER(handle) for handle in (WorldHandle, ChainHandle, CallHandle))
+TO_SIGN = (CHAIN, ctypes.POINTER(Order), *TEXT, *TEXT)
 
 DECLARED = {
-    "stir_ask": (*JUDGED, *ROOM_WORDS),
-    "stir_judge": (*JUDGED, *TEXT),
-    "stir_explain": (*JUDGED, *TEXT, ctypes.c_uint32, *ROOM_WORDS),
-    "stir_x5u": (*CALL, *ROOM_WORDS),
-    "stir_claims": (*CALL, *ROOM_WORDS),
+    "stir_world_open": (ctypes.POINTER(Setting), *TEXT, *TEXT, WORLD),
+    "stir_world_share": (WORLD, WORLD),
+    "stir_chain_open": (WORLD, *TEXT, CHAIN),
+    "stir_chain_questions": (CHAIN, *ROOM_WORDS),
+    "stir_chain_confirm": (CHAIN, *TEXT),
+    "stir_chain_share": (CHAIN, CHAIN),
+    "stir_call_open": (WORLD, ctypes.c_uint64, *TEXT, CALL),
+    "stir_call_x5u": (CALL, ctypes.c_uint32, *ROOM_WORDS),
+    "stir_call_chain": (CALL, ctypes.c_uint32, CHAIN),
+    "stir_call_claims": (CALL, *ROOM_WORDS),
+    "stir_call_questions": (CALL, *ROOM_WORDS),
+    "stir_call_judge": (CALL, *TEXT),
+    "stir_call_explain": (CALL, ctypes.c_uint32, *TEXT, *ROOM_WORDS),
     "stir_show": (*TEXT, *ROOM_WORDS),
     "stir_to_sign": TO_SIGN,
     "stir_signed": (*TO_SIGN, *TEXT, *ROOM_WORDS),
 }
+
+CLOSE = {"stir_world_close": WorldHandle, "stir_chain_close": ChainHandle, "stir_call_close": CallHandle}
 
 
 def load(file: pathlib.Path) -> ctypes.CDLL:
@@ -83,6 +139,10 @@ def load(file: pathlib.Path) -> ctypes.CDLL:
         for name, words in DECLARED.items():
             function = getattr(loaded, name)
             function.restype, function.argtypes = Said, words
+        for name, handle in CLOSE.items():
+            function = getattr(loaded, name)
+            function.restype, function.argtypes = None, (ctypes.POINTER(handle),)
+            handle.close = staticmethod(function)
     except (OSError, AttributeError) as error:
         raise LibraryError(f"{file} isn't the library of this package: {error}") from None
     return loaded
@@ -91,102 +151,123 @@ def load(file: pathlib.Path) -> ctypes.CDLL:
 library = load(FILE)
 
 
-class Setting(NamedTuple):
-    """How calls are judged: two bounds in seconds, and the local numbering."""
-
-    past: int
-    future: int
-    country: bytes
-    national: int
-
-    def words(self) -> Tuple[object, ...]:
-        return (self.past, self.future, *text(self.country), self.national)
-
-
-class Texts(NamedTuple):
-    """What calls are judged by, as texts: the lines of a chain map, the chains that it names by a digit, the trust anchors, and the lines of a
-    code table."""
-
-    listed: bytes
-    chains: Sequence[bytes]
-    anchors: bytes
-    table: bytes
-
-    def words(self) -> Tuple[object, ...]:
-        if len(self.chains) > MOST_CHAINS:
-            raise BadInput(Input.CHAINS)
-        sizes = SIZES(*map(len, self.chains))
-        return (*text(self.listed), *text(b"".join(self.chains)), sizes, len(self.chains), *text(self.anchors), *text(self.table))
-
-
-class ToSign(NamedTuple):
-    """What is to be signed: the local numbering, the second, the form and five texts."""
-
-    country: bytes
-    national: int
-    iat: int
-    form: int
-    origid: bytes
-    x5u: bytes
-    message: bytes
-    certificate: bytes
-    table: bytes
-
-    def words(self) -> Tuple[object, ...]:
-        texts = (word for content in self[4:] for word in text(content))
-        return (*text(self.country), self.national, self.iat, self.form, *texts)
-
-
 def text(content: bytes) -> Tuple[bytes, int]:
     return content, len(content)
 
 
-def ask(setting: Setting, moment: int, message: bytes, texts: Texts) -> Tuple[Said, bytes]:
-    """What stir_ask says, and the lines that it writes."""
-    return written("stir_ask", *setting.words(), moment, *text(message), *texts.words())
+class World:
+    """An open world. Any number of threads may use it: each call is lent a handle of its own."""
+
+    def __init__(self, setting: Setting, anchors: bytes, table: bytes) -> None:
+        self.first = WorldHandle()
+        decided(library.stir_world_open(setting, *text(anchors), *text(table), self.first))
+        self.lock = threading.Lock()
+        self.free: List[WorldHandle] = []
+
+    @contextlib.contextmanager
+    def lent(self) -> Iterator[WorldHandle]:
+        """A handle that nobody else has meanwhile."""
+        handle = self.taken()
+        try:
+            yield handle
+        finally:
+            if len(self.free) < MOST_FREE:
+                self.free.append(handle)
+
+    def taken(self) -> WorldHandle:
+        try:
+            return self.free.pop()
+        except IndexError:
+            handle = WorldHandle()
+            with self.lock:
+                decided(library.stir_world_share(self.first, handle))
+            return handle
 
 
-def judge(setting: Setting, moment: int, message: bytes, texts: Texts, answers: bytes) -> Said:
-    """What stir_judge says."""
-    return decided(library.stir_judge(*setting.words(), moment, *text(message), *texts.words(), *text(answers)))
+class Chain:
+    """A chain that was opened under a world, as it is confirmed. It doesn't change; any number of threads may use it."""
+
+    def __init__(self, handle: ChainHandle) -> None:
+        self.handle = handle
+        self.lock = threading.Lock()
+
+    @classmethod
+    def of(cls, world: World, der: bytes) -> "Chain":
+        handle = ChainHandle()
+        with world.lent() as lent:
+            decided(library.stir_chain_open(lent, *text(der), handle))
+        return cls(handle)
+
+    def questions(self) -> bytes:
+        """What a verifier is asked for its certificates, in bytes."""
+        with self.lock:
+            return present("stir_chain_questions", self.handle)[1]
+
+    def confirmed(self, good: bytes) -> "Chain":
+        """The same with these of its questions confirmed: a byte for each, 0 if it wasn't."""
+        handle = ChainHandle()
+        with self.lock:
+            decided(library.stir_chain_share(self.handle, handle))
+        decided(library.stir_chain_confirm(handle, *text(good)))
+        return Chain(handle)
+
+    def to_sign(self, order: Order, x5u: bytes, message: bytes) -> Said:
+        """What stir_to_sign says."""
+        with self.lock:
+            return decided(library.stir_to_sign(self.handle, order, *text(x5u), *text(message)))
+
+    def signed(self, order: Order, x5u: bytes, message: bytes, signature: bytes) -> Tuple[Said, bytes]:
+        """What stir_signed says, and the message that it writes."""
+        with self.lock:
+            return present("stir_signed", self.handle, order, *text(x5u), *text(message), *text(signature))
 
 
-def explain(setting: Setting, moment: int, message: bytes, texts: Texts, answers: bytes, number: int) -> Tuple[Said, bytes]:
-    """What stir_explain says, and the lines that it writes."""
-    return written("stir_explain", *setting.words(), moment, *text(message), *texts.words(), *text(answers), number)
+class Call:
+    """An open call, which one thread uses. `said` is what comes of it by rules 1 to 9."""
+
+    def __init__(self, world: World, moment: int, message: bytes) -> None:
+        self.handle = CallHandle()
+        with world.lent() as lent:
+            self.said = decided(library.stir_call_open(lent, moment, *text(message), self.handle))
+
+    def x5us(self) -> List[bytes]:
+        """The x5us of its PASSporTs, in the order in which it went."""
+        return [present("stir_call_x5u", self.handle, index)[1] for index in range(self.said.size)]
+
+    def bring(self, index: int, chain: Chain) -> None:
+        """Hands in the chain of a PASSporT."""
+        with chain.lock:
+            decided(library.stir_call_chain(self.handle, index, chain.handle))
+
+    def claims(self) -> bytes:
+        """The lines that stir_call_claims writes."""
+        return present("stir_call_claims", self.handle)[1]
+
+    def questions(self) -> Tuple[Said, bytes]:
+        """What comes of it if all its own questions are good, and these, in bytes."""
+        return present("stir_call_questions", self.handle)
+
+    def judge(self, good: bytes) -> Said:
+        """What comes of it if these of its questions are good."""
+        return decided(library.stir_call_judge(self.handle, *text(good)))
+
+    def explain(self, number: int, good: bytes) -> Tuple[Said, bytes]:
+        """The same, and the lines that stir_call_explain writes."""
+        return present("stir_call_explain", self.handle, number, *text(good))
 
 
-def x5u(setting: Setting, moment: int, message: bytes) -> Tuple[Said, bytes]:
-    """What stir_x5u says, and the lines that it writes."""
-    return written("stir_x5u", *setting.words(), moment, *text(message))
+def show(chain: bytes) -> bytes:
+    """The lines that stir_show writes."""
+    return present("stir_show", *text(chain))[1]
 
 
-def claims(setting: Setting, moment: int, message: bytes) -> Tuple[Said, bytes]:
-    """What stir_claims says, and the lines that it writes."""
-    return written("stir_claims", *setting.words(), moment, *text(message))
-
-
-def show(chain: bytes) -> Tuple[Said, bytes]:
-    """What stir_show says, and the lines that it writes."""
-    return written("stir_show", *text(chain))
-
-
-def to_sign(order: ToSign) -> Said:
-    """What stir_to_sign says."""
-    return decided(library.stir_to_sign(*order.words()))
-
-
-def signed(order: ToSign, signature: bytes) -> Tuple[Said, bytes]:
-    """What stir_signed says, and the message that it writes."""
-    return written("stir_signed", *order.words(), *text(signature))
-
-
-def written(name: str, *words: object) -> Tuple[Said, bytes]:
-    """What this function says, and what it writes: with as much room as that needs."""
+def present(name: str, *words: object) -> Tuple[Said, bytes]:
+    """What this function says, and what it writes."""
+    function: Callable[..., Said] = getattr(library, name)
     size = ROOM
     while True:
         room = ctypes.create_string_buffer(size)
-        said = getattr(library, name)(*words, room, size)
+        said = function(*words, room, size)
         if said.kind != Kind.NO_ROOM:
             return decided(said), ctypes.string_at(room, said.size)
         size = said.size
@@ -194,8 +275,10 @@ def written(name: str, *words: object) -> Tuple[Said, bytes]:
 
 def decided(said: Said) -> Said:
     """What is said, if something is; else an error."""
+    if said.kind in (Kind.PASSES, Kind.REFUSED):
+        return said
     if said.kind == Kind.BAD_INPUT:
         raise BadInput(Input(said.input))
     if said.kind == Kind.NO_MEMORY:
         raise OutOfMemory("the library had no memory, and said nothing")
-    return said
+    raise LibraryError(f"the library said {said.kind}, which is none of its answers here")

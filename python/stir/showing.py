@@ -34,7 +34,7 @@ def show(chain: bytes) -> Tuple[Certificate, ...]:
 
     Raises BadInput if the bytes are no chain, and OutOfMemory.
     """
-    _, lines = library.show(checks.octets("chain", chain))
+    lines = library.show(checks.octets("chain", chain))
     certificates: List[List[List[str]]] = []
     for words in (line.split(" ") for line in lines.decode("ascii").splitlines()):
         if words[0] == "certificate":

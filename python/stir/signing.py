@@ -1,14 +1,16 @@
 """A message signed: what is to be signed, and the message with its Identity field. The private key stays with the caller."""
 import enum
+import functools
 from dataclasses import dataclass
-from typing import Callable
+from typing import Callable, Tuple
 
 from cryptography.hazmat.primitives import hashes
 from cryptography.hazmat.primitives.asymmetric import ec, utils
 
 from . import checks, library
-from .calls import LAST_MOMENT, Settings
-from .errors import StirError
+from .calls import LAST_MOMENT
+from .errors import BadInput, Input, StirError
+from .settings import Settings
 
 
 class Form(enum.IntEnum):
@@ -71,11 +73,25 @@ class Order:
                 raise ValueError(f"{name} must be ASCII, and is {getattr(self, name)!r}")
 
 
-def given(order: Order, settings: Settings) -> library.ToSign:
+# So many certificates of keys are held open.
+MOST_KEYS = 64
+
+LONGEST_ID = 36
+
+
+@functools.lru_cache(maxsize=MOST_KEYS)
+def key_of(certificate: bytes, table: bytes, settings: Settings) -> library.Chain:
+    """The certificate of a key under a world of its own. It isn't judged, so no trust anchor is needed."""
+    return library.Chain.of(library.World(settings.setting(), b"", table), certificate)
+
+
+def given(order: Order, settings: Settings) -> Tuple[library.Chain, library.Order, bytes, bytes]:
+    """The key of an order, and the order as the library takes it."""
     checks.instance("order", order, Order)
-    setting = checks.instance("settings", settings, Settings).setting()
-    texts = (order.origid.encode(), order.x5u.encode(), order.message, order.certificate, order.table)
-    return library.ToSign(setting.country, setting.national, order.iat, order.form, *texts)
+    key = key_of(order.certificate, order.table, checks.instance("settings", settings, Settings))
+    if len(order.origid) > LONGEST_ID:
+        raise BadInput(Input.ORDER)
+    return key, library.Order(order.iat, order.form, order.origid.encode()), order.x5u.encode(), order.message
 
 
 def allowed(said: library.Said) -> library.Said:
@@ -90,13 +106,15 @@ def to_sign(order: Order, settings: Settings = Settings()) -> bytes:
 
     Raises Withheld if the message may not be signed, BadInput if the certificate, the table or the order is none, and OutOfMemory.
     """
-    return bytes(allowed(library.to_sign(given(order, settings))).ticket)
+    key, *words = given(order, settings)
+    return bytes(allowed(key.to_sign(*words)).ticket)
 
 
 def signed(order: Order, signature: bytes, settings: Settings = Settings()) -> bytes:
     """The message with its Identity field (RFC 8224, section 4.1), by a signature of what `to_sign` gave: r and s, 64 bytes. That it is good isn't
     looked at. Raises as `to_sign` does."""
-    said, message = library.signed(given(order, settings), checks.octets("signature", signature, 64))
+    key, *words = given(order, settings)
+    said, message = key.signed(*words, checks.octets("signature", signature, 64))
     allowed(said)
     return message
 

@@ -1,7 +1,9 @@
 //! Requests in the manner of ATIS-1000082: JSON that says of a call what an INVITE says, and JSON
 //! back.
 use crate::judge::{reason_of, Judged, Outcome};
+use crate::signing::attest_of;
 use serde_json::{json, Value};
+use stir::Attest;
 
 /// Why a request is refused, as an exception of its document: an identifier and a text.
 #[derive(Debug, PartialEq, Eq)]
@@ -56,7 +58,7 @@ pub struct Signing {
     pub message: Vec<u8>,
     pub time: Option<u64>,
     pub origid: String,
-    pub attest: u8,
+    pub attest: Attest,
 }
 
 fn object(body: &[u8], name: &str) -> Result<Value, Refusal> {
@@ -157,13 +159,10 @@ pub fn signing(body: &[u8]) -> Result<Signing, Refusal> {
     let request = object(body, "signingRequest")?;
     let (from, to) = (number(request.get("orig"))?, number(request.get("dest"))?);
     let origid = request.get("origid").and_then(Value::as_str).ok_or(MISSING)?;
-    let attest =
-        match request.get("attest").map(|attest| attest.as_str().ok_or(MISSING)).transpose()? {
-            None | Some("A") => b'A',
-            Some("B") => b'B',
-            Some("C") => b'C',
-            Some(_) => return Err(BAD_VALUE),
-        };
+    let attest = match request.get("attest") {
+        None => Attest::A,
+        Some(attest) => attest_of(attest.as_str().ok_or(MISSING)?).ok_or(BAD_VALUE)?,
+    };
     Ok(Signing {
         message: invite(&from, &to, &[]),
         orig: from,
@@ -228,7 +227,7 @@ mod tests {
         assert!(text.starts_with("INVITE sip:+12355550124@") && !text.contains("Identity"));
         assert_eq!(
             (request.orig.as_str(), request.time, request.attest),
-            ("12155551212", Some(1_443_208_345), b'B')
+            ("12155551212", Some(1_443_208_345), Attest::B)
         );
         for body in [
             r#"{"signingRequest":{"orig":{"tn":"1"},"dest":{"tn":"2"}}}"#,

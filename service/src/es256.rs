@@ -8,56 +8,12 @@ use openssl::error::ErrorStack;
 use openssl::nid::Nid;
 use openssl::pkey::Public;
 use std::collections::HashMap;
-use std::ops::Range;
 use std::sync::RwLock;
-
-/// A question: the key, an uncompressed point of 65 bytes; the digest, 32; the signature, r and s,
-/// 64.
-pub type Question = [u8; 161];
-
-const KEY: Range<usize> = 0..65;
-const DIGEST: Range<usize> = 65..97;
-const SIGNATURE: Range<usize> = 97..161;
+use stir::Question;
 
 /// How many answers a generation holds, and how many keys are held.
 const GENERATION: usize = 32_768;
 const MOST_KEYS: usize = 16_384;
-
-/// A line `confirm KEY DIGEST SIGNATURE`, as `stir_ask` writes it.
-pub fn question(line: &[u8]) -> Option<Question> {
-    let mut question = [0; 161];
-    let mut rest = line.strip_prefix(b"confirm")?;
-    for part in [KEY, DIGEST, SIGNATURE] {
-        let bytes = &mut question[part];
-        rest = rest.strip_prefix(b" ")?;
-        let digits = rest.get(..2 * bytes.len())?;
-        rest = &rest[digits.len()..];
-        for (byte, pair) in bytes.iter_mut().zip(digits.chunks_exact(2)) {
-            let (high, low) = (DIGITS[usize::from(pair[0])], DIGITS[usize::from(pair[1])]);
-            if high | low == NO_DIGIT {
-                return None;
-            }
-            *byte = (high << 4) | low;
-        }
-    }
-    rest.is_empty().then_some(question)
-}
-
-/// What a character is as a hex digit. The digits of keys and signatures are random, so a branch
-/// for each would be foretold wrongly half the time.
-const DIGITS: [u8; 256] = digits();
-const NO_DIGIT: u8 = 0xff;
-
-const fn digits() -> [u8; 256] {
-    let mut digits = [NO_DIGIT; 256];
-    let mut digit = 0;
-    while digit < 16 {
-        digits[b"0123456789abcdef"[digit] as usize] = digit as u8;
-        digits[b"0123456789ABCDEF"[digit] as usize] = digit as u8;
-        digit += 1;
-    }
-    digits
-}
 
 /// Whether the signature is good; what it isn't for whatever reason, it isn't.
 fn is_good(key: &EcKey<Public>, digest: &[u8], signature: &[u8]) -> bool {
@@ -101,8 +57,8 @@ impl Verifier {
 
     /// The same, without remembering the answer.
     pub fn checks(&self, question: &Question) -> bool {
-        let key = self.key(question[KEY].try_into().expect("65 bytes"));
-        key.is_some_and(|key| is_good(&key, &question[DIGEST], &question[SIGNATURE]))
+        let key = question.key().try_into().ok().and_then(|point| self.key(point));
+        key.is_some_and(|key| is_good(&key, question.digest(), question.signature()))
     }
 
     fn remembered(&self, question: &Question) -> Option<bool> {
@@ -153,24 +109,27 @@ impl Verifier {
 mod tests {
     use super::*;
 
+    /// The question of these hex digits, with or without blanks between them.
+    fn question(digits: &str) -> Question {
+        let digits: Vec<u8> = digits.bytes().filter(u8::is_ascii_hexdigit).collect();
+        let bytes: Vec<u8> = digits
+            .chunks(2)
+            .map(|pair| std::str::from_utf8(pair).expect("ASCII"))
+            .map(|pair| u8::from_str_radix(pair, 16).expect("hex digits"))
+            .collect();
+        Question::new(bytes.try_into().expect("161 bytes"))
+    }
+
     /// RFC 6979, section A.2.5, "sample" with SHA-256: a key, a digest and a signature that this
     /// program didn't make.
     fn sample() -> Question {
-        let text = "0460FED4BA255A9D31C961EB74C6356D68C049B8923B61FA6CE669622E60F29FB6\
+        question(
+            "0460FED4BA255A9D31C961EB74C6356D68C049B8923B61FA6CE669622E60F29FB6\
              7903FE1008B8BC99A41AE9E95628BC64F2F1B20C2D7E9F5177A3C294D4462299\
              AF2BDBE1AA9B6EC1E2ADE1D694F41FC71A831D0268E9891562113D8A62ADD1BF\
              EFD48B2AACB6A8FD1140DD9CD45E81D69D2C877B56AAF991C34D0EA84EAF3716\
-             F7CB1C942D657C41D436C7A1B6E29F65F3E900DBB9AFF4064DC4AB2F843ACDA8";
-        let line = [
-            b"confirm ",
-            &text.as_bytes()[..130],
-            b" ",
-            &text.as_bytes()[130..194],
-            b" ",
-            &text.as_bytes()[194..],
-        ]
-        .concat();
-        question(&line).expect("a question")
+             F7CB1C942D657C41D436C7A1B6E29F65F3E900DBB9AFF4064DC4AB2F843ACDA8",
+        )
     }
 
     #[test]
@@ -179,9 +138,9 @@ mod tests {
         assert!(verifier.confirms(&sample()));
         assert!(verifier.confirms(&sample()), "asked again");
         for at in 1..161 {
-            let mut other = sample();
+            let mut other = *sample().bytes();
             other[at] ^= 1;
-            assert!(!verifier.confirms(&other), "byte {at}");
+            assert!(!verifier.confirms(&Question::new(other)), "byte {at}");
         }
     }
 
@@ -191,9 +150,8 @@ mod tests {
         let cases = include_str!("../cases/es256.txt");
         for line in cases.lines().filter(|line| !line.starts_with(';')) {
             let (case, what) = line.split_once("; ").expect(line);
-            let (word, line) = case.split_once(' ').expect(line);
-            let question = question(line.as_bytes()).expect(what);
-            assert_eq!(verifier.confirms(&question), word == "good", "{what}");
+            let (word, digits) = case.split_once(" confirm ").expect(line);
+            assert_eq!(verifier.confirms(&question(digits)), word == "good", "{what}");
         }
     }
 
@@ -203,7 +161,7 @@ mod tests {
         let bad = |number: usize| {
             let mut question = [0; 161];
             question[..8].copy_from_slice(&number.to_be_bytes());
-            question
+            Question::new(question)
         };
         verifier.remember(&sample(), true);
         for number in 1..GENERATION {
@@ -219,30 +177,5 @@ mod tests {
             (verifier.remembered(&bad(1)), verifier.remembered(&sample())),
             (None, Some(true))
         );
-    }
-
-    #[test]
-    fn a_line_that_is_no_question_is_none() {
-        let good = format!("confirm 04{} {} {}", "aF".repeat(64), "09".repeat(32), "b1".repeat(64));
-        assert_eq!(question(good.as_bytes()).expect("a question")[..2], [0x04, 0xaf]);
-        for line in [
-            "",
-            "confirm ",
-            "confirm 04 00 00",
-            "sign x 00 00",
-            &good[..good.len() - 1],
-            &good[..good.len() - 2],
-        ] {
-            assert_eq!(question(line.as_bytes()), None, "{line}");
-        }
-        for line in [
-            good.replace("04a", "04g"),
-            good.replace("04a", "04 "),
-            good.replace(' ', "  "),
-            format!("{good} "),
-            format!("{good}00"),
-        ] {
-            assert_eq!(question(line.as_bytes()), None, "{line}");
-        }
     }
 }

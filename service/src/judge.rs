@@ -1,9 +1,6 @@
-//! A call judged: its chains are picked, its questions asked of OpenSSL, what comes of it taken
-//! from the proved library, and its ticket claimed.
-use crate::door::{self, Materials, Said};
-use crate::es256::{self, Verifier};
-use crate::identity::x5us_of;
-use crate::lines::lines_of;
+//! A call judged: it is given its chains, its questions are asked of OpenSSL, what comes of it is
+//! taken from the proved library, and its ticket claimed.
+use crate::es256::Verifier;
 use crate::locks::Held;
 use crate::metrics::{Metrics, Part};
 use crate::past::{Claim, Passed, Past};
@@ -11,6 +8,7 @@ use crate::world::World;
 use std::sync::atomic::{AtomicU64, Ordering};
 use std::sync::{Arc, RwLock};
 use std::time::{Instant, SystemTime, UNIX_EPOCH};
+use stir::{Error, Passes, Refused, Verdict};
 
 /// What came of a call.
 #[derive(Clone, Copy, Debug, PartialEq, Eq)]
@@ -94,7 +92,6 @@ pub fn reason_of(code: u32) -> &'static str {
 
 /// The judge with all that it goes by.
 pub struct Judge {
-    pub rules: door::Rules,
     pub world: RwLock<Arc<World>>,
     pub verifier: Verifier,
     pub past: Past,
@@ -118,76 +115,49 @@ impl Judge {
     /// What comes of an INVITE that came at this moment.
     pub fn judge(&self, message: &[u8], moment: u64) -> Judged {
         let world = self.world.read().held().clone();
-        let said = self.said(&world, message, moment);
+        let verdict = self.verdict(&world, message, moment);
         let call = next(&self.numbers);
-        let outcome = match said.kind {
-            door::REFUSED => Outcome::Refused {
-                rule: said.rule,
-                code: said.code,
-                field: said.field,
-                part: said.part,
-            },
-            door::PASSES => {
-                match self.past.claim(said.ticket, Passed { last: said.last, number: call }, moment)
-                {
+        let outcome = match verdict {
+            Ok(Verdict::Refused(Refused { rule, code, field, part })) => {
+                Outcome::Refused { rule, code, field, part }
+            }
+            Ok(Verdict::Passes(Passes { ticket, last })) => {
+                match self.past.claim(ticket, Passed { last, number: call }, moment) {
                     Claim::Won => Outcome::Valid,
                     Claim::Lost(winner) => Outcome::Replay { winner },
                     Claim::Forgotten | Claim::Unable => Outcome::Unjudged,
                 }
             }
-            _ => Outcome::Unjudged,
+            Err(_) => Outcome::Unjudged,
         };
         self.metrics.count(&outcome);
         Judged { call, outcome }
     }
 
-    /// What a call is judged by: the chains of the x5us in its Identity fields; and if more than
-    /// nine of these are listed, of those that are judged.
-    fn materials(
-        &self,
-        world: &World,
-        message: &[u8],
-        moment: u64,
-        room: &mut Vec<u8>,
-    ) -> Materials {
-        let found = x5us_of(message);
-        world.materials(found.iter().map(Vec::as_slice)).unwrap_or_else(|| {
-            door::x5us(&self.rules, moment, message, room);
-            world.materials(lines_of(room)).unwrap_or_default()
-        })
-    }
-
     /// What the rules say: asked with each answer taken for good; and if an answer isn't, judged by
     /// those that are.
-    fn said(&self, world: &World, message: &[u8], moment: u64) -> Said {
-        let mut room = Vec::with_capacity(8192);
-        let by = self.materials(world, message, moment, &mut room);
+    fn verdict(&self, world: &World, message: &[u8], moment: u64) -> Result<Verdict, Error> {
         let start = Instant::now();
-        let if_all = door::ask(&self.rules, moment, message, &by, &mut room);
-        let asked = Instant::now();
-        self.metrics.spend(Part::Ask, asked - start);
-        if if_all.kind != door::PASSES && if_all.kind != door::REFUSED {
-            return if_all;
+        let mut call = world.call(moment, message)?;
+        for index in 0..call.passports() {
+            if let Some(listed) = world.listed(&call.x5u(index)?) {
+                let chain = listed.chain(|question| self.verifier.confirms(question))?;
+                call.set_chain(index, &chain)?;
+            }
         }
-        let lines: Vec<&[u8]> = lines_of(&room).collect();
-        let good: Vec<&[u8]> =
-            lines.iter().copied().filter(|line| self.confirms(world, line)).collect();
-        let confirmed = Instant::now();
-        self.metrics.spend(Part::Confirm, confirmed - asked);
-        if good.len() == lines.len() {
-            return if_all;
+        let asked = call.questions()?;
+        let confirming = Instant::now();
+        self.metrics.spend(Part::Ask, confirming - start);
+        let good: Vec<bool> =
+            asked.questions.iter().map(|question| self.verifier.confirms(question)).collect();
+        let judging = Instant::now();
+        self.metrics.spend(Part::Confirm, judging - confirming);
+        if good.iter().all(|good| *good) {
+            return Ok(asked.if_all);
         }
-        let answers = good.join(b"\n".as_slice());
-        let said = door::judge(&self.rules, moment, message, &by, &answers);
-        self.metrics.spend(Part::Judge, confirmed.elapsed());
-        said
-    }
-
-    /// Whether the signature of a line that is asked is good.
-    fn confirms(&self, world: &World, line: &[u8]) -> bool {
-        es256::question(line).is_some_and(|question| {
-            world.has_confirmed(&question) || self.verifier.confirms(&question)
-        })
+        let verdict = call.judge(&good)?;
+        self.metrics.spend(Part::Judge, judging.elapsed());
+        Ok(verdict)
     }
 }
 

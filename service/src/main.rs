@@ -4,12 +4,10 @@
 #[cfg(not(panic = "unwind"))]
 compile_error!("a fault in one thread must end one connection, and not the service");
 
-mod anchors;
 mod atis;
-mod door;
+mod chain_map;
 mod es256;
 mod http;
-mod identity;
 mod journal;
 mod judge;
 mod lines;
@@ -66,17 +64,10 @@ fn keep_blocks() {
 }
 
 fn start(settings: settings::Settings) -> Result<(), String> {
-    if door::abi() != door::ABI {
-        return Err(format!(
-            "the library's declarations are of version {}, and {} is wanted",
-            door::abi(),
-            door::ABI
-        ));
-    }
     let mut world =
         world::World::read(&settings.rules, &settings.chains, &settings.anchors, &settings.table)?;
     let verifier = es256::Verifier::new().map_err(|error| error.to_string())?;
-    world.confirm(&settings.rules, &verifier, None);
+    world.confirm(&verifier, None);
     let blocks = blocks_of(&settings)?;
     let (past, greatest) = past_of(&settings)?;
     let listener = TcpListener::bind(&settings.listen)
@@ -89,7 +80,6 @@ fn start(settings: settings::Settings) -> Result<(), String> {
     ));
     let service = Arc::new(service::Service {
         judge: judge::Judge {
-            rules: settings.rules.clone(),
             world: RwLock::new(Arc::new(world)),
             verifier,
             past,

@@ -134,7 +134,7 @@ impl Service {
             origid: &call.origid,
             attest: call.attest,
         };
-        let made = blocks.sign(&self.settings.rules, &wanted);
+        let made = blocks.sign(&wanted);
         self.judge.metrics.sign(made.is_ok());
         let message = made.map_err(|why| match why {
             Unsigned::NotOurs => atis::NOT_OURS,
@@ -182,7 +182,7 @@ impl Service {
             let files = &self.settings;
             let read = World::read(&files.rules, &files.chains, &files.anchors, &files.table);
             let done = read.map(|mut new| {
-                new.confirm(&files.rules, &self.judge.verifier, Some(&world));
+                new.confirm(&self.judge.verifier, Some(&world));
                 *self.judge.world.write().held() = Arc::new(new);
             });
             self.tell(done);

@@ -1,7 +1,7 @@
 //! The words of the command line.
-use crate::door::Rules;
 use std::path::PathBuf;
 use std::time::Duration;
+use stir::Settings as Rules;
 
 pub const USAGE: &str = "usage: stird --chains FILE --anchors FILE --table FILE [OPTION VALUE]..
   --listen HOST:PORT    where to listen (127.0.0.1:8080)
@@ -49,7 +49,7 @@ pub fn read(words: &[String]) -> Result<Settings, String> {
         chains: PathBuf::new(),
         anchors: PathBuf::new(),
         table: PathBuf::new(),
-        rules: Rules { past: 60, future: 5, country: "1".into(), national: 10 },
+        rules: Rules::default(),
         asked_moments: false,
         journal: None,
         sync: true,

@@ -1,25 +1,25 @@
 //! Calls signed: by the number that calls a block of numbers is found, which has a key and an
 //! attestation. What is signed is said by the proved library, which first holds the number against
 //! the key's certificate.
-use crate::door::{self, Order, Rules};
 use crate::lines::lines_of;
-use crate::world::{codes_of, stamp, Stamp};
+use crate::world::{stamp, Stamp};
+use openssl::bn::BigNumContext;
+use openssl::ec::PointConversionForm;
 use openssl::ecdsa::EcdsaSig;
 use openssl::pkey::{PKey, Private};
-use openssl::x509::X509;
 use std::collections::{BTreeSet, HashMap};
 use std::ops::RangeInclusive;
 use std::path::{Path, PathBuf};
 use std::sync::Arc;
+use stir::{Attest, Chain, Error, Form, Order, Settings, SignError, Withheld};
 
-/// A key with the certificate that goes with it: the leaf in DER, the seconds at which it is valid,
-/// its URI, and the lines of the code table on the codes in it.
+/// A key with the certificates that go with it, the seconds at which its own is valid, and their
+/// URI.
 pub struct Key {
     key: PKey<Private>,
-    leaf: Vec<u8>,
+    chain: Chain,
     valid: RangeInclusive<i64>,
     x5u: String,
-    table: Vec<u8>,
 }
 
 /// Numbers that follow each other, with how well their callers are known (RFC 8588, section 4) and
@@ -27,7 +27,7 @@ pub struct Key {
 struct Block {
     first: u64,
     count: u64,
-    attest: u8,
+    attest: Attest,
     key: Arc<Key>,
 }
 
@@ -58,7 +58,7 @@ pub struct Call<'a> {
     pub message: &'a [u8],
     pub iat: u64,
     pub origid: &'a str,
-    pub attest: u8,
+    pub attest: Attest,
 }
 
 impl Blocks {
@@ -66,18 +66,21 @@ impl Blocks {
     /// `A`, `B` or `C`, the file of a private key in PEM, the file of its certificates in DER, the
     /// leaf first, and the URI under which these are found. Each key has to be that of its leaf,
     /// which has to cover the first number of its block and the last.
-    pub fn read(rules: &Rules, path: &Path, table_path: &Path) -> Result<Blocks, String> {
+    pub fn read(rules: &Settings, path: &Path, table_path: &Path) -> Result<Blocks, String> {
         let mut blocks = Blocks::default();
         let text = blocks.file(path)?;
         let table = blocks.file(table_path)?;
+        // No chain of a key is judged, so no trust anchor is needed.
+        let world = stir::World::open(rules, b"", &table)
+            .map_err(|error| format!("{}: {error}", table_path.display()))?;
         let mut keys = HashMap::new();
         for (at, line) in lines_of(&text).enumerate() {
             let line = std::str::from_utf8(line)
                 .map_err(|_| format!("{}: line {} isn't text", path.display(), at + 1))?;
-            let block = blocks.block(line, &table, &mut keys).map_err(|fault| {
+            let block = blocks.block(line, &world, &mut keys).map_err(|fault| {
                 format!("{}: line {} that says something: {fault}", path.display(), at + 1)
             })?;
-            block.test(rules)?;
+            block.test()?;
             blocks.blocks.push(block);
         }
         Ok(blocks)
@@ -91,7 +94,7 @@ impl Blocks {
     fn block(
         &mut self,
         line: &str,
-        table: &[u8],
+        world: &stir::World,
         keys: &mut HashMap<[String; 3], Arc<Key>>,
     ) -> Result<Block, String> {
         let words: Vec<&str> = line.split(' ').collect();
@@ -100,20 +103,18 @@ impl Blocks {
         };
         let first = number_of(first).ok_or("no number")?;
         let count = count.parse().ok().filter(|count| *count > 0).ok_or("no count")?;
-        if !["A", "B", "C"].contains(&attest) {
-            return Err("the attestation is A, B or C".into());
-        }
+        let attest = attest_of(attest).ok_or("the attestation is A, B or C")?;
         let name = [key, certificates, x5u].map(String::from);
         let key = match keys.get(&name) {
             Some(key) => Arc::clone(key),
             None => {
                 let read =
-                    Arc::new(self.key(Path::new(key), Path::new(certificates), x5u, table)?);
+                    Arc::new(self.key(Path::new(key), Path::new(certificates), x5u, world)?);
                 keys.insert(name, Arc::clone(&read));
                 read
             }
         };
-        Ok(Block { first, count, attest: attest.as_bytes()[0], key })
+        Ok(Block { first, count, attest, key })
     }
 
     fn key(
@@ -121,26 +122,20 @@ impl Blocks {
         path: &Path,
         certificates: &Path,
         x5u: &str,
-        table: &[u8],
+        world: &stir::World,
     ) -> Result<Key, String> {
         let key = PKey::private_key_from_pem(&self.file(path)?)
             .map_err(|_| format!("{} is no private key in PEM", path.display()))?;
-        let chain = self.file(certificates)?;
-        let leaf = first_element(&chain)
-            .ok_or_else(|| format!("{} is no certificate in DER", certificates.display()))?
-            .to_vec();
-        let public = X509::from_der(&leaf)
-            .and_then(|leaf| leaf.public_key())
-            .map_err(|_| format!("{} is no certificate in DER", certificates.display()))?;
-        if !public.public_eq(&key) {
+        let der = self.file(certificates)?;
+        let shown =
+            stir::show(&der).map_err(|error| format!("{}: {error}", certificates.display()))?;
+        if point_of(&key).is_none_or(|point| said(&shown, "key ") != Some(&point)) {
             return Err(format!("{} isn't the key of {}", path.display(), certificates.display()));
         }
-        let mut shown = Vec::new();
-        door::show(&leaf, &mut shown);
         let valid = dates(&shown)
             .ok_or_else(|| format!("{} isn't in the profile", certificates.display()))?;
-        let table = codes_of(&leaf, table);
-        Ok(Key { key, leaf, valid, x5u: x5u.into(), table })
+        let chain = world.chain(&der).map_err(|error| error.to_string())?;
+        Ok(Key { key, chain, valid, x5u: x5u.into() })
     }
 
     /// Whether a file isn't what it was when it was read.
@@ -160,10 +155,10 @@ impl Blocks {
     }
 
     /// The message of a call with its Identity field.
-    pub fn sign(&self, rules: &Rules, call: &Call) -> Result<Vec<u8>, Unsigned> {
+    pub fn sign(&self, call: &Call) -> Result<Vec<u8>, Unsigned> {
         let number = number_of(call.orig).ok_or(Unsigned::NotOurs)?;
         let block = self.blocks.iter().find(|block| block.has(number)).ok_or(Unsigned::NotOurs)?;
-        block.sign(rules, call)
+        block.sign(call)
     }
 }
 
@@ -180,7 +175,7 @@ impl Block {
     }
 
     /// Signs nothing, but looks whether the first number and the last could be signed for.
-    fn test(&self, rules: &Rules) -> Result<(), String> {
+    fn test(&self) -> Result<(), String> {
         let last = self.first.checked_add(self.count - 1).ok_or("the block is too long")?;
         for number in [self.first, last] {
             let orig = number.to_string();
@@ -192,49 +187,46 @@ impl Block {
                 origid: "00000000-0000-4000-8000-000000000000",
                 attest: self.attest,
             };
-            let said = door::to_sign(rules, &self.order(&call));
-            if said.kind != door::PASSES {
-                return Err(format!(
-                    "the certificate of {} isn't one that covers {orig}",
-                    self.key.x5u
-                ));
-            }
+            self.key.chain.to_sign(&self.order(&call)).map_err(|_| {
+                format!("the certificate of {} isn't one that covers {orig}", self.key.x5u)
+            })?;
         }
         Ok(())
     }
 
     fn order<'a>(&'a self, call: &'a Call) -> Order<'a> {
-        // The letters are in order: the later is the lower attestation.
-        let form = self.attest.max(call.attest);
+        // The later letter is the lower attestation.
+        let attest = self.attest.max(call.attest);
         Order {
             iat: call.iat,
-            form,
-            origid: call.origid.as_bytes(),
-            x5u: self.key.x5u.as_bytes(),
+            form: Form::Shaken { attest, origid: call.origid },
+            x5u: &self.key.x5u,
             message: call.message,
-            certificate: &self.key.leaf,
-            table: &self.key.table,
         }
     }
 
-    fn sign(&self, rules: &Rules, call: &Call) -> Result<Vec<u8>, Unsigned> {
+    fn sign(&self, call: &Call) -> Result<Vec<u8>, Unsigned> {
         let order = self.order(call);
-        let said = door::to_sign(rules, &order);
-        match said.kind {
-            door::PASSES => {}
-            door::REFUSED if said.rule == door::AUTHORITY => return Err(Unsigned::NotOurs),
-            door::REFUSED | door::BAD_INPUT => return Err(Unsigned::BadValue),
-            _ => return Err(Unsigned::Failed),
-        }
+        let digest = self.key.chain.to_sign(&order).map_err(|error| match error {
+            SignError::Withheld(Withheld::Authority) => Unsigned::NotOurs,
+            SignError::Withheld(_) | SignError::Failed(Error::BadInput(_)) => Unsigned::BadValue,
+            SignError::Failed(_) => Unsigned::Failed,
+        })?;
         if !self.key.is_valid(call.iat) {
             return Err(Unsigned::NotValid);
         }
-        let signature = signature(&self.key.key, &said.ticket).ok_or(Unsigned::Failed)?;
-        let mut message = Vec::with_capacity(call.message.len() + 2048);
-        match door::signed(rules, &order, &signature, &mut message).kind {
-            door::PASSES => Ok(message),
-            _ => Err(Unsigned::Failed),
-        }
+        let signature = signature(&self.key.key, &digest).ok_or(Unsigned::Failed)?;
+        self.key.chain.signed(&order, &signature).map_err(|_| Unsigned::Failed)
+    }
+}
+
+/// The attestation of a letter.
+pub fn attest_of(letter: &str) -> Option<Attest> {
+    match letter {
+        "A" => Some(Attest::A),
+        "B" => Some(Attest::B),
+        "C" => Some(Attest::C),
+        _ => None,
     }
 }
 
@@ -245,14 +237,25 @@ fn number_of(text: &str) -> Option<u64> {
     plain.then(|| text.parse().ok()).flatten()
 }
 
+/// What a line of `show` that begins so says of the first certificate.
+fn said<'a>(lines: &'a str, name: &str) -> Option<&'a str> {
+    lines.lines().find_map(|line| line.strip_prefix(name))
+}
+
 /// The seconds, in Unix time, at which the first certificate of these lines of `show` is valid: the
 /// first and the last.
-fn dates(lines: &[u8]) -> Option<RangeInclusive<i64>> {
-    let second = |name: &str| {
-        let mut lines = std::str::from_utf8(lines).ok()?.lines();
-        lines.find_map(|line| line.strip_prefix(name))?.parse().ok()
-    };
+fn dates(lines: &str) -> Option<RangeInclusive<i64>> {
+    let second = |name| said(lines, name)?.parse().ok();
     Some(second("not-before ")?..=second("not-after ")?)
+}
+
+/// The public point of a key in its uncompressed form, in hex digits.
+fn point_of(key: &PKey<Private>) -> Option<String> {
+    let key = key.ec_key().ok()?;
+    let form = PointConversionForm::UNCOMPRESSED;
+    let mut numbers = BigNumContext::new().ok()?;
+    let point = key.public_key().to_bytes(key.group(), form, &mut numbers).ok()?;
+    Some(point.iter().map(|byte| format!("{byte:02x}")).collect())
 }
 
 /// The signature over a digest: r and s, 32 bytes each (RFC 7518, section 3.4).
@@ -268,17 +271,6 @@ pub fn identity(message: &[u8]) -> Option<String> {
     let (head, _) = text.split_once("\r\n\r\n")?;
     let (_, last) = head.rsplit_once("\r\n")?;
     Some(last.strip_prefix("Identity: ")?.into())
-}
-
-/// The first element of DER (X.690, section 8.1), if it is a SEQUENCE that is there.
-fn first_element(der: &[u8]) -> Option<&[u8]> {
-    let (head, size) = match der {
-        [0x30, size, ..] if *size < 0x80 => (2, usize::from(*size)),
-        [0x30, 0x81, size, ..] => (3, usize::from(*size)),
-        [0x30, 0x82, high, low, ..] => (4, usize::from(*high) * 256 + usize::from(*low)),
-        _ => return None,
-    };
-    der.get(..head + size)
 }
 
 #[cfg(test)]
@@ -297,19 +289,11 @@ mod tests {
 
     #[test]
     fn a_certificate_is_valid_from_its_first_second_to_its_last() {
-        let lines = b"certificate 1\nnot-before -5\nnot-after 70\nca no\n\
+        let lines = "certificate 1\nnot-before -5\nnot-after 70\nca no\n\
             certificate 2\nnot-before 0\nnot-after 9\nca yes\n";
         assert_eq!(dates(lines), Some(-5..=70));
-        assert_eq!(dates(b"certificate 1\nnot-before 5\n"), None);
-        assert_eq!(dates(b"refused input 0\n"), None);
-    }
-
-    #[test]
-    fn the_leaf_of_a_chain_is_its_first_element() {
-        assert_eq!(first_element(&[0x30, 2, 5, 0, 0x30, 0]), Some(&[0x30, 2, 5, 0][..]));
-        assert_eq!(first_element(&[0x30, 0x81, 1, 9, 7]), Some(&[0x30, 0x81, 1, 9][..]));
-        assert_eq!(first_element(&[0x30, 3, 0]), None);
-        assert_eq!(first_element(b""), None);
+        assert_eq!(dates("certificate 1\nnot-before 5\n"), None);
+        assert_eq!(dates("refused input 0\n"), None);
     }
 
     #[test]

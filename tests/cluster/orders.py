@@ -33,10 +33,10 @@ def signed(program, world, folder):
         message = stir.signed(given, signature)
         assert message == by_program(program, world, n, given, folder, signature), f"{form.name}: the program writes another message"
         call = stir.Call(START, message)
-        verdict = stir.verify(call, by.materials(call), stir.confirm)
+        verdict = stir.verify(call, by, stir.confirm)
         assert isinstance(verdict, stir.Passes), f"{form.name}: {verdict}"
         call = stir.Call(START, stir.sign(given, stir.signer_by(world.keys[n + 1])))
-        assert stir.verify(call, by.materials(call), stir.confirm) == stir.Refused(16, 438, 1, 0), f"{form.name}: another key's signature isn't refused"
+        assert stir.verify(call, by, stir.confirm) == stir.Refused(16, 438, 1, 0), f"{form.name}: another key's signature isn't refused"
 
 
 def withheld(program, world, folder):

@@ -54,7 +54,7 @@ TESTS = {
     "each call by itself has the verdict of the report": lambda at: verdicts.each(at.world, at.calls, at.report),
     "the rules that hold are those of explain": lambda at: verdicts.explained(at.program, at.world, at.calls, at.folder),
     "a call that names many x5us is judged by its own": lambda at: verdicts.named(at.world),
-    "a call is judged by the anchors of its own chains": lambda at: verdicts.trusted(at.world, at.calls, at.folder),
+    "a call is judged by its own among many anchors": lambda at: verdicts.trusted(at.world, at.calls, at.folder),
     "claims are those that were signed": lambda at: verdicts.claimed(at.world),
     "certificates say what they were made with": lambda at: verdicts.shown(at.world),
     "eight threads at once say the same": lambda at: verdicts.at_once(at.world, at.calls),

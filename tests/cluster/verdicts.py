@@ -17,7 +17,7 @@ def world_of(world):
 def verdicts(world, calls):
     """The verdict of each call by itself."""
     by = world_of(world)
-    return [stir.verify(call, by.materials(call), stir.confirm) for call in (stir.Call(*call) for call in calls)]
+    return [stir.verify(stir.Call(*call), by, stir.confirm) for call in calls]
 
 
 def each(world, calls, report):
@@ -27,8 +27,8 @@ def each(world, calls, report):
     assert days.report(judged, replays).lines.decode() == report, "the lines aren't those of the report"
     by = world_of(world)
     for call in (stir.Call(*call) for call in calls[:200]):
-        asked = stir.ask(call, by.materials(call))
-        assert stir.judge(call, by.materials(call), asked.questions) == asked.verdict, "ask and judge differ"
+        asked = stir.ask(call, by)
+        assert stir.judge(call, by, asked.questions) == asked.verdict, "ask and judge differ"
     kinds = {" ".join(line.split()[1:4]) for line in report.splitlines()}
     assert len(kinds) > 6, f"the log has only {sorted(kinds)}"
     return f"{len(calls)} calls, {len(kinds)} outcomes"
@@ -41,13 +41,12 @@ def explained(program, world, calls, folder):
     lines = subprocess.run(words, input=world.log(calls), stdout=subprocess.PIPE, check=False).stdout.decode().splitlines()
     wanted = [tuple(int(line.split()[1]) for line in lines if line.startswith(f"{number} ") and line.endswith(" ok")) for number in range(1, len(calls) + 1)]
     for number, (call, holds) in enumerate(zip((stir.Call(*call) for call in calls), wanted), 1):
-        materials = by.materials(call)
-        asked = stir.ask(call, materials)
-        said = stir.explain(call, materials, filter(stir.confirm, asked.questions))
+        asked = stir.ask(call, by)
+        said = stir.explain(call, by, list(filter(stir.confirm, asked.questions)))
         assert said.holds == holds, f"call {number}: rules {said.holds} hold, and not {holds}"
-        assert said.verdict == stir.verify(call, materials, stir.confirm), f"call {number} has another verdict"
+        assert said.verdict == stir.verify(call, by, stir.confirm), f"call {number} has another verdict"
         if asked.questions:
-            assert stir.explain(call, materials, []).holds == tuple(range(1, 15)), f"call {number}: a rule after the fourteenth holds without answers"
+            assert stir.explain(call, by, []).holds == tuple(range(1, 15)), f"call {number}: a rule after the fourteenth holds without answers"
 
 
 def named(world):
@@ -57,24 +56,22 @@ def named(world):
     assert stir.x5us(stir.Call(START, world.call(0, START, 1, "unsigned"))) == (), "a call without a PASSporT has an x5u"
     others = b"".join(b"X-Other: info=<%s>\r\n" % world.x5u(n).encode() for n in range(1, 13))
     call = stir.Call(START, message.replace(b"\r\n", b"\r\n" + others, 1))
-    verdict = stir.verify(call, world_of(world).materials(call), stir.confirm)
+    verdict = stir.verify(call, world_of(world), stir.confirm)
     assert isinstance(verdict, stir.Passes), f"a call that names twelve other x5us: {verdict}"
 
 
 def trusted(world, calls, folder):
-    """A call is judged by the trust anchors of its own chains, as it is by all of them; and by rule 12 if its own isn't there."""
+    """A call is judged by two hundred trust anchors as by its own; and by rule 12 if its own isn't there."""
     names, own = dict(zip(("chains", "anchors", "table"), world.words()[1::2])), (world.folder / "anchors.der").read_bytes()
     others = world.others(200)
     anchors = folder / "many-anchors.der"
     anchors.write_bytes(b"".join([*others[:100], own, *others[100:]]))
     few, many = world_of(world), stir.World.read(**{**names, "anchors": anchors})
     for call in (stir.Call(*call) for call in calls[:200]):
-        by = many.materials(call)
-        assert by.anchors == (own if by.chains else b""), f"{len(by.anchors)} bytes of anchors, and the call's own has {len(own)}"
-        assert stir.verify(call, by, stir.confirm) == stir.verify(call, few.materials(call), stir.confirm), "many anchors make another verdict"
+        assert stir.verify(call, many, stir.confirm) == stir.verify(call, few, stir.confirm), "many anchors make another verdict"
     anchors.write_bytes(b"".join(others))
     call = stir.Call(START, world.call(0, START, 1))
-    verdict = stir.verify(call, stir.World.read(**{**names, "anchors": anchors}).materials(call), stir.confirm)
+    verdict = stir.verify(call, stir.World.read(**{**names, "anchors": anchors}), stir.confirm)
     assert verdict == stir.Refused(12, 437, 1, 2), f"without its anchor the verdict is {verdict}"
 
 

@@ -14,10 +14,13 @@ static bytes read_file(const char *name) {
         perror(name);
         exit(1);
     }
-    bytes content = {malloc(1 << 20), 0};
-    content.size = fread(content.at, 1, 1 << 20, file);
+    bytes content = {NULL, 0};
+    size_t read = 0;
+    do {
+        content.size += read;
+        content.at = realloc(content.at, content.size + (1 << 20));
+        read = content.at ? fread(content.at + content.size, 1, 1 << 20, file) : 0;
+    } while (read > 0);
     fclose(file);
     return content;
 }
-
-static const uint8_t country[] = {'1'};

@@ -4,7 +4,7 @@
 
 #include "files.h"
 
-static const char origid[] = "123e4567-e89b-12d3-a456-426655440000";
+#include <string.h>
 
 static void write_file(const char *name, const uint8_t *at, size_t size) {
     FILE *file = fopen(name, "wb");
@@ -14,36 +14,46 @@ static void write_file(const char *name, const uint8_t *at, size_t size) {
     }
 }
 
+/* The certificate of the key, under a world with this much of the table. */
+static stir_chain key_of(bytes leaf, bytes table, size_t table_size) {
+    stir_settings settings = {60, 5, {'1'}, 1, 10};
+    stir_world world = {0};
+    stir_chain key = {0};
+    stir_world_open(&settings, leaf.at, 0, table.at, table_size, &world);
+    stir_chain_open(&world, leaf.at, leaf.size, &key);
+    stir_world_close(&world);
+    return key;
+}
+
 int main(int count, char **words) {
     if (count != 3) {
         return 2;
     }
-    uint64_t iat = strtoull(words[1], NULL, 10);
-    const char *x5u = words[2];
-    size_t x5u_size = 0;
-    while (x5u[x5u_size]) {
-        x5u_size++;
-    }
+    stir_order order = {strtoull(words[1], NULL, 10), STIR_SHAKEN_A, {0}}, bad;
+    memcpy(order.origid, "123e4567-e89b-12d3-a456-426655440000", 36);
+    const uint8_t *x5u = (const uint8_t *)words[2];
+    size_t x5u_size = strlen(words[2]);
     bytes message = read_file("message"), leaf = read_file("leaf"), table = read_file("table"), signature = read_file("signature");
-    const uint8_t *id = (const uint8_t *)origid, *uri = (const uint8_t *)x5u;
+    stir_chain key = key_of(leaf, table, table.size), bare = key_of(leaf, table, 0);
 
-    stir_said said = stir_to_sign(country, 1, 10, iat, STIR_SHAKEN_A, id, 36, uri, x5u_size, message.at, message.size, leaf.at, leaf.size,
-                                  table.at, table.size);
+    stir_said said = stir_to_sign(&key, &order, x5u, x5u_size, message.at, message.size);
     printf("to sign: kind %u rule %u input %u\n", said.kind, said.rule, said.input);
     write_file("digest", said.ticket, 32);
 
     static uint8_t room[65536];
-    said = stir_signed(country, 1, 10, iat, STIR_SHAKEN_A, id, 36, uri, x5u_size, message.at, message.size, leaf.at, leaf.size,
-                       table.at, table.size, signature.at, signature.size, room, sizeof room);
+    said = stir_signed(&key, &order, x5u, x5u_size, message.at, message.size, signature.at, signature.size, room, sizeof room);
     printf("signed: kind %u rule %u input %u\n", said.kind, said.rule, said.input);
     write_file("signed", room, (size_t)said.size);
-    said = stir_signed(country, 1, 10, iat, STIR_SHAKEN_A, id, 36, uri, x5u_size, message.at, message.size, leaf.at, leaf.size,
-                       table.at, table.size, signature.at, signature.size, room, 5);
+    said = stir_signed(&key, &order, x5u, x5u_size, message.at, message.size, signature.at, signature.size, room, 5);
     printf("no room: kind %u\n", said.kind);
-    said = stir_to_sign(country, 1, 10, iat, STIR_SHAKEN_A, id, 35, uri, x5u_size, message.at, message.size, leaf.at, leaf.size, table.at, table.size);
+    bad = order;
+    bad.origid[35] = 'x';
+    said = stir_to_sign(&key, &bad, x5u, x5u_size, message.at, message.size);
     printf("no identifier: kind %u input %u\n", said.kind, said.input);
-    said = stir_to_sign(country, 1, 10, iat, STIR_SHAKEN_A, id, 36, uri, x5u_size, message.at, message.size, leaf.at, leaf.size, table.at, 0);
+    said = stir_to_sign(&bare, &order, x5u, x5u_size, message.at, message.size);
     printf("no number for the code: kind %u rule %u\n", said.kind, said.rule);
+    stir_chain_close(&key);
+    stir_chain_close(&bare);
     free(message.at);
     free(leaf.at);
     free(table.at);

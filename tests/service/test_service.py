@@ -1,7 +1,7 @@
 """Tries the library's C header and the service on a world of real keys.
 
-The service's answers must give the report of the program byte for byte (`--stird`, `--program`). `--library` names the folder of libstir_c.a, for the C
-programs and for Python's ctypes. `--calls` and `--chains` say how large the world is. Times are measured here, so it runs without `-n`.
+The service's answers must give the report of the program byte for byte (`--stird`, `--program`), and so must those of the crate `stir` (`--judge`).
+`--library` names the folder of libstir_c.a, for the C programs and for Python's ctypes. `--calls` and `--chains` say how large the world is. Times are measured here, so it runs without `-n`.
 """
 import dataclasses
 import pathlib
@@ -12,6 +12,7 @@ import judging
 import lasting
 import pytest
 import refusing
+import same
 import signing
 from world import World
 
@@ -25,6 +26,7 @@ class Place:
     stird: pathlib.Path
     stir: pathlib.Path
     library: pathlib.Path
+    judge: pathlib.Path
     folder: pathlib.Path
     world: World
     calls: list
@@ -38,7 +40,7 @@ def at(request, program, tmp_path_factory):
     world = World(folder / "world", given("chains"))
     calls = list(world.calls(given("calls") or CALLS))
     report = judging.report(program, TOP, world, calls, folder)
-    return Place(given("stird").resolve(), program, given("library").resolve(), folder, world, calls, report)
+    return Place(given("stird").resolve(), program, given("library").resolve(), given("judge").resolve(), folder, world, calls, report)
 
 
 TESTS = {
@@ -55,7 +57,11 @@ TESTS = {
     "calls are signed for the numbers of a table alone": lambda at: signing.all(at.stird, at.world, at.folder),
     "garbage, slow and huge requests are refused and hold nothing": lambda at: refusing.all(at.stird, at.world),
     "what goes wrong around the service doesn't end it": lambda at: lasting.all(at.stird, at.world, at.folder),
+    "the library says of each case of verify and explain what the program says": lambda at: same.rows(at.judge),
+    "the library says of the log what the program says": lambda at: same.log(at.judge, at.stir, at.world, at.calls, at.folder),
     "a C program judges and explains by the header": lambda at: header.by_c(TOP, at.stir, at.library, at.world, at.folder),
+    "the example in the header compiles": lambda at: header.example_in_header(TOP, at.library, at.folder),
+    "four threads in C share, judge, fetch and close at once": lambda at: header.shared_by_c(TOP, at.library, at.world, at.folder),
     "a C program signs by the header": lambda at: header.signed_by_c(TOP, at.stir, at.library, at.world, at.folder),
     "Python judges and signs by ctypes": lambda at: header.by_python(TOP, at.library, at.world, at.calls, at.report, at.folder),
 }

@@ -10,7 +10,7 @@ use Rattle.passport_json.specs.Deterministic.{Det}
 use Rattle.serde_json.specs.Data.{Data, null, boolean, number, string, array, object, Items, no_items, item, Members, no_members, member, Num, unsigned, negative, float}
 use Rattle.serde_json.specs.Written.{comma_if, compact_text, items_text, members_text, number_text}
 use Rattle.text_grammar.specs.Cut.{lacks}
-use Rattle.stir_c.specs.Claims.{has_form, said_text}
+use Rattle.open_calls.specs.Claims.{has_form, said_text}
 
 both : (a b : Bool) → a ≡ true → b ≡ true → (a && b) ≡ true
 both a b first second = ap (λ t. t && b) first ∙ second

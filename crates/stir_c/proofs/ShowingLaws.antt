@@ -3,57 +3,54 @@ use Rattle.std.proofs.Common.{◌≡◌, ◌≢◌, ℕ, ◌≤◌, List, Some, 
 use Rattle.x509_profile.specs.Chain.{Chain, GivesChain, RefusedCertificate, refused_at}
 use Rattle.x509_profile.specs.View.{CertView}
 use Rattle.x509_profile.specs.declared.chain.CertChainFault.TheVariants as chains
-use Rattle.stir_c.specs.Inputs.{IsFaultFor}
-use Rattle.stir_c.specs.Showing.{IsNoChain, IsShown, ShownInto, ShowsMore, ToldShown}
-use Rattle.stir_c.specs.Told.{input_of}
-use Rattle.stir_c.specs.declared.inputs.Fault.{Fault}
-use Rattle.stir_c.specs.declared.inputs.Fault.TheVariants as faults
+use Rattle.stir_c.specs.Showing.{IsNoChain, IsShown, IsWhyUnshown, ShownInto, ShowsMore, ToldShown, input_of}
+use Rattle.stir_c.specs.declared.showing.Unshown.{Unshown}
+use Rattle.stir_c.specs.declared.showing.Unshown.TheVariants as unshown
 use Rattle.stir_c.specs.declared.said.Said.{Said}
 use Rattle.stir_c.specs.declared.writing.Text.{Text}
 use Rattle.stir_c.proofs.TextLaws.{high_unwritten, no_middle, text_into, text_kinds, text_more}
-use Rattle.stir_c.proofs.ToldLaws.{faulty_kind, input_kind, numbered}
-use Rattle.stir_c.proofs.ListingLaws.{number_of_one}
+use Rattle.stir_c.proofs.ToldLaws.{faulty_kind, input_kind}
 
 pub no_chain : (bytes : List ℕ) (number place : ℕ)
     → ((certificates : List CertView) → Chain bytes certificates → GivesChain {X = List CertView} (λ x. x) (Err (chains.At number place)) (Ok certificates))
-    → IsFaultFor faults.Certificate (IsNoChain bytes) faults.Certificate
+    → IsNoChain bytes
 no_chain bytes number place only =
-    inl (refl, λ certificates chain. let other : ◌≡◌ {A = Result (List CertView) RefusedCertificate} (Ok certificates) (Err (refused_at number place)) = only certificates chain in cc)
+    (λ certificates chain. let other : ◌≡◌ {A = Result (List CertView) RefusedCertificate} (Ok certificates) (Err (refused_at number place)) = only certificates chain in cc)
 
 -- ---- what is told
 
-pub kinds_told : (came : Result Text Fault) (before now : List ℕ) (said : Said) → ToldShown came before now said → said.kind ≤ 4
+pub kinds_told : (came : Result Text Unshown) (before now : List ℕ) (said : Said) → ToldShown came before now said → said.kind ≤ 4
 kinds_told (Ok text) before now said so = text_kinds text.bytes.items before now said so
-kinds_told (Err fault) before now said so = subst (λ (s : Said). s.kind ≤ 4) (sym so.told_is) (let low = input_kind (input_of fault) in omega (arith, low))
+kinds_told (Err why) before now said so = subst (λ (s : Said). s.kind ≤ 4) (sym so.told_is) (let low = input_kind (input_of why) in omega (arith, low))
 
-pub never_refused : (came : Result Text Fault) (before now : List ℕ) (said : Said) → ToldShown came before now said → said.kind ≢ 1
+pub never_refused : (came : Result Text Unshown) (before now : List ℕ) (said : Said) → ToldShown came before now said → said.kind ≢ 1
 never_refused (Ok text) before now said so one = no_middle text.bytes.items before now said so (omega (arith, one)) (omega (arith, one))
-never_refused (Err fault) before now said so one =
-    faulty_kind (input_of fault) (let is = subst (λ (s : Said). s.kind ≡ 1) so.told_is one in omega (arith, is))
+never_refused (Err why) before now said so one =
+    faulty_kind (input_of why) (let is = subst (λ (s : Said). s.kind ≡ 1) so.told_is one in omega (arith, is))
 
-pub shown_told : (bytes : List ℕ) (came : Result Text Fault) (before now : List ℕ) (said : Said) → IfOk came (λ text. IsShown bytes text.bytes.items) → ToldShown came before now said
+pub shown_told : (bytes : List ℕ) (came : Result Text Unshown) (before now : List ℕ) (said : Said) → IfOk came (λ text. IsShown bytes text.bytes.items) → ToldShown came before now said
     → said.kind ≡ 0 → ShownInto bytes before now said
 shown_told bytes (Ok text) before now said by so zero =
     let into = text_into text.bytes.items before now said so zero in
     record { lines = text.bytes.items; shown = by; size_is = into.0; text = into.1 }
-shown_told bytes (Err fault) before now said by so zero =
-    absurd (faulty_kind (input_of fault) (let is = subst (λ (s : Said). s.kind ≡ 0) so.told_is zero in omega (arith, is)))
+shown_told bytes (Err why) before now said by so zero =
+    absurd (faulty_kind (input_of why) (let is = subst (λ (s : Said). s.kind ≡ 0) so.told_is zero in omega (arith, is)))
 
-pub room_told : (bytes : List ℕ) (came : Result Text Fault) (before now : List ℕ) (said : Said) → IfOk came (λ text. IsShown bytes text.bytes.items) → ToldShown came before now said
+pub room_told : (bytes : List ℕ) (came : Result Text Unshown) (before now : List ℕ) (said : Said) → IfOk came (λ text. IsShown bytes text.bytes.items) → ToldShown came before now said
     → said.kind ≡ 4 → ShowsMore bytes before said
 room_told bytes (Ok text) before now said by so four =
     let more = text_more text.bytes.items before now said so four in
     record { lines = text.bytes.items; shown = by; size_is = more.0; more = more.1 }
-room_told bytes (Err fault) before now said by so four =
-    absurd (let low = input_kind (input_of fault) in let is = subst (λ (s : Said). s.kind ≡ 4) so.told_is four in omega (arith, low, is))
+room_told bytes (Err why) before now said by so four =
+    absurd (let low = input_kind (input_of why) in let is = subst (λ (s : Said). s.kind ≡ 4) so.told_is four in omega (arith, low, is))
 
-pub fault_told : (bytes : List ℕ) (came : Result Text Fault) (before now : List ℕ) (said : Said) → IfErr came (IsFaultFor faults.Certificate (IsNoChain bytes))
+pub fault_told : (bytes : List ℕ) (came : Result Text Unshown) (before now : List ℕ) (said : Said) → IfErr came (IsWhyUnshown bytes)
     → ToldShown came before now said → said.kind ≡ 2 → (said.input ≡ 7) × IsNoChain bytes
 fault_told bytes (Ok text) before now said by so two = absurd (no_middle text.bytes.items before now said so (omega (arith, two)) (omega (arith, two)))
-fault_told bytes (Err fault) before now said by so two =
-    number_of_one faults.Certificate 7 fault said.input (IsNoChain bytes) refl
-    (numbered (input_of fault) (subst (λ (s : Said). s.kind ≡ 2) so.told_is two) ∙ ap (λ (s : Said). Some s.input) (sym so.told_is)) by
+fault_told bytes (Err unshown.Certificate) before now said by so two = (ap (λ (s : Said). s.input) so.told_is, by)
+fault_told bytes (Err unshown.Memory) before now said by so two =
+    absurd (let is = subst (λ (s : Said). s.kind ≡ 2) so.told_is two in omega (arith, is))
 
-pub was_told : (came : Result Text Fault) (before now : List ℕ) (said : Said) → ToldShown came before now said → 1 ≤ said.kind → now ≡ before
+pub was_told : (came : Result Text Unshown) (before now : List ℕ) (said : Said) → ToldShown came before now said → 1 ≤ said.kind → now ≡ before
 was_told (Ok text) before now said so high = high_unwritten text.bytes.items before now said so high
-was_told (Err fault) before now said so high = so.as_was
+was_told (Err why) before now said so high = so.as_was

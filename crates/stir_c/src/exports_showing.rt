@@ -2,9 +2,8 @@
 ghost use Rattle.std.specs.Prelude.{◌≡◌, ◌≢◌, ◌≤◌};
 ghost use Rattle.stir_c.specs.Showing.{IsNoChain, ShownInto, ShowsMore, ToldShown};
 
-use crate::inputs::Fault;
 use crate::said::Said;
-use crate::showing::show;
+use crate::showing::{Unshown, show};
 use crate::writing::{Text, told_text};
 use std::alloc::Global;
 
@@ -23,11 +22,11 @@ pub extern "C" fn stir_show(alloc: Global, chain: &[u8], room: &mut [u8]) -> Sai
 }
 
 /// The lines, written into the room and told; or the fault.
-fn told_shown(came: Result<Text, Fault>, room: &mut [u8]) -> Said
+fn told_shown(came: Result<Text, Unshown>, room: &mut [u8]) -> Said
     ensures { ToldShown came room.old room.new result }
 {
     match came {
         Ok(text) => told_text(&text, room),
-        Err(fault) => Said::fault(fault),
+        Err(why) => Said::unshown(why),
     }
 }

@@ -1,12 +1,15 @@
 //! What came of a call to the library, as C sees it.
 ghost use Rattle.std.specs.Prelude.{◌≡◌};
+ghost use Rattle.stir_c.specs.Saying.{said_found};
 ghost use Rattle.stir_c.specs.Signing.{said_digest, said_of_unsigned, said_withheld};
-ghost use Rattle.stir_c.specs.Told.{no_room, plain, said_for, said_of, said_of_fault, told};
+ghost use Rattle.stir_c.specs.Showing.{said_of_unshown};
+ghost use Rattle.stir_c.specs.Told.{no_room, plain};
+ghost use Rattle.stir_c.specs.WorldFaults.{said_of_world_fault};
 ghost use Rattle.stir_c.specs.WrittenText.{said_written};
 
-use crate::found::Found;
-use crate::inputs::Fault;
-use crate::signing::Unsigned;
+use crate::showing::Unshown;
+use open_calls::{Found, WorldFault};
+use open_signing::{Unread, Unsigned};
 use verify_rules::code;
 
 /// What `kind` may be.
@@ -20,12 +23,31 @@ const NO_MEMORY: u32 = 3;
 
 const NO_ROOM: u32 = 4;
 
+const CLOSED: u32 = 5;
+
+const NONE: u32 = 6;
+
+/// What `input` may be of a world.
+const SETTINGS: u32 = 1;
+
+const ANCHORS: u32 = 4;
+
+const TABLE: u32 = 5;
+
+/// What `input` may be of a message that is signed.
+const CERTIFICATE: u32 = 7;
+
+const ORDER: u32 = 8;
+
+const SIGNATURE: u32 = 9;
+
 /// What came of a call to the library: C's `stir_said`.
 #[repr(C)]
 #[derive(Clone, Copy)]
 pub struct Said {
     /// 0: the call breaks no rule, or what was asked for is done. 1: it breaks a rule, or isn't signed. 2: an input is outside its grammar or
-    /// its limits. 3: memory ran out. 4: the room is too small, and nothing is written.
+    /// its limits. 3: memory ran out. 4: the room is too small, and nothing is written. 5: a handle is closed. 6: there is none of this number or
+    /// name.
     pub kind: u32,
     /// Of kind 2, which input.
     pub input: u32,
@@ -61,9 +83,9 @@ impl Said {
         }
     }
 
-    /// What was found of a call, with so many bytes that are written beside it.
-    pub(crate) fn found(found: &Found, size: usize) -> Said
-        ensures { result ≡ said_of found.now size }
+    /// What was found of a call, with so many bytes that are written beside it, or so many PASSporTs that are judged.
+    pub(crate) fn call(found: &Found, size: usize) -> Said
+        ensures { result ≡ said_found found.now size }
     {
         match found {
             Found::Refused(refusal) => Said {
@@ -80,6 +102,56 @@ impl Said {
                 ticket: pass.ticket,
                 ..Said::of(PASSES)
             },
+        }
+    }
+
+    /// What was wanted is done.
+    pub(crate) fn done() -> Said
+        ensures { result ≡ plain 0 0 }
+    {
+        Said::of(PASSES)
+    }
+
+    /// Memory ran out.
+    pub(crate) fn no_memory() -> Said
+        ensures { result ≡ plain 3 0 }
+    {
+        Said::of(NO_MEMORY)
+    }
+
+    /// A handle is closed.
+    pub(crate) fn closed() -> Said
+        ensures { result ≡ plain 5 0 }
+    {
+        Said::of(CLOSED)
+    }
+
+    /// There is none of this number or name.
+    pub(crate) fn none() -> Said
+        ensures { result ≡ plain 6 0 }
+    {
+        Said::of(NONE)
+    }
+
+    /// The input of this number is outside its grammar or its limits.
+    fn bad(input: u32) -> Said
+        ensures { result ≡ plain 2 input }
+    {
+        Said {
+            input,
+            ..Said::of(BAD_INPUT)
+        }
+    }
+
+    /// Why there is no world.
+    pub(crate) fn world_fault(fault: WorldFault) -> Said
+        ensures { result ≡ said_of_world_fault fault }
+    {
+        match fault {
+            WorldFault::Settings => Said::bad(SETTINGS),
+            WorldFault::Anchors => Said::bad(ANCHORS),
+            WorldFault::Table => Said::bad(TABLE),
+            WorldFault::Memory => Said::no_memory(),
         }
     }
 
@@ -126,38 +198,15 @@ impl Said {
         }
     }
 
-    /// What isn't read, or wasn't done.
-    pub(crate) fn fault(fault: Fault) -> Said
-        ensures { result ≡ said_of_fault fault }
+    /// Why nothing is shown.
+    pub(crate) fn unshown(why: Unshown) -> Said
+        ensures { result ≡ said_of_unshown why }
     {
-        match fault.number() {
-            Some(input) => Said {
-                input,
-                ..Said::of(BAD_INPUT)
-            },
-            None => Said::of(NO_MEMORY),
+        match why {
+            Unshown::Certificate => Said::bad(CERTIFICATE),
+            Unshown::Memory => Said::no_memory(),
         }
     }
-}
-
-/// What was found of a call, or the fault.
-pub(crate) fn said_for(came: Result<Found, Fault>) -> Said
-    ensures { result ≡ said_for came }
-{
-    match came {
-        Ok(found) => Said::found(&found, 0),
-        Err(fault) => Said::fault(fault),
-    }
-}
-
-/// What was found of a call, beside a text of so many bytes that was written or not.
-pub(crate) fn told(found: &Found, size: usize, written: bool) -> Said
-    ensures { result ≡ told found.now size written }
-{
-    if written {
-        return Said::found(found, size);
-    }
-    Said::no_room(size)
 }
 
 /// Why no message comes out.
@@ -165,8 +214,11 @@ pub(crate) fn said_of_unsigned(unsigned: Unsigned) -> Said
     ensures { result ≡ said_of_unsigned unsigned }
 {
     match unsigned {
-        Unsigned::Input(fault) => Said::fault(fault),
-        Unsigned::Withheld(number) => Said::withheld(number),
+        Unsigned::Input(Unread::Certificate) => Said::bad(CERTIFICATE),
+        Unsigned::Input(Unread::Order) => Said::bad(ORDER),
+        Unsigned::Input(Unread::Signature) => Said::bad(SIGNATURE),
+        Unsigned::Input(Unread::Memory) => Said::no_memory(),
+        Unsigned::Withheld(number) => Said::withheld(u32::from(number)),
         Unsigned::Digest(digest) => Said::digest(digest),
     }
 }

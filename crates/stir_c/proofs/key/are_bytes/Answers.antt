@@ -1,0 +1,6 @@
+-- Each byte is one.
+use Rattle.std.proofs.Common.{arith}
+use Rattle.stir_c.proofs.key.are_bytes.Goals as goal
+
+pub returns : goal.returns
+returns c = λ i. omega (arith, c.type_inv.bytes i)
