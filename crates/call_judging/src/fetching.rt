@@ -1,6 +1,7 @@
 //! The chain of an x5u: its file read from the shelf, and judged.
 ghost use Rattle.std.specs.Prelude.{◌≡◌, ◌≤◌, ◌+◌, ℕ, List, Some, IfOk};
 ghost use Rattle.cert_store.specs.ChainMap.{listed};
+ghost use Rattle.stir_outside.specs.Files.{tries};
 ghost use Rattle.stir_outside.specs.Stays.{ProviderStays, ShelfStays};
 ghost use Rattle.call_judging.specs.Causes.{HasCauseIf};
 ghost use Rattle.call_judging.specs.Chains.{state_of};
@@ -56,6 +57,7 @@ pub fn fetch<S: Shelf>(
     ensures read { IfOk result (λ file. (S.counts shelf.new).reads ≤ (S.counts shelf.old).reads + read_count file) }
     ensures rose { IfOk result (λ file. HasCauseIf (is_read_file file) (S.counts shelf.old).reads (S.counts shelf.new).reads) }
     ensures reads { (S.counts shelf.new).reads ≤ (S.counts shelf.old).reads + 1 }
+    ensures tries { tries (S.counts shelf.new) ≤ tries (S.counts shelf.old) + 1 }
     ensures shelf { ShelfStays S.Shelf shelf.old shelf.new }
 {
     right_law();
@@ -78,6 +80,7 @@ pub fn fetch_file<S: Shelf>(
     ensures read { IfOk result (λ file. (S.counts shelf.new).reads ≤ (S.counts shelf.old).reads + read_count file) }
     ensures rose { IfOk result (λ file. HasCauseIf (is_read_file file) (S.counts shelf.old).reads (S.counts shelf.new).reads) }
     ensures reads { (S.counts shelf.new).reads ≤ (S.counts shelf.old).reads + 1 }
+    ensures tries { tries (S.counts shelf.new) ≤ tries (S.counts shelf.old) + 1 }
     ensures shelf { ShelfStays S.Shelf shelf.old shelf.new }
 {
     right_law();

@@ -56,6 +56,8 @@ impl<'a> Provider for Confirmed<'a> {
 
     ghost faults = { λ _. 0 };
 
+    ghost sign_faults = { λ _. 0 };
+
     fn confirm(
         &mut self,
         key: &[u8; 65],

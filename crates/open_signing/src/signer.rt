@@ -21,6 +21,8 @@ impl Provider for Signer {
 
     ghost faults = { λ _. 0 };
 
+    ghost sign_faults = { λ _. 0 };
+
     fn confirm(
         &mut self,
         _key: &[u8; 65],

@@ -160,7 +160,7 @@ causes_err laws bytes readings hop holder signs message earlier fault i e =
 
 -- the provider wasn't asked
 pub not_asked : {P X : Type 0} (provider : ProviderOf P) (now : P) (fault : HopFault) → is_provider fault ≡ false → IsAskedOnce {X = X} provider now now (Err fault)
-not_asked provider now fault unnamed = record { failed = λ (h : is_provider fault ≡ true). absurd cc; asks = omega arith; asks_stay = omega arith }
+not_asked provider now fault unnamed = record { failed = λ (h : is_provider fault ≡ true). absurd cc; failed_signing = λ (h : is_provider fault ≡ true). absurd cc; asks = omega arith; asks_stay = omega arith }
 
 -- ---- the next hop
 

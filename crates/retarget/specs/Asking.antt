@@ -6,9 +6,10 @@ use Rattle.retarget.specs.Answer.{names_provider}
 use Rattle.retarget.specs.declared.fault.HopFault.{HopFault}
 use Rattle.retarget.specs.declared.fault.HopFault.TheVariants as faults
 
--- it was asked at most once, and counted the failure that is answered
+-- it was asked at most once, and counted the failure that is answered, at signing
 pub record IsAskedOnce {P X : Type 0} (provider : ProviderOf P) (before now : P) (result : Result X HopFault) : Type 0 where
   pub failed : names_provider result ≡ true → Rose (provider.faults before) (provider.faults now)
+  pub failed_signing : names_provider result ≡ true → Rose (provider.sign_faults before) (provider.sign_faults now)
   pub asks : provider.asks now ≤ provider.asks before + 1
   pub asks_stay : provider.asks before ≤ provider.asks now
 

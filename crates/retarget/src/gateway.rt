@@ -32,7 +32,7 @@ use verify_rules::{Chains, Screened, Verdict, finish};
 /// each of its PASSporTs; and the hop is one that [`Hop::is_valid`] takes.
 ///
 /// The faults are tried in the order of [`HopFault`]. The provider signs at most once, and only if none of those up to `Authority` comes. `Provider` comes
-/// only if its count of faults rose, and `Memory` only if memory runs out.
+/// only if it failed while it was to sign, and `Memory` only if memory runs out.
 pub fn retarget<C: Chains, P: Provider>(
     alloc: Global,
     bytes: &[u8],
@@ -69,8 +69,9 @@ pub fn retarget<C: Chains, P: Provider>(
     // If a verdict is answered, the provider was asked about PASSporTs alone: nothing is signed of a call that doesn't pass.
     ensures unsigned { IfErr result (AsksNoMore (length screened.now.readings) (P.asks provider.old) (P.asks provider.new)) }
 
-    // The provider's failure has its count; and it isn't asked to sign, and isn't named, if one of the faults 21 to 25 is there.
+    // The provider's failure has its count, and it failed at signing; it isn't asked to sign, and isn't named, if one of the faults 21 to 25 is there.
     ensures failed { names_provider result ≡ true → Rose (P.faults provider.old) (P.faults provider.new) }
+    ensures failed_signing { names_provider result ≡ true → Rose (P.sign_faults provider.old) (P.sign_faults provider.new) }
     ensures withheld { MayNotSign bytes.now screened.now.readings (hop_of hop.now) (holder_of holder.now)
         → IsUnasked (length screened.now.readings) (P.asks provider.old) (P.asks provider.new) result }
 

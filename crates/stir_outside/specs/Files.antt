@@ -1,5 +1,5 @@
 -- What a shelf holds and counts.
-use Rattle.std.specs.Prelude.{◌≡◌, ℕ, ◌<◌, nat_lt, ⊤, List, [], ◌∷◌, map, length, slice_index, Option, Some, None, if◌then◌else◌}
+use Rattle.std.specs.Prelude.{◌≡◌, ℕ, ◌+◌, ◌<◌, nat_lt, ⊤, List, [], ◌∷◌, map, length, slice_index, Option, Some, None, if◌then◌else◌}
 use Rattle.std.specs.Str.{bytes_eq}
 use Rattle.stir_outside.specs.Count.{GoesOn}
 
@@ -49,6 +49,10 @@ pub record Counts : Type 0 where
   pub misses : ℕ
   pub longs : ℕ
   pub faults : ℕ
+
+-- how often files were asked for, whatever came of it; a call that ran out of memory isn't counted
+abbrev pub tries : Counts → ℕ
+tries counts = counts.reads + counts.misses + counts.longs + counts.faults
 
 -- no count fell, and none passed its last value
 pub record CountsGoOn (before now : Counts) : Type 0 where

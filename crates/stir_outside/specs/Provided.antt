@@ -4,12 +4,13 @@ use Rattle.stir_outside.specs.Count.{HasCause, faults_after, one_more}
 use Rattle.stir_outside.specs.Held.{Held}
 use Rattle.stir_outside.specs.Memory.{is_failing}
 
--- what it answers, the calls that are to fail, and the counts of calls and of faults
+-- what it answers, the calls that are to fail, and the counts of calls, of faults, and of faults at signing
 pub record ProviderState : Type 0 where
   pub held : Held
   pub failing : List ℕ
   pub asks : ℕ
   pub faults : ℕ
+  pub sign_faults : ℕ
 
 -- what a provider that never fails answers, and the count of calls
 pub record SteadyState : Type 0 where

@@ -1,6 +1,6 @@
-ghost use Rattle.std.specs.Prelude.{◌≡◌, ℕ, ◌≤◌, Option, Some, None, Err, IfOk, is_ok, vec_len, if◌then◌else◌};
+ghost use Rattle.std.specs.Prelude.{◌≡◌, ℕ, ◌+◌, ◌≤◌, Option, Some, None, Err, IfOk, is_ok, vec_len, if◌then◌else◌};
 ghost use Rattle.stir_outside.specs.Count.{Rose, one_more};
-ghost use Rattle.stir_outside.specs.Files.{Files, Counts, CountsGoOn, OfFile, IsLonger};
+ghost use Rattle.stir_outside.specs.Files.{Files, Counts, CountsGoOn, OfFile, IsLonger, tries};
 
 use std::alloc::Global;
 
@@ -20,7 +20,8 @@ pub enum ShelfFault {
 /// A shelf of named files, as a folder of the file system.
 ///
 /// `files` is the map from names to contents, if the shelf tells it; no call changes it. What a file holds are bytes: its content is what
-/// the map says, each number as a byte. `counts` are its counts of files read, missing, too long and failed, each in 64 bits.
+/// the map says, each number as a byte. `counts` are its counts of files read, missing, too long and failed, each in 64 bits; a call raises
+/// one of them, and by one, or none.
 pub trait Shelf {
     ghost files: { Self → Option Files };
 
@@ -31,6 +32,7 @@ pub trait Shelf {
         ensures same { files self.new ≡ files self.old }
         ensures go_on { CountsGoOn (counts self.old) (counts self.new) }
         ensures reads { (counts self.new).reads ≡ (if is_ok result then one_more (counts self.old).reads else (counts self.old).reads) }
+        ensures tries { tries (counts self.new) ≤ tries (counts self.old) + 1 }
 
         ensures within { IfOk result (λ bytes. vec_len bytes ≤ limit) }
         ensures found { IfOk result (λ bytes. OfFile (files self.old) name.now (λ held. held ≡ Some bytes.items)) }

@@ -19,6 +19,7 @@ struct Breakable {
     is_broken: bool,
     asks: u64,
     faults: u64,
+    faults_at_signing: u64,
 }
 
 impl Provider for Breakable {
@@ -31,6 +32,8 @@ impl Provider for Breakable {
     ghost asks = { λ p. p.asks };
 
     ghost faults = { λ p. p.faults };
+
+    ghost sign_faults = { λ p. p.faults_at_signing };
 
     fn confirm(
         &mut self,
@@ -50,6 +53,7 @@ impl Provider for Breakable {
         self.asks = self.asks.saturating_add(1);
         if self.is_broken {
             self.faults = self.faults.saturating_add(1);
+            self.faults_at_signing = self.faults_at_signing.saturating_add(1);
             return Err(Failed);
         }
         Ok(None)
@@ -70,6 +74,7 @@ fn a_provider_can_fail_on_command(rt: HostRuntime) {
         is_broken: false,
         asks: 0,
         faults: 0,
+        faults_at_signing: 0,
     };
     assert!(rt; answered(&mut provider) == [true, true, true] && provider.faults == 0);
     provider.is_broken = true;

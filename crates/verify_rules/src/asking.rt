@@ -30,6 +30,7 @@ pub(crate) fn ask<C: Chains, P: Provider>(
     ensures asks { P.asks provider.new ≤ P.asks provider.old + length screened.now.readings }
     ensures asks_stay { P.asks provider.old ≤ P.asks provider.new }
     ensures provider { ProviderStays P.Provider provider.old provider.new }
+    ensures signs_nothing { P.sign_faults provider.new ≡ P.sign_faults provider.old }
 {
     'passports: for i in 0..screened.count() {
         let one = screened.at(i);
@@ -58,6 +59,7 @@ fn ask_at<P: Provider>(
     ensures asks_stay { P.asks provider.old ≤ P.asks provider.new }
     ensures same_says { P.says provider.new ≡ P.says provider.old }
     ensures same_signs { P.signs provider.new ≡ P.signs provider.old }
+    ensures signs_nothing { P.sign_faults provider.new ≡ P.sign_faults provider.old }
 {
     let field = one.field;
     match state {
@@ -96,6 +98,7 @@ fn is_signed<P: Provider>(
     ensures asks_stay { P.asks provider.old ≤ P.asks provider.new }
     ensures same_says { P.says provider.new ≡ P.says provider.old }
     ensures same_signs { P.signs provider.new ≡ P.signs provider.old }
+    ensures signs_nothing { P.sign_faults provider.new ≡ P.sign_faults provider.old }
 {
     match leaf {
         Some(leaf) => provider.confirm(leaf.key(), &one.digest, &one.signature),

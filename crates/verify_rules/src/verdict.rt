@@ -90,6 +90,7 @@ pub fn finish<C: Chains, P: Provider>(
     ensures asks { P.asks provider.new ≤ P.asks provider.old + length screened.now.readings }
     ensures asks_stay { P.asks provider.old ≤ P.asks provider.new }
     ensures provider { ProviderStays P.Provider provider.old provider.new }
+    ensures signs_nothing { P.sign_faults provider.new ≡ P.sign_faults provider.old }
 {
     judged_law();
     late_words_law();
@@ -110,6 +111,7 @@ fn finish_exactly<C: Chains, P: Provider>(
     ensures asks { P.asks provider.new ≤ P.asks provider.old + length screened.now.readings }
     ensures asks_stay { P.asks provider.old ≤ P.asks provider.new }
     ensures provider { ProviderStays P.Provider provider.old provider.new }
+    ensures signs_nothing { P.sign_faults provider.new ≡ P.sign_faults provider.old }
 {
     let _few = screened.count();
     let once = Once::of(chains);
@@ -130,6 +132,7 @@ fn by_rules<C: Chains, P: Provider>(
     ensures asks { P.asks provider.new ≤ P.asks provider.old + length screened.now.readings }
     ensures asks_stay { P.asks provider.old ≤ P.asks provider.new }
     ensures provider { ProviderStays P.Provider provider.old provider.new }
+    ensures signs_nothing { P.sign_faults provider.new ≡ P.sign_faults provider.old }
 {
     if let Some(event) = first_rule(&BEFORE, screened, chains, moment, table) {
         return verdict_of(event);

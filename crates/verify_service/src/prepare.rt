@@ -1,4 +1,5 @@
 //! Preparing a round: all that can run out of memory.
+ghost use Rattle.stir_outside.specs.Files.{tries};
 ghost use Rattle.stir_outside.specs.Stays.{ProviderStays, ShelfStays};
 ghost use Rattle.std.specs.Prelude.{◌≡◌, ◌<◌, ◌≤◌, ◌+◌, [], ℕ, true, length, IfOk, slice_index_or};
 ghost use Rattle.cert_store.specs.Holding.{AreAnswered};
@@ -80,6 +81,8 @@ impl Service {
         ensures right { (d : _) → HoldsRight (S.files shelf.new) (P.says (slice_index_or workers.new 0 d).provider) self.new }
         ensures most { (S.counts shelf.new).reads
             ≤ (S.counts shelf.old).reads + length (round_texts self.old.chains self.old.held.entries (named self.old.settings calls.now)) }
+        ensures tries { tries (S.counts shelf.new)
+            ≤ tries (S.counts shelf.old) + length (round_texts self.old.chains self.old.held.entries (named self.old.settings calls.now)) }
         ensures purged { IsPurged calls.now (held self.old.past) (held self.new.past) }
         ensures config { IsSameConfig self.old self.new }
         ensures number { self.new.number ≡ last_number self.old.number calls.now }
@@ -170,6 +173,8 @@ fn prepare_round<R: Threads + Sync, S: Shelf, P: Provider + Send, G: Gate + Send
         (P.asks (slice_index_or workers.new w d).provider) contents) }
     ensures most { (S.counts shelf.new).reads
         ≤ (S.counts shelf.old).reads + length (round_texts world.now.chains cache.old.entries (named settings.now calls.now)) }
+    ensures tries { tries (S.counts shelf.new)
+        ≤ tries (S.counts shelf.old) + length (round_texts world.now.chains cache.old.entries (named settings.now calls.now)) }
     ensures answered { IfOk result (λ prepared. AreAnswered cache.new.entries) }
     ensures capacity { cache.new.capacity ≡ cache.old.capacity }
     ensures workers { length workers.new ≡ length workers.old }

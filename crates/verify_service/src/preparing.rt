@@ -1,6 +1,7 @@
 //! What a round needs before its calls are judged: each call screened, and each chain that they need at hand.
 ghost use Rattle.std.specs.Prelude.{◌≡◌, ◌<◌, ◌≤◌, ◌+◌, ◌%◌, ℕ, [], None, true, get_or, length, vec_len, slice_index_or, IfOk};
 ghost use Rattle.std.specs.List.{list_any};
+ghost use Rattle.stir_outside.specs.Files.{tries};
 ghost use Rattle.stir_outside.specs.Stays.{ProviderStays, ShelfStays};
 ghost use Rattle.verify_service.specs.Contents.{AsksFew, HasContents};
 ghost use Rattle.verify_service.specs.Judging.{EachPair};
@@ -102,6 +103,7 @@ pub(crate) fn ready_chains<R: Threads + Sync, S: Shelf, P: Provider + Send, G: G
         (λ contents. (w : ℕ) → w < length workers.old → AsksFew w (length workers.old) 0 (P.asks (slice_index_or workers.old w d).provider)
         (P.asks (slice_index_or workers.new w d).provider) contents) }
     ensures most { (S.counts shelf.new).reads ≤ (S.counts shelf.old).reads + length (texts_of world.now cache.old.entries calls.now) }
+    ensures tries { tries (S.counts shelf.new) ≤ tries (S.counts shelf.old) + length (texts_of world.now cache.old.entries calls.now) }
 
     ensures capacity { cache.new.capacity ≡ cache.old.capacity }
     ensures counted { length workers.new ≡ length workers.old }
@@ -138,6 +140,7 @@ fn fetch_and_judge<R: Threads + Sync, S: Shelf, P: Provider + Send, G: Gate + Se
         (λ contents. (w : ℕ) → w < length workers.old → AsksFew w (length workers.old) 0 (P.asks (slice_index_or workers.old w d).provider)
         (P.asks (slice_index_or workers.new w d).provider) contents) }
     ensures most { (S.counts shelf.new).reads ≤ (S.counts shelf.old).reads + length texts.now }
+    ensures tries { tries (S.counts shelf.new) ≤ tries (S.counts shelf.old) + length texts.now }
     ensures counted { length workers.new ≡ length workers.old }
     ensures shelf { ShelfStays S.Shelf shelf.old shelf.new }
     ensures provider { EachWorker workers.old workers.new (λ _ before now. ProviderStays P.Provider before.provider now.provider) }

@@ -6,7 +6,7 @@ ghost use Rattle.replay_law.specs.Held.{purged};
 ghost use Rattle.replay_law.specs.Round.{RoundSettled, round_of};
 ghost use Rattle.replay_law.specs.Turn.{FirstWins};
 ghost use Rattle.stir_outside.specs.Count.{NotRisen};
-ghost use Rattle.stir_outside.specs.Files.{Files};
+ghost use Rattle.stir_outside.specs.Files.{Files, tries};
 ghost use Rattle.verify_service.specs.Carried.{AreClasses, HasPairs};
 ghost use Rattle.verify_service.specs.Causes.{NoneUnasked, NoneUnread, UnaskedIsCounted, UnreadIsCounted, unasked_texts, unread_texts};
 ghost use Rattle.verify_service.specs.Contents.{AsksFew, HasContents};
@@ -92,6 +92,7 @@ impl Service {
         // provider is asked no more than for the chains of the worker's texts and the PASSporTs of its calls.
         ensures right { (d : _) → HoldsRight (S.files shelf.new) (P.says (slice_index_or workers.new 0 d).provider) self.new }
         ensures most { (S.counts shelf.new).reads ≤ (S.counts shelf.old).reads + length (texts_in self.old calls.now) }
+        ensures tries { tries (S.counts shelf.new) ≤ tries (S.counts shelf.old) + length (texts_in self.old calls.now) }
         ensures judges { (d : _) → IfOk result (λ carried. HasJudged (S.files shelf.old) (materials_of self.old) (P.says (slice_index_or workers.old 0 d).provider)
             (named self.old.settings calls.now) (unread_texts self.old.settings calls.now carried.outcomes) self.old.held self.new.held (S.counts shelf.old).reads (S.counts shelf.new).reads
             (λ judged. (w : ℕ) → w < length workers.old → HasAsked judged (own_of w (length workers.old) 0 (texts_in self.old calls.now))

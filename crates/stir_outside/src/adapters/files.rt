@@ -1,6 +1,6 @@
-ghost use Rattle.std.specs.Prelude.{◌≡◌, ◌≢◌, ℕ, ◌<◌, ◌≤◌, None, Err, IfOk, IfSome, is_ok, length, vec_len, if◌then◌else◌};
+ghost use Rattle.std.specs.Prelude.{◌≡◌, ◌≢◌, ℕ, ◌+◌, ◌<◌, ◌≤◌, None, Err, IfOk, IfSome, is_ok, length, vec_len, if◌then◌else◌};
 ghost use Rattle.stir_outside.specs.Count.{Rose, one_more};
-ghost use Rattle.stir_outside.specs.Files.{CountsGoOn};
+ghost use Rattle.stir_outside.specs.Files.{CountsGoOn, tries};
 ghost use Rattle.stir_outside.specs.Shelf.{counted};
 
 use crate::adapters::stdin::StdinSource;
@@ -85,6 +85,7 @@ impl<R: Files + Drop> Shelf for FileShelf<R> {
     fn read(&mut self, alloc: Global, name: &str, limit: usize) -> Result<Vec<u8>, ShelfFault>
         ensures go_on { CountsGoOn self.old self.new }
         ensures reads { self.new.reads ≡ (if is_ok result then one_more self.old.reads else self.old.reads) }
+        ensures tries { tries self.new ≤ tries self.old + 1 }
 
         ensures within { IfOk result (λ bytes. vec_len bytes ≤ limit) }
         ensures missing_rose { result ≡ Err ShelfFault.Missing → Rose self.old.misses self.new.misses }

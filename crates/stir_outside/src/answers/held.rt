@@ -159,7 +159,7 @@ impl Answers {
 
     /// A provider that gives these answers, whose listed calls fail, counted from 1 over both kinds of calls.
     pub fn provider(&self, failing: &[u64]) -> Result<AnswerProvider<'_>, AllocError>
-        ensures { IfOk result (λ provider. provider ≡ record { held = self.now; failing = failing.now; asks = 0; faults = 0 }) }
+        ensures { IfOk result (λ provider. provider ≡ record { held = self.now; failing = failing.now; asks = 0; faults = 0; sign_faults = 0 }) }
     {
         let failing = Vec::from_slice(self.alloc, failing)?;
         Ok(AnswerProvider::new(self, failing))

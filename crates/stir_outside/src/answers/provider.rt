@@ -16,6 +16,7 @@ pub struct AnswerProvider<'a> {
     failing: Vec<u64>,
     asks: u64,
     faults: u64,
+    sign_faults: u64,
 }
 
 impl<'a> Model for AnswerProvider<'a> {
@@ -23,7 +24,7 @@ impl<'a> Model for AnswerProvider<'a> {
 
     ghost Value = { ProviderState };
 
-    ghost view = { λ p. record { held = p.answers.now; failing = p.failing.items; asks = p.asks; faults = p.faults } };
+    ghost view = { λ p. record { held = p.answers.now; failing = p.failing.items; asks = p.asks; faults = p.faults; sign_faults = p.sign_faults } };
 }
 
 impl<'a> AnswerProvider<'a> {
@@ -31,13 +32,14 @@ impl<'a> AnswerProvider<'a> {
 
     /// A provider of these answers whose listed calls fail.
     pub(crate) fn new(answers: &'a Answers, failing: Vec<u64>) -> AnswerProvider<'a>
-        ensures { result ≡ record { held = answers.now; failing = failing.items; asks = 0; faults = 0 } }
+        ensures { result ≡ record { held = answers.now; failing = failing.items; asks = 0; faults = 0; sign_faults = 0 } }
     {
         AnswerProvider {
             answers,
             failing,
             asks: 0,
             faults: 0,
+            sign_faults: 0,
         }
     }
 
@@ -57,7 +59,8 @@ impl<'a> AnswerProvider<'a> {
 
     /// Counts a call; it fails if it is listed.
     fn ask(&mut self) -> Result<(), Failed>
-        ensures { Asked self.old self.new result }
+        ensures asked { Asked self.old self.new result }
+        ensures signs_nothing { self.new.sign_faults ≡ self.old.sign_faults }
     {
         self.asks = self.asks.saturating_add(1);
         if self.failing.contains(&self.asks) {
@@ -79,6 +82,8 @@ impl<'a> Provider for AnswerProvider<'a> {
 
     ghost faults = { λ p. p.faults };
 
+    ghost sign_faults = { λ p. p.sign_faults };
+
     fn confirm(
         &mut self,
         key: &[u8; 65],
@@ -90,6 +95,7 @@ impl<'a> Provider for AnswerProvider<'a> {
         ensures asks { self.new.asks ≡ one_more self.old.asks }
         ensures asks_stay { self.old.asks ≤ self.new.asks }
         ensures cause { HasCause self.old.faults self.new.faults result }
+        ensures signs_nothing { self.new.sign_faults ≡ self.old.sign_faults }
         ensures answer { IfOk result (λ good. good ≡ held_says self.old.held key.now digest.now signature.now) }
 
         // Exactly the listed calls fail; so if none is listed, `faults` stays as it was.
@@ -108,15 +114,20 @@ impl<'a> Provider for AnswerProvider<'a> {
         ensures asks { self.new.asks ≡ one_more self.old.asks }
         ensures asks_stay { self.old.asks ≤ self.new.asks }
         ensures cause { HasCause self.old.faults self.new.faults result }
+        ensures sign_cause { HasCause self.old.sign_faults self.new.sign_faults result }
         ensures answer { IfOk result (λ made. made ≡ held_signs self.old.held name.now digest.now) }
 
         // As with `confirm`.
         ensures fails { is_err result ≡ is_failing self.old.asks self.old.failing }
         ensures faults { self.new.faults ≡ faults_after self.old.faults result }
+        ensures sign_faults { self.new.sign_faults ≡ faults_after self.old.sign_faults result }
         ensures failing { self.new.failing ≡ self.old.failing }
         ensures steady { self.old.failing ≡ [] → self.new.faults ≡ self.old.faults }
     {
-        self.ask()?;
+        if let Err(failed) = self.ask() {
+            self.sign_faults = self.sign_faults.saturating_add(1);
+            return Err(failed);
+        }
         Ok(self.answers.signs(name, digest))
     }
 }

@@ -49,6 +49,8 @@ impl<'a> Provider for SteadyProvider<'a> {
 
     ghost faults = { λ _. 0 };
 
+    ghost sign_faults = { λ _. 0 };
+
     fn confirm(
         &mut self,
         key: &[u8; 65],

@@ -1,7 +1,7 @@
-ghost use Rattle.std.specs.Prelude.{◌≡◌, ℕ, ◌≤◌, Option, Some, None, Err, IfOk, is_ok, vec_len, map, false, if◌then◌else◌};
+ghost use Rattle.std.specs.Prelude.{◌≡◌, ℕ, ◌+◌, ◌≤◌, Option, Some, None, Err, IfOk, is_ok, vec_len, map, false, if◌then◌else◌};
 ghost use Rattle.std.specs.Option.{option_copied};
 ghost use Rattle.stir_outside.specs.Count.{Rose, one_more};
-ghost use Rattle.stir_outside.specs.Files.{CountsGoOn, OfFile, IsLonger, bytes_of, file};
+ghost use Rattle.stir_outside.specs.Files.{CountsGoOn, OfFile, IsLonger, bytes_of, file, tries};
 ghost use Rattle.stir_outside.specs.Memory.{is_failing};
 ghost use Rattle.stir_outside.specs.Shelf.{counted, is_failed};
 
@@ -95,6 +95,7 @@ impl Shelf for ShelfMem {
         ensures same { Some self.new.files ≡ Some self.old.files }
         ensures go_on { CountsGoOn self.old.counts self.new.counts }
         ensures reads { self.new.counts.reads ≡ (if is_ok result then one_more self.old.counts.reads else self.old.counts.reads) }
+        ensures tries { tries self.new.counts ≤ tries self.old.counts + 1 }
 
         ensures within { IfOk result (λ bytes. vec_len bytes ≤ limit) }
         ensures found { IfOk result (λ bytes. OfFile (Some self.old.files) name.now (λ held. held ≡ Some bytes.items)) }

@@ -11,6 +11,7 @@ invariant-passports g l = record {
   front : asking (g.P.Provider.says l.fn.provider) (take l.i l.screened.readings) (take l.i (g.C.Chains.states l.chains)) ≡ None;
   same_says : g.P.Provider.says l.provider ≡ g.P.Provider.says l.fn.provider;
   same_signs : g.P.Provider.signs l.provider ≡ g.P.Provider.signs l.fn.provider;
+  signs_nothing : g.P.Provider.sign_faults l.provider ≡ g.P.Provider.sign_faults l.fn.provider;
   asks : g.P.Provider.asks l.provider ≤ g.P.Provider.asks l.fn.provider + l.i;
   asks_stay : g.P.Provider.asks l.fn.provider ≤ g.P.Provider.asks l.provider;
   faults_stay : g.P.Provider.faults l.fn.provider ≤ g.P.Provider.faults l.provider;

@@ -35,6 +35,7 @@ texts-preserved g c =
       read = (let grown = ap (λ (fs : List Fetched). length (filter is_read_file fs)) pushed ∙ filter_more is_read_file c.texts.files.items c.in_ok-file.file in
           let so_far = c.texts.invariant.read in let one = c.in_ok-file.ensures.read in omega arith);
       reads = (let one = c.texts.invariant.reads in let other = c.in_ok-file.ensures.reads in omega arith);
+      tries = (let one = c.texts.invariant.tries in let other = c.in_ok-file.ensures.tries in omega arith);
       same_files = c.in_ok-file.ensures.shelf.files ∙ c.texts.invariant.same_files;
       counts = go_on before mid now c.texts.invariant.counts c.in_ok-file.ensures.shelf.counts;
     }

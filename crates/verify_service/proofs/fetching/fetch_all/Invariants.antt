@@ -1,6 +1,6 @@
 -- The files that were read so far.
 use Rattle.std.proofs.Common.{◌≡◌, ◌≤◌, ◌+◌, length, filter, take, vec_len}
-use Rattle.stir_outside.specs.Files.{CountsGoOn}
+use Rattle.stir_outside.specs.Files.{CountsGoOn, tries}
 use Rattle.verify_service.specs.Causes.{AreCounted}
 use Rattle.call_judging.specs.Fetched.{IsContent, IsFetched, bytes_in, is_read_file, is_unread_file}
 use Rattle.verify_service.specs.Judging.{EachPair}
@@ -16,6 +16,7 @@ invariant-texts g l = record {
   unread : AreCounted is_unread_file l.files.items (g.S.Shelf.counts l.fn.shelf).faults (g.S.Shelf.counts l.shelf).faults;
   read : (g.S.Shelf.counts l.shelf).reads ≤ (g.S.Shelf.counts l.fn.shelf).reads + length (filter is_read_file l.files.items);
   reads : (g.S.Shelf.counts l.shelf).reads ≤ (g.S.Shelf.counts l.fn.shelf).reads + l.index;
+  tries : tries (g.S.Shelf.counts l.shelf) ≤ tries (g.S.Shelf.counts l.fn.shelf) + l.index;
   same_files : g.S.Shelf.files l.shelf ≡ g.S.Shelf.files l.fn.shelf;
   counts : CountsGoOn (g.S.Shelf.counts l.fn.shelf) (g.S.Shelf.counts l.shelf);
 }

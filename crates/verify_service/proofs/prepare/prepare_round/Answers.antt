@@ -44,6 +44,30 @@ returns-clause-most g c =
     (c.texts_law.ensures.named c.args.settings.now c.args.calls.now _ (placed_ready c.args.settings.now c.args.calls.now c.in_ok-classes.classes olds now _ back c.requires.ready given)) in
     omega arith
 
+pub returns-in_err-kept-clause-tries : goal.returns-in_err-kept-clause-tries
+returns-in_err-kept-clause-tries g c =
+    let olds = c.args.ready.items in
+    let now = c.class_calls.new.calls in
+    let back = written_back olds now c.args.ready.len c.args.ready.ok.0 (c.in_ok-classes.ensures.counted ∙ ap length c.deref_mut.ensures.value) in
+    let given = subst (λ (cs : List ReadyCall). AreGivenClasses c.in_ok-classes.classes cs c.class_calls.new.calls) c.deref_mut.ensures.value c.in_ok-classes.ensures.classes in
+    let tries = c.ready_chains.ensures.tries in
+    let texts = ap (λ (cs : List ReadyCall). length (texts_of c.args.world.now c.args.cache.now.entries cs)) c.deref.ensures.value in
+    let names = ap (λ ts. length (round_texts c.args.world.now.chains c.args.cache.now.entries ts))
+    (c.texts_law.ensures.named c.args.settings.now c.args.calls.now _ (placed_ready c.args.settings.now c.args.calls.now c.in_ok-classes.classes olds now _ back c.requires.ready given)) in
+    omega arith
+
+pub returns-clause-tries : goal.returns-clause-tries
+returns-clause-tries g c =
+    let olds = c.args.ready.items in
+    let now = c.class_calls.new.calls in
+    let back = written_back olds now c.args.ready.len c.args.ready.ok.0 (c.in_ok-classes.ensures.counted ∙ ap length c.deref_mut.ensures.value) in
+    let given = subst (λ (cs : List ReadyCall). AreGivenClasses c.in_ok-classes.classes cs c.class_calls.new.calls) c.deref_mut.ensures.value c.in_ok-classes.ensures.classes in
+    let tries = c.ready_chains.ensures.tries in
+    let texts = ap (λ (cs : List ReadyCall). length (texts_of c.args.world.now c.args.cache.now.entries cs)) c.deref.ensures.value in
+    let names = ap (λ ts. length (round_texts c.args.world.now.chains c.args.cache.now.entries ts))
+    (c.texts_law.ensures.named c.args.settings.now c.args.calls.now _ (placed_ready c.args.settings.now c.args.calls.now c.in_ok-classes.classes olds now _ back c.requires.ready given)) in
+    omega arith
+
 pub returns-in_err-classes-clause-asks : goal.returns-in_err-classes-clause-asks
 returns-in_err-classes-clause-asks g c = λ d.
     nothing_read (g.S.Shelf.files c.args.shelf.now) c.args.world.now _ _ _ (length c.args.workers.now) (λ w. g.P.Provider.asks (get_or c.args.workers.now w d).provider)
