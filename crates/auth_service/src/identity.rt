@@ -24,7 +24,7 @@ use base64::engine::general_purpose::URL_SAFE_NO_PAD;
 use identity_header::Field;
 use passport_claims::{Kind, Passport};
 use passport_json::token_bytes_law;
-use sip_message::{MOST_BYTES, MessageFault, with_field};
+use sip_message::{MOST_BYTES, MessageFault, MessageText};
 use std::alloc::{AllocError, Global};
 use text_grammar::uri_law;
 
@@ -104,21 +104,21 @@ fn field<'a>(token: &'a [u8], passport: &'a Passport) -> Field<'a>
 pub(crate) fn field_value(
     alloc: Global,
     order: &Wanted<'_>,
-    one: &Signable,
+    one: &Signable<'_>,
     signature: &[u8; 64],
 ) -> Result<Vec<u8>, AllocError>
     requires order { IsTrue (is_order (wanted_of order.now)) }
-    requires ordered { IsFor (wanted_of order.now) one.now.passport }
-    requires signing { one.now.signing.items ≡ signing_of one.now.passport }
-    requires signable { IsSignable one.now.passport }
-    ensures exact { IfOk result (λ text. text.items ≡ value_of order.now.shape one.now.passport signature.now) }
+    requires ordered { IsFor (wanted_of order.now) one.now.draft.passport }
+    requires signing { one.now.signing.items ≡ signing_of one.now.draft.passport }
+    requires signable { IsSignable one.now.draft.passport }
+    ensures exact { IfOk result (λ text. text.items ≡ value_of order.now.shape one.now.draft.passport signature.now) }
     ensures signature { IsSignature signature.now }
-    ensures written { IfOk result (λ text. IsWrittenField text.items (field_of order.now.shape one.now.passport signature.now)) }
+    ensures written { IfOk result (λ text. IsWrittenField text.items (field_of order.now.shape one.now.draft.passport signature.now)) }
 {
     token_bytes_law();
     are_signature(signature);
     let token = token_text(alloc, &order.shape, &one.signing, signature)?;
-    field(&token, &one.passport).write(alloc)
+    field(&token, &one.draft.passport).write(alloc)
 }
 
 /// Does nothing: of a parameter, and as a slice, 64 bytes are known as a signature.
@@ -129,16 +129,20 @@ fn are_signature(signature: &[u8; 64])
 }
 
 /// The message with a field of this value, for which there is room.
-pub(crate) fn with_identity(alloc: Global, bytes: &[u8], value: &[u8]) -> Result<Vec<u8>, SignFault>
+pub(crate) fn with_identity(
+    alloc: Global,
+    text: &MessageText<'_>,
+    value: &[u8],
+) -> Result<Vec<u8>, SignFault>
     requires value { IsTrue (is_field_value value.now) }
-    requires room { HasRoomFor bytes.now value.now }
-    ensures exact { Gives decided (λ out. out.items) result (Ok (with_line bytes.now field_name value.now)) }
-    ensures placed { (message : MessageView) (head : Head bytes.now message)
-        → IfOk result (λ out. out.items ≡ with_line_at head.empty.place bytes.now field_name value.now) }
-    ensures added { (message : MessageView) → Head bytes.now message → IfOk result (λ out. Head out.items (with_last message field_name value.now)) }
+    requires room { HasRoomFor text.now.bytes value.now }
+    ensures exact { Gives decided (λ out. out.items) result (Ok (with_line text.now.bytes field_name value.now)) }
+    ensures placed { (message : MessageView) (head : Head text.now.bytes message)
+        → IfOk result (λ out. out.items ≡ with_line_at head.empty.place text.now.bytes field_name value.now) }
+    ensures added { (message : MessageView) → Head text.now.bytes message → IfOk result (λ out. Head out.items (with_last message field_name value.now)) }
     ensures apart { names_provider result ≡ false }
 {
-    match with_field(alloc, bytes, b"Identity", value) {
+    match text.with_field(alloc, b"Identity", value) {
         Ok(out) => Ok(out),
         Err(MessageFault::Form(_)) => unreachable!(),
         Err(MessageFault::Memory) => Err(SignFault::Memory),

@@ -8,7 +8,7 @@ ghost use Rattle.auth_service.specs.declared.fault.SignFault.{SignFault};
 ghost use Rattle.auth_service.specs.Answer.{names_provider, decided};
 ghost use Rattle.auth_service.specs.Order.{holder_seen, is_order, wanted_of};
 ghost use Rattle.auth_service.specs.Written.{IsFor};
-ghost use Rattle.auth_service.specs.Signed.{called_number, claims_by, claims_for, claims_in, invite_in, is_allowed, is_dated, is_second};
+ghost use Rattle.auth_service.specs.Signed.{called_number, claims_by, claims_for, claims_in, claims_of, invite_in, is_allowed, is_dated, is_second};
 
 use crate::fault::SignFault;
 use crate::identity::is_too_long;
@@ -16,74 +16,100 @@ use crate::order::Holder;
 use crate::wanted::{Shape, Wanted};
 use passport_claims::{ClaimFault, Kind, Passport};
 use passport_json::token_bytes_law;
-use sip_message::{Message, MessageFault};
+use sip_message::{Message, MessageFault, MessageText};
 use std::alloc::Global;
 use tn_values::Number;
 use verify_rules::covers_passport;
 
-/// A PASSporT, and the text that is signed for it.
+/// The message that was read, and the PASSporT that is wanted of it.
 #[derive(Drop)]
-pub(crate) struct Signable {
+pub(crate) struct Draft<'a> {
+    pub(crate) text: MessageText<'a>,
     pub(crate) passport: Passport,
+}
+
+/// A draft, and the text that is signed for its PASSporT.
+#[derive(Drop)]
+pub(crate) struct Signable<'a> {
+    pub(crate) draft: Draft<'a>,
     pub(crate) signing: Vec<u8>,
 }
 
 /// What is to be signed of the message, or the first of the faults `Form`, `NoNumber` and `Authority`.
-pub(crate) fn to_sign(
+pub(crate) fn to_sign<'a>(
     alloc: Global,
-    bytes: &[u8],
+    bytes: &'a [u8],
     order: &Wanted<'_>,
     holder: Option<&Holder<'_>>,
-) -> Result<Signable, SignFault>
+) -> Result<Signable<'a>, SignFault>
     requires { IsTrue (is_order (wanted_of order.now)) }
-    ensures exact { Gives decided (λ one. one.passport) result (claims_for bytes.now (wanted_of order.now) (holder_seen holder.entry)) }
-    ensures signing { IfOk result (λ one. one.signing.items ≡ signing_of one.passport) }
-    ensures signable { IfOk result (λ one. IsSignable one.passport) }
-    ensures ordered { IfOk result (λ one. IsFor (wanted_of order.now) one.passport) }
+    ensures exact { Gives decided (λ one. one.draft.passport) result (claims_for bytes.now (wanted_of order.now) (holder_seen holder.entry)) }
+    ensures text { IfOk result (λ one. one.draft.text.bytes ≡ bytes.now) }
+    ensures signing { IfOk result (λ one. one.signing.items ≡ signing_of one.draft.passport) }
+    ensures signable { IfOk result (λ one. IsSignable one.draft.passport) }
+    ensures ordered { IfOk result (λ one. IsFor (wanted_of order.now) one.draft.passport) }
     ensures apart { names_provider result ≡ false }
 {
     token_bytes_law();
-    let passport = passport_for(alloc, bytes, order)?;
-    let signing = passport.signing_text()?;
+    let draft = draft_of(alloc, bytes, order)?;
+    let signing = draft.passport.signing_text()?;
     if is_too_long(bytes, order, &signing) {
         return Err(SignFault::Form);
     }
-    if !is_allowed(holder, &passport) {
+    if !is_allowed(holder, &draft.passport) {
         return Err(SignFault::Authority);
     }
-    Ok(Signable { passport, signing })
+    Ok(Signable { draft, signing })
+}
+
+/// The message, read once, and the PASSporT that is wanted of it.
+#[tactic(auto, unfolding(crate::specs::Signed::claims_in))]
+fn draft_of<'a>(alloc: Global, bytes: &'a [u8], order: &Wanted<'_>) -> Result<Draft<'a>, SignFault>
+    requires { IsTrue (is_order (wanted_of order.now)) }
+    ensures exact { Gives decided (λ draft. draft.passport) result (claims_in (wanted_of order.now) (read bytes.now)) }
+    ensures ordered { IfOk result (λ draft. IsFor (wanted_of order.now) draft.passport) }
+    ensures text { IfOk result (λ draft. draft.text.bytes ≡ bytes.now) }
+    ensures apart { names_provider result ≡ false }
+{
+    let text = read_invite(alloc, bytes)?;
+    let passport = passport_for(alloc, text.message(), order)?;
+    Ok(Draft { text, passport })
 }
 
 /// The PASSporT that is wanted of the message.
-#[tactic(auto, unfolding(crate::specs::Signed::claims_in, crate::specs::Signed::claims_of))]
-fn passport_for(alloc: Global, bytes: &[u8], order: &Wanted<'_>) -> Result<Passport, SignFault>
+#[tactic(auto, unfolding(crate::specs::Signed::claims_of))]
+fn passport_for(
+    alloc: Global,
+    message: &Message<'_>,
+    order: &Wanted<'_>,
+) -> Result<Passport, SignFault>
     requires { IsTrue (is_order (wanted_of order.now)) }
-    ensures exact { Gives decided (λ passport. passport) result (claims_in (wanted_of order.now) (read bytes.now)) }
+    ensures exact { Gives decided (λ passport. passport) result (claims_of (wanted_of order.now) message.now) }
     ensures ordered { IfOk result (λ passport. IsFor (wanted_of order.now) passport) }
     ensures apart { names_provider result ≡ false }
 {
-    let message = read_invite(alloc, bytes)?;
-    if !is_dated(order, &message) {
+    if !is_dated(order, message) {
         return Err(SignFault::Form);
     }
     let Some(orig) = message.calling_number(&order.local) else {
         return Err(SignFault::NoNumber);
     };
-    let Some(dest) = called_number(order, &message) else {
+    let Some(dest) = called_number(order, message) else {
         return Err(SignFault::NoNumber);
     };
     passport_between(alloc, order, orig, dest)
 }
 
 /// The message, if it is an INVITE.
-fn read_invite<'a>(alloc: Global, bytes: &'a [u8]) -> Result<Message<'a>, SignFault>
-    ensures exact { Gives decided (λ message. message) result (invite_in (read bytes.now)) }
+fn read_invite<'a>(alloc: Global, bytes: &'a [u8]) -> Result<MessageText<'a>, SignFault>
+    ensures exact { Gives decided (λ text. text.message) result (invite_in (read bytes.now)) }
+    ensures text { IfOk result (λ text. text.bytes ≡ bytes.now) }
     ensures apart { names_provider result ≡ false }
 {
-    match Message::read(alloc, bytes) {
-        Ok(message) => {
-            if message.is_invite() {
-                Ok(message)
+    match MessageText::read(alloc, bytes) {
+        Ok(text) => {
+            if text.message().is_invite() {
+                Ok(text)
             } else {
                 Err(SignFault::Form)
             }

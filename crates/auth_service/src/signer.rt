@@ -121,7 +121,7 @@ fn sign_exactly<P: Provider>(
     let one = to_sign(alloc, bytes, wanted, holder)?;
     let signature = signature_of(wanted.key, &one.signing, provider)?;
     let value = field_value(alloc, wanted, &one, &signature)?;
-    with_identity(alloc, bytes, &value)
+    with_identity(alloc, &one.draft.text, &value)
 }
 
 /// The key's signature over what is signed.
