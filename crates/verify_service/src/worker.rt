@@ -21,8 +21,6 @@ pub struct Worker<P, G> {
     pub(crate) seat: Option<Seat>,
     /// What it answered to its calls of a round, each at the index of its call.
     pub(crate) outcomes: [Outcome; 256],
-    /// Its provider answers at once.
-    pub(crate) is_prompt: bool,
 }
 
 impl<P, G> Worker<P, G> {
@@ -38,18 +36,6 @@ impl<P, G> Worker<P, G> {
             out_of_memory: false,
             seat: None,
             outcomes: [Outcome::Valid; 256],
-            is_prompt: false,
         }
-    }
-
-    /// A worker whose provider answers at once, as one over a file that was read does. If all workers of a round are such, they judge its screened calls
-    /// one after another in one thread, which takes less time than to start others. It takes no memory.
-    pub fn prompt(alloc: Global, provider: P, gate: G) -> Worker<P, G>
-        ensures provider { result.provider ≡ provider }
-        ensures gate { result.gate ≡ gate }
-    {
-        let mut worker = Worker::new(alloc, provider, gate);
-        worker.is_prompt = true;
-        worker
     }
 }

@@ -16,8 +16,8 @@ use std::thread;
 use std::thread::Threads;
 use stir_outside::{Gate, Provider};
 
-/// Has each worker judge its calls with its seat, in a thread of its own unless all answer at once. Worker w, counted from 0, has the calls at index w,
-/// w + W and so on, if there are W workers. What it answers is at the index of the call in the worker's own place.
+/// Has each worker judge its calls with its seat, in a thread of its own; the last in the one that calls. Worker w, counted from 0, has the calls at index
+/// w, w + W and so on, if there are W workers. What it answers is at the index of the call in the worker's own place.
 pub(crate) fn work_all<R: Threads + Sync, P: Provider + Send, G: Gate + Send>(
     rt: &R,
     lent: &Lent<'_>,
@@ -38,26 +38,12 @@ pub(crate) fn work_all<R: Threads + Sync, P: Provider + Send, G: Gate + Send>(
     ensures provider { EachWorker workers.old workers.new (λ _ before now. ProviderStays P.Provider before.provider now.provider) }
 {
     let count = workers.len();
-    let threads = threads_for(workers);
     thread::for_each_mut(
         rt,
         workers,
-        threads,
+        count,
         &|index, worker| { work(lent, calls, index, count, worker) },
     );
-}
-
-/// In how many threads they judge: one if their providers all answer at once, since it takes longer to start threads than to judge the calls of a round by
-/// such; else one for each.
-fn threads_for<P, G>(workers: &[Worker<P, G>]) -> usize
-    requires { 0 < length workers.now }
-    ensures { 0 < result }
-{
-    if workers.iter().all(|worker| worker.is_prompt) {
-        1
-    } else {
-        workers.len()
-    }
 }
 
 /// Has one worker of so many judge its calls with its seat.
