@@ -9,6 +9,7 @@ pub mod EndLaws
 pub mod FieldLineLaws
 pub mod FieldNumberLaws
 pub mod FieldSteps
+pub mod FieldValueLaws
 pub mod FormLaws
 pub mod HeadLaws
 pub mod HeadSteps

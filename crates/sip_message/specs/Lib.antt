@@ -5,6 +5,7 @@ pub mod Answer
 pub mod FieldDate
 pub mod FieldLine
 pub mod FieldNumber
+pub mod FieldValue
 pub mod Form
 pub mod Group
 pub mod Head

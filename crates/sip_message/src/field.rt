@@ -1,9 +1,10 @@
 //! A header field, and what is asked of several.
 ghost use Rattle.std.specs.Prelude.{◌≡◌, ◌<◌, [], length, map, slice_index_or};
-ghost use Rattle.std.specs.List.{filter_map};
+ghost use Rattle.std.specs.List.{filter_map, slice_get};
 ghost use Rattle.std.specs.Option.{option_copied};
 ghost use Rattle.httpdate.specs.Date.{parse_secs};
 ghost use Rattle.sip_message.specs.Accessors.{first, number_in, number_of, time_of, values};
+ghost use Rattle.sip_message.specs.FieldValue.{values_named};
 ghost use Rattle.sip_message.specs.Known.{is_named};
 ghost use Rattle.sip_message.specs.Seen.{field_seen};
 
@@ -112,4 +113,22 @@ pub(crate) fn value_at<'b>(fields: &'b [Field<'_>], known: Known, i: usize) -> &
         left -= 1;
     }
     unreachable!()
+}
+
+/// The value of the `i`-th field of this name, counted from 0.
+#[tactic(auto, using(crate::proofs::FieldSteps::values_step, crate::proofs::FieldSteps::values_end))]
+pub(crate) fn value_named<'b>(fields: &'b [Field<'_>], name: &[u8], i: usize) -> Option<&'b [u8]>
+    ensures { option_copied result ≡ slice_get (values_named name.now (map field_seen fields.now)) i }
+{
+    let mut left = i;
+    for field in fields {
+        if !field.name.is_one_with(name) {
+            continue;
+        }
+        if left == 0 {
+            return Some(field.value.bytes());
+        }
+        left -= 1;
+    }
+    None
 }

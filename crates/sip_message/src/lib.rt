@@ -8,7 +8,8 @@
 //! - the numbers: [`Message::from_number`], [`Message::to_number`], [`Message::target_number`] (the request URI), [`Message::asserted_number`] (RFC
 //!   3325) and [`Message::calling_number`], which is the asserted one or else From's;
 //! - [`Message::date`], in Unix seconds;
-//! - the Identity header fields, as values: [`Message::identity_count`] and [`Message::identity`].
+//! - the Identity header fields, as values: [`Message::identity_count`] and [`Message::identity`];
+//! - any header field by its name: [`Message::field_value`].
 //!
 //! [`with_field`] goes the other way: it puts one more header field into the bytes of a message, if [`is_addable`] and [`is_field_value`] allow it.
 //! A [`MessageText`] keeps the bytes beside the message, for one that is asked and then given a field. [`with_target`] puts another request URI into the

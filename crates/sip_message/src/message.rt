@@ -1,9 +1,11 @@
 //! A message and what is asked of it.
 ghost use Rattle.std.specs.Prelude.{◌≡◌, ◌<◌, ◌≤◌, ℕ, List, length, slice_index_or, [], Some, Ok, Err, IfOk, IfSome};
+ghost use Rattle.std.specs.Option.{option_copied};
 ghost use Rattle.sip_message.specs.Added.{head_end};
 ghost use Rattle.sip_message.specs.Answer.{IfForm, IsFault};
 ghost use Rattle.sip_message.specs.FieldDate.{IsTimeOf};
 ghost use Rattle.sip_message.specs.FieldNumber.{IsCalling, IsFirstNumber, IsNumberOf};
+ghost use Rattle.sip_message.specs.FieldValue.{IsFieldValue, field_value};
 ghost use Rattle.sip_message.specs.Form.{FormOf};
 ghost use Rattle.sip_message.specs.Head.{Head};
 ghost use Rattle.sip_message.specs.Message.{MessageView};
@@ -16,7 +18,7 @@ ghost use Rattle.sip_message.specs.UriNumber.{GivesNumber};
 
 use crate::address::uri_number;
 use crate::fault::{FormFault, MessageFault};
-use crate::field::{Field, count, first_number, number_of, time_of, value_at};
+use crate::field::{Field, count, first_number, number_of, time_of, value_at, value_named};
 use crate::head::{HeadFields, read_head};
 use crate::known::Known;
 use crate::lines::Lines;
@@ -183,6 +185,19 @@ impl<'a> Message<'a> {
         ensures short { length result.now ≤ 65535 }
     {
         value_at(&self.fields, Known::Identity, i)
+    }
+
+    /// The value of the header field `i` of this name in message order, counted from 0, at most 65,535 bytes; None if there are no more.
+    ///
+    /// Names are compared without case (RFC 3261, section 7.3.1), and a compact form is its long name (RFC 3261, section 7.3.3; RFC 8224,
+    /// section 4, for Identity). Each call goes over the fields.
+    pub fn field_value(&self, name: &[u8], i: usize) -> Option<&[u8]>
+        ensures exact { option_copied result ≡ field_value self.now name.now i }
+        ensures found { IfSome result (λ value. IsFieldValue name.now self.now.fields i value.now) }
+        ensures only { (value : List ℕ) → IsFieldValue name.now self.now.fields i value → option_copied result ≡ Some value }
+        ensures short { IfSome result (λ value. length value.now ≤ 65535) }
+    {
+        value_named(&self.fields, name, i)
     }
 }
 
