@@ -1,17 +1,18 @@
 //! A call that is read once.
-ghost use Rattle.std.specs.Prelude.{◌≡◌, ◌≤◌, Err, Ok, IfOk, length};
+ghost use Rattle.std.specs.Prelude.{◌≡◌, ◌≤◌, Err, Ok, IfOk, IfSome, length};
 ghost use Rattle.std.specs.List.{slice_get};
 ghost use Rattle.std.specs.Option.{option_copied, option_map};
 ghost use Rattle.verify_rules.specs.Call.{call_of};
 ghost use Rattle.verify_rules.specs.World.{First, World};
 ghost use Rattle.open_calls.specs.Claims.{claims_lines};
 ghost use Rattle.open_calls.specs.Founds.{IsFoundEarly};
-ghost use Rattle.open_calls.specs.OpenCalls.{IsEarly, call_in, judged_in, x5u_in};
+ghost use Rattle.open_calls.specs.OpenCalls.{IsEarly, IsEarlyLent, IsHeaderValue, call_in, header_in, judged_in, x5u_in};
 
 use crate::found::Found;
 use crate::lines::claims_of;
 use crate::world::OpenWorld;
 use call_judging::pass_of;
+use sip_message::{Message, MessageFault};
 use std::alloc::{AllocError, Global};
 use std::marker::Model;
 use verify_rules::{Refusal, ScreenFault, Screened, Settings, screen};
@@ -98,6 +99,43 @@ impl OpenCall {
         }
     }
 
+    /// The value of the header field `i` of this name in its message, counted from 0; None if there are no more, or if the message can't be read. Names are
+    /// compared without case, and a compact form is its long name (RFC 3261, sections 7.3.1 and 7.3.3). Each call reads the message. `AllocError` is the
+    /// only error.
+    pub fn header(
+        &self,
+        alloc: Global,
+        name: &[u8],
+        i: usize,
+    ) -> Result<Option<Vec<u8>>, AllocError>
+        ensures exact { IfOk result (λ found. option_map (λ value. value.items) found ≡ header_in self.now name.now i) }
+        ensures found { IfOk result (λ found. IfSome found (λ value. IsHeaderValue self.now name.now i value.items)) }
+        ensures short { IfOk result (λ found. IfSome found (λ value. length value.items ≤ 65535)) }
+    {
+        match Message::read(alloc, &self.message) {
+            Ok(message) => copied(alloc, message.field_value(name, i)),
+            Err(MessageFault::Form(_)) => Ok(None),
+            Err(MessageFault::Memory) => Err(AllocError),
+        }
+    }
+
+    /// The call as rules 1 to 9 leave it: screened, or refused by the first that it breaks.
+    pub fn screened(&self) -> Result<&Screened, Refusal>
+        ensures { IsEarlyLent (call_in self.now) result }
+    {
+        match &self.screened {
+            Ok(screened) => Ok(screened),
+            Err(refusal) => Err(*refusal),
+        }
+    }
+
+    /// The settings under which it was opened.
+    pub fn settings(&self) -> &Settings
+        ensures { result.now ≡ self.now.settings }
+    {
+        &self.settings
+    }
+
     /// The bytes of its message.
     pub fn message(&self) -> &[u8]
         ensures { result.now ≡ self.now.message }
@@ -139,4 +177,14 @@ fn x5u_at(screened: &Screened, i: usize) -> Option<&[u8]>
         return None;
     }
     Some(screened.passport(i).x5u())
+}
+
+/// A copy of a value, if there is one. `AllocError` is the only error.
+fn copied(alloc: Global, value: Option<&[u8]>) -> Result<Option<Vec<u8>>, AllocError>
+    ensures { IfOk result (λ copy. option_map (λ bytes. bytes.items) copy ≡ option_copied value.entry) }
+{
+    match value {
+        Some(bytes) => Ok(Some(Vec::from_slice(alloc, bytes)?)),
+        None => Ok(None),
+    }
 }

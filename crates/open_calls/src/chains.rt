@@ -49,7 +49,7 @@ impl<'a> OpenChains<'a> {
     }
 
     /// Nothing is left open by what is known of them.
-    pub(crate) fn known(&self)
+    pub fn known(&self)
         ensures { list_all is_known (states_of self.now) ≡ true }
     {
         let _ = &self.chains;

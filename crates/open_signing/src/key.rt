@@ -20,7 +20,7 @@ pub struct Key<'a> {
 impl<'a> Key<'a> {
     /// Who signs, if the first certificate has an authority list (RFC 8226, section 9).
     #[tactic(auto, using(crate::proofs::KeyLaws::no_leaf, crate::proofs::KeyLaws::no_list, crate::proofs::KeyLaws::is_holder))]
-    pub(crate) fn holder(&self) -> Option<Holder<'a>>
+    pub fn holder(&self) -> Option<Holder<'a>>
         ensures { HolderIs (key_of self.now) result }
     {
         let Some(leaf) = self.leaf else {
