@@ -17,7 +17,7 @@ none_good (asked ∷ others) = refl
 pub none_yet : (questions : List Question) (good key digest signature : List ℕ) → SaysUpTo questions good key digest signature 0
 none_yet questions good key digest signature = record { left = refl }
 
-by_byte : (key digest signature : List ℕ) (asked : QuestionView) (others : List QuestionView) (t : Bool)
+pub by_byte : (key digest signature : List ℕ) (asked : QuestionView) (others : List QuestionView) (t : Bool)
     → says_by (cond t others (asked ∷ others)) key digest signature ≡ ((not t && is_this key digest signature asked) || says_by others key digest signature)
 by_byte key digest signature asked others true = refl
 by_byte key digest signature asked others false = refl

@@ -4,6 +4,7 @@ pub mod ClaimsSteps
 pub mod ChainsLaws
 pub mod LineLaws
 pub mod ConfirmedSteps
+pub mod ConfirmedLaws
 pub mod ChainLaws
 pub mod ListLaws
 pub mod JudgingLaws

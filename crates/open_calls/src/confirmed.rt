@@ -1,8 +1,9 @@
 //! A provider of signatures that confirms what was confirmed beforehand.
-ghost use Rattle.std.specs.Prelude.{◌≡◌, None, map};
+ghost use Rattle.std.specs.Prelude.{◌≡◌, ℕ, true, List, None, map};
 ghost use Rattle.std.specs.List.{slice_get};
 ghost use Rattle.cert_store.specs.Questions.{seen};
-ghost use Rattle.open_calls.specs.Confirmed.{confirmed, is_this, is_yes, says_by, was_confirmed};
+ghost use Rattle.cert_store.specs.Rules.{QuestionView, question};
+ghost use Rattle.open_calls.specs.Confirmed.{IsConfirmed, confirmed, is_this, is_yes, says_by, was_confirmed};
 
 use cert_store::Question;
 use std::marker::Model;
@@ -30,7 +31,12 @@ impl<'a> Model for Confirmed<'a> {
 impl<'a> Confirmed<'a> {
     /// Of these questions those are confirmed whose byte isn't 0. One without a byte isn't.
     pub fn new(questions: &'a [Question<'a>], good: &'a [u8]) -> Confirmed<'a>
-        ensures { result ≡ record { good = confirmed (map seen questions.now) good.now; asks = 0 } }
+        ensures exact { result ≡ record { good = confirmed (map seen questions.now) good.now; asks = 0 } }
+
+        // It says yes to a question exactly if that was confirmed: it stands at a place, and the byte of that place isn't 0.
+        ensures yes { (asked : QuestionView) → IsConfirmed (map seen questions.now) good.now asked → says_by result.good asked.key asked.digest asked.signature ≡ true }
+        ensures alone { (key digest signature : List ℕ) → says_by result.good key digest signature ≡ true
+            → IsConfirmed (map seen questions.now) good.now (question key digest signature) }
     {
         Confirmed {
             questions,

@@ -15,7 +15,7 @@ pub returns-clause-right : goal.returns-clause-right
 returns-clause-right c = λ rules given are for_it.
     let own : List QuestionView = own_asked c.args.world.now.table (states_of c.args.chains.now) (call_in c.args.self.now) in
     let good_is : c.new-provider.result.good ≡ confirmed own c.args.good.now =
-    ap (λ (v : ConfirmedView). v.good) c.new-provider.ensures ∙ ap (λ (q : List Question). confirmed (map seen q) c.args.good.now) c.as_slice.ensures.value
+    ap (λ (v : ConfirmedView). v.good) c.new-provider.ensures.exact ∙ ap (λ (q : List Question). confirmed (map seen q) c.args.good.now) c.as_slice.ensures.value
     ∙ ap (λ (q : List QuestionView). confirmed q c.args.good.now) c.in_ok-asked.ensures.asked in
     right c.unasked_law.ensures c.judged_law.ensures.answered c.questions_law.ensures.agree rules c.args.world.now c.args.self.now given c.args.chains.now c.args.good.now
     c.in_ok-asked.asked.found c.finish-found.result c.in_ok-asked.ensures.found
