@@ -20,7 +20,7 @@ import time
 
 TOP = pathlib.Path(__file__).resolve().parent.parent
 PROGRAM = 'crates/stir/out/stir'
-STIRD = 'service/out/release/stird'
+STIRD = 'host/out/release/stird'
 SIDE_BY_SIDE = ('python3', '-m', 'pytest', '-q', '-n', 'auto', '--dist', 'loadgroup', '--durations', '5', '--durations-min', '5')
 
 # Each part, and what runs it, at the top of the tree.

@@ -26,7 +26,7 @@ SHOWN = {'README.md': False, 'docs/COMMANDS.md': False, 'docs/DAY.md': True}
 NOT_RUN = ('rt ci', '.ci/run', './stir --prove')
 
 # The pages whose sentences are counted, and how many words a sentence has at most.
-READ = ('README.md', 'CONTRIBUTING.md', 'CHANGELOG.md', 'service/kamailio/README.md', 'python/README.md', 'examples/cluster/README.md',
+READ = ('README.md', 'CONTRIBUTING.md', 'CHANGELOG.md', 'host/stird/kamailio/README.md', 'python/README.md', 'examples/cluster/README.md',
         *sorted(f'docs/{page.name}' for page in (TOP / 'docs').glob('*.md')))
 MOST_WORDS = 40
 

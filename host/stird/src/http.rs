@@ -74,7 +74,7 @@ impl Connection {
 
     /// The next request. From its first byte on the whole has to come within the time for a
     /// request.
-    pub fn next(&mut self) -> Result<Request, Fault> {
+    pub fn request(&mut self) -> Result<Request, Fault> {
         while self.bytes.is_empty() {
             self.read_more(Some(self.idle), Fault::Closed)?;
         }

@@ -1,7 +1,5 @@
 //! A call judged: it is given its chains, its questions are asked of OpenSSL, what comes of it is
 //! taken from the proved library, and its ticket claimed.
-use crate::es256::Verifier;
-use crate::locks::Held;
 use crate::metrics::{Metrics, Part};
 use crate::past::{Claim, Passed, Past};
 use crate::world::World;
@@ -9,6 +7,8 @@ use std::sync::atomic::{AtomicU64, Ordering};
 use std::sync::{Arc, RwLock};
 use std::time::{Instant, SystemTime, UNIX_EPOCH};
 use stir::{Error, Passes, Refused, Verdict};
+use stir_trust::locks::Held;
+use stir_trust::Verifier;
 
 /// What came of a call.
 #[derive(Clone, Copy, Debug, PartialEq, Eq)]

@@ -4,69 +4,31 @@
 #[cfg(not(panic = "unwind"))]
 compile_error!("a fault in one thread must end one connection, and not the service");
 
-mod atis;
-mod chain_map;
-mod es256;
-mod http;
-mod journal;
-mod judge;
-mod lines;
-mod locks;
-mod metrics;
-mod past;
-mod redis;
-mod say;
-mod service;
-mod settings;
-mod signing;
-mod world;
+pub mod atis;
+pub mod chain_map;
+pub mod http;
+pub mod journal;
+pub mod judge;
+pub mod lines;
+pub mod metrics;
+pub mod past;
+pub mod redis;
+pub mod say;
+pub mod service;
+pub mod settings;
+pub mod signing;
+pub mod world;
 
-use crate::say::say;
-use std::env;
-use std::ffi::OsString;
 use std::net::TcpListener;
-use std::os::unix::process::CommandExt;
-use std::process::Command;
 use std::sync::{Arc, Mutex, RwLock};
 
-/// The settings of the C library, and how many freed blocks of each size a thread keeps for itself
-/// (mallopt(3), "Environment variables"). A call gives back more than the seven that are usual, and
-/// each further one takes a lock.
-const TUNABLES: &str = "GLIBC_TUNABLES";
-const KEPT_BLOCKS: &str = "glibc.malloc.tcache_count=64";
+use crate::say::say;
 
-fn main() {
-    keep_blocks();
-    let words: Result<Vec<String>, OsString> =
-        env::args_os().skip(1).map(OsString::into_string).collect();
-    let settings = words
-        .map_err(|word| format!("{} isn't UTF-8", word.to_string_lossy()))
-        .and_then(|words| settings::read(&words))
-        .unwrap_or_else(|fault| {
-            say(format_args!("{fault}\n{}", settings::USAGE.trim_end()));
-            std::process::exit(2)
-        });
-    if let Err(fault) = start(settings) {
-        say(fault);
-        std::process::exit(1);
-    }
-}
-
-/// Starts the program anew with these settings, which the C library reads before `main`, unless
-/// there are some. If that fails it goes on without.
-fn keep_blocks() {
-    let mut words = env::args_os();
-    if let (None, Some(name), Ok(program)) =
-        (env::var_os(TUNABLES), words.next(), env::current_exe())
-    {
-        let _ = Command::new(program).arg0(name).args(words).env(TUNABLES, KEPT_BLOCKS).exec();
-    }
-}
-
-fn start(settings: settings::Settings) -> Result<(), String> {
+/// Reads the files, and answers calls for as long as the process lives.
+pub fn start(settings: settings::Settings) -> Result<(), String> {
     let mut world =
         world::World::read(&settings.rules, &settings.chains, &settings.anchors, &settings.table)?;
-    let verifier = es256::Verifier::new().map_err(|error| error.to_string())?;
+    let verifier = stir_trust::Verifier::new().map_err(|error| error.to_string())?;
     world.confirm(&verifier, None);
     let blocks = blocks_of(&settings)?;
     let (past, greatest) = past_of(&settings)?;

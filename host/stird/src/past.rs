@@ -1,10 +1,10 @@
 //! The past: which tickets passed. A ticket is claimed once, and where it is kept decides how long
 //! that holds: in memory, in a journal over restarts, or in a Redis for several hosts.
 use crate::journal::{Journal, Record};
-use crate::locks::Held;
 use crate::redis::Redis;
 use std::collections::HashMap;
 use std::sync::Mutex;
+use stir_trust::locks::Held;
 
 pub type Ticket = [u8; 32];
 

@@ -6,7 +6,6 @@
 //! disk if that was asked for; claims that come together are written together. A last line that was
 //! cut off belongs to no answer, and is taken off. When many lines are old the file is written
 //! anew, and takes the old one's place by a rename.
-use crate::locks::Held;
 use crate::past::{Passed, Ticket, Tickets};
 use crate::say::say;
 use std::fs::{File, OpenOptions};
@@ -15,6 +14,7 @@ use std::os::unix::io::AsRawFd;
 use std::path::{Path, PathBuf};
 use std::sync::atomic::{AtomicBool, Ordering};
 use std::sync::{Condvar, Mutex};
+use stir_trust::locks::Held;
 
 /// So many lines at least are written before the file is written anew.
 const LINES: usize = 200_000;

@@ -1,7 +1,6 @@
 //! What calls are judged by: trust anchors, the code table and the chains of the chain map, read
 //! from files and read again if one changes. Each is read by the proved library, once.
 use crate::chain_map::{self, Fault};
-use crate::es256::Verifier;
 use std::collections::{HashMap, HashSet};
 use std::ffi::OsStr;
 use std::fs::File;
@@ -11,6 +10,7 @@ use std::path::{Path, PathBuf};
 use std::sync::{Arc, OnceLock};
 use std::time::{Duration, Instant, SystemTime};
 use stir::{Chain, Error, Input, Question, Settings};
+use stir_trust::Verifier;
 
 /// The most bytes of a chain.
 const MOST_CHAIN: u64 = 49_152;

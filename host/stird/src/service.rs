@@ -2,7 +2,6 @@
 use crate::atis;
 use crate::http::{Answer, Connection, Fault, Request};
 use crate::judge::{now, Judge, Judged, Outcome};
-use crate::locks::Held;
 use crate::say::say;
 use crate::settings::Settings;
 use crate::signing::{self, Blocks, Unsigned};
@@ -12,6 +11,7 @@ use std::panic::{catch_unwind, AssertUnwindSafe};
 use std::sync::atomic::{AtomicUsize, Ordering};
 use std::sync::{Arc, RwLock};
 use std::time::Instant;
+use stir_trust::locks::Held;
 
 /// The service: a judge, for whom is signed, and how many connections there are.
 pub struct Service {
@@ -56,7 +56,7 @@ impl Service {
             return;
         };
         loop {
-            match connection.next() {
+            match connection.request() {
                 Ok(request) => {
                     let start = Instant::now();
                     let answer = self.answer(&request);

@@ -1,12 +1,12 @@
 //! A past that several hosts share: `SET stir:TICKET VALUE NX EX SECONDS` on a Redis. The first to
 //! set a ticket has it.
-use crate::locks::Held;
 use crate::past::{Claim, Passed, Ticket, SLACK};
 use std::io::{BufRead, BufReader, Read, Write};
 use std::net::{TcpStream, ToSocketAddrs};
 use std::sync::atomic::{AtomicBool, AtomicU64, Ordering};
 use std::sync::Mutex;
 use std::time::Duration;
+use stir_trust::locks::Held;
 
 /// How long a Redis may take to answer.
 const PATIENCE: Duration = Duration::from_millis(500);
