@@ -17,6 +17,7 @@ pub mod say;
 pub mod service;
 pub mod settings;
 pub mod signing;
+pub mod tickets;
 pub mod world;
 
 use std::net::TcpListener;
