@@ -1,5 +1,5 @@
 //! The tickets of the calls that passed. A ticket passes once, and where it is kept decides how
-//! long that holds: in [`Memory`], in a file over restarts, or in a Redis for
+//! long that holds: in [`Memory`], in a file over restarts ([`Sqlite`]), or in a Redis for
 //! several hosts.
 //!
 //! # When a ticket is forgotten
@@ -18,12 +18,16 @@
 //!    they lie in many places). So a clock that was fast and is set right harms no call, save
 //!    calls of those very seconds whose tickets were claimed and forgotten while it was fast.
 mod clock;
+mod error;
 mod memory;
+mod sqlite;
 mod stretches;
 mod table;
 
 pub use clock::{Clock, SystemClock};
+pub use error::TicketsError;
 pub use memory::Memory;
+pub use sqlite::Sqlite;
 
 /// A digest that two calls share exactly if one is a replay of the other.
 pub type Ticket = [u8; 32];

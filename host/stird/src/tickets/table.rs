@@ -1,6 +1,5 @@
 //! The tickets that are held in memory, and when they are forgotten. The invariant stands in the
 //! documentation of the module above.
-#![allow(dead_code)]
 use super::stretches::Stretches;
 use super::{Health, Passed, Ticket, SLACK};
 use std::collections::{BTreeMap, HashMap};
@@ -73,9 +72,9 @@ impl Table {
         }
     }
 
-    /// One that goes on from what was forgotten before, and tells which seconds it forgets.
-    pub fn restored(most: usize, forgotten: Stretches) -> Table {
-        Table { forgotten, gone: Some(Vec::new()), ..Table::new(most) }
+    /// One that tells which seconds it forgets.
+    pub fn telling(most: usize) -> Table {
+        Table { gone: Some(Vec::new()), ..Table::new(most) }
     }
 
     /// What is known of a ticket that a call claims. Nothing is entered.
@@ -118,7 +117,7 @@ impl Table {
 
     /// Enters a ticket that was kept before, as one that is claimed now and lives so many seconds.
     pub fn restore(&mut self, ticket: Ticket, passed: Passed, life: u64, monotonic: u64) {
-        if !self.held.contains_key(&ticket) && !self.forgotten.has(passed.last) {
+        if !self.held.contains_key(&ticket) {
             self.keep(ticket, passed, life, monotonic, State::Kept);
         }
     }
@@ -209,6 +208,11 @@ impl Table {
     /// ever forgotten.
     pub fn take_gone(&mut self) -> (Vec<u64>, &Stretches) {
         (self.gone.as_mut().map(std::mem::take).unwrap_or_default(), &self.forgotten)
+    }
+
+    /// All that was ever forgotten.
+    pub fn forgotten(&self) -> &Stretches {
+        &self.forgotten
     }
 
     /// Takes over what was forgotten elsewhere.
