@@ -1,4 +1,5 @@
 //! Why tickets can't be kept where they were to be.
+use super::AddressFault;
 use std::io;
 use std::path::PathBuf;
 
@@ -48,4 +49,7 @@ pub enum TicketsError {
         /// What SQLite says.
         source: rusqlite::Error,
     },
+    /// The address of the Redis can't be taken.
+    #[error("the address of the Redis: {0}")]
+    Address(#[from] AddressFault),
 }

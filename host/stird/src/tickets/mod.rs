@@ -1,5 +1,5 @@
 //! The tickets of the calls that passed. A ticket passes once, and where it is kept decides how
-//! long that holds: in [`Memory`], in a file over restarts ([`Sqlite`]), or in a Redis for
+//! long that holds: in [`Memory`], in a file over restarts ([`Sqlite`]), or in a [`Redis`] for
 //! several hosts.
 //!
 //! # When a ticket is forgotten
@@ -20,6 +20,7 @@
 mod clock;
 mod error;
 mod memory;
+mod redis;
 mod sqlite;
 mod stretches;
 mod table;
@@ -27,6 +28,7 @@ mod table;
 pub use clock::{Clock, SystemClock};
 pub use error::TicketsError;
 pub use memory::Memory;
+pub use redis::{AddressFault, Redis};
 pub use sqlite::Sqlite;
 
 /// A digest that two calls share exactly if one is a replay of the other.
