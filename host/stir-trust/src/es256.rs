@@ -4,7 +4,7 @@ use crate::locks::Held;
 use openssl::bn::{BigNum, BigNumContext};
 use openssl::ec::{EcGroup, EcKey, EcPoint};
 use openssl::ecdsa::EcdsaSig;
-use openssl::error::ErrorStack;
+use openssl::error::{Error, ErrorStack};
 use openssl::nid::Nid;
 use openssl::pkey::Public;
 use std::collections::HashMap;
@@ -15,21 +15,48 @@ use stir::Question;
 const GENERATION: usize = 32_768;
 const MOST_KEYS: usize = 16_384;
 
-/// Whether the signature is good; what it isn't for whatever reason, it isn't.
-fn is_good(key: &EcKey<Public>, digest: &[u8], signature: &[u8]) -> bool {
-    let (r, s) = signature.split_at(32);
-    let verify = || {
-        EcdsaSig::from_private_components(BigNum::from_slice(r)?, BigNum::from_slice(s)?)?
-            .verify(digest, key)
-    };
-    verify().unwrap_or(false)
+/// What OpenSSL says of an input that is no point of the curve, or no signature under any key, in
+/// its library for elliptic curves. All else that it fails at, as without memory, tells nothing.
+const OF_INPUT: [&str; 5] = [
+    "bad signature",
+    "coordinates out of range",
+    "invalid encoding",
+    "point at infinity",
+    "point is not on curve",
+];
+
+/// Why nothing is known of a signature, or none is made: OpenSSL failed, as if it had no memory.
+///
+/// ```
+/// # fn question() -> stir::Question { stir::Question::new([4; 161]) }
+/// use stir_trust::{Unanswered, Verifier};
+///
+/// let answer: Result<bool, Unanswered> = Verifier::new()?.answer(&question());
+/// assert_eq!(answer, Ok(false));
+/// # Ok::<(), Unanswered>(())
+/// ```
+#[derive(Clone, Debug, thiserror::Error, PartialEq, Eq)]
+#[error("OpenSSL failed: {0}")]
+pub struct Unanswered(String);
+
+impl From<ErrorStack> for Unanswered {
+    fn from(errors: ErrorStack) -> Unanswered {
+        Unanswered(errors.to_string())
+    }
 }
 
 /// A verifier that remembers: keys, and what it answered, in two generations. What is asked again
-/// is remembered again, so the questions of certificates stay and those of PASSporTs go.
+/// is remembered again, so the questions of certificates stay and those of PASSporTs go. What
+/// OpenSSL failed at isn't remembered.
+///
+/// ```
+/// let verifier = stir_trust::Verifier::new()?;
+/// assert!(!verifier.confirms(&stir::Question::new([0; 161])));
+/// # Ok::<(), stir_trust::Unanswered>(())
+/// ```
 pub struct Verifier {
     curve: EcGroup,
-    keys: RwLock<HashMap<[u8; 65], Option<EcKey<Public>>>>,
+    keys: RwLock<HashMap<[u8; 65], EcKey<Public>>>,
     answers: RwLock<Generations>,
 }
 
@@ -40,25 +67,75 @@ struct Generations {
 }
 
 impl Verifier {
-    pub fn new() -> Result<Verifier, ErrorStack> {
+    /// A verifier that remembers nothing yet.
+    ///
+    /// # Errors
+    ///
+    /// OpenSSL has no memory, or not this curve.
+    ///
+    /// ```
+    /// assert!(stir_trust::Verifier::new().is_ok());
+    /// ```
+    pub fn new() -> Result<Verifier, Unanswered> {
         let curve = EcGroup::from_curve_name(Nid::X9_62_PRIME256V1)?;
         Ok(Verifier { curve, keys: RwLock::default(), answers: RwLock::default() })
     }
 
-    /// Whether the signature of a question is good.
+    /// Whether the signature of a question is good. If OpenSSL fails it isn't known to be, and the
+    /// next time it is asked again.
+    ///
+    /// ```
+    /// let verifier = stir_trust::Verifier::new()?;
+    /// assert!(!verifier.confirms(&stir::Question::new([4; 161])), "no point of the curve");
+    /// # Ok::<(), stir_trust::Unanswered>(())
+    /// ```
     pub fn confirms(&self, question: &Question) -> bool {
-        if let Some(good) = self.remembered(question) {
-            return good;
-        }
-        let good = self.checks(question);
-        self.remember(question, good);
-        good
+        self.answer(question).unwrap_or(false)
     }
 
-    /// The same, without remembering the answer.
+    /// The same, for who wants to tell a signature that isn't good from one of which nothing is
+    /// known.
+    ///
+    /// # Errors
+    ///
+    /// OpenSSL failed, as if it had no memory. That isn't remembered.
+    ///
+    /// ```
+    /// let verifier = stir_trust::Verifier::new()?;
+    /// assert_eq!(verifier.answer(&stir::Question::new([4; 161])), Ok(false));
+    /// # Ok::<(), stir_trust::Unanswered>(())
+    /// ```
+    pub fn answer(&self, question: &Question) -> Result<bool, Unanswered> {
+        if let Some(good) = self.remembered(question) {
+            return Ok(good);
+        }
+        let good = self.verified(question)?;
+        self.remember(question, good);
+        Ok(good)
+    }
+
+    /// Whether the signature of a question is good, without remembering the answer.
+    ///
+    /// ```
+    /// let verifier = stir_trust::Verifier::new()?;
+    /// assert!(!verifier.checks(&stir::Question::new([4; 161])));
+    /// # Ok::<(), stir_trust::Unanswered>(())
+    /// ```
     pub fn checks(&self, question: &Question) -> bool {
-        let key = question.key().try_into().ok().and_then(|point| self.key(point));
-        key.is_some_and(|key| is_good(&key, question.digest(), question.signature()))
+        self.verified(question).unwrap_or(false)
+    }
+
+    /// What OpenSSL says of a signature. A key that is no point of the curve has signed nothing.
+    fn verified(&self, question: &Question) -> Result<bool, Unanswered> {
+        // What an earlier failure left in OpenSSL's queue is none of this one.
+        drop(ErrorStack::get());
+        let verify = || {
+            let Some(key) = self.key(question.key())? else { return Ok(false) };
+            let (r, s) = question.signature().split_at(32);
+            EcdsaSig::from_private_components(BigNum::from_slice(r)?, BigNum::from_slice(s)?)?
+                .verify(question.digest(), &key)
+        };
+        verify().or_else(|errors| if is_of_input(&errors) { Ok(false) } else { Err(errors.into()) })
     }
 
     fn remembered(&self, question: &Question) -> Option<bool> {
@@ -82,17 +159,21 @@ impl Verifier {
         young.insert(*question, good);
     }
 
-    fn key(&self, point: [u8; 65]) -> Option<EcKey<Public>> {
+    /// The public key of this form, if it is an uncompressed point (SEC 1, section 2.3.3).
+    fn key(&self, point: &[u8]) -> Result<Option<EcKey<Public>>, ErrorStack> {
+        let Some(point) = <[u8; 65]>::try_from(point).ok().filter(|point| point[0] == 4) else {
+            return Ok(None);
+        };
         if let Some(key) = self.keys.read().held().get(&point) {
-            return key.clone();
+            return Ok(Some(key.clone()));
         }
-        let key = self.key_of(&point).ok();
+        let key = self.key_of(&point)?;
         let mut keys = self.keys.write().held();
         if keys.len() >= MOST_KEYS {
             keys.clear();
         }
         keys.insert(point, key.clone());
-        key
+        Ok(Some(key))
     }
 
     /// The public key that a point is, if it lies on the curve: OpenSSL takes no coordinates of
@@ -103,6 +184,13 @@ impl Verifier {
         let point = EcPoint::from_bytes(&self.curve, point, &mut *BigNumContext::new()?)?;
         EcKey::from_public_key(&self.curve, &point)
     }
+}
+
+/// Whether it is the input at which OpenSSL failed, so that it fails there each time. The first error
+/// tells that; the others come of it.
+fn is_of_input(errors: &ErrorStack) -> bool {
+    let reason = errors.errors().first().and_then(Error::reason);
+    reason.is_some_and(|why| OF_INPUT.contains(&why))
 }
 
 #[cfg(test)]
@@ -145,13 +233,27 @@ mod tests {
     }
 
     #[test]
+    fn what_isnt_good_is_told_from_what_isnt_known() {
+        let verifier = Verifier::new().unwrap();
+        for at in 0..161 {
+            let mut other = *sample().bytes();
+            other[at] ^= 1;
+            assert_eq!(verifier.answer(&Question::new(other)), Ok(false), "byte {at}");
+        }
+        for bytes in [[0; 161], [4; 161], [255; 161]] {
+            assert_eq!(verifier.answer(&Question::new(bytes)), Ok(false), "{bytes:?}");
+        }
+        assert_eq!(verifier.answer(&sample()), Ok(true));
+    }
+
+    #[test]
     fn at_its_boundaries_it_says_what_another_program_says() {
         let verifier = Verifier::new().unwrap();
         let cases = include_str!("../cases/es256.txt");
         for line in cases.lines().filter(|line| !line.starts_with(';')) {
             let (case, what) = line.split_once("; ").expect(line);
             let (word, digits) = case.split_once(" confirm ").expect(line);
-            assert_eq!(verifier.confirms(&question(digits)), word == "good", "{what}");
+            assert_eq!(verifier.answer(&question(digits)), Ok(word == "good"), "{what}");
         }
     }
 

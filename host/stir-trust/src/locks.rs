@@ -5,7 +5,15 @@
 use std::sync::{LockResult, PoisonError};
 
 /// What is behind a lock, whoever had it before.
+///
+/// ```
+/// use std::sync::Mutex;
+/// use stir_trust::locks::Held;
+///
+/// assert_eq!(*Mutex::new(1).lock().held(), 1);
+/// ```
 pub trait Held<T> {
+    /// The value, also if a thread panicked while it had it.
     fn held(self) -> T;
 }
 
