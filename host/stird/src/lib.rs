@@ -6,6 +6,7 @@ compile_error!("a fault in one thread must end one connection, and not the servi
 
 pub mod atis;
 pub mod chain_map;
+pub mod files;
 pub mod http;
 pub mod journal;
 pub mod judge;

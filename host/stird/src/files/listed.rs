@@ -1,0 +1,213 @@
+//! A file of the chain map, and the chain in it.
+use super::bytes;
+use super::fault::Why;
+use super::look::Look;
+use std::path::Path;
+use std::sync::{Arc, OnceLock};
+use stir::{Chain, Error, Part, Question};
+use stir_trust::Verifier;
+
+/// The most bytes of a chain. Of a longer file one byte more is handed to the library, so that rule
+/// 11 still sees that it is too long.
+const MOST_CHAIN: usize = 49_152;
+
+/// The most certificates of a chain.
+const MOST_CERTIFICATES: u32 = 6;
+
+/// A chain of the chain map.
+pub struct Listed {
+    /// As it was opened.
+    opened: Chain,
+    /// The same with all its questions confirmed, once they are.
+    confirmed: OnceLock<Confirmed>,
+    /// The last second at which all its certificates are valid, in Unix time.
+    ends: Option<u64>,
+}
+
+struct Confirmed {
+    chain: Arc<Chain>,
+    questions: Vec<Question>,
+}
+
+impl Listed {
+    /// A chain of these bytes, judged under a world.
+    pub(super) fn open(world: &stir::World, der: &[u8]) -> Result<Listed, Error> {
+        let opened = world.chain(der)?;
+        let mut ends = None;
+        for number in 1..=MOST_CERTIFICATES {
+            let Some(digits) = opened.part(number, Part::NotAfter)? else { break };
+            let end: i64 =
+                std::str::from_utf8(&digits).ok().and_then(|n| n.parse().ok()).unwrap_or(0);
+            let end = u64::try_from(end).unwrap_or(0);
+            ends = Some(ends.map_or(end, |earlier: u64| earlier.min(end)));
+        }
+        Ok(Listed { opened, confirmed: OnceLock::new(), ends })
+    }
+
+    /// The chain with its questions confirmed by this verifier. Once it has confirmed all of it, it
+    /// isn't asked again.
+    ///
+    /// # Errors
+    ///
+    /// Want of memory.
+    pub fn chain(&self, mut confirms: impl FnMut(&Question) -> bool) -> Result<Arc<Chain>, Error> {
+        self.chain_by(|_, question| confirms(question))
+    }
+
+    /// The same by a verifier that is told which question it is: the leaf's is number 0.
+    fn chain_by(
+        &self,
+        mut confirms: impl FnMut(usize, &Question) -> bool,
+    ) -> Result<Arc<Chain>, Error> {
+        if let Some(confirmed) = self.confirmed.get() {
+            return Ok(Arc::clone(&confirmed.chain));
+        }
+        let questions = self.opened.questions()?;
+        let good: Vec<bool> =
+            questions.iter().enumerate().map(|(at, question)| confirms(at, question)).collect();
+        let chain = Arc::new(self.opened.confirmed(&good)?);
+        if good.iter().all(|good| *good) {
+            let confirmed = self.confirmed.get_or_init(|| Confirmed { chain, questions });
+            return Ok(Arc::clone(&confirmed.chain));
+        }
+        Ok(chain)
+    }
+
+    /// Confirms it before a call asks for it. What was confirmed of the chain in whose place it
+    /// stands isn't asked again. Leaves' signatures stand in one chain each, and others in many:
+    /// those alone are worth the verifier's memory.
+    pub(super) fn confirm(&self, verifier: &Verifier, before: Option<&Listed>) {
+        let known = before.map_or(&[][..], Listed::confirmed);
+        // A chain for which there is no memory now is confirmed when a call asks for it.
+        let _ = self.chain_by(|at, question| {
+            known.contains(question)
+                || if at == 0 { verifier.checks(question) } else { verifier.confirms(question) }
+        });
+    }
+
+    /// Whether all its questions are confirmed.
+    pub(super) fn is_confirmed(&self) -> bool {
+        self.confirmed.get().is_some()
+    }
+
+    /// Its questions, if all are confirmed.
+    pub(super) fn confirmed(&self) -> &[Question] {
+        self.confirmed.get().map_or(&[], |confirmed| &confirmed.questions)
+    }
+
+    /// The last second at which all its certificates are valid; nothing if it is no chain.
+    pub(super) fn ends(&self) -> Option<u64> {
+        self.ends
+    }
+}
+
+/// A file of the chain map, as it was read last.
+pub(super) struct ChainFile {
+    /// How it looked.
+    look: Look,
+    /// Whether it has to be read again, however it looks.
+    again: bool,
+    /// Its bytes, and the chain that they are. If it can't be read they are those from before.
+    held: Option<Held>,
+    /// Why it can't be read.
+    fault: Option<Why>,
+}
+
+#[derive(Clone)]
+struct Held {
+    der: Arc<[u8]>,
+    chain: Arc<Listed>,
+}
+
+impl ChainFile {
+    /// Whether it isn't what it was when it was read.
+    pub(super) fn is_stale(&self, path: &Path) -> bool {
+        self.again || Look::at(path) != self.look
+    }
+
+    /// How it looked.
+    pub(super) fn look(&self) -> &Look {
+        &self.look
+    }
+
+    /// Reads it, and opens its chain under a world. `before` is the same file as it was, and
+    /// `is_same` tells that its chain stands under the same world.
+    pub(super) fn read(
+        path: &Path,
+        world: &stir::World,
+        before: Option<&ChainFile>,
+        is_same: bool,
+    ) -> ChainFile {
+        let came = bytes::read(path, MOST_CHAIN);
+        let held_before = before.and_then(|before| before.held.as_ref());
+        match came.bytes {
+            Ok(der) => {
+                let same = held_before.filter(|held| *held.der == *der);
+                let der = same.map_or_else(|| der.into(), |held| Arc::clone(&held.der));
+                let file =
+                    ChainFile { look: came.look, again: came.again, held: None, fault: None };
+                file.holding(der, world, held_before, is_same)
+            }
+            Err(Why::Missing) => {
+                ChainFile { look: came.look, again: came.again, held: None, fault: None }
+            }
+            Err(why) => {
+                let file =
+                    ChainFile { look: came.look, again: came.again, held: None, fault: Some(why) };
+                match held_before {
+                    Some(held) => file.holding(held.der.clone(), world, held_before, is_same),
+                    None => file,
+                }
+            }
+        }
+    }
+
+    /// The same file with its chain opened under another world; it isn't read.
+    pub(super) fn reopened(&self, world: &stir::World) -> ChainFile {
+        let file =
+            ChainFile { look: self.look, again: self.again, held: None, fault: self.fault.clone() };
+        match &self.held {
+            Some(held) => file.holding(held.der.clone(), world, None, false),
+            None => file,
+        }
+    }
+
+    /// The file with a chain of these bytes: that from before, if these are its bytes and its world
+    /// is the same.
+    fn holding(
+        mut self,
+        der: Arc<[u8]>,
+        world: &stir::World,
+        before: Option<&Held>,
+        is_same: bool,
+    ) -> ChainFile {
+        if let Some(held) = before.filter(|held| is_same && Arc::ptr_eq(&held.der, &der)) {
+            self.held = Some(held.clone());
+            return self;
+        }
+        match Listed::open(world, &der) {
+            Ok(chain) => self.held = Some(Held { der, chain: Arc::new(chain) }),
+            Err(error) => {
+                self.held = before.filter(|_| is_same).cloned();
+                self.fault = Some(error.into());
+                self.again = true;
+            }
+        }
+        self
+    }
+
+    /// Its chain, if it is there.
+    pub(super) fn chain(&self) -> Option<&Arc<Listed>> {
+        self.held.as_ref().map(|held| &held.chain)
+    }
+
+    /// Why it can't be read.
+    pub(super) fn fault(&self) -> Option<&Why> {
+        self.fault.as_ref()
+    }
+
+    /// Whether there is no such file.
+    pub(super) fn is_missing(&self) -> bool {
+        self.held.is_none() && self.fault.is_none()
+    }
+}

@@ -1,0 +1,58 @@
+//! What calls are judged by and signed for, read from files and read again if one changes.
+//!
+//! Each file is taken by itself. One that is refused or can't be read stays what it was before, and
+//! is named once; all others are taken. At the start the three files that stand alone have to be
+//! taken, and a chain that can't be read counts as one that is missing. A change is noticed by a
+//! file's size, times, inode and device; a file that is changed while it is read is read again, and
+//! one that is written in its place is waited for until it rests. Nothing but a file of bytes is
+//! opened, so no FIFO, folder or device is waited for.
+//!
+//! All of this blocks, and is called on a thread that may block. What it gives doesn't change, so
+//! that a reader has all of a world or all of the one before.
+
+mod bytes;
+pub mod chain_map;
+mod fault;
+mod listed;
+pub mod look;
+mod reading;
+pub mod signing;
+pub mod signing_line;
+mod single;
+mod world;
+
+pub use fault::{FileFault, Why};
+pub use listed::Listed;
+pub use reading::read;
+pub use world::World;
+
+use std::path::PathBuf;
+
+/// Which files are read, and the settings under which calls are judged. Names in the chain map are
+/// as they stand there: relative ones from the folder in which the service runs, as of `stir
+/// verify`.
+///
+/// ```
+/// use stird::files::Sources;
+///
+/// let sources = Sources {
+///     rules: stir::Settings::default(),
+///     chains: "chains.txt".into(),
+///     anchors: "anchors.der".into(),
+///     table: "table.txt".into(),
+///     signing: None,
+/// };
+/// ```
+#[derive(Clone, Debug, PartialEq, Eq)]
+pub struct Sources {
+    /// How calls are judged.
+    pub rules: stir::Settings,
+    /// The chain map.
+    pub chains: PathBuf,
+    /// The trust anchors.
+    pub anchors: PathBuf,
+    /// The code table.
+    pub table: PathBuf,
+    /// The signing table, if there is one.
+    pub signing: Option<PathBuf>,
+}

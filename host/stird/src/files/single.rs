@@ -1,0 +1,82 @@
+//! A file that stands alone: the chain map, the trust anchors, the code table.
+use super::bytes;
+use super::fault::{FileFault, Why};
+use super::look::Look;
+use std::path::Path;
+use std::sync::Arc;
+
+/// The most bytes of one.
+pub(super) const MOST_BYTES: usize = 16_777_216;
+
+/// Such a file as it was read last.
+#[derive(Clone)]
+pub(super) struct Single {
+    /// How it looked.
+    look: Look,
+    /// Whether it has to be read again, however it looks.
+    again: bool,
+    /// Its bytes, or those from before if it isn't taken.
+    pub bytes: Arc<[u8]>,
+    /// Why it isn't taken.
+    pub fault: Option<FileFault>,
+}
+
+impl Single {
+    /// Reads it if it isn't what it was before; what can't be read stays what it was.
+    ///
+    /// # Errors
+    ///
+    /// It can't be read, and was nothing before.
+    pub(super) fn read(path: &Path, before: Option<&Single>) -> Result<Single, FileFault> {
+        if let Some(before) = before.filter(|before| !before.is_stale(path)) {
+            return Ok(before.clone());
+        }
+        let came = bytes::read(path, MOST_BYTES);
+        let is_long = |bytes: &Vec<u8>| bytes.len() > MOST_BYTES;
+        let (bytes, again) = match came.bytes {
+            Ok(bytes) if is_long(&bytes) => (Err(Why::Long(MOST_BYTES)), came.again),
+            Ok(bytes) => (Ok(bytes), came.again),
+            Err(why) => (Err(why), true),
+        };
+        match (bytes, before) {
+            (Ok(bytes), before) => {
+                let same = before.filter(|before| *before.bytes == *bytes);
+                let bytes = same.map_or_else(|| bytes.into(), |before| Arc::clone(&before.bytes));
+                Ok(Single { look: came.look, again, bytes, fault: None })
+            }
+            (Err(why), Some(before)) => {
+                let fault = Some(FileFault::of(path, why));
+                Ok(Single { look: came.look, again, bytes: Arc::clone(&before.bytes), fault })
+            }
+            (Err(why), None) => Err(FileFault::of(path, why)),
+        }
+    }
+
+    /// The same with the bytes from before, if there are some: these ones aren't taken.
+    ///
+    /// # Errors
+    ///
+    /// It was nothing before.
+    pub(super) fn refused(
+        self,
+        fault: FileFault,
+        before: Option<&Single>,
+    ) -> Result<Single, FileFault> {
+        match before.filter(|before| !Arc::ptr_eq(&before.bytes, &self.bytes)) {
+            Some(before) => {
+                Ok(Single { bytes: Arc::clone(&before.bytes), fault: Some(fault), ..self })
+            }
+            None => Err(fault),
+        }
+    }
+
+    /// Whether it isn't what it was when it was read.
+    pub(super) fn is_stale(&self, path: &Path) -> bool {
+        self.again || Look::at(path) != self.look
+    }
+
+    /// How it looked.
+    pub(super) fn look(&self) -> &Look {
+        &self.look
+    }
+}
