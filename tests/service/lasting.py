@@ -58,7 +58,7 @@ def full(stird, world):
 def answers(port):
     with contextlib.suppress(OSError), socket.create_connection(("127.0.0.1", port), timeout=5) as connection:
         connection.sendall(b"GET /healthz HTTP/1.0\r\n\r\n")
-        return connection.recv(100).startswith(b"HTTP/1.1 200 ")
+        return connection.recv(100).startswith(b"HTTP/1.0 200 ")
     return False
 
 

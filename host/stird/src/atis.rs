@@ -1,52 +1,100 @@
 //! Requests in the manner of ATIS-1000082: JSON that says of a call what an INVITE says, and JSON
 //! back.
+use crate::answers::Answer;
+use crate::files::signing_line::attest_of;
 use crate::judge::{reason_of, Judged, Outcome};
-use crate::signing::attest_of;
-use serde_json::{json, Value};
+use hyper::StatusCode;
+use serde::de::DeserializeOwned;
+use serde::{Deserialize, Deserializer, Serialize};
+use serde_json::Value;
 use stir::Attest;
 
 /// Why a request is refused, as an exception of its document: an identifier and a text.
 #[derive(Debug, PartialEq, Eq)]
 pub struct Refusal {
-    pub status: u16,
+    /// The status of the answer.
+    pub status: StatusCode,
+    /// The identifier.
     pub id: &'static str,
+    /// The text.
     pub text: &'static str,
 }
 
+const fn refusal(status: StatusCode, id: &'static str, text: &'static str) -> Refusal {
+    Refusal { status, id, text }
+}
+
+/// There is no body.
 pub const NO_BODY: Refusal =
-    Refusal { status: 400, id: "SVC4000", text: "Error: Missing request body." };
-pub const BAD_JSON: Refusal = Refusal { status: 400, id: "SVC4003", text: "Error: Invalid JSON." };
-pub const MISSING: Refusal = Refusal {
-    status: 400,
-    id: "SVC4001",
-    text: "Error: Missing mandatory parameter or wrong type.",
-};
+    refusal(StatusCode::BAD_REQUEST, "SVC4000", "Error: Missing request body.");
+/// The body is no JSON.
+pub const BAD_JSON: Refusal = refusal(StatusCode::BAD_REQUEST, "SVC4003", "Error: Invalid JSON.");
+/// A member is missing, or of another type.
+pub const MISSING: Refusal = refusal(
+    StatusCode::BAD_REQUEST,
+    "SVC4001",
+    "Error: Missing mandatory parameter or wrong type.",
+);
+/// A value is none.
 pub const BAD_VALUE: Refusal =
-    Refusal { status: 400, id: "SVC4005", text: "Error: Invalid parameter value." };
-/// This one and those after it aren't in the document.
+    refusal(StatusCode::BAD_REQUEST, "SVC4005", "Error: Invalid parameter value.");
+/// No block has the number. This one and those after it aren't in the document.
 pub const NOT_OURS: Refusal =
-    Refusal { status: 403, id: "POL4030", text: "Error: This number isn't signed for." };
-pub const NOT_VALID: Refusal = Refusal {
-    status: 500,
-    id: "SVC5001",
-    text: "Error: The certificate of this number isn't valid now.",
-};
+    refusal(StatusCode::FORBIDDEN, "POL4030", "Error: This number isn't signed for.");
+/// The caller may not have calls signed.
+pub const NOT_ALLOWED: Refusal =
+    refusal(StatusCode::FORBIDDEN, "POL4031", "Error: Calls aren't signed for this sender.");
+/// The caller has no token.
+pub const NO_TOKEN: Refusal =
+    refusal(StatusCode::UNAUTHORIZED, "POL4010", "Error: A token is wanted.");
+/// The certificate isn't valid at the second of signing.
+pub const NOT_VALID: Refusal = refusal(
+    StatusCode::INTERNAL_SERVER_ERROR,
+    "SVC5001",
+    "Error: The certificate of this number isn't valid now.",
+);
+/// The key or the memory failed.
 pub const FAILED: Refusal =
-    Refusal { status: 500, id: "SVC5000", text: "Error: The call can't be signed now." };
+    refusal(StatusCode::INTERNAL_SERVER_ERROR, "SVC5000", "Error: The call can't be signed now.");
+
+#[derive(Serialize)]
+#[serde(rename_all = "camelCase")]
+struct Exception {
+    message_id: &'static str,
+    text: &'static str,
+}
+
+#[derive(Serialize)]
+#[serde(rename_all = "camelCase")]
+enum Exceptions {
+    PolicyException(Exception),
+    ServiceException(Exception),
+}
+
+#[derive(Serialize)]
+#[serde(rename_all = "camelCase")]
+struct RequestError {
+    request_error: Exceptions,
+}
 
 impl Refusal {
-    pub fn body(&self) -> String {
-        let exception =
-            if self.id.starts_with("POL") { "policyException" } else { "serviceException" };
-        json!({ "requestError": { exception: { "messageId": self.id, "text": self.text } } })
-            .to_string()
+    /// The answer that says so.
+    pub fn answer(&self) -> Answer {
+        let exception = Exception { message_id: self.id, text: self.text };
+        let request_error = match self.id.starts_with("POL") {
+            true => Exceptions::PolicyException(exception),
+            false => Exceptions::ServiceException(exception),
+        };
+        Answer::json(self.status, &RequestError { request_error })
     }
 }
 
 /// What a request to verify a call says.
 #[derive(Debug, PartialEq, Eq)]
 pub struct Verification {
+    /// The INVITE.
     pub message: Vec<u8>,
+    /// The moment of the call, if it is said.
     pub time: Option<u64>,
 }
 
@@ -54,64 +102,110 @@ pub struct Verification {
 /// identifier of the call, and the best attestation that is wanted.
 #[derive(Debug, PartialEq, Eq)]
 pub struct Signing {
+    /// The number that calls.
     pub orig: String,
+    /// The INVITE.
     pub message: Vec<u8>,
+    /// The second of the PASSporT, if it is said.
     pub time: Option<u64>,
+    /// The identifier.
     pub origid: String,
+    /// The best attestation.
     pub attest: Attest,
 }
 
-fn object(body: &[u8], name: &str) -> Result<Value, Refusal> {
+/// The body of a request to verify.
+#[derive(Deserialize)]
+struct VerificationBody {
+    #[serde(rename = "verificationRequest")]
+    request: VerificationRequest,
+}
+
+#[derive(Deserialize)]
+struct VerificationRequest {
+    from: Number,
+    to: Number,
+    #[serde(default, deserialize_with = "given")]
+    time: Option<u64>,
+    #[serde(default, deserialize_with = "given")]
+    identity: Option<String>,
+    #[serde(default, deserialize_with = "given")]
+    identities: Option<Vec<String>>,
+}
+
+/// The body of a request to sign.
+#[derive(Deserialize)]
+struct SigningBody {
+    #[serde(rename = "signingRequest")]
+    request: SigningRequest,
+}
+
+#[derive(Deserialize)]
+struct SigningRequest {
+    orig: Number,
+    dest: Number,
+    #[serde(default, deserialize_with = "given")]
+    iat: Option<u64>,
+    origid: String,
+    attest: String,
+}
+
+#[derive(Deserialize)]
+struct Number {
+    tn: Numbers,
+}
+
+#[derive(Deserialize)]
+#[serde(untagged)]
+enum Numbers {
+    One(String),
+    Several(Vec<String>),
+}
+
+/// A member that may be missing, but isn't `null`.
+fn given<'de, D, T>(value: D) -> Result<Option<T>, D::Error>
+where
+    D: Deserializer<'de>,
+    T: Deserialize<'de>,
+{
+    T::deserialize(value).map(Some)
+}
+
+/// The value of a body: first it has to be JSON, and then of this form.
+fn read<T: DeserializeOwned>(body: &[u8]) -> Result<T, Refusal> {
     if body.is_empty() {
         return Err(NO_BODY);
     }
-    let mut whole: Value = serde_json::from_slice(body).map_err(|_| BAD_JSON)?;
-    let inner = whole.get_mut(name).map(Value::take).ok_or(MISSING)?;
-    if inner.is_object() {
-        Ok(inner)
-    } else {
-        Err(MISSING)
-    }
+    let value: Value = serde_json::from_slice(body).map_err(|_| BAD_JSON)?;
+    serde_json::from_value(value).map_err(|_| MISSING)
 }
 
-/// The number in `{"tn": ..}`, or the first of those in a list: 1 to 15 digits, perhaps behind a
-/// `+`.
-fn number(value: Option<&Value>) -> Result<String, Refusal> {
-    let tn = value.and_then(|value| value.get("tn")).ok_or(MISSING)?;
-    let tn = if tn.is_array() { tn.get(0).ok_or(MISSING)? } else { tn };
-    let text = tn.as_str().ok_or(MISSING)?;
-    let digits = text.strip_prefix('+').unwrap_or(text);
-    let good = (1..=15).contains(&digits.len())
-        && digits.bytes().all(|byte| byte.is_ascii_digit() || b"*#".contains(&byte));
-    if good {
-        Ok(digits.into())
-    } else {
-        Err(BAD_VALUE)
+impl Number {
+    /// The number, or the first of those in a list: 1 to 15 digits, perhaps behind a `+`.
+    fn text(self) -> Result<String, Refusal> {
+        let text = match self.tn {
+            Numbers::One(text) => text,
+            Numbers::Several(texts) => texts.into_iter().next().ok_or(MISSING)?,
+        };
+        let digits = text.strip_prefix('+').unwrap_or(&text);
+        let good = (1..=15).contains(&digits.len())
+            && digits.bytes().all(|byte| byte.is_ascii_digit() || b"*#".contains(&byte));
+        good.then(|| digits.into()).ok_or(BAD_VALUE)
     }
-}
-
-fn seconds(value: Option<&Value>) -> Result<Option<u64>, Refusal> {
-    value.map(|value| value.as_u64().ok_or(MISSING)).transpose()
 }
 
 /// The Identity values: one, or a list. None may have a line end in it, or it would be more than a
 /// value.
-fn identities(request: &Value) -> Result<Vec<String>, Refusal> {
-    let values = match (request.get("identity"), request.get("identities")) {
-        (Some(one), None) => vec![one.as_str().ok_or(MISSING)?.to_string()],
-        (None, Some(Value::Array(list))) => list
-            .iter()
-            .map(|one| one.as_str().map(String::from).ok_or(MISSING))
-            .collect::<Result<_, _>>()?,
+fn identities(one: Option<String>, list: Option<Vec<String>>) -> Result<Vec<String>, Refusal> {
+    let values = match (one, list) {
+        (Some(one), None) => vec![one],
+        (None, Some(list)) => list,
         _ => return Err(MISSING),
     };
-    if values
-        .iter()
-        .any(|value| value.bytes().any(|byte| byte == b'\r' || byte == b'\n' || byte == 0))
-    {
-        return Err(BAD_VALUE);
+    match values.iter().any(|value| value.contains(['\r', '\n', '\0'])) {
+        true => Err(BAD_VALUE),
+        false => Ok(values),
     }
-    Ok(values)
 }
 
 /// The INVITE that a call from one number to another is, with these fields beside the needed ones.
@@ -145,56 +239,89 @@ fn address(number: &str) -> String {
 }
 
 /// A request to `/stir/v1/verification`.
+///
+/// # Errors
+///
+/// The body is no such request.
 pub fn verification(body: &[u8]) -> Result<Verification, Refusal> {
-    let request = object(body, "verificationRequest")?;
-    let (from, to) = (number(request.get("from"))?, number(request.get("to"))?);
-    let values = identities(&request)?;
+    let VerificationBody { request } = read(body)?;
+    let (from, to) = (request.from.text()?, request.to.text()?);
+    let values = identities(request.identity, request.identities)?;
     let fields: Vec<(&str, &str)> =
         values.iter().map(|value| ("Identity", value.as_str())).collect();
-    Ok(Verification { message: invite(&from, &to, &fields), time: seconds(request.get("time"))? })
+    Ok(Verification { message: invite(&from, &to, &fields), time: request.time })
 }
 
 /// A request to `/stir/v1/signing`.
+///
+/// # Errors
+///
+/// The body is no such request.
 pub fn signing(body: &[u8]) -> Result<Signing, Refusal> {
-    let request = object(body, "signingRequest")?;
-    let (from, to) = (number(request.get("orig"))?, number(request.get("dest"))?);
-    let origid = request.get("origid").and_then(Value::as_str).ok_or(MISSING)?;
-    let attest = match request.get("attest") {
-        None => Attest::A,
-        Some(attest) => attest_of(attest.as_str().ok_or(MISSING)?).ok_or(BAD_VALUE)?,
-    };
+    let SigningBody { request } = read(body)?;
+    let (from, to) = (request.orig.text()?, request.dest.text()?);
     Ok(Signing {
         message: invite(&from, &to, &[]),
         orig: from,
-        time: seconds(request.get("iat"))?,
-        origid: origid.into(),
-        attest,
+        time: request.iat,
+        origid: request.origid,
+        attest: attest_of(&request.attest).ok_or(BAD_VALUE)?,
     })
 }
 
+#[derive(Serialize)]
+struct SigningResponse<'a> {
+    identity: &'a str,
+}
+
+#[derive(Serialize)]
+#[serde(rename_all = "camelCase")]
+struct Signed<'a> {
+    signing_response: SigningResponse<'a>,
+}
+
 /// The answer to it.
-pub fn signed(identity: &str) -> String {
-    json!({ "signingResponse": { "identity": identity } }).to_string()
+pub fn signed(identity: &str) -> Answer {
+    let signing_response = SigningResponse { identity };
+    Answer::json(StatusCode::OK, &Signed { signing_response })
+}
+
+#[derive(Serialize)]
+struct VerificationResponse {
+    #[serde(skip_serializing_if = "Option::is_none")]
+    reasoncode: Option<String>,
+    #[serde(skip_serializing_if = "Option::is_none")]
+    reasondesc: Option<String>,
+    #[serde(skip_serializing_if = "Option::is_none")]
+    reasontext: Option<&'static str>,
+    verstat: &'static str,
+}
+
+#[derive(Serialize)]
+#[serde(rename_all = "camelCase")]
+struct Verified {
+    verification_response: VerificationResponse,
 }
 
 /// The answer to a request to verify a call.
-pub fn verified(judged: &Judged) -> String {
+pub fn verified(judged: &Judged) -> Answer {
     let outcome = &judged.outcome;
-    let mut response = json!({ "verstat": outcome.verstat() });
-    if outcome.code() != 0 {
-        response["reasoncode"] = json!(outcome.code().to_string());
-        response["reasontext"] = json!(reason_of(outcome.code()));
-        response["reasondesc"] = match outcome {
-            Outcome::Replay { winner } => {
-                json!(format!("rule 18, the ticket passed with call {winner}"))
-            }
-            Outcome::Refused { rule, field, part, .. } => {
-                json!(format!("rule {rule} at {field}.{part}"))
-            }
-            Outcome::Valid | Outcome::Unjudged => json!(""),
-        };
-    }
-    json!({ "verificationResponse": response }).to_string()
+    let reason = match outcome {
+        Outcome::Replay { winner } => {
+            Some(format!("rule 18, the ticket passed with call {winner}"))
+        }
+        Outcome::Refused { rule, field, part, .. } => {
+            Some(format!("rule {rule} at {field}.{part}"))
+        }
+        Outcome::Valid | Outcome::Unjudged => None,
+    };
+    let verification_response = VerificationResponse {
+        reasoncode: reason.is_some().then(|| outcome.code().to_string()),
+        reasontext: reason.is_some().then(|| reason_of(outcome.code())),
+        reasondesc: reason,
+        verstat: outcome.verstat(),
+    };
+    Answer::json(StatusCode::OK, &Verified { verification_response })
 }
 
 #[cfg(test)]
@@ -230,7 +357,9 @@ mod tests {
             ("12155551212", Some(1_443_208_345), Attest::B)
         );
         for body in [
-            r#"{"signingRequest":{"orig":{"tn":"1"},"dest":{"tn":"2"}}}"#,
+            r#"{"signingRequest":{"orig":{"tn":"1"},"dest":{"tn":"2"},"attest":"A"}}"#,
+            r#"{"signingRequest":{"orig":{"tn":"1"},"dest":{"tn":"2"},"origid":"u"}}"#,
+            r#"{"signingRequest":{"orig":{"tn":[]},"dest":{"tn":"2"},"origid":"u","attest":"A"}}"#,
             r#"{"signingRequest":{"orig":{"tn":"1"},"dest":{"tn":"2"},"origid":"u","attest":1}}"#,
         ] {
             assert_eq!(signing(body.as_bytes()), Err(MISSING), "{body}");
@@ -246,6 +375,16 @@ mod tests {
             ("", NO_BODY),
             ("{", BAD_JSON),
             ("[]", MISSING),
+            (
+                r#"{"verificationRequest":{"from":{"tn":"1"},"to":{"tn":"2"},"identity":"a",
+                    "time":null}}"#,
+                MISSING,
+            ),
+            (
+                r#"{"verificationRequest":{"from":{"tn":"1"},"to":{"tn":"2"},"identity":"a",
+                    "identities":[]}}"#,
+                MISSING,
+            ),
             (r#"{"verificationRequest":[]}"#, MISSING),
             (r#"{"verificationRequest":{"from":{"tn":"1"},"to":{"tn":"2"}}}"#, MISSING),
             (
@@ -259,6 +398,50 @@ mod tests {
             ),
         ] {
             assert_eq!(verification(body.as_bytes()), Err(refusal), "{body}");
+        }
+    }
+
+    /// The body of an answer.
+    fn body(answer: &Answer) -> &str {
+        std::str::from_utf8(&answer.body).expect("text")
+    }
+
+    #[test]
+    fn a_refusal_says_whose_exception_it_is() {
+        assert_eq!(
+            body(&MISSING.answer()),
+            concat!(
+                r#"{"requestError":{"serviceException":{"messageId":"SVC4001","#,
+                r#""text":"Error: Missing mandatory parameter or wrong type."}}}"#
+            )
+        );
+        let answer = NO_TOKEN.answer();
+        assert!(body(&answer).starts_with(r#"{"requestError":{"policyException":{"messageId":"#));
+        assert_eq!((answer.status.as_u16(), answer.kind), (401, "application/json"));
+    }
+
+    #[test]
+    fn an_answer_has_reasons_if_the_call_isnt_valid() {
+        for (outcome, wanted) in [
+            (Outcome::Valid, r#"{"verificationResponse":{"verstat":"TN-Validation-Passed"}}"#),
+            (
+                Outcome::Refused { rule: 6, code: 438, field: 1, part: 14 },
+                concat!(
+                    r#"{"verificationResponse":{"reasoncode":"438","reasondesc":"rule 6 at 1.14","#,
+                    r#""reasontext":"Invalid Identity Header","verstat":"TN-Validation-Failed"}}"#
+                ),
+            ),
+            (
+                Outcome::Replay { winner: 7 },
+                concat!(
+                    r#"{"verificationResponse":{"reasoncode":"438","#,
+                    r#""reasondesc":"rule 18, the ticket passed with call 7","#,
+                    r#""reasontext":"Invalid Identity Header","verstat":"TN-Validation-Failed"}}"#
+                ),
+            ),
+            (Outcome::Unjudged, r#"{"verificationResponse":{"verstat":"No-TN-Validation"}}"#),
+        ] {
+            assert_eq!(body(&verified(&Judged { call: 1, outcome })), wanted);
         }
     }
 }

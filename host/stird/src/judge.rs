@@ -1,14 +1,15 @@
 //! A call judged: it is given its chains, its questions are asked of OpenSSL, what comes of it is
 //! taken from the proved library, and its ticket claimed.
+use crate::files::World;
 use crate::metrics::{Metrics, Part};
-use crate::past::{Claim, Passed, Past};
-use crate::world::World;
+use crate::split;
+use crate::tickets::{Claim, Passed, Tickets};
+use arc_swap::ArcSwap;
 use std::sync::atomic::{AtomicU64, Ordering};
-use std::sync::{Arc, RwLock};
-use std::time::{Instant, SystemTime, UNIX_EPOCH};
+use std::sync::Arc;
+use std::time::Instant;
 use stir::{Error, Passes, Refused, Verdict};
-use stir_trust::locks::Held;
-use stir_trust::Verifier;
+use stir_trust::{Unanswered, Verifier};
 
 /// What came of a call.
 #[derive(Clone, Copy, Debug, PartialEq, Eq)]
@@ -16,9 +17,21 @@ pub enum Outcome {
     /// It breaks no rule, and its ticket passed for the first time.
     Valid,
     /// It breaks this rule first, at this place.
-    Refused { rule: u32, code: u32, field: u32, part: u32 },
+    Refused {
+        /// The rule.
+        rule: u32,
+        /// Its response code.
+        code: u32,
+        /// The Identity field, counted from 1; 0 if it is none.
+        field: u32,
+        /// The part of it.
+        part: u32,
+    },
     /// Its ticket passed before: with the call of this number; 0 if that isn't known.
-    Replay { winner: u64 },
+    Replay {
+        /// The number of that call.
+        winner: u64,
+    },
     /// Nothing is said of it: its ticket can't be told from one that passed, or isn't kept; or
     /// memory ran out.
     Unjudged,
@@ -28,11 +41,14 @@ pub enum Outcome {
 /// of it.
 #[derive(Clone, Copy, Debug)]
 pub struct Judged {
+    /// Its number.
     pub call: u64,
+    /// What came of it.
     pub outcome: Outcome,
 }
 
 impl Outcome {
+    /// Its name in the answers.
     pub fn name(&self) -> &'static str {
         match self {
             Outcome::Valid => "valid",
@@ -42,7 +58,7 @@ impl Outcome {
         }
     }
 
-    /// The SIP response code, and the rule that is broken; 0 where there is none.
+    /// The SIP response code; 0 if there is none.
     pub fn code(&self) -> u32 {
         match self {
             Outcome::Refused { code, .. } => *code,
@@ -51,6 +67,7 @@ impl Outcome {
         }
     }
 
+    /// The rule that is broken; 0 if none is.
     pub fn rule(&self) -> u32 {
         match self {
             Outcome::Refused { rule, .. } => *rule,
@@ -78,6 +95,7 @@ impl Outcome {
     }
 }
 
+/// The reason phrase of a code; empty if it has none.
 pub fn reason_of(code: u32) -> &'static str {
     match code {
         400 => "Bad Request",
@@ -92,16 +110,18 @@ pub fn reason_of(code: u32) -> &'static str {
 
 /// The judge with all that it goes by.
 pub struct Judge {
-    pub world: RwLock<Arc<World>>,
+    /// What calls are judged by.
+    pub world: ArcSwap<World>,
+    /// ES256.
     pub verifier: Verifier,
-    pub past: Past,
+    /// Which tickets passed.
+    pub tickets: Arc<dyn Tickets>,
+    /// The number of the last call.
     pub numbers: AtomicU64,
-    pub metrics: Metrics,
-}
-
-/// The second of the clock, in Unix time.
-pub fn now() -> u64 {
-    SystemTime::now().duration_since(UNIX_EPOCH).map_or(0, |since| since.as_secs())
+    /// What is counted.
+    pub metrics: Arc<Metrics>,
+    /// Whether lists in P-Asserted-Identity are split.
+    pub split: bool,
 }
 
 /// The next number of a call. At the greatest that there is it stands still.
@@ -111,20 +131,37 @@ fn next(numbers: &AtomicU64) -> u64 {
     before.saturating_add(1)
 }
 
+/// Why nothing is said of a call.
+#[derive(Debug, thiserror::Error)]
+enum Unsaid {
+    /// By the proved library.
+    #[error("{0}")]
+    Library(#[from] Error),
+    /// OpenSSL doesn't say whether a signature is good.
+    #[error("{0}")]
+    Signature(#[from] Unanswered),
+}
+
+/// The number of the rule on what is no INVITE.
+const MESSAGE: u32 = 1;
+
 impl Judge {
     /// What comes of an INVITE that came at this moment.
-    pub fn judge(&self, message: &[u8], moment: u64) -> Judged {
-        let world = self.world.read().held().clone();
-        let verdict = self.verdict(&world, message, moment);
+    pub async fn judge(&self, message: &[u8], moment: u64) -> Judged {
+        let verdict = self.verdict(message, moment);
         let call = next(&self.numbers);
         let outcome = match verdict {
             Ok(Verdict::Refused(Refused { rule, code, field, part })) => {
                 Outcome::Refused { rule, code, field, part }
             }
             Ok(Verdict::Passes(Passes { ticket, last })) => {
-                match self.past.claim(ticket, Passed { last, number: call }, moment) {
+                let timer = self.metrics.claims.start_timer();
+                let claim = self.tickets.claim(ticket, Passed { last, number: call }, moment);
+                let claim = claim.await;
+                timer.observe_duration();
+                match claim {
                     Claim::Won => Outcome::Valid,
-                    Claim::Lost(winner) => Outcome::Replay { winner },
+                    Claim::Lost { winner } => Outcome::Replay { winner },
                     Claim::Forgotten | Claim::Unable => Outcome::Unjudged,
                 }
             }
@@ -134,22 +171,45 @@ impl Judge {
         Judged { call, outcome }
     }
 
+    /// What the rules say of a message, or of the same with its lists split.
+    fn verdict(&self, message: &[u8], moment: u64) -> Result<Verdict, Unsaid> {
+        let world = self.world.load();
+        let Some(split) = self.split.then(|| split::lists(message)).flatten() else {
+            return self.ruled(&world, message, moment);
+        };
+        // A place in a message that can't be read is one in what came.
+        let early = world.call(moment, message)?.early();
+        if matches!(early, Verdict::Refused(Refused { rule: MESSAGE, .. })) {
+            return Ok(early);
+        }
+        self.metrics.split.inc();
+        self.ruled(&world, &split, moment)
+    }
+
     /// What the rules say: asked with each answer taken for good; and if an answer isn't, judged by
     /// those that are.
-    fn verdict(&self, world: &World, message: &[u8], moment: u64) -> Result<Verdict, Error> {
+    fn ruled(&self, world: &World, message: &[u8], moment: u64) -> Result<Verdict, Unsaid> {
         let start = Instant::now();
         let mut call = world.call(moment, message)?;
         for index in 0..call.passports() {
             if let Some(listed) = world.listed(&call.x5u(index)?) {
-                let chain = listed.chain(|question| self.verifier.confirms(question))?;
+                let mut unanswered = None;
+                let chain = listed.chain(|question| match self.verifier.answer(question) {
+                    Ok(good) => good,
+                    Err(error) => {
+                        unanswered = Some(error);
+                        false
+                    }
+                })?;
+                unanswered.map_or(Ok(()), Err)?;
                 call.set_chain(index, &chain)?;
             }
         }
         let asked = call.questions()?;
         let confirming = Instant::now();
         self.metrics.spend(Part::Ask, confirming - start);
-        let good: Vec<bool> =
-            asked.questions.iter().map(|question| self.verifier.confirms(question)).collect();
+        let answers = asked.questions.iter().map(|question| self.verifier.answer(question));
+        let good = answers.collect::<Result<Vec<bool>, Unanswered>>()?;
         let judging = Instant::now();
         self.metrics.spend(Part::Confirm, judging - confirming);
         if good.iter().all(|good| *good) {

@@ -1,12 +1,14 @@
 //! The program `stird`: its words, and the memory of its threads.
+#![forbid(unsafe_code)]
 #![deny(clippy::print_stderr, clippy::print_stdout)]
 
+use anyhow::Result;
 use std::env;
-use std::ffi::OsString;
+use std::io::Write;
 use std::os::unix::process::CommandExt;
-use std::process::Command;
-use stird::say::say;
-use stird::settings;
+use std::process::{Command, ExitCode};
+use stird::logs::Log;
+use stird::settings::{self, Settings, SettingsError};
 
 /// The settings of the C library, and how many freed blocks of each size a thread keeps for itself
 /// (mallopt(3), "Environment variables"). A call gives back more than the seven that are usual, and
@@ -14,30 +16,63 @@ use stird::settings;
 const TUNABLES: &str = "GLIBC_TUNABLES";
 const KEPT_BLOCKS: &str = "glibc.malloc.tcache_count=64";
 
-fn main() {
+/// Is set for a program that was started anew, so that it isn't again if the first one is gone.
+const STARTED_ANEW: &str = "STIRD_STARTED_ANEW";
+
+/// How much stack a thread of the runtime has: the library needs 256 kilobytes of it.
+const STACK: usize = 4 << 20;
+
+fn main() -> ExitCode {
     keep_blocks();
-    let words: Result<Vec<String>, OsString> =
-        env::args_os().skip(1).map(OsString::into_string).collect();
-    let settings = words
-        .map_err(|word| format!("{} isn't UTF-8", word.to_string_lossy()))
-        .and_then(|words| settings::read(&words))
-        .unwrap_or_else(|fault| {
-            say(format_args!("{fault}\n{}", settings::USAGE.trim_end()));
-            std::process::exit(2)
-        });
-    if let Err(fault) = stird::start(settings) {
-        say(fault);
-        std::process::exit(1);
+    let settings = match settings::read(env::args_os().skip(1)) {
+        Ok(settings) => settings,
+        // Help and the version aren't faults.
+        Err(SettingsError::Words(told)) if !told.use_stderr() => {
+            let _ = told.print();
+            return ExitCode::SUCCESS;
+        }
+        Err(fault) => {
+            say(&fault);
+            return ExitCode::from(2);
+        }
+    };
+    match start(settings) {
+        Ok(()) => ExitCode::SUCCESS,
+        Err(fault) => {
+            say(&format_args!("{fault:#}"));
+            ExitCode::FAILURE
+        }
     }
+}
+
+/// Says why it doesn't start. What can't be written is lost.
+fn say(fault: &dyn std::fmt::Display) {
+    let _ = writeln!(std::io::stderr(), "stird: {fault}");
 }
 
 /// Starts the program anew with these settings, which the C library reads before `main`, unless
 /// there are some. If that fails it goes on without.
 fn keep_blocks() {
-    let mut words = env::args_os();
-    if let (None, Some(name), Ok(program)) =
-        (env::var_os(TUNABLES), words.next(), env::current_exe())
-    {
-        let _ = Command::new(program).arg0(name).args(words).env(TUNABLES, KEPT_BLOCKS).exec();
+    if env::var_os(TUNABLES).is_some() || env::var_os(STARTED_ANEW).is_some() {
+        return;
     }
+    let mut words = env::args_os();
+    if let (Some(name), Ok(program)) = (words.next(), env::current_exe()) {
+        let mut anew = Command::new(program);
+        anew.arg0(name).args(words).env(TUNABLES, KEPT_BLOCKS).env(STARTED_ANEW, "1");
+        let _ = anew.exec();
+    }
+}
+
+fn start(settings: Settings) -> Result<()> {
+    let log = Log::start(settings.log, settings.log_file.as_deref())?;
+    let runtime = tokio::runtime::Builder::new_multi_thread()
+        .thread_stack_size(STACK)
+        .enable_all()
+        .build()?;
+    let done = runtime.block_on(stird::start::run(settings, log.clone()));
+    // What hangs aside, as a file of a network that is gone, doesn't keep it from its end.
+    runtime.shutdown_background();
+    log.end();
+    done
 }

@@ -1,196 +1,244 @@
-//! What is counted, in the text form of Prometheus.
+//! What is counted, for Prometheus.
 use crate::judge::Outcome;
-use std::fmt::Write;
-use std::sync::atomic::{AtomicU64, Ordering::Relaxed};
+use prometheus::{
+    Counter, CounterVec, Encoder, Error, Histogram, HistogramOpts, IntCounter, IntCounterVec,
+    IntGauge, IntGaugeVec, Opts, Registry, TextEncoder,
+};
 use std::time::Duration;
 
 /// The parts of the work on a call.
 #[derive(Clone, Copy)]
 pub enum Part {
+    /// Reading it, and asking what is to be confirmed.
     Ask,
+    /// ES256.
     Confirm,
+    /// Judging it by what wasn't confirmed.
     Judge,
 }
 
-const PARTS: [&str; 3] = ["ask", "confirm", "judge"];
-
 /// The greatest number of a rule, and that of the rule on replays, which are counted apart
 /// (docs/RULES.md).
-const LAST_RULE: usize = 19;
-const REPLAY: usize = 18;
+const LAST_RULE: u32 = 19;
+const REPLAY: u32 = 18;
 
-/// Upper bounds of the times of requests, in microseconds.
-const BOUNDS: [u64; 10] =
-    [250, 500, 1_000, 2_000, 5_000, 10_000, 25_000, 100_000, 500_000, 2_500_000];
+/// Upper bounds of the times of requests, in seconds.
+const BOUNDS: [f64; 10] = [0.00025, 0.0005, 0.001, 0.002, 0.005, 0.01, 0.025, 0.1, 0.5, 2.5];
 
-/// What is counted since the start.
-#[derive(Default)]
+/// What is counted since the start, and what there is now.
 pub struct Metrics {
-    valid: AtomicU64,
-    replays: AtomicU64,
-    unjudged: AtomicU64,
-    refused: [AtomicU64; LAST_RULE + 1],
-    nanoseconds: [AtomicU64; 3],
-    times: [AtomicU64; 11],
-    microseconds: AtomicU64,
-    signed: AtomicU64,
-    unsigned: AtomicU64,
-    bad_requests: AtomicU64,
-    turned_away: AtomicU64,
-    reloads: AtomicU64,
-    failed_reloads: AtomicU64,
+    registry: Registry,
+    valid: IntCounter,
+    replays: IntCounter,
+    unjudged: IntCounter,
+    refused: Vec<IntCounter>,
+    ask: Counter,
+    confirm: Counter,
+    judge: Counter,
+    /// From a whole request to its answer.
+    pub requests: Histogram,
+    /// How long tickets take to be claimed.
+    pub claims: Histogram,
+    signed: IntCounter,
+    unsigned: IntCounter,
+    /// Requests that were refused.
+    pub bad_requests: IntCounter,
+    /// Connections past the most that there may be.
+    pub turned_away: IntCounter,
+    /// Connections that were closed so that another one has a place.
+    pub closed: IntCounter,
+    reloads: IntCounter,
+    failed_reloads: IntCounter,
+    /// Messages in which a list was written as fields.
+    pub split: IntCounter,
+    /// Requests that got the answer of an earlier one.
+    pub repeated: IntCounter,
+    /// Answers that were dropped before their time.
+    pub dropped: IntCounter,
+    /// Answers that are kept.
+    pub answers: IntGauge,
+    /// Lines of the log that were lost.
+    pub lost_lines: IntGauge,
+    /// Tickets that are held in memory.
+    pub tickets: IntGauge,
+    /// Chains that are listed and there.
+    pub chains: IntGauge,
+    /// Files of the chain map that are missing.
+    pub missing: IntGauge,
+    /// Files of the chain map that can't be read.
+    pub unreadable: IntGauge,
+    /// Signatures of certificates that were confirmed when the files were read.
+    pub confirmed: IntGauge,
+    /// Connections that are open.
+    pub connections: IntGauge,
+    /// When the files that hold were read, in Unix time.
+    pub last_reload: IntGauge,
+    /// The earliest end of a certificate, in Unix time.
+    pub next_end: IntGauge,
+}
+
+/// The metrics of a registry, as they are made.
+struct Maker(Registry);
+
+impl Maker {
+    fn counter(&self, name: &str, help: &str) -> Result<IntCounter, Error> {
+        let made = IntCounter::new(name, help)?;
+        self.0.register(Box::new(made.clone()))?;
+        Ok(made)
+    }
+
+    fn gauge(&self, name: &str, help: &str) -> Result<IntGauge, Error> {
+        let made = IntGauge::new(name, help)?;
+        self.0.register(Box::new(made.clone()))?;
+        Ok(made)
+    }
+
+    fn histogram(&self, name: &str, help: &str) -> Result<Histogram, Error> {
+        let made = Histogram::with_opts(HistogramOpts::new(name, help).buckets(BOUNDS.into()))?;
+        self.0.register(Box::new(made.clone()))?;
+        Ok(made)
+    }
 }
 
 impl Metrics {
+    /// All at zero.
+    ///
+    /// # Errors
+    ///
+    /// A name is used twice, or is none.
+    pub fn new() -> Result<Metrics, Error> {
+        let maker = Maker(Registry::new());
+        let help = "Calls that were judged, by what came of them.";
+        let calls = IntCounterVec::new(Opts::new("stir_calls_total", help), &["outcome", "rule"])?;
+        maker.0.register(Box::new(calls.clone()))?;
+        let of = |outcome| calls.with_label_values(&[outcome, ""]);
+        let refused = (1..=LAST_RULE)
+            .map(|rule| match rule {
+                REPLAY => of("replay"),
+                rule => calls.with_label_values(&["refused", &rule.to_string()]),
+            })
+            .collect();
+        let help = "Time in the parts of the work on calls.";
+        let work = CounterVec::new(Opts::new("stir_work_seconds_total", help), &["part"])?;
+        maker.0.register(Box::new(work.clone()))?;
+        let build = Opts::new("stir_build_info", "The version of the service.");
+        let build = IntGaugeVec::new(build, &["version"])?;
+        maker.0.register(Box::new(build.clone()))?;
+        build.with_label_values(&[crate::settings::VERSION]).set(1);
+        Ok(Metrics {
+            valid: of("valid"),
+            replays: of("replay"),
+            unjudged: of("unjudged"),
+            refused,
+            ask: work.with_label_values(&["ask"]),
+            confirm: work.with_label_values(&["confirm"]),
+            judge: work.with_label_values(&["judge"]),
+            requests: maker
+                .histogram("stir_request_seconds", "From a whole request to its answer.")?,
+            claims: maker.histogram("stir_claim_seconds", "The time that a claim takes.")?,
+            signed: maker.counter("stir_signed_total", "Calls that were signed.")?,
+            unsigned: maker.counter(
+                "stir_unsigned_total",
+                "Calls that weren't, since their number isn't signed for or they can't be.",
+            )?,
+            bad_requests: maker.counter(
+                "stir_bad_requests_total",
+                "Requests that were refused for their form, size, time or sender.",
+            )?,
+            turned_away: maker.counter(
+                "stir_turned_away_total",
+                "Connections past the most that there may be.",
+            )?,
+            closed: maker.counter(
+                "stir_closed_for_others_total",
+                "Connections without a request that were closed to give another one a place.",
+            )?,
+            reloads: maker.counter("stir_reloads_total", "Times that changed files were taken.")?,
+            failed_reloads: maker.counter(
+                "stir_failed_reloads_total",
+                "Times that changed files couldn't be taken, and those before stayed.",
+            )?,
+            split: maker.counter(
+                "stir_split_total",
+                "Calls of which a list in a P-Asserted-Identity field was written as fields.",
+            )?,
+            repeated: maker.counter(
+                "stir_repeated_total",
+                "Requests that came again with their key, and got the same answer.",
+            )?,
+            dropped: maker.counter(
+                "stir_dropped_answers_total",
+                "Answers that were kept for less than their time, since there were too many.",
+            )?,
+            answers: maker.gauge("stir_answers", "Answers that are kept for their keys.")?,
+            lost_lines: maker.gauge(
+                "stir_lost_log_lines",
+                "Lines of the log that were lost, since the start.",
+            )?,
+            tickets: maker.gauge("stir_tickets", "Tickets that are held in memory.")?,
+            chains: maker
+                .gauge("stir_chains", "Chains of certificates that are listed and there.")?,
+            missing: maker
+                .gauge("stir_missing_chains", "Files of the chain map that are missing.")?,
+            unreadable: maker
+                .gauge("stir_unreadable_chains", "Files of the chain map that can't be read.")?,
+            confirmed: maker.gauge(
+                "stir_confirmed",
+                "Signatures of listed certificates that were confirmed when the files were read.",
+            )?,
+            connections: maker.gauge("stir_connections", "Connections that are open.")?,
+            last_reload: maker.gauge(
+                "stir_last_reload_timestamp_seconds",
+                "When the files were read that calls are judged by, in Unix time.",
+            )?,
+            next_end: maker.gauge(
+                "stir_certificate_next_end_timestamp_seconds",
+                "The earliest end of a listed certificate, in Unix time; 0 if there is none.",
+            )?,
+            registry: maker.0,
+        })
+    }
+
+    /// Counts what came of a call.
     pub fn count(&self, outcome: &Outcome) {
         let counter = match outcome {
             Outcome::Valid => &self.valid,
             Outcome::Replay { .. } => &self.replays,
-            Outcome::Refused { rule, .. } => {
-                self.refused.get(*rule as usize).unwrap_or(&self.unjudged)
-            }
+            Outcome::Refused { rule, .. } => (rule.checked_sub(1))
+                .and_then(|at| self.refused.get(at as usize))
+                .unwrap_or(&self.unjudged),
             Outcome::Unjudged => &self.unjudged,
         };
-        counter.fetch_add(1, Relaxed);
+        counter.inc();
     }
 
+    /// A part of the work took this time.
     pub fn spend(&self, part: Part, time: Duration) {
-        self.nanoseconds[part as usize].fetch_add(time.as_nanos() as u64, Relaxed);
-    }
-
-    /// A request was answered after this time.
-    pub fn answered(&self, time: Duration) {
-        let time = time.as_micros() as u64;
-        let at = BOUNDS.iter().position(|bound| time <= *bound).unwrap_or(BOUNDS.len());
-        self.times[at].fetch_add(1, Relaxed);
-        self.microseconds.fetch_add(time, Relaxed);
+        match part {
+            Part::Ask => &self.ask,
+            Part::Confirm => &self.confirm,
+            Part::Judge => &self.judge,
+        }
+        .inc_by(time.as_secs_f64());
     }
 
     /// A call was to be signed.
     pub fn sign(&self, done: bool) {
-        if done { &self.signed } else { &self.unsigned }.fetch_add(1, Relaxed);
+        if done { &self.signed } else { &self.unsigned }.inc();
     }
 
-    pub fn bad_request(&self) {
-        self.bad_requests.fetch_add(1, Relaxed);
-    }
-
-    pub fn turn_away(&self) {
-        self.turned_away.fetch_add(1, Relaxed);
-    }
-
+    /// Changed files were to be taken.
     pub fn reload(&self, done: bool) {
-        if done { &self.reloads } else { &self.failed_reloads }.fetch_add(1, Relaxed);
+        if done { &self.reloads } else { &self.failed_reloads }.inc();
     }
 
-    /// The text, with how many tickets, chains and confirmed certificates are held, and how many
-    /// connections there are.
-    pub fn text(&self, held: [usize; 4]) -> String {
-        let mut text = String::new();
-        let _ = self.write(&mut text, held);
+    /// The text form of all.
+    pub fn text(&self) -> Vec<u8> {
+        let mut text = Vec::with_capacity(8192);
+        if let Err(error) = TextEncoder::new().encode(&self.registry.gather(), &mut text) {
+            tracing::error!("the metrics can't be written: {error}");
+        }
         text
-    }
-
-    fn write(
-        &self,
-        text: &mut String,
-        [tickets, chains, confirmed, connections]: [usize; 4],
-    ) -> std::fmt::Result {
-        writeln!(
-            text,
-            "# HELP stir_calls_total Calls that were judged, by what came of them.\n\
-             # TYPE stir_calls_total counter"
-        )?;
-        for (outcome, count) in
-            [("valid", &self.valid), ("replay", &self.replays), ("unjudged", &self.unjudged)]
-        {
-            writeln!(
-                text,
-                "stir_calls_total{{outcome=\"{outcome}\",rule=\"\"}} {}",
-                count.load(Relaxed)
-            )?;
-        }
-        for (rule, count) in
-            self.refused.iter().enumerate().skip(1).filter(|(rule, _)| *rule != REPLAY)
-        {
-            writeln!(
-                text,
-                "stir_calls_total{{outcome=\"refused\",rule=\"{rule}\"}} {}",
-                count.load(Relaxed)
-            )?;
-        }
-        writeln!(
-            text,
-            "# HELP stir_work_seconds_total Time in the parts of the work on calls.\n\
-             # TYPE stir_work_seconds_total counter"
-        )?;
-        for (part, time) in PARTS.iter().zip(&self.nanoseconds) {
-            writeln!(
-                text,
-                "stir_work_seconds_total{{part=\"{part}\"}} {:.9}",
-                time.load(Relaxed) as f64 / 1e9
-            )?;
-        }
-        writeln!(
-            text,
-            "# HELP stir_request_seconds From a whole request to its answer.\n\
-             # TYPE stir_request_seconds histogram"
-        )?;
-        let mut sum = 0;
-        for (at, count) in self.times.iter().enumerate() {
-            sum += count.load(Relaxed);
-            let bound =
-                BOUNDS.get(at).map_or("+Inf".into(), |bound| format!("{}", *bound as f64 / 1e6));
-            writeln!(text, "stir_request_seconds_bucket{{le=\"{bound}\"}} {sum}")?;
-        }
-        writeln!(
-            text,
-            "stir_request_seconds_sum {:.6}\nstir_request_seconds_count {sum}",
-            self.microseconds.load(Relaxed) as f64 / 1e6
-        )?;
-        for (name, help, count) in [
-            ("stir_signed_total", "Calls that were signed.", &self.signed),
-            (
-                "stir_unsigned_total",
-                "Calls that weren't, since their number isn't signed for or they can't be.",
-                &self.unsigned,
-            ),
-            (
-                "stir_bad_requests_total",
-                "Requests that were refused for their form, size or time.",
-                &self.bad_requests,
-            ),
-            (
-                "stir_turned_away_total",
-                "Connections past the most that there may be.",
-                &self.turned_away,
-            ),
-            ("stir_reloads_total", "Times that changed files were taken.", &self.reloads),
-            (
-                "stir_failed_reloads_total",
-                "Times that changed files couldn't be taken, and those before stayed.",
-                &self.failed_reloads,
-            ),
-        ] {
-            writeln!(
-                text,
-                "# HELP {name} {help}\n# TYPE {name} counter\n{name} {}",
-                count.load(Relaxed)
-            )?;
-        }
-        for (name, help, value) in [
-            ("stir_tickets", "Tickets that are held in memory.", tickets),
-            ("stir_chains", "Chains of certificates that are listed and there.", chains),
-            (
-                "stir_confirmed",
-                "Signatures of listed certificates that were confirmed when the files were read.",
-                confirmed,
-            ),
-            ("stir_connections", "Connections that are open.", connections),
-        ] {
-            writeln!(text, "# HELP {name} {help}\n# TYPE {name} gauge\n{name} {value}")?;
-        }
-        Ok(())
     }
 }
 
@@ -200,20 +248,31 @@ mod tests {
 
     #[test]
     fn a_refused_call_is_counted_by_its_rule() {
-        let metrics = Metrics::default();
+        let metrics = Metrics::new().expect("names that are good");
         for rule in [1, 17, 19] {
             metrics.count(&Outcome::Refused { rule, code: 400, field: 0, part: 0 });
         }
-        let text = metrics.text([0; 4]);
+        let text = String::from_utf8(metrics.text()).expect("text");
         for rule in [1, 17, 19] {
-            assert!(
-                text.contains(&format!(
-                    "stir_calls_total{{outcome=\"refused\",rule=\"{rule}\"}} 1\n"
-                )),
-                "{rule}: {text}"
-            );
+            let line = format!("stir_calls_total{{outcome=\"refused\",rule=\"{rule}\"}} 1\n");
+            assert!(text.contains(&line), "{rule}: {text}");
         }
         assert!(text.contains("stir_calls_total{outcome=\"unjudged\",rule=\"\"} 0\n"));
         assert!(!text.contains("rule=\"18\""));
+    }
+
+    #[test]
+    fn a_time_is_in_its_bucket() {
+        let metrics = Metrics::new().expect("names that are good");
+        metrics.requests.observe(0.0015);
+        let text = String::from_utf8(metrics.text()).expect("text");
+        for line in [
+            "stir_request_seconds_bucket{le=\"0.001\"} 0\n",
+            "stir_request_seconds_bucket{le=\"0.002\"} 1\n",
+            "stir_request_seconds_bucket{le=\"+Inf\"} 1\n",
+            "stir_request_seconds_count 1\n",
+        ] {
+            assert!(text.contains(line), "{line}{text}");
+        }
     }
 }

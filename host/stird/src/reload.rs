@@ -1,0 +1,186 @@
+//! Files that change: they are looked at from time to time, aside from what answers, and taken if
+//! they can be read; else what was read before stays.
+use crate::files::{self, signing::Blocks, FileFault, Sources};
+use crate::logs::Log;
+use crate::routes::Service;
+use crate::server::Acceptor;
+use crate::tokens::Tokens;
+use std::os::unix::fs::MetadataExt;
+use std::path::{Path, PathBuf};
+use std::sync::{Arc, Mutex};
+use std::time::Duration;
+use stir_trust::locks::Held;
+use tokio::signal::unix::Signal;
+use tokio::task::spawn_blocking;
+
+/// What tells that the file of the tokens changed: its size, its number, and when it was written
+/// and changed.
+type Stamp = Option<[i64; 6]>;
+
+fn stamp(path: Option<&Path>) -> Stamp {
+    let data = std::fs::metadata(path?).ok()?;
+    let (size, number) = (data.size() as i64, data.ino() as i64);
+    Some([size, number, data.mtime(), data.mtime_nsec(), data.ctime(), data.ctime_nsec()])
+}
+
+/// The files, and what is read of them.
+pub struct Reload {
+    shared: Arc<Shared>,
+    log: Log,
+    every: Duration,
+}
+
+struct Shared {
+    sources: Sources,
+    tokens: Option<PathBuf>,
+    service: Arc<Service>,
+    acceptor: Option<Arc<Acceptor>>,
+    last: Mutex<Last>,
+    patience: Duration,
+}
+
+/// What the last look found, so that nothing is told twice.
+#[derive(Default)]
+struct Last {
+    blocks: Option<FileFault>,
+    tokens: Option<String>,
+    tls: Option<String>,
+    token_file: Stamp,
+}
+
+impl Reload {
+    /// Of this service, which has read them once; they are looked at so often.
+    pub fn new(
+        sources: Sources,
+        tokens: Option<PathBuf>,
+        service: Arc<Service>,
+        acceptor: Option<Arc<Acceptor>>,
+        log: Log,
+        every: Duration,
+    ) -> Reload {
+        let last = Last { token_file: stamp(tokens.as_deref()), ..Last::default() }.into();
+        let patience = every / 4;
+        let shared = Arc::new(Shared { sources, tokens, service, acceptor, last, patience });
+        Reload { shared, log, every }
+    }
+
+    /// Looks at them from time to time, and at once for each signal.
+    pub async fn run(self, mut hangs_up: Signal) {
+        let Reload { shared, log, every } = self;
+        loop {
+            let is_told = tokio::select! {
+                () = tokio::time::sleep(every) => false,
+                told = hangs_up.recv() => told.is_some(),
+            };
+            if is_told {
+                log.reopen();
+            }
+            let service = &shared.service;
+            service.judge.tickets.look().await;
+            let looking = Arc::clone(&shared);
+            // A round that panics isn't the last one.
+            match spawn_blocking(move || looking.look(is_told)).await {
+                Ok(faults) => service.standing.look(service.clock.monotonic(), faults),
+                Err(error) => tracing::error!("the files couldn't be looked at: {error}"),
+            }
+        }
+    }
+}
+
+impl Shared {
+    /// Takes what changed, and what is at fault now.
+    fn look(&self, is_told: bool) -> Vec<String> {
+        let mut faults = self.world(is_told);
+        let last = &mut *self.last.lock().held();
+        self.blocks(is_told, last);
+        self.tokens(is_told, last);
+        if is_told {
+            self.acceptor(last);
+        }
+        faults.extend(last.blocks.as_ref().map(FileFault::to_string));
+        faults.extend(last.tokens.clone());
+        faults.extend(last.tls.clone());
+        faults
+    }
+
+    fn world(&self, is_told: bool) -> Vec<String> {
+        let judge = &self.service.judge;
+        let before = judge.world.load_full();
+        if is_told || before.is_stale() {
+            match files::read(&self.sources, &judge.verifier, Some(&before)) {
+                Ok(new) => {
+                    new.news().iter().for_each(|line| tracing::warn!("{line}"));
+                    judge.metrics.reload(new.faults().is_empty());
+                    judge.world.store(Arc::new(new));
+                    judge.metrics.last_reload.set(self.service.clock.now() as i64);
+                }
+                Err(fault) => {
+                    tracing::warn!("{fault}: what was read before stays");
+                    judge.metrics.reload(false);
+                    return vec![fault.to_string()];
+                }
+            }
+        }
+        let world = judge.world.load();
+        world.confirm(&judge.verifier, self.patience);
+        let unreadable = world.unreadable().iter();
+        let unreadable = unreadable.map(|path| format!("{}: it can't be read", path.display()));
+        world.faults().into_iter().map(FileFault::to_string).chain(unreadable).collect()
+    }
+
+    fn blocks(&self, is_told: bool, last: &mut Last) {
+        let Some(blocks) = &self.service.blocks else { return };
+        let before = blocks.load_full();
+        if !is_told && !before.is_stale() {
+            return;
+        }
+        let read = Blocks::read(&self.sources, Some(&before));
+        self.service.judge.metrics.reload(read.is_ok());
+        let fault = match read {
+            Ok(new) => {
+                blocks.store(Arc::new(new));
+                tell_of_blocks(&self.service);
+                None
+            }
+            Err(fault) => Some(fault),
+        };
+        if let Some(fault) = fault.as_ref().filter(|fault| last.blocks.as_ref() != Some(fault)) {
+            tracing::warn!("{fault}: what was read before stays");
+        }
+        last.blocks = fault;
+    }
+
+    fn tokens(&self, is_told: bool, last: &mut Last) {
+        let path = self.tokens.as_deref();
+        let now = stamp(path);
+        if path.is_none() || !is_told && now == last.token_file {
+            return;
+        }
+        last.token_file = now;
+        let read = Tokens::read(path);
+        self.service.judge.metrics.reload(read.is_ok());
+        let read = read.map(|tokens| self.service.tokens.store(Arc::new(tokens)));
+        last.tokens = told_fault(read);
+    }
+
+    fn acceptor(&self, last: &mut Last) {
+        if let Some(acceptor) = &self.acceptor {
+            last.tls = told_fault(acceptor.read_again());
+        }
+    }
+}
+
+/// The fault of what couldn't be taken, which is told.
+fn told_fault(read: Result<(), impl std::fmt::Display>) -> Option<String> {
+    let fault = read.err()?.to_string();
+    tracing::warn!("{fault}: what was read before stays");
+    Some(fault)
+}
+
+/// Says of which blocks of numbers nothing is signed, and which keys are open to others.
+pub fn tell_of_blocks(service: &Service) {
+    let Some(blocks) = &service.blocks else { return };
+    for line in blocks.load().warnings(service.clock.now()) {
+        tracing::warn!("{line}");
+    }
+}

@@ -1,0 +1,285 @@
+//! A stream as hyper sees it: the bytes of one request at a time, in their time.
+//!
+//! A head is handed on up to its end and no further, and how many bytes its body has is what hyper
+//! read in it. So where requests begin and end is read once.
+use crate::answers::Answer;
+use crate::server::head::{Found, Head};
+use crate::server::places::{Doing, Seat};
+use crate::server::stream::Stream;
+use crate::server::Times;
+use hyper::StatusCode;
+use std::future::Future;
+use std::io;
+use std::pin::Pin;
+use std::sync::atomic::{AtomicBool, AtomicU64, Ordering::SeqCst};
+use std::sync::Arc;
+use std::task::{Context, Poll};
+use std::time::Duration;
+use tokio::io::{AsyncRead, AsyncReadExt, AsyncWrite, AsyncWriteExt, ReadBuf};
+use tokio::time::{sleep, sleep_until, timeout, Instant, Sleep};
+
+/// How many bytes are read at once.
+const ROOM: usize = 16_384;
+
+/// How long a peer may go on sending after its last answer, so that it sees it.
+const LINGER: Duration = Duration::from_secs(2);
+
+/// What a connection's stream and its requests tell each other.
+pub struct Talk {
+    /// The connection as others see it.
+    pub seat: Arc<Seat>,
+    /// One more than the bytes of the body that follows; 0 if no head came.
+    body: AtomicU64,
+    is_late: AtomicBool,
+}
+
+impl Talk {
+    /// Of a connection with this seat.
+    pub fn new(seat: Arc<Seat>) -> Talk {
+        Talk { seat, body: AtomicU64::new(0), is_late: AtomicBool::new(false) }
+    }
+
+    /// A head came whose body has so many bytes; if that isn't known, what follows is all of it.
+    pub fn head_came(&self, size: Option<u64>) {
+        if size == Some(0) {
+            self.seat.does(Doing::Answering);
+        }
+        self.body.store(size.unwrap_or(u64::MAX).saturating_add(1), SeqCst);
+    }
+
+    /// Whether the request didn't come in its time.
+    pub fn is_late(&self) -> bool {
+        self.is_late.load(SeqCst)
+    }
+}
+
+enum Reading {
+    /// A head comes, or will.
+    Head(Head),
+    /// A head came, and hyper reads it.
+    Between,
+    /// So many bytes of a body are to come.
+    Body(u64),
+    /// All of a request came.
+    Whole,
+}
+
+/// Why a connection ended at the head of a request.
+#[derive(Clone, Copy, Debug, PartialEq, Eq)]
+enum Fault {
+    Idle,
+    Late,
+    BareEnd,
+    Version,
+}
+
+/// The stream of a connection.
+pub struct Guard {
+    stream: Stream,
+    talk: Arc<Talk>,
+    times: Times,
+    room: Box<[u8]>,
+    /// Which bytes of the room are still to be handed on.
+    left: std::ops::Range<usize>,
+    reading: Reading,
+    /// Until when what is awaited has to come, and how far the timer is set.
+    until: Option<Instant>,
+    timer: Pin<Box<Sleep>>,
+    /// Runs while the peer takes nothing.
+    blocked: Option<Pin<Box<Sleep>>>,
+    fault: Option<Fault>,
+    is_over: bool,
+}
+
+impl Guard {
+    /// Over this stream.
+    pub fn new(stream: Stream, talk: Arc<Talk>, times: Times) -> Guard {
+        let until = Instant::now() + times.idle;
+        talk.seat.does(Doing::Nothing);
+        Guard {
+            stream,
+            talk,
+            times,
+            room: vec![0; ROOM].into_boxed_slice(),
+            left: 0..0,
+            reading: Reading::Head(Head::default()),
+            until: Some(until),
+            timer: Box::pin(sleep_until(until)),
+            blocked: None,
+            fault: None,
+            is_over: false,
+        }
+    }
+
+    /// What hyper's next read begins with, after what it did meanwhile.
+    fn settle(&mut self) {
+        match self.reading {
+            Reading::Between => match self.talk.body.swap(0, SeqCst) {
+                0 => {}
+                1 => self.came_whole(),
+                size => self.reading = Reading::Body(size - 1),
+            },
+            Reading::Whole => {
+                self.reading = Reading::Head(Head::default());
+                self.until = Some(Instant::now() + self.times.idle);
+                self.talk.seat.does(Doing::Nothing);
+            }
+            Reading::Head(_) | Reading::Body(_) => {}
+        }
+    }
+
+    fn came_whole(&mut self) {
+        self.reading = Reading::Whole;
+        self.until = None;
+        self.talk.seat.does(Doing::Answering);
+    }
+
+    /// Hands on what was read, up to the end of a head or a body.
+    fn hand_on(&mut self, room: &mut ReadBuf<'_>) -> io::Result<()> {
+        let bytes = self.room.get(self.left.clone()).unwrap_or_default();
+        let bytes = bytes.get(..room.remaining()).unwrap_or(bytes);
+        let size = match &mut self.reading {
+            Reading::Head(head) => {
+                let was_begun = head.is_begun();
+                let found = head.read(bytes);
+                if !was_begun && head.is_begun() {
+                    self.until = Some(Instant::now() + self.times.request);
+                    self.talk.seat.does(Doing::Receiving);
+                }
+                match found {
+                    Found::More => bytes.len(),
+                    Found::End(size) => {
+                        self.reading = Reading::Between;
+                        size
+                    }
+                    Found::BareEnd => return Err(fail(&mut self.fault, Fault::BareEnd)),
+                    Found::Version => return Err(fail(&mut self.fault, Fault::Version)),
+                }
+            }
+            Reading::Body(left) => {
+                let size = bytes.len().min(usize::try_from(*left).unwrap_or(usize::MAX));
+                *left -= size as u64;
+                size
+            }
+            Reading::Between | Reading::Whole => bytes.len(),
+        };
+        room.put_slice(bytes.get(..size).unwrap_or_default());
+        self.left.start += size;
+        if matches!(self.reading, Reading::Body(0)) {
+            self.came_whole();
+        }
+        Ok(())
+    }
+
+    /// Nothing comes: waits, if there is still time.
+    fn wait(&mut self, context: &mut Context<'_>) -> Poll<io::Result<()>> {
+        let Some(until) = self.until else { return Poll::Pending };
+        if self.timer.deadline() != until {
+            self.timer.as_mut().reset(until);
+        }
+        if self.timer.as_mut().poll(context).is_pending() {
+            return Poll::Pending;
+        }
+        match &self.reading {
+            Reading::Head(head) if !head.is_begun() => {
+                self.fault = Some(Fault::Idle);
+                Poll::Ready(Ok(()))
+            }
+            _ => {
+                self.talk.is_late.store(true, SeqCst);
+                Poll::Ready(Err(fail(&mut self.fault, Fault::Late)))
+            }
+        }
+    }
+
+    /// What is to be said to a peer before the end, which hyper didn't say.
+    pub fn last_answer(&self) -> Option<Answer> {
+        let is_head = matches!(self.reading, Reading::Head(_));
+        let status = match self.fault? {
+            Fault::Late if is_head => StatusCode::REQUEST_TIMEOUT,
+            Fault::BareEnd => StatusCode::BAD_REQUEST,
+            Fault::Version => StatusCode::HTTP_VERSION_NOT_SUPPORTED,
+            Fault::Idle | Fault::Late => return None,
+        };
+        Some(Answer::status(status))
+    }
+
+    /// Ends the connection, with a last answer if there is one. What still comes is read for a
+    /// while, since the peer may lose the answer else.
+    pub async fn end(mut self, answer: Option<Answer>) {
+        if self.is_over && answer.is_none() || self.fault == Some(Fault::Idle) {
+            let _ = timeout(LINGER, self.stream.shutdown()).await;
+            return;
+        }
+        // What hyper wrote before would come behind this.
+        let answer = answer.filter(|_| self.blocked.is_none());
+        let last = async {
+            if let Some(answer) = answer {
+                self.stream.write_all(&answer.bytes()).await?;
+            }
+            self.stream.shutdown().await?;
+            while self.stream.read(&mut self.room).await? > 0 {}
+            io::Result::Ok(())
+        };
+        let _ = timeout(LINGER.min(self.times.request), last).await;
+    }
+}
+
+fn fail(place: &mut Option<Fault>, fault: Fault) -> io::Error {
+    *place = Some(fault);
+    let kind = match fault {
+        Fault::Late | Fault::Idle => io::ErrorKind::TimedOut,
+        Fault::BareEnd | Fault::Version => io::ErrorKind::InvalidData,
+    };
+    kind.into()
+}
+
+impl AsyncRead for Guard {
+    fn poll_read(
+        self: Pin<&mut Self>,
+        context: &mut Context<'_>,
+        room: &mut ReadBuf<'_>,
+    ) -> Poll<io::Result<()>> {
+        let guard = self.get_mut();
+        guard.settle();
+        if guard.left.is_empty() {
+            let mut read = ReadBuf::new(&mut guard.room);
+            match Pin::new(&mut guard.stream).poll_read(context, &mut read) {
+                Poll::Ready(Ok(())) => guard.left = 0..read.filled().len(),
+                Poll::Ready(Err(error)) => return Poll::Ready(Err(error)),
+                Poll::Pending => return guard.wait(context),
+            }
+            guard.is_over = guard.left.is_empty();
+        }
+        Poll::Ready(guard.hand_on(room))
+    }
+}
+
+impl AsyncWrite for Guard {
+    fn poll_write(
+        self: Pin<&mut Self>,
+        context: &mut Context<'_>,
+        bytes: &[u8],
+    ) -> Poll<io::Result<usize>> {
+        let guard = self.get_mut();
+        let written = Pin::new(&mut guard.stream).poll_write(context, bytes);
+        if written.is_ready() {
+            guard.blocked = None;
+            return written;
+        }
+        let request = guard.times.request;
+        let timer = guard.blocked.get_or_insert_with(|| Box::pin(sleep(request)));
+        match timer.as_mut().poll(context) {
+            Poll::Ready(()) => Poll::Ready(Err(io::ErrorKind::TimedOut.into())),
+            Poll::Pending => Poll::Pending,
+        }
+    }
+
+    fn poll_flush(self: Pin<&mut Self>, context: &mut Context<'_>) -> Poll<io::Result<()>> {
+        Pin::new(&mut self.get_mut().stream).poll_flush(context)
+    }
+
+    fn poll_shutdown(self: Pin<&mut Self>, context: &mut Context<'_>) -> Poll<io::Result<()>> {
+        Pin::new(&mut self.get_mut().stream).poll_shutdown(context)
+    }
+}

@@ -1,0 +1,311 @@
+//! The places for connections: so many at once, and so many from one address. If all are taken, the
+//! connection goes that is without a request for longest, so that those who say nothing keep nobody
+//! out.
+use crate::metrics::Metrics;
+use std::collections::{HashMap, VecDeque};
+use std::net::{IpAddr, Ipv6Addr};
+use std::sync::atomic::{AtomicBool, AtomicU64, Ordering::SeqCst};
+use std::sync::{Arc, Mutex};
+use std::time::{Duration, Instant};
+use stir_trust::locks::Held;
+use tokio::sync::Notify;
+
+/// A request that comes for so long counts as slow.
+const SLOW: Duration = Duration::from_secs(1);
+
+/// How many connections more than there may be can be on their way out, so that as many as come at
+/// once have a place.
+pub const AT_ONCE: usize = 64;
+
+/// How many connections are looked up at once that may go.
+const CANDIDATES: usize = 256;
+
+/// What a connection does.
+#[derive(Clone, Copy, Debug, PartialEq, Eq, PartialOrd, Ord)]
+pub enum Doing {
+    /// It waits for a request.
+    Nothing,
+    /// A request comes.
+    Receiving,
+    /// A request is answered.
+    Answering,
+}
+
+/// A connection as others see it.
+pub struct Seat {
+    start: Instant,
+    /// What it does, and since when: milliseconds after the start, times four, and the number of
+    /// what it does.
+    doing: AtomicU64,
+    is_leaving: AtomicBool,
+    /// Told if the connection has to go.
+    pub leave: Notify,
+}
+
+impl Seat {
+    fn new(start: Instant) -> Seat {
+        let seat = Seat {
+            start,
+            doing: AtomicU64::new(0),
+            is_leaving: false.into(),
+            leave: Notify::new(),
+        };
+        seat.does(Doing::Nothing);
+        seat
+    }
+
+    /// From now on it does this.
+    pub fn does(&self, what: Doing) {
+        let since = self.start.elapsed().as_millis() as u64;
+        self.doing.store((since << 2) | what as u64, SeqCst);
+    }
+
+    /// What it does.
+    pub fn doing(&self) -> Doing {
+        match self.doing.load(SeqCst) & 3 {
+            0 => Doing::Nothing,
+            1 => Doing::Receiving,
+            _ => Doing::Answering,
+        }
+    }
+
+    /// Since which millisecond after the start.
+    fn since(&self) -> u64 {
+        self.doing.load(SeqCst) >> 2
+    }
+
+    /// Whether it has to go.
+    pub fn is_leaving(&self) -> bool {
+        self.is_leaving.load(SeqCst)
+    }
+}
+
+/// The places.
+pub struct Places {
+    most: usize,
+    each: usize,
+    start: Instant,
+    metrics: Arc<Metrics>,
+    held: Mutex<Taken>,
+}
+
+#[derive(Default)]
+struct Taken {
+    next: u64,
+    seats: HashMap<u64, Arc<Seat>>,
+    each: HashMap<IpAddr, usize>,
+    /// How many have to go, and are still there.
+    leaving: usize,
+    /// Those that may go, with what each did when they were looked up.
+    candidates: VecDeque<(u64, u64)>,
+}
+
+/// Why there is no place.
+#[derive(Clone, Copy, Debug, PartialEq, Eq)]
+pub enum Full {
+    /// All are taken, by those who are busy.
+    All,
+    /// The address has as many as one may have.
+    Address,
+}
+
+/// A place that is taken. It is given back when it is dropped, by a panic too.
+pub struct Place {
+    places: Arc<Places>,
+    number: u64,
+    address: Option<IpAddr>,
+    /// The connection as others see it.
+    pub seat: Arc<Seat>,
+}
+
+/// The address by which connections are counted: of IPv6 the network of 64 bits.
+fn counted(address: IpAddr) -> IpAddr {
+    match address.to_canonical() {
+        IpAddr::V6(address) => {
+            let network = u128::from(address) >> 64 << 64;
+            IpAddr::V6(Ipv6Addr::from(network))
+        }
+        address => address,
+    }
+}
+
+impl Places {
+    /// So many places, and so many for one address.
+    pub fn new(most: usize, each: usize, metrics: Arc<Metrics>) -> Arc<Places> {
+        let start = Instant::now();
+        Arc::new(Places { most, each, start, metrics, held: Mutex::default() })
+    }
+
+    /// A place for a connection from this address.
+    ///
+    /// # Errors
+    ///
+    /// Why there is none.
+    pub fn take(self: &Arc<Places>, address: Option<IpAddr>) -> Result<Place, Full> {
+        let address = address.map(counted);
+        let mut taken = self.held.lock().held();
+        let has = address.and_then(|address| taken.each.get(&address).copied()).unwrap_or(0);
+        if address.is_some() && has >= self.each {
+            return Err(Full::Address);
+        }
+        let stay = taken.seats.len().saturating_sub(taken.leaving);
+        let has_room = stay < self.most || self.free_one(&mut taken);
+        if !has_room || taken.leaving > self.most + AT_ONCE {
+            return Err(Full::All);
+        }
+        let number = taken.next;
+        taken.next += 1;
+        let seat = Arc::new(Seat::new(self.start));
+        taken.seats.insert(number, Arc::clone(&seat));
+        if let Some(address) = address {
+            *taken.each.entry(address).or_default() += 1;
+        }
+        self.metrics.connections.set(taken.seats.len() as i64);
+        drop(taken);
+        Ok(Place { places: Arc::clone(self), number, address, seat })
+    }
+
+    /// Has the connection go that is without a request for longest, or else the one whose request
+    /// comes for longest. Whether there is one.
+    pub fn free(&self) -> bool {
+        self.free_one(&mut self.held.lock().held())
+    }
+
+    fn free_one(&self, taken: &mut Taken) -> bool {
+        for anew in [false, true] {
+            if anew {
+                taken.candidates = self.candidates(taken);
+            }
+            while let Some((number, doing)) = taken.candidates.pop_front() {
+                let seat = taken.seats.get(&number);
+                let found = seat.filter(|seat| {
+                    seat.doing.load(SeqCst) == doing && !seat.is_leaving.swap(true, SeqCst)
+                });
+                if let Some(seat) = found {
+                    seat.leave.notify_one();
+                    taken.leaving += 1;
+                    self.metrics.closed.inc();
+                    return true;
+                }
+            }
+        }
+        false
+    }
+
+    /// Those that may go, the first one first.
+    fn candidates(&self, taken: &Taken) -> VecDeque<(u64, u64)> {
+        let slow = self.start.elapsed().saturating_sub(SLOW).as_millis() as u64;
+        let mut found: Vec<_> = (taken.seats.iter())
+            .filter(|(_, seat)| !seat.is_leaving())
+            .filter(|(_, seat)| match seat.doing() {
+                Doing::Nothing => true,
+                Doing::Receiving => seat.since() <= slow,
+                Doing::Answering => false,
+            })
+            .map(|(number, seat)| (seat.doing(), seat.since(), *number, seat.doing.load(SeqCst)))
+            .collect();
+        found.sort_unstable();
+        found.into_iter().take(CANDIDATES).map(|(.., number, doing)| (number, doing)).collect()
+    }
+
+    /// How many are taken.
+    pub fn count(&self) -> usize {
+        self.held.lock().held().seats.len()
+    }
+}
+
+impl Drop for Place {
+    fn drop(&mut self) {
+        let mut taken = self.places.held.lock().held();
+        taken.seats.remove(&self.number);
+        if self.seat.is_leaving() {
+            taken.leaving = taken.leaving.saturating_sub(1);
+        }
+        if let Some(address) = self.address {
+            if let Some(count) = taken.each.get_mut(&address) {
+                *count -= 1;
+                if *count == 0 {
+                    taken.each.remove(&address);
+                }
+            }
+        }
+        self.places.metrics.connections.set(taken.seats.len() as i64);
+    }
+}
+
+#[cfg(test)]
+mod tests {
+    use super::*;
+
+    fn places(most: usize, each: usize) -> Arc<Places> {
+        Places::new(most, each, Arc::new(Metrics::new().expect("names that are good")))
+    }
+
+    fn from(places: &Arc<Places>, address: &str) -> Result<Place, Full> {
+        places.take(Some(address.parse().expect("an address")))
+    }
+
+    #[test]
+    fn a_connection_that_panics_gives_its_place_back() {
+        let places = places(1, 1);
+        let place = places.take(None).expect("one is free");
+        place.seat.does(Doing::Answering);
+        assert_eq!(places.take(None).err(), Some(Full::All));
+        let thread = std::thread::spawn(move || {
+            let _place = place;
+            std::panic::resume_unwind(Box::new("a fault"));
+        });
+        assert!(thread.join().is_err());
+        assert!(places.take(None).is_ok(), "its place is free again");
+    }
+
+    #[test]
+    fn if_all_are_taken_the_one_goes_that_is_idle_for_longest() {
+        let places = places(3, 9);
+        let held: Vec<Place> = (0..3).map(|_| places.take(None).expect("one")).collect();
+        for (at, place) in held.iter().enumerate() {
+            std::thread::sleep(Duration::from_millis(3));
+            place.seat.does(if at == 1 { Doing::Answering } else { Doing::Nothing });
+        }
+        std::thread::sleep(Duration::from_millis(3));
+        held[0].seat.does(Doing::Nothing);
+        let more: Vec<Place> = (0..2).map(|_| places.take(None).expect("one")).collect();
+        let leaving = |places: &[Place]| -> Vec<bool> {
+            places.iter().map(|place| place.seat.is_leaving()).collect()
+        };
+        assert_eq!(leaving(&held), [true, false, true]);
+        more.iter().for_each(|place| place.seat.does(Doing::Answering));
+        assert_eq!(places.take(None).err(), Some(Full::All), "all are busy");
+        assert_eq!((leaving(&more), places.count()), (vec![false; 2], 5));
+        drop(held);
+        assert!(places.take(None).is_ok(), "one is free again");
+    }
+
+    #[test]
+    fn a_slow_request_goes_if_none_is_idle_and_one_that_is_new_doesnt() {
+        let places = places(2, 2);
+        let slow = places.take(None).expect("one is free");
+        slow.seat.does(Doing::Receiving);
+        std::thread::sleep(SLOW + Duration::from_millis(20));
+        let new = places.take(None).expect("one is free");
+        new.seat.does(Doing::Receiving);
+        let third = places.take(None).expect("the slow one goes");
+        third.seat.does(Doing::Receiving);
+        assert_eq!((slow.seat.is_leaving(), new.seat.is_leaving()), (true, false));
+        assert_eq!(places.take(None).err(), Some(Full::All));
+    }
+
+    #[test]
+    fn an_address_has_so_many_places() {
+        let places = places(9, 2);
+        let one = from(&places, "192.0.2.1").expect("one is free");
+        let _other = from(&places, "::ffff:192.0.2.1").expect("one is free");
+        assert_eq!(from(&places, "192.0.2.1").err(), Some(Full::Address));
+        assert!(from(&places, "192.0.2.2").is_ok() && places.take(None).is_ok());
+        drop(one);
+        let _again = from(&places, "192.0.2.1").expect("one is free again");
+        let _six = [from(&places, "2001:db8::1"), from(&places, "2001:db8::2")];
+        assert_eq!(from(&places, "2001:db8::3").err(), Some(Full::Address));
+        assert!(from(&places, "2001:db8:0:1::1").is_ok(), "another network");
+    }
+}

@@ -1,0 +1,270 @@
+//! What the words of the command line and the file of settings order.
+mod file;
+mod words;
+
+pub use file::ConfigError;
+pub use words::{Form, Listen};
+
+use crate::files::Sources;
+use clap::parser::ValueSource;
+use clap::{CommandFactory, FromArgMatches};
+use std::ffi::OsString;
+use std::path::PathBuf;
+use std::time::Duration;
+use stir::Settings as Rules;
+use words::{Choice, Moments, Words};
+
+/// The version of the project.
+pub const VERSION: &str = include_str!("../../../../VERSION").trim_ascii();
+
+/// What is ordered.
+#[derive(Debug)]
+pub struct Settings {
+    /// Where to listen.
+    pub listen: Vec<Listen>,
+    /// The mode of Unix sockets.
+    pub socket_mode: u32,
+    /// TLS over TCP, if it is to be spoken.
+    pub tls: Option<Tls>,
+    /// The chain map.
+    pub chains: PathBuf,
+    /// The trust anchors.
+    pub anchors: PathBuf,
+    /// The code table.
+    pub table: PathBuf,
+    /// How old calls may be, and how numbers are written.
+    pub rules: Rules,
+    /// Whether the moment of a call is what the caller says.
+    pub asked_moments: bool,
+    /// Whether lists in P-Asserted-Identity are split.
+    pub split: bool,
+    /// The file in which tickets are kept.
+    pub journal: Option<PathBuf>,
+    /// Whether a call is answered after its ticket is on the disk.
+    pub sync: bool,
+    /// The Redis in which tickets are kept.
+    pub redis: Option<String>,
+    /// How many tickets are held at most.
+    pub tickets: usize,
+    /// How many answers are kept at most.
+    pub answers: usize,
+    /// How many connections there may be at once.
+    pub connections: usize,
+    /// How many from one address.
+    pub connections_each: usize,
+    /// How long a request may take to come, and its answer to go.
+    pub request: Duration,
+    /// How long a connection may be without a request.
+    pub idle: Duration,
+    /// How often the files are looked at.
+    pub reload: Duration,
+    /// The table of numbers that are signed for.
+    pub signing: Option<PathBuf>,
+    /// The tokens of those that may have calls signed.
+    pub signing_tokens: Option<PathBuf>,
+    /// The form of what is told, and the file for it.
+    pub log: Form,
+    /// The file for it; standard error if there is none.
+    pub log_file: Option<PathBuf>,
+}
+
+/// The files of TLS.
+#[derive(Clone, Debug)]
+pub struct Tls {
+    /// The certificate and those after it.
+    pub certificate: PathBuf,
+    /// Its private key.
+    pub key: PathBuf,
+    /// The authorities of clients, if clients are to show a certificate.
+    pub clients: Option<PathBuf>,
+}
+
+/// Why words can't be taken.
+#[derive(Debug, thiserror::Error)]
+pub enum SettingsError {
+    /// A word is no text.
+    #[error("{} isn't UTF-8", .0.to_string_lossy())]
+    NotText(OsString),
+    /// The words aren't those of the options; or help, or the version, is wanted.
+    #[error("{0}")]
+    Words(#[from] clap::Error),
+    /// The file of settings can't be taken.
+    #[error("{0}")]
+    File(#[from] ConfigError),
+    /// An option is missing that has to be there.
+    #[error("--{0} is missing")]
+    Missing(&'static str),
+}
+
+/// What these words order, and the file of settings that they name.
+pub fn read(words: impl IntoIterator<Item = OsString>) -> Result<Settings, SettingsError> {
+    let mut words = words
+        .into_iter()
+        .map(OsString::into_string)
+        .collect::<Result<Vec<String>, OsString>>()
+        .map_err(SettingsError::NotText)?;
+    words.insert(0, "stird".into());
+    let options = Words::command().version(VERSION);
+    // A fault of these words is one of the whole too.
+    let given = options.clone().ignore_errors(true).try_get_matches_from(&words).ok();
+    if let Some((given, path)) =
+        given.as_ref().and_then(|given| Some((given, given.get_one::<PathBuf>("config")?)))
+    {
+        let is_given = |id: &str| given.value_source(id) == Some(ValueSource::CommandLine);
+        words.extend(file::words(path, &options, is_given)?);
+    }
+    let matches = options.try_get_matches_from(words)?;
+    Settings::of(Words::from_arg_matches(&matches)?)
+}
+
+impl Settings {
+    /// The files by which calls are judged and signed.
+    pub fn sources(&self) -> Sources {
+        Sources {
+            rules: self.rules.clone(),
+            chains: self.chains.clone(),
+            anchors: self.anchors.clone(),
+            table: self.table.clone(),
+            signing: self.signing.clone(),
+        }
+    }
+
+    fn of(words: Words) -> Result<Settings, SettingsError> {
+        let missing = SettingsError::Missing;
+        Ok(Settings {
+            listen: words.listen,
+            socket_mode: words.socket_mode,
+            tls: words.tls_certificate.zip(words.tls_key).map(|(certificate, key)| Tls {
+                certificate,
+                key,
+                clients: words.tls_clients,
+            }),
+            chains: words.chains.ok_or(missing("chains"))?,
+            anchors: words.anchors.ok_or(missing("anchors"))?,
+            table: words.table.ok_or(missing("table"))?,
+            rules: Rules {
+                past: words.past,
+                future: words.future,
+                country: words.country,
+                national: words.national,
+            },
+            asked_moments: matches!(words.moments, Moments::Asked),
+            split: matches!(words.split, Choice::Yes),
+            journal: words.journal,
+            sync: matches!(words.sync, Choice::Yes),
+            redis: words.redis,
+            tickets: words.tickets,
+            answers: words.answers,
+            connections: words.connections,
+            connections_each: words.connections_each.unwrap_or(usize::MAX),
+            request: words.request,
+            idle: words.idle,
+            reload: words.reload,
+            signing: words.signing,
+            signing_tokens: words.signing_tokens,
+            log: words.log,
+            log_file: words.log_file,
+        })
+    }
+}
+
+#[cfg(test)]
+mod tests {
+    use super::*;
+
+    fn of(words: &str) -> Result<Settings, SettingsError> {
+        read(words.split_whitespace().map(OsString::from))
+    }
+
+    /// A file of settings with this text, and what the words beside it and it order.
+    fn with(text: &str, words: &str) -> Result<Settings, SettingsError> {
+        static NUMBER: std::sync::atomic::AtomicUsize = std::sync::atomic::AtomicUsize::new(0);
+        let number = NUMBER.fetch_add(1, std::sync::atomic::Ordering::Relaxed);
+        let name = format!("stird-settings-{}-{number}.toml", std::process::id());
+        let path = std::env::temp_dir().join(name);
+        std::fs::write(&path, text).expect("a file");
+        let read = of(&format!("{words} --config {}", path.display()));
+        std::fs::remove_file(&path).expect("it is removed");
+        read
+    }
+
+    #[test]
+    fn three_files_are_enough_and_the_door_is_the_loopback() {
+        let settings = of("--chains a --anchors b --table c").unwrap();
+        assert_eq!(settings.listen, [Listen::Tcp("127.0.0.1:8080".into())]);
+        assert_eq!(
+            (settings.rules.past, settings.rules.future, settings.sync, settings.asked_moments),
+            (60, 5, true, false)
+        );
+        assert_eq!((settings.connections, settings.connections_each), (256, usize::MAX));
+    }
+
+    #[test]
+    fn words_that_cant_be_taken_are_named() {
+        let three = "--chains a --anchors b --table c";
+        for (words, told) in [
+            ("", "--chains is missing"),
+            ("--chains a --anchors b", "--table is missing"),
+            (&format!("{three} --past 86401"), "--past"),
+            (&format!("{three} --past -1"), "'-1'"),
+            (&format!("{three} --request 0"), "--request"),
+            (&format!("{three} --chains a"), "--chains"),
+            (&format!("{three} --journal j --redis r"), "--redis"),
+            (&format!("{three} --sync maybe"), "maybe"),
+            (&format!("{three} --listen"), "--listen"),
+            (&format!("{three} --listen nowhere"), "HOST:PORT"),
+            (&format!("{three} --socket-mode 1777"), "octal"),
+            (&format!("{three} --tls-certificate a"), "--tls-key"),
+            (&format!("{three} --signing-tokens a"), "--signing"),
+            (&format!("{three} --nothing a"), "--nothing"),
+            (&format!("{three} a"), "'a'"),
+        ] {
+            let fault = of(words).err().map(|fault| fault.to_string()).unwrap_or_default();
+            assert!(fault.contains(told), "{words}: {fault}");
+        }
+    }
+
+    #[test]
+    fn a_word_that_isnt_text_is_named() {
+        use std::os::unix::ffi::OsStringExt;
+        let fault = read([OsString::from_vec(vec![0xff])]).expect_err("it is no text");
+        assert!(fault.to_string().ends_with("isn't UTF-8"), "{fault}");
+    }
+
+    #[test]
+    fn several_doors_are_listed() {
+        let words = "--chains a --anchors b --table c --listen [::1]:80 --listen unix:/run/s";
+        let wanted = [Listen::Tcp("[::1]:80".into()), Listen::Unix("/run/s".into())];
+        assert_eq!(of(words).unwrap().listen, wanted);
+    }
+
+    #[test]
+    fn a_file_has_the_same_names_and_the_command_line_goes_before_it() {
+        let text = "chains = 'a'\nanchors = 'b'\npast = 7\nfuture = 8\nsync = false\n\
+            listen = ['unix:/a', '127.0.0.1:1']\ntls-certificate = 'x'\ntls-key = 'y'\n";
+        let settings = with(text, "--table c --past 9").unwrap();
+        assert_eq!((settings.rules.past, settings.rules.future, settings.sync), (9, 8, false));
+        assert_eq!((settings.listen.len(), settings.tls.is_some()), (2, true));
+        let settings = with(text, "--table c --listen 127.0.0.1:2").unwrap();
+        assert_eq!(settings.listen, [Listen::Tcp("127.0.0.1:2".into())]);
+    }
+
+    #[test]
+    fn what_a_file_cant_say_is_named() {
+        for (text, told) in [
+            ("past = 86401", "--past"),
+            ("past = 1.5", "past is a text"),
+            ("pasts = 1", "pasts isn't an option"),
+            ("config = 'x'", "config isn't an option"),
+            ("past", "line 1"),
+            ("past = 1\npast = 2", "past"),
+            ("journal = 'a'\nredis = 'b'", "--redis"),
+        ] {
+            let fault = with(text, "--chains a --anchors b --table c");
+            let fault = fault.err().map(|fault| fault.to_string()).unwrap_or_default();
+            assert!(fault.contains(told), "{text}: {fault}");
+        }
+        let fault = of("--config /nowhere/at/all").expect_err("there is no such file");
+        assert!(fault.to_string().starts_with("/nowhere/at/all: "), "{fault}");
+    }
+}

@@ -1,0 +1,199 @@
+//! The options, as the command line and the file of settings have them.
+use clap::builder::TypedValueParser;
+use clap::{value_parser, Parser, ValueEnum};
+use std::path::PathBuf;
+use std::time::Duration;
+
+/// A STIR/SHAKEN verification and signing service.
+///
+/// It judges calls over HTTP by the chains, the trust anchors and the code table of three files,
+/// and signs calls if it has a table of keys.
+#[derive(Parser)]
+#[command(name = "stird", disable_help_subcommand = true)]
+pub(super) struct Words {
+    /// Read options from this file too (TOML, by the same names); the command line goes before it
+    #[arg(long, value_name = "FILE")]
+    pub config: Option<PathBuf>,
+
+    /// Where to listen: HOST:PORT or unix:PATH; may be given several times
+    #[arg(long, value_name = "ADDRESS", default_value = "127.0.0.1:8080")]
+    pub listen: Vec<Listen>,
+
+    /// The mode of Unix sockets, in octal digits
+    #[arg(long, value_name = "MODE", default_value = "600", value_parser = mode)]
+    pub socket_mode: u32,
+
+    /// Speak TLS over TCP, by this certificate and those after it (PEM)
+    #[arg(long, value_name = "FILE", requires = "tls_key")]
+    pub tls_certificate: Option<PathBuf>,
+
+    /// The private key of the certificate (PEM, without a password)
+    #[arg(long, value_name = "FILE", requires = "tls_certificate")]
+    pub tls_key: Option<PathBuf>,
+
+    /// Ask each client over TLS for a certificate by one of these authorities (PEM)
+    #[arg(long, value_name = "FILE", requires = "tls_certificate")]
+    pub tls_clients: Option<PathBuf>,
+
+    /// The chain map: which file has the certificates of an x5u
+    #[arg(long, value_name = "FILE")]
+    pub chains: Option<PathBuf>,
+
+    /// The trust anchors (DER)
+    #[arg(long, value_name = "FILE")]
+    pub anchors: Option<PathBuf>,
+
+    /// The code table
+    #[arg(long, value_name = "FILE")]
+    pub table: Option<PathBuf>,
+
+    /// How old a PASSporT may be
+    #[arg(long, value_name = "SECONDS", default_value = "60",
+        value_parser = value_parser!(u64).range(0..=86_400))]
+    pub past: u64,
+
+    /// How far its iat may be ahead
+    #[arg(long, value_name = "SECONDS", default_value = "5",
+        value_parser = value_parser!(u64).range(0..=86_400))]
+    pub future: u64,
+
+    /// The own country's code
+    #[arg(long, value_name = "DIGITS", default_value = "1")]
+    pub country: String,
+
+    /// How many digits a number in it has
+    #[arg(long, value_name = "COUNT", default_value = "10",
+        value_parser = value_parser!(u8).range(1..=14))]
+    pub national: u8,
+
+    /// The moment of a call: the clock's, or what X-Moment or time say
+    #[arg(long, value_name = "WHOSE", default_value = "clock")]
+    pub moments: Moments,
+
+    /// Write a list in a P-Asserted-Identity field as one field a value before a call is judged
+    #[arg(long, value_name = "WHETHER", default_value = "yes")]
+    pub split: Choice,
+
+    /// Keep tickets over restarts in this file
+    #[arg(long, value_name = "FILE", conflicts_with = "redis")]
+    pub journal: Option<PathBuf>,
+
+    /// Answer after the ticket is on the disk (yes), or in the file (no)
+    #[arg(long, value_name = "WHETHER", default_value = "yes")]
+    pub sync: Choice,
+
+    /// Keep tickets in a Redis, so that several hosts are one service: HOST:PORT or a URL
+    #[arg(long, value_name = "ADDRESS")]
+    pub redis: Option<String>,
+
+    /// How many tickets are held in memory at most
+    #[arg(long, value_name = "COUNT", default_value = "2000000",
+        value_parser = count(1, 100_000_000))]
+    pub tickets: usize,
+
+    /// How many answers are kept for requests that come again with their key
+    #[arg(long, value_name = "COUNT", default_value = "200000",
+        value_parser = count(0, 10_000_000))]
+    pub answers: usize,
+
+    /// How many connections there may be at once
+    #[arg(long, value_name = "COUNT", default_value = "256",
+        value_parser = count(1, 65_536))]
+    pub connections: usize,
+
+    /// How many of them from one address (an IPv6 network of 64 bits counts as one); as many as
+    /// there may be if it isn't given
+    #[arg(long, value_name = "COUNT", value_parser = count(1, 65_536))]
+    pub connections_each: Option<usize>,
+
+    /// How long a request may take to come, and its answer to go
+    #[arg(long, value_name = "SECONDS", default_value = "5",
+        value_parser = seconds(3600))]
+    pub request: Duration,
+
+    /// How long a connection may be without a request
+    #[arg(long, value_name = "SECONDS", default_value = "60",
+        value_parser = seconds(86_400))]
+    pub idle: Duration,
+
+    /// How often the files are looked at
+    #[arg(long, value_name = "SECONDS", default_value = "1",
+        value_parser = seconds(86_400))]
+    pub reload: Duration,
+
+    /// Sign calls of the numbers in this table, with the keys that it names
+    #[arg(long, value_name = "FILE")]
+    pub signing: Option<PathBuf>,
+
+    /// Sign only for requests that have one of the tokens in the lines of this file
+    #[arg(long, value_name = "FILE", requires = "signing")]
+    pub signing_tokens: Option<PathBuf>,
+
+    /// The form of what is told
+    #[arg(long, value_name = "FORM", default_value = "text")]
+    pub log: Form,
+
+    /// Where it is told; standard error if it isn't given
+    #[arg(long, value_name = "FILE")]
+    pub log_file: Option<PathBuf>,
+}
+
+/// An address at which the service listens.
+#[derive(Clone, Debug, PartialEq, Eq)]
+pub enum Listen {
+    /// A host and a port.
+    Tcp(String),
+    /// A Unix socket.
+    Unix(PathBuf),
+}
+
+impl std::str::FromStr for Listen {
+    type Err = String;
+
+    fn from_str(word: &str) -> Result<Listen, String> {
+        match word.strip_prefix("unix:") {
+            Some("") => Err("unix: is followed by a path".into()),
+            Some(path) => Ok(Listen::Unix(path.into())),
+            None if word.contains(':') => Ok(Listen::Tcp(word.into())),
+            None => Err("it is HOST:PORT or unix:PATH".into()),
+        }
+    }
+}
+
+/// `yes` or `no`.
+#[derive(Clone, Copy, ValueEnum)]
+pub(super) enum Choice {
+    Yes,
+    No,
+}
+
+/// Whose moment is that of a call.
+#[derive(Clone, Copy, ValueEnum)]
+pub(super) enum Moments {
+    Clock,
+    Asked,
+}
+
+/// The form of what is told.
+#[derive(Clone, Copy, Debug, PartialEq, Eq, ValueEnum)]
+pub enum Form {
+    /// A line of text.
+    Text,
+    /// A line with a JSON object.
+    Json,
+}
+
+fn mode(word: &str) -> Result<u32, String> {
+    u32::from_str_radix(word, 8)
+        .ok()
+        .filter(|mode| *mode <= 0o777 && word.bytes().all(|byte| byte.is_ascii_digit()))
+        .ok_or_else(|| "it is three octal digits at most".into())
+}
+
+fn count(least: u64, most: u64) -> impl TypedValueParser<Value = usize> {
+    value_parser!(u64).range(least..=most).map(|count| count as usize)
+}
+
+fn seconds(most: u64) -> impl TypedValueParser<Value = Duration> {
+    value_parser!(u64).range(1..=most).map(Duration::from_secs)
+}
