@@ -258,6 +258,17 @@ stir_said stir_call_chain(stir_call *call, uint32_t index, stir_chain *chain);
 stir_said stir_call_claims(stir_call *call, uint8_t *room, size_t room_size);
 
 /*
+ * Writes the value of a header field of the message into `room`, for a host that routes or keeps books by it. The fields of one name are counted from 0, in
+ * message order. Names are compared without case, and a compact form is its long name: c Content-Type, e Content-Encoding, f From, i Call-ID, k Supported,
+ * l Content-Length, m Contact, s Subject, t To, v Via (RFC 3261, sections 7.3.1 and 7.3.3) and y Identity (RFC 8224, section 4).
+ *
+ * The value has no blanks at its ends; of a field of several lines it is their parts, with a space between two that aren't empty. It has at most 65,535
+ * bytes. If they are 0, the field is there, and its value is empty. STIR_NONE: there is no such field, or the message can't be read, which breaks rule 1.
+ * A call that breaks another rule has its fields too. Each call reads the message anew, so ask for as many fields as are needed and no more.
+ */
+stir_said stir_call_header(stir_call *call, const uint8_t *name, size_t name_size, uint32_t index, uint8_t *room, size_t room_size);
+
+/*
  * Asks for the PASSporTs' own signatures. Into `room` come their questions, at most nine, in the order in which the call went, each under its leaf's key;
  * none if an earlier rule is broken, by the chains that were handed in and by what of them is confirmed. What is said (STIR_PASSES or STIR_REFUSED) is
  * what comes of the call if all of them are good.

@@ -6,6 +6,7 @@ The service's answers must give the report of the program byte for byte (`--stir
 import dataclasses
 import pathlib
 
+import fields
 import header
 import holding
 import judging
@@ -63,6 +64,7 @@ TESTS = {
     "the example in the header compiles": lambda at: header.example_in_header(TOP, at.library, at.folder),
     "four threads in C share, judge, fetch and close at once": lambda at: header.shared_by_c(TOP, at.library, at.world, at.folder),
     "a C program signs by the header": lambda at: header.signed_by_c(TOP, at.stir, at.library, at.world, at.folder),
+    "header fields are found by their names": lambda at: fields.all(at.library, at.world, at.folder),
     "Python judges and signs by ctypes": lambda at: header.by_python(TOP, at.library, at.world, at.calls, at.report, at.folder),
 }
 

@@ -6,7 +6,7 @@ ghost use Rattle.call_judging.specs.AskLines.{ask_lines};
 ghost use Rattle.open_calls.specs.Claims.{IsOneLine, said_text};
 ghost use Rattle.verify_rules.specs.Call.{Reading, payload_of};
 ghost use Rattle.verify_rules.specs.World.{World};
-ghost use Rattle.open_calls.specs.OpenCalls.{call_in, judged_in, x5u_in};
+ghost use Rattle.open_calls.specs.OpenCalls.{call_in, header_in, judged_in, x5u_in};
 ghost use Rattle.open_calls.specs.OpenChains.{GivenChain, states_of};
 ghost use Rattle.open_calls.specs.OwnQuestions.{all_asked};
 ghost use Rattle.stir_c.specs.Handles.{call_held};
@@ -17,7 +17,7 @@ ghost use Rattle.stir_c.specs.WrittenText.{ToldText};
 
 use crate::handles::CallHandle;
 use crate::judging::{
-    told_claims, told_explained, told_judged, told_lines, told_questions, told_x5u,
+    told_claims, told_explained, told_header, told_judged, told_lines, told_questions, told_x5u,
 };
 use crate::said::Said;
 use std::alloc::Global;
@@ -44,6 +44,33 @@ pub extern "C" fn stir_call_x5u(
         None => return Said::closed(),
     };
     let said = told_x5u(owner.call(), index as usize, room);
+    *call = CallHandle::of(owner);
+    said
+}
+
+/// Writes the value of the header field of this name and this index in the message, counted from 0. Names are compared without case, and a compact form is
+/// its long name (RFC 3261, sections 7.3.1 and 7.3.3). Kind 4: there is no room for it. Kind 5: the handle is closed. Kind 6: there is no such field, or the
+/// message can't be read.
+#[unsafe(no_mangle)]
+pub extern "C" fn stir_call_header(
+    alloc: Global,
+    call: &mut CallHandle,
+    name: &[u8],
+    index: u32,
+    room: &mut [u8],
+) -> Said
+    ensures kinds { result.kind ≤ 6 }
+    ensures stays { call_held call.new ≡ call_held call.old }
+    ensures told { result.kind ≢ 3 → IfOpen (call_held call.old) (λ held. ToldMaybe (header_in held.call name.now index) room.old room.new result) result }
+    ensures closed { result.kind ≡ 5 → call_held call.old ≡ None }
+    ensures as_was { 1 ≤ result.kind → room.new ≡ room.old }
+{
+    let held = mem::replace(call, CallHandle::empty(alloc));
+    let owner = match held.take() {
+        Some(owner) => owner,
+        None => return Said::closed(),
+    };
+    let said = told_header(alloc, owner.call(), name, index as usize, room);
     *call = CallHandle::of(owner);
     said
 }

@@ -7,7 +7,7 @@ ghost use Rattle.call_judging.specs.Explain.{explained};
 ghost use Rattle.verify_rules.specs.World.{World};
 ghost use Rattle.open_calls.specs.Claims.{claims_lines};
 ghost use Rattle.open_calls.specs.Founds.{IsFoundEarly, finding_of};
-ghost use Rattle.open_calls.specs.OpenCalls.{call_in, judged_in, x5u_in};
+ghost use Rattle.open_calls.specs.OpenCalls.{call_in, header_in, judged_in, x5u_in};
 ghost use Rattle.open_calls.specs.OpenChains.{GivenChain, states_of};
 ghost use Rattle.open_calls.specs.OwnQuestions.{Confirms, all_asked};
 ghost use Rattle.cert_store.specs.Rules.{Says};
@@ -58,6 +58,25 @@ pub(crate) fn told_x5u(held: &HeldCall, index: usize, room: &mut [u8]) -> Said
             Said::written(x5u.len(), written)
         }
         None => Said::none(),
+    }
+}
+
+/// The value of the header field of this name and this index, written into the room and told.
+pub(crate) fn told_header(
+    alloc: Global,
+    held: &HeldCall,
+    name: &[u8],
+    index: usize,
+    room: &mut [u8],
+) -> Said
+    ensures told { result.kind ≢ 3 → ToldMaybe (header_in (view_of_call held.now).call name.now index) room.old room.new result }
+    ensures kinds { (result.kind ≤ 4) ⊎ (result.kind ≡ 6) }
+    ensures as_was { 1 ≤ result.kind → room.new ≡ room.old }
+{
+    match held.call.header(alloc, name, index) {
+        Ok(Some(value)) => told_text(&Text { bytes: value }, room),
+        Ok(None) => Said::none(),
+        Err(_) => Said::no_memory(),
     }
 }
 

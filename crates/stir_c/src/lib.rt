@@ -73,8 +73,8 @@ pub use exports_chain::{
     stir_chain_close, stir_chain_confirm, stir_chain_open, stir_chain_questions, stir_chain_share,
 };
 pub use exports_judging::{
-    stir_call_claims, stir_call_explain, stir_call_judge, stir_call_lines, stir_call_questions,
-    stir_call_x5u,
+    stir_call_claims, stir_call_explain, stir_call_header, stir_call_judge, stir_call_lines,
+    stir_call_questions, stir_call_x5u,
 };
 pub use exports_parts::stir_chain_part;
 pub use exports_showing::stir_show;

@@ -181,6 +181,15 @@ extern "C" {
     ) -> stir_said;
     /// Hands in the chain of a PASSporT.
     pub fn stir_call_chain(call: *mut stir_call, index: u32, chain: *mut stir_chain) -> stir_said;
+    /// Writes the value of a header field.
+    pub fn stir_call_header(
+        call: *mut stir_call,
+        name: *const u8,
+        name_size: usize,
+        index: u32,
+        room: *mut u8,
+        room_size: usize,
+    ) -> stir_said;
     /// Writes what the PASSporTs say.
     pub fn stir_call_claims(call: *mut stir_call, room: *mut u8, room_size: usize) -> stir_said;
     /// Writes the questions of the PASSporTs, and says what comes if all are good.

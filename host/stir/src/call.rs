@@ -174,6 +174,40 @@ impl Call {
         bytes(came).ok_or(Error::NoPassport(index))
     }
 
+    /// The values of the header fields of this name in its message, in message order; none if the
+    /// message can't be read, which breaks rule 1. Names are compared without case, and a compact
+    /// form is its long name, as `i` is `Call-ID` (RFC 3261, sections 7.3.1 and 7.3.3). A value has
+    /// no blanks at its ends, and that of a field of several lines is in one.
+    ///
+    /// Each step reads the message anew, so take as many as are needed and no more. After an error
+    /// there is no further step.
+    ///
+    /// # Errors
+    ///
+    /// Want of memory.
+    ///
+    /// ```
+    #[doc = include_str!("../tests/given/hidden.md")]
+    /// let mut call = world.call(given::MOMENT, given::INVITE)?;
+    /// let called = call.header("to").next().transpose()?;
+    /// assert_eq!(called.as_deref(), Some(&b"<sip:+12125551213@example.net>"[..]));
+    /// assert_eq!(call.header("t").next().transpose()?, called);
+    /// assert_eq!(call.header("Subject").count(), 0);
+    /// # Ok::<(), stir::Error>(())
+    /// ```
+    pub fn header<'a>(
+        &'a mut self,
+        name: &'a str,
+    ) -> impl Iterator<Item = Result<Vec<u8>, Error>> + 'a {
+        let mut next = Some(0);
+        std::iter::from_fn(move || {
+            let index = next?;
+            let value = self.header_at(name, index).transpose();
+            next = if matches!(value, Some(Ok(_))) { index.checked_add(1) } else { None };
+            value
+        })
+    }
+
     /// Hands in the chain to which the x5u of this PASSporT leads. A PASSporT without one breaks
     /// rule 10.
     ///
@@ -374,6 +408,18 @@ impl Call {
         let came =
             unsafe { written(LINES, |at, size| stir_sys::stir_call_lines(call.at(), at, size)) }?;
         Ok(String::from_utf8_lossy(&bytes(came).unwrap_or_default()).into_owned())
+    }
+
+    /// The value of the header field of this name and this index, if there is one.
+    fn header_at(&mut self, name: &str, index: u32) -> Result<Option<Vec<u8>>, Error> {
+        let call = &mut self.handle;
+        // SAFETY: the handle, the name and the room are lent for the call.
+        let came = unsafe {
+            written(SHORT, |at, size| {
+                stir_sys::stir_call_header(call.at(), name.as_ptr(), name.len(), index, at, size)
+            })
+        }?;
+        Ok(bytes(came))
     }
 
     /// The number by which the library knows a PASSporT.
