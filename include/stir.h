@@ -87,7 +87,7 @@ uint64_t stir_abi(void);
 enum {
     STIR_PASSES = 0,    /* the call breaks none of the rules that were tried; */
     STIR_DONE = 0,      /* or what was wanted is done */
-    STIR_REFUSED = 1,   /* it breaks one; or the message may not be signed */
+    STIR_REFUSED = 1,   /* it breaks one; or the message may not be signed, or the call can't go on there */
     STIR_BAD_INPUT = 2, /* an input is outside its grammar or its limits; nothing was done */
     STIR_NO_MEMORY = 3, /* memory ran out; nothing was done, and nothing is said */
     STIR_NO_ROOM = 4,   /* what is to be written has `size` bytes, more than there is room for; nothing was written */
@@ -110,7 +110,8 @@ enum {
 typedef struct stir_said {
     uint32_t kind;
     uint32_t input;     /* STIR_BAD_INPUT: which */
-    uint32_t rule;      /* STIR_REFUSED: the first rule that is broken, 1 to 17 or 19 (docs/RULES.md); or why nothing may be signed, a stir_withheld; */
+    uint32_t rule;      /* STIR_REFUSED: the first rule that is broken, 1 to 17 or 19 (docs/RULES.md); or why nothing may be signed, a stir_withheld, or why
+                           the call can't go on there, a stir_held; */
     uint32_t code;      /* the rule's response code (RFC 8224, section 6.2.2), */
     uint32_t field;     /* the Identity header field in which it is broken, counted from 1; 0 if in none, */
     uint32_t part;      /* and the part of it */
@@ -363,6 +364,43 @@ stir_said stir_to_divert(stir_chain *key, uint64_t iat, const uint8_t *earlier, 
 /* Writes the message with that field. All is as of stir_signed. */
 stir_said stir_diverted(stir_chain *key, uint64_t iat, const uint8_t *earlier, size_t earlier_size, const uint8_t *x5u, size_t x5u_size,
                         const uint8_t *message, size_t message_size, const uint8_t *signature, size_t signature_size, uint8_t *room, size_t room_size);
+
+/* ---- Calls sent on ---- */
+
+/* Why a call that passes can't go on to a target: `rule`, if a function below says STIR_REFUSED and no rule is broken; `code` is then 0. They are looked
+   at in this order. */
+enum stir_held {
+    STIR_NO_TARGET = 21,      /* the target isn't a request URI, or gives no number */
+    STIR_LOOP = 22,           /* the call has been at its number */
+    STIR_FULL = 23,           /* the message has 16 Identity fields, or the call 8 diversions */
+    STIR_LONG = 24,           /* the message would have more than 65,535 bytes */
+    STIR_NO_AUTHORITY = 25    /* the certificate doesn't cover the number that was called before */
+};
+
+/*
+ * Tells what is to be signed so that a call that passes goes on to another number (RFC 8946, section 4): what stir_call_judge says of it comes first. Then
+ * the number that was called before is that of To, or that of the request URI if the call was diverted; the message gets the target as its request URI, and
+ * an Identity field with a PASSporT of the type `div` from the one number to the other. STIR_PASSES: `ticket` is the digest to be signed by ES256.
+ * STIR_REFUSED: the call breaks `rule`, or it can't go on there, and `rule` is a stir_held. A bad input is one of STIR_CERTIFICATE and STIR_ORDER (the x5u
+ * and the second), looked at first and in this order. STIR_CLOSED: one of the handles is closed.
+ *
+ * call    the call, with the chains that were handed in; its local numbering is that under which it was opened
+ * good    a byte for each question of stir_call_questions, as of stir_call_judge
+ * key     the chain whose first certificate is that of the key; it has to cover the number that was called before, by the code table of the call's world.
+ *         Whether the chain is trusted and whether it is valid at `iat` isn't looked at
+ * iat     when it is signed, in Unix seconds
+ * target  the request URI of the message that goes on
+ * x5u     the URI of the key's chain
+ */
+stir_said stir_to_retarget(stir_call *call, const uint8_t *good, size_t good_size, stir_chain *key, uint64_t iat, const uint8_t *target, size_t target_size,
+                           const uint8_t *x5u, size_t x5u_size);
+
+/*
+ * Writes the message that goes on. The inputs are those of stir_to_retarget, and have to be the same; `signature` has r and s, 32 bytes each, over the
+ * digest that it said. That the signature is good isn't looked at. STIR_SIGNATURE is looked at first.
+ */
+stir_said stir_retargeted(stir_call *call, const uint8_t *good, size_t good_size, stir_chain *key, uint64_t iat, const uint8_t *target, size_t target_size,
+                          const uint8_t *x5u, size_t x5u_size, const uint8_t *signature, size_t signature_size, uint8_t *room, size_t room_size);
 
 #ifdef __cplusplus
 }

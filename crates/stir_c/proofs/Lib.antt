@@ -10,3 +10,4 @@ pub mod JudgedLaws
 pub mod QuestionLaws
 pub mod Sent
 pub mod SlotValues
+pub mod RetargetLaws

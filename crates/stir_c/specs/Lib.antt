@@ -16,3 +16,4 @@ pub mod WorldFaults
 pub mod Opened
 pub mod Judged
 pub mod Right
+pub mod Retarget

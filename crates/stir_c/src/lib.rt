@@ -49,6 +49,7 @@ mod exports_call;
 mod exports_chain;
 mod exports_judging;
 mod exports_parts;
+mod exports_retarget;
 mod exports_showing;
 mod exports_signing;
 mod exports_world;
@@ -56,6 +57,7 @@ mod handle;
 mod handles;
 mod judging;
 mod key;
+mod moving;
 mod owner;
 mod owning;
 mod parts;
@@ -77,6 +79,7 @@ pub use exports_judging::{
     stir_call_questions, stir_call_x5u,
 };
 pub use exports_parts::stir_chain_part;
+pub use exports_retarget::{stir_retargeted, stir_to_retarget};
 pub use exports_showing::stir_show;
 pub use exports_signing::{SigningOrder, stir_diverted, stir_signed, stir_to_divert, stir_to_sign};
 pub use exports_world::{Settings, stir_world_close, stir_world_open, stir_world_share};

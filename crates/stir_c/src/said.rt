@@ -1,5 +1,6 @@
 //! What came of a call to the library, as C sees it.
 ghost use Rattle.std.specs.Prelude.{◌≡◌};
+ghost use Rattle.stir_c.specs.Retarget.{said_of_unmoved};
 ghost use Rattle.stir_c.specs.Saying.{said_found};
 ghost use Rattle.stir_c.specs.Signing.{said_digest, said_of_unsigned, said_withheld};
 ghost use Rattle.stir_c.specs.Showing.{said_of_unshown};
@@ -9,6 +10,7 @@ ghost use Rattle.stir_c.specs.WrittenText.{said_written};
 
 use crate::showing::Unshown;
 use open_calls::{Found, WorldFault};
+use open_retarget::Unmoved;
 use open_signing::{Unread, Unsigned};
 use verify_rules::code;
 
@@ -220,5 +222,20 @@ pub(crate) fn said_of_unsigned(unsigned: Unsigned) -> Said
         Unsigned::Input(Unread::Memory) => Said::no_memory(),
         Unsigned::Withheld(number) => Said::withheld(u32::from(number)),
         Unsigned::Digest(digest) => Said::digest(digest),
+    }
+}
+
+/// Why a call doesn't go on.
+pub(crate) fn said_of_unmoved(unmoved: Unmoved) -> Said
+    ensures { result ≡ said_of_unmoved unmoved }
+{
+    match unmoved {
+        Unmoved::Input(Unread::Certificate) => Said::bad(CERTIFICATE),
+        Unmoved::Input(Unread::Order) => Said::bad(ORDER),
+        Unmoved::Input(Unread::Signature) => Said::bad(SIGNATURE),
+        Unmoved::Input(Unread::Memory) => Said::no_memory(),
+        Unmoved::Refused(refusal) => Said::call(&Found::Refused(refusal), 0),
+        Unmoved::Held(number) => Said::withheld(u32::from(number)),
+        Unmoved::Digest(digest) => Said::digest(digest),
     }
 }

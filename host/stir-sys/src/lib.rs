@@ -266,4 +266,33 @@ extern "C" {
         room: *mut u8,
         room_size: usize,
     ) -> stir_said;
+
+    /// Tells what is to be signed so that a call goes on to a target.
+    pub fn stir_to_retarget(
+        call: *mut stir_call,
+        good: *const u8,
+        good_size: usize,
+        key: *mut stir_chain,
+        iat: u64,
+        target: *const u8,
+        target_size: usize,
+        x5u: *const u8,
+        x5u_size: usize,
+    ) -> stir_said;
+    /// Writes the message that goes on.
+    pub fn stir_retargeted(
+        call: *mut stir_call,
+        good: *const u8,
+        good_size: usize,
+        key: *mut stir_chain,
+        iat: u64,
+        target: *const u8,
+        target_size: usize,
+        x5u: *const u8,
+        x5u_size: usize,
+        signature: *const u8,
+        signature_size: usize,
+        room: *mut u8,
+        room_size: usize,
+    ) -> stir_said;
 }

@@ -7,7 +7,7 @@ use crate::room::{questions, said, written, Written};
 use crate::verdict::Verdict;
 use crate::world::World;
 use crate::{Error, Question};
-use stir_sys::stir_chain;
+use stir_sys::{stir_call, stir_chain};
 
 /// How many bytes an x5u, and a text of lines or of claims, mostly has.
 const SHORT: usize = 256;
@@ -29,6 +29,7 @@ pub struct Call {
     handle: CallHandle,
     early: Verdict,
     count: usize,
+    size: usize,
 }
 
 /// What a verifier of signatures is asked for the PASSporTs of a call, and what comes of the call
@@ -104,7 +105,8 @@ impl Call {
             })
         }?;
         let early = Verdict::of(&told)?;
-        Ok(Call { world: world.clone(), handle: call, early, count: told.size as usize })
+        let (count, size) = (told.size as usize, message.len());
+        Ok(Call { world: world.clone(), handle: call, early, count, size })
     }
 
     /// What comes of it by rules 1 to 9. If one of them is broken, no chain and no signature
@@ -408,6 +410,16 @@ impl Call {
         let came =
             unsafe { written(LINES, |at, size| stir_sys::stir_call_lines(call.at(), at, size)) }?;
         Ok(String::from_utf8_lossy(&bytes(came).unwrap_or_default()).into_owned())
+    }
+
+    /// Where its handle is, for one call of the library.
+    pub(crate) fn at(&mut self) -> *mut stir_call {
+        self.handle.at()
+    }
+
+    /// How many bytes its message has.
+    pub(crate) fn message_size(&self) -> usize {
+        self.size
     }
 
     /// The value of the header field of this name and this index, if there is one.

@@ -1,5 +1,6 @@
 //! What can't be done, and why.
 
+use crate::Refused;
 use thiserror::Error;
 
 /// Why nothing is said.
@@ -109,6 +110,53 @@ pub enum Withheld {
     Authority,
 }
 
+/// Why a call doesn't go on to a target.
+///
+/// ```
+/// use stir::{Held, RetargetError};
+///
+/// let error = RetargetError::from(Held::Loop);
+/// assert_eq!(error.to_string(), "the call has been at the target's number");
+/// ```
+#[derive(Clone, Copy, Debug, Error, PartialEq, Eq)]
+pub enum RetargetError {
+    /// It breaks a rule.
+    #[error("the call breaks rule {}", .0.rule)]
+    Refused(Refused),
+    /// It passes, and can't go on there.
+    #[error("{0}")]
+    Held(#[from] Held),
+    /// Nothing is said.
+    #[error("{0}")]
+    Failed(#[from] Error),
+}
+
+/// Why a call that passes can't go on to a target (docs/RULES.md).
+///
+/// ```
+/// use stir::Held;
+///
+/// assert_eq!(Held::Full.number(), 23);
+/// ```
+#[derive(Clone, Copy, Debug, Error, PartialEq, Eq)]
+pub enum Held {
+    /// The target isn't a request URI, or gives no number.
+    #[error("the target gives no number")]
+    NoTarget,
+    /// The call has been at the target's number.
+    #[error("the call has been at the target's number")]
+    Loop,
+    /// The message has 16 Identity fields, or the call 8 diversions.
+    #[error("the call was diverted too often")]
+    Full,
+    /// The message would be too long.
+    #[error("the message would have more than 65,535 bytes")]
+    TooLong,
+    /// The certificate doesn't cover the number that was called before.
+    #[error("the certificate doesn't cover the number that was called before")]
+    Authority,
+}
+
 impl Input {
     /// The input of this number in the header.
     fn of(number: u32) -> Option<Input> {
@@ -145,5 +193,28 @@ impl Withheld {
             3 => Some(Withheld::Authority),
             _ => None,
         }
+    }
+}
+
+impl Held {
+    /// Its number in reports, 21 to 25.
+    ///
+    /// ```
+    /// assert_eq!(stir::Held::NoTarget.number(), 21);
+    /// ```
+    pub fn number(self) -> u32 {
+        match self {
+            Held::NoTarget => 21,
+            Held::Loop => 22,
+            Held::Full => 23,
+            Held::TooLong => 24,
+            Held::Authority => 25,
+        }
+    }
+
+    /// The reason of this number in the header.
+    pub(crate) fn of(number: u32) -> Option<Held> {
+        let all = [Held::NoTarget, Held::Loop, Held::Full, Held::TooLong, Held::Authority];
+        all.into_iter().find(|held| held.number() == number)
     }
 }
