@@ -14,6 +14,7 @@ import lasting
 import pytest
 import refusing
 import same
+import sending
 import signing
 from world import World
 
@@ -65,6 +66,7 @@ TESTS = {
     "four threads in C share, judge, fetch and close at once": lambda at: header.shared_by_c(TOP, at.library, at.world, at.folder),
     "a C program signs by the header": lambda at: header.signed_by_c(TOP, at.stir, at.library, at.world, at.folder),
     "header fields are found by their names": lambda at: fields.all(at.library, at.world, at.folder),
+    "calls are sent on with real keys, and are valid at the next hop": lambda at: sending.all(at.stir, at.library, at.world, at.folder),
     "Python judges and signs by ctypes": lambda at: header.by_python(TOP, at.library, at.world, at.calls, at.report, at.folder),
 }
 
