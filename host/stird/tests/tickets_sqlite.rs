@@ -321,6 +321,62 @@ async fn a_journal_of_an_earlier_release_is_taken_over_once() {
 }
 
 #[tokio::test]
+async fn a_link_stays_one_and_the_file_to_which_it_leads_is_taken_over() {
+    let (folder, clock) = (Folder::new("link"), Moved::at(START));
+    let (link, journal) = (folder.file("link"), folder.file("journal"));
+    fs::write(&journal, format!("{} {} 8\n", "11".repeat(32), START + 50)).unwrap();
+    std::os::unix::fs::symlink(&journal, &link).unwrap();
+    for count in [2, 3] {
+        let tickets = open(&link, &clock);
+        assert_eq!(tickets.greatest(), 8);
+        assert_eq!(call(&tickets, &*clock, count).await, Claim::Won);
+        assert_eq!(tickets.count(), Some(count as usize));
+        tickets.look().await;
+        assert_eq!(tickets.health(), Health::Well);
+    }
+    assert!(fs::symlink_metadata(&link).unwrap().is_symlink());
+    assert_eq!(open(&journal, &clock).count(), Some(3));
+}
+
+#[tokio::test]
+async fn a_disk_that_hangs_holds_no_call_for_long() {
+    let folder = Folder::new("hangs");
+    let (image, disk) = (folder.file("image"), folder.file("disk"));
+    let (image, disk) = (image.display().to_string(), disk.display().to_string());
+    fs::create_dir(&disk).unwrap();
+    let can = run("truncate", &["-s", "32M", &image])
+        && run("mkfs.ext4", &["-q", &image])
+        && run("mount", &["-o", "loop", &image, &disk]);
+    if !can {
+        eprintln!("left out: no disk can be mounted here");
+        return;
+    }
+    let clock = Moved::at(START);
+    let tickets = open(&folder.file("disk/tickets"), &clock);
+    assert_eq!(call(&tickets, &*clock, 1).await, Claim::Won);
+    assert!(run("fsfreeze", &["-f", &disk]));
+    let start = Instant::now();
+    let calls = (2..40).map(|number| call(&tickets, &*clock, number));
+    let claims = futures_util::future::join_all(calls).await;
+    let (took, replay) = (start.elapsed(), call(&tickets, &*clock, 1).await);
+    let again = Instant::now();
+    let quick = call(&tickets, &*clock, 50).await;
+    let (again, health) = (again.elapsed(), tickets.health());
+    assert!(run("fsfreeze", &["-u", &disk]));
+    assert!(claims.iter().all(|claim| *claim == Claim::Unable), "{claims:?}");
+    assert!(took < Duration::from_secs(4) && again < Duration::from_secs(1), "{took:?} {again:?}");
+    assert_eq!((replay, quick), (lost(1), Claim::Unable));
+    assert!(matches!(&health, Health::Ill { why } if why.contains("a write takes")), "{health:?}");
+    well_within(&tickets, Duration::from_secs(5)).await;
+    // They were written in the end, so their tickets aren't free.
+    for number in 2..40 {
+        assert_eq!(call(&tickets, &*clock, number).await, lost(number));
+    }
+    drop(tickets);
+    assert!(run("umount", &[&disk]));
+}
+
+#[tokio::test]
 async fn what_is_forgotten_goes_from_the_file_and_doesnt_pass_after_a_restart() {
     let (folder, clock) = (Folder::new("forget"), Moved::at(START));
     let path = folder.file("tickets");
@@ -442,6 +498,41 @@ fn claims_until_it_is_killed() {
             let _ = task.await;
         }
     });
+}
+
+/// Not a test of its own: another one starts it as a process, so that it has its own descriptors.
+#[tokio::test]
+async fn claims_while_no_descriptor_is_free() {
+    let Some(path) = std::env::var_os("TICKETS_FILE") else { return };
+    let path = Path::new(&path);
+    let (own, clock) = (std::process::id().to_string(), Moved::at(START));
+    let tickets = open(path, &clock);
+    assert_eq!(call(&tickets, &*clock, 1).await, Claim::Won);
+    assert!(run("prlimit", &["--nofile=64:64", "--pid", &own]));
+    let mut taken = Vec::new();
+    while let Ok(file) = fs::File::open("/dev/null") {
+        taken.push(file);
+    }
+    assert_eq!(call(&tickets, &*clock, 2).await, Claim::Won);
+    fs::remove_file(path).unwrap();
+    // The descriptors of the old file serve for the new one.
+    assert_eq!(call(&tickets, &*clock, 3).await, Claim::Won);
+    assert_eq!(tickets.health(), Health::Well);
+    drop((tickets, taken));
+    let tickets = open(path, &clock);
+    for number in 1..=3 {
+        assert_eq!(call(&tickets, &*clock, number).await, lost(number));
+    }
+    println!("held\n");
+}
+
+#[test]
+fn without_a_free_descriptor_tickets_are_kept_and_a_file_that_vanished_is_made_anew() {
+    let folder = Folder::new("descriptors");
+    let mut other = child("claims_while_no_descriptor_is_free", &folder.file("tickets"));
+    let said: Vec<String> =
+        BufReader::new(other.stdout.take().unwrap()).lines().map(Result::unwrap).collect();
+    assert!(other.wait().unwrap().success() && said.contains(&"held".into()), "{said:?}");
 }
 
 fn child(test: &str, path: &Path) -> std::process::Child {

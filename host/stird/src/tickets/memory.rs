@@ -56,7 +56,9 @@ impl Tickets for Memory {
 
     async fn look(&self) {
         let (now, monotonic) = (self.clock.now(), self.clock.monotonic());
-        self.table.lock().held().forget(now, monotonic);
+        while self.table.lock().held().forget(now, monotonic) {
+            tokio::task::yield_now().await;
+        }
     }
 
     fn greatest(&self) -> u64 {

@@ -95,9 +95,6 @@ impl Table {
             return Claimed::Forgotten;
         }
         if self.held.len() >= self.most {
-            self.forget(now, monotonic);
-        }
-        if self.held.len() >= self.most {
             return Claimed::Full;
         }
         Claimed::Free
@@ -145,10 +142,11 @@ impl Table {
         }
     }
 
-    /// Forgets all that is due.
-    pub fn forget(&mut self, now: u64, monotonic: u64) {
+    /// Forgets what is due, a portion of it. Whether there is more.
+    pub fn forget(&mut self, now: u64, monotonic: u64) -> bool {
         self.swept = None;
-        self.sweep(now, monotonic, usize::MAX);
+        self.sweep(now, monotonic, 4 * PORTION);
+        self.swept.is_none()
     }
 
     /// Forgets what is due, if it wasn't looked for at this second: so many tickets at most.

@@ -124,8 +124,10 @@ impl Folder {
 
 impl Drop for Folder {
     fn drop(&mut self) {
-        if run("mountpoint", &["-q", &self.name()]) {
-            run("umount", &[&self.name()]);
+        for mounted in [self.file("disk").display().to_string(), self.name()] {
+            if run("mountpoint", &["-q", &mounted]) {
+                run("umount", &[&mounted]);
+            }
         }
         let _ = std::fs::remove_dir_all(&self.0);
     }

@@ -24,6 +24,8 @@ pub fn take_over(path: &Path, now: u64) -> Result<(), TicketsError> {
         return Ok(());
     }
     let _lock = lock(path)?;
+    // Of a link it is the file to which it leads that is taken over.
+    let path = &fs::canonicalize(path).map_err(fault)?;
     let text = fs::read(path).map_err(fault)?;
     let content =
         read(&text, now).map_err(|line| TicketsError::Journal { path: path.into(), line })?;
@@ -40,8 +42,8 @@ pub fn take_over(path: &Path, now: u64) -> Result<(), TicketsError> {
     store.close()?;
     remove(&log_of(path)).map_err(fault)?;
     fs::rename(&new, path).map_err(fault)?;
-    let folder = path.parent().filter(|folder| !folder.as_os_str().is_empty());
-    File::open(folder.unwrap_or(Path::new("."))).and_then(|folder| folder.sync_all()).map_err(fault)
+    let folder = path.parent().unwrap_or(Path::new("/"));
+    File::open(folder).and_then(|folder| folder.sync_all()).map_err(fault)
 }
 
 /// Whether there is a file with something in it that isn't of SQLite.

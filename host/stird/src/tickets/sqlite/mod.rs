@@ -261,7 +261,9 @@ impl Tickets for Sqlite {
 
     async fn look(&self) {
         let (now, monotonic) = (self.shared.clock.now(), self.shared.clock.monotonic());
-        self.shared.table.lock().held().forget(now, monotonic);
+        while self.shared.table.lock().held().forget(now, monotonic) {
+            tokio::task::yield_now().await;
+        }
         if let Some(done) = self.order(Order::Look) {
             let _ = tokio::time::timeout(PATIENCE, done).await;
         }

@@ -220,10 +220,18 @@ impl Writer {
         let content = store.content()?;
         self.turn = self.turn.max(next_turn(&content));
         self.greatest = self.greatest.max(content.greatest);
+        let owed: HashSet<u64> = self.owed.iter().copied().collect();
+        let there: HashSet<Ticket> = content.rows.iter().map(|row| row.ticket).collect();
         let monotonic = self.shared.clock.monotonic();
         let (missing, forgotten) = {
             let mut table = self.shared.table.lock().held();
-            let missing = join(&mut table, &content, &self.owed, monotonic);
+            settle_unsure(&mut table, &there, monotonic);
+            let mut missing = table.all_in(State::Kept, monotonic);
+            missing.retain(|(ticket, _, _)| !there.contains(ticket));
+            for row in content.rows.iter().filter(|row| !owed.contains(&row.passed.last)) {
+                table.restore(row.ticket, row.passed, row.life, monotonic);
+            }
+            table.add_forgotten(&content.forgotten);
             (missing, table.forgotten().clone())
         };
         let rows: Vec<Row> = missing
@@ -238,15 +246,8 @@ impl Writer {
     }
 }
 
-/// Takes over into memory what a file holds, save the seconds whose rows are to go. Gives what the
-/// file lacks, with the seconds for which it is to be kept.
-fn join(
-    table: &mut Table,
-    content: &Content,
-    owed: &[u64],
-    monotonic: u64,
-) -> Vec<(Ticket, Passed, u64)> {
-    let there: HashSet<&Ticket> = content.rows.iter().map(|row| &row.ticket).collect();
+/// Settles the tickets whose writing failed, by those that are in the file.
+fn settle_unsure(table: &mut Table, there: &HashSet<Ticket>, monotonic: u64) {
     for (ticket, _, _) in table.all_in(State::Unsure, monotonic) {
         if there.contains(&ticket) {
             table.settle(&ticket, State::Kept);
@@ -254,14 +255,6 @@ fn join(
             table.release(&ticket);
         }
     }
-    let mut missing = table.all_in(State::Kept, monotonic);
-    missing.retain(|(ticket, _, _)| !there.contains(ticket));
-    let owed: HashSet<&u64> = owed.iter().collect();
-    for row in content.rows.iter().filter(|row| !owed.contains(&row.passed.last)) {
-        table.restore(row.ticket, row.passed, row.life, monotonic);
-    }
-    table.add_forgotten(&content.forgotten);
-    missing
 }
 
 fn next_turn(content: &Content) -> u64 {
