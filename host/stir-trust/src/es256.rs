@@ -186,8 +186,8 @@ impl Verifier {
     }
 }
 
-/// Whether it is the input at which OpenSSL failed, so that it fails there each time. The first error
-/// tells that; the others come of it.
+/// Whether it is the input at which OpenSSL failed, so that it fails there each time. The first
+/// error tells that; the others come of it.
 fn is_of_input(errors: &ErrorStack) -> bool {
     let reason = errors.errors().first().and_then(Error::reason);
     reason.is_some_and(|why| OF_INPUT.contains(&why))

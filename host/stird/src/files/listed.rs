@@ -11,16 +11,14 @@ use stir_trust::Verifier;
 /// 11 still sees that it is too long.
 const MOST_CHAIN: usize = 49_152;
 
-/// The most certificates of a chain.
-const MOST_CERTIFICATES: u32 = 6;
-
 /// A chain of the chain map.
 pub struct Listed {
     /// As it was opened.
     opened: Chain,
     /// The same with all its questions confirmed, once they are.
     confirmed: OnceLock<Confirmed>,
-    /// The last second at which all its certificates are valid, in Unix time.
+    /// The last second at which all its certificates are valid, in Unix time; nothing if it breaks a
+    /// rule at any second.
     ends: Option<u64>,
 }
 
@@ -33,14 +31,7 @@ impl Listed {
     /// A chain of these bytes, judged under a world.
     pub(super) fn open(world: &stir::World, der: &[u8]) -> Result<Listed, Error> {
         let opened = world.chain(der)?;
-        let mut ends = None;
-        for number in 1..=MOST_CERTIFICATES {
-            let Some(digits) = opened.part(number, Part::NotAfter)? else { break };
-            let end: i64 =
-                std::str::from_utf8(&digits).ok().and_then(|n| n.parse().ok()).unwrap_or(0);
-            let end = u64::try_from(end).unwrap_or(0);
-            ends = Some(ends.map_or(end, |earlier: u64| earlier.min(end)));
-        }
+        let ends = ends(&opened)?;
         Ok(Listed { opened, confirmed: OnceLock::new(), ends })
     }
 
@@ -95,10 +86,24 @@ impl Listed {
         self.confirmed.get().map_or(&[], |confirmed| &confirmed.questions)
     }
 
-    /// The last second at which all its certificates are valid; nothing if it is no chain.
+    /// The last second at which all its certificates are valid; nothing if it breaks a rule at any
+    /// second.
     pub(super) fn ends(&self) -> Option<u64> {
         self.ends
     }
+}
+
+/// The last second at which all certificates of a chain are valid. There is a question for each,
+/// unless it breaks one of rules 11, 12 and 14.
+fn ends(chain: &Chain) -> Result<Option<u64>, Error> {
+    let mut ends = None;
+    for (_, number) in chain.questions()?.iter().zip(1..) {
+        let Some(digits) = chain.part(number, Part::NotAfter)? else { break };
+        let end: i64 = std::str::from_utf8(&digits).ok().and_then(|n| n.parse().ok()).unwrap_or(0);
+        let end = u64::try_from(end).unwrap_or(0);
+        ends = Some(ends.map_or(end, |earlier: u64| earlier.min(end)));
+    }
+    Ok(ends)
 }
 
 /// A file of the chain map, as it was read last.
