@@ -107,3 +107,68 @@ pub fn wait_for_rest(files: &[(&Path, &Look)]) {
         }
     }
 }
+
+#[cfg(test)]
+mod tests {
+    use super::*;
+    use std::io::Write;
+    use std::sync::atomic::{AtomicBool, Ordering};
+
+    /// A file in the folder for such, by the name of its test.
+    fn file(test: &str, bytes: &[u8]) -> std::path::PathBuf {
+        let path = std::env::temp_dir().join(format!("stird-{test}-{}", std::process::id()));
+        std::fs::write(&path, bytes).expect("a file");
+        path
+    }
+
+    #[test]
+    fn no_more_is_taken_than_the_most_and_one() {
+        let path = file("most", &[7; 100]);
+        for (most, taken) in [(99, 100), (100, 100), (98, 99), (0, 1), (usize::MAX, 100)] {
+            let came = read(&path, most).bytes.expect("it is read");
+            assert_eq!(came, vec![7; taken], "{most}");
+        }
+        std::fs::remove_file(&path).expect("removed");
+        assert_eq!(read(&path, 100).bytes, Err(Why::Missing));
+    }
+
+    #[test]
+    fn a_file_that_was_changed_a_moment_ago_is_read_again_and_one_that_rests_isnt() {
+        let path = file("young", b"a");
+        assert!(read(&path, 100).again);
+        std::thread::sleep(Duration::from_millis(100));
+        assert!(!read(&path, 100).again);
+        std::fs::remove_file(&path).expect("removed");
+    }
+
+    #[test]
+    fn what_is_changed_while_it_is_read_isnt_taken() {
+        let path = file("growing", &[7; 8_000_000]);
+        let done = AtomicBool::new(false);
+        let changing = std::thread::scope(|threads| {
+            threads.spawn(|| {
+                let file = OpenOptions::new().append(true).open(&path);
+                let mut file = file.expect("it is opened");
+                while !done.load(Ordering::SeqCst) {
+                    file.write_all(b"7").expect("a byte more");
+                }
+            });
+            let mut changing = 0;
+            for _ in 0..20 {
+                let came = read(&path, 16_000_000);
+                match (came.bytes, came.look) {
+                    (Ok(bytes), Look::There(stamp)) => {
+                        assert_eq!(u64::try_from(bytes.len()), Ok(stamp.size));
+                    }
+                    (Err(Why::Changing), _) => changing += 1,
+                    other => panic!("{other:?}"),
+                }
+            }
+            done.store(true, Ordering::SeqCst);
+            changing
+        });
+        assert!(changing > 0, "it was never changed while it was read");
+        assert!(read(&path, 16_000_000).bytes.is_ok(), "it rests");
+        std::fs::remove_file(&path).expect("removed");
+    }
+}

@@ -17,8 +17,8 @@ pub struct Listed {
     opened: Chain,
     /// The same with all its questions confirmed, once they are.
     confirmed: OnceLock<Confirmed>,
-    /// The last second at which all its certificates are valid, in Unix time; nothing if it breaks a
-    /// rule at any second.
+    /// The last second at which all its certificates are valid, in Unix time; nothing if it breaks
+    /// a rule at any second.
     ends: Option<u64>,
 }
 

@@ -78,7 +78,8 @@ impl Look {
     pub(super) fn is_rewritten(&self, before: &Look) -> bool {
         match (self, before) {
             (Look::There(now), Look::There(then)) => {
-                (now.device, now.inode, now.made) == (then.device, then.inode, then.made)
+                now.kind == Kind::File
+                    && (now.device, now.inode, now.made) == (then.device, then.inode, then.made)
                     && now.written != then.written
             }
             _ => false,

@@ -18,6 +18,35 @@ use stir_trust::Verifier;
 const MOST_NAMED: usize = 16;
 
 /// What calls are judged by: settings, trust anchors, a code table, and the chains of a chain map.
+///
+/// ```
+/// # std::env::set_current_dir(concat!(env!("CARGO_MANIFEST_DIR"), "/../..")).unwrap();
+/// use stird::files::{read, Sources};
+///
+/// let sources = Sources {
+///     rules: stir::Settings::default(),
+///     chains: "examples/files/chains.txt".into(),
+///     anchors: "examples/files/anchors.der".into(),
+///     table: "examples/files/table.txt".into(),
+///     signing: None,
+/// };
+/// let verifier = stir_trust::Verifier::new()?;
+/// let world = read(&sources, &verifier, None)?;
+/// assert_eq!((world.chains(), world.missing(), world.unreadable_count()), (2, 0, 0));
+/// assert_eq!(world.ends(), Some(1_735_689_600));
+///
+/// let message = std::fs::read("examples/sign/signed.sip")?;
+/// let mut call = world.call(1_443_208_345, &message)?;
+/// let listed = world.listed(&call.x5u(0)?).expect("it is listed and there");
+/// call.set_chain(0, &*listed.chain(|question| verifier.confirms(question))?)?;
+///
+/// // Each second or so.
+/// if world.is_stale() {
+///     let world = read(&sources, &verifier, Some(&world))?;
+///     assert!(world.faults().is_empty() && world.news().is_empty());
+/// }
+/// # Ok::<(), Box<dyn std::error::Error>>(())
+/// ```
 pub struct World {
     parts: Parts,
     totals: Totals,
