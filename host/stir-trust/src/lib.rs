@@ -21,6 +21,7 @@
 mod es256;
 mod key;
 pub mod locks;
+pub mod split;
 
 pub use es256::{Unanswered, Verifier};
 pub use key::{Key, KeyFault};

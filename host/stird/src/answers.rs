@@ -115,9 +115,12 @@ pub struct Answers {
     held: Mutex<Kept>,
 }
 
+/// An answer that is there, or will be.
+type Awaited = watch::Receiver<Option<Answer>>;
+
 #[derive(Default)]
 struct Kept {
-    answers: HashMap<Name, watch::Receiver<Option<Answer>>>,
+    answers: HashMap<Name, Awaited>,
     /// The names in the order in which they came, with the second at which each did.
     order: VecDeque<(u64, Name)>,
 }
@@ -157,11 +160,7 @@ impl Answers {
 
     /// Where the answer to a request of this name will be, and if this is the first, the place to
     /// which it is to be sent.
-    #[allow(clippy::type_complexity)]
-    fn place(
-        &self,
-        name: Name,
-    ) -> (watch::Receiver<Option<Answer>>, Option<watch::Sender<Option<Answer>>>) {
+    fn place(&self, name: Name) -> (Awaited, Option<watch::Sender<Option<Answer>>>) {
         let now = self.clock.monotonic();
         let mut held = self.held.lock().held();
         let Kept { answers, order } = &mut *held;

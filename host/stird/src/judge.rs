@@ -2,14 +2,13 @@
 //! taken from the proved library, and its ticket claimed.
 use crate::files::World;
 use crate::metrics::{Metrics, Part};
-use crate::split;
 use crate::tickets::{Claim, Passed, Tickets};
 use arc_swap::ArcSwap;
 use std::sync::atomic::{AtomicU64, Ordering};
 use std::sync::Arc;
 use std::time::Instant;
 use stir::{Error, Passes, Refused, Verdict};
-use stir_trust::{Unanswered, Verifier};
+use stir_trust::{split, Unanswered, Verifier};
 
 /// What came of a call.
 #[derive(Clone, Copy, Debug, PartialEq, Eq)]

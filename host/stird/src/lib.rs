@@ -22,7 +22,6 @@ pub mod reload;
 pub mod routes;
 pub mod server;
 pub mod settings;
-pub mod split;
 pub mod start;
 pub mod tickets;
 pub mod tokens;

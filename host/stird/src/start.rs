@@ -50,8 +50,7 @@ pub async fn run(settings: Settings, log: Log) -> Result<()> {
     });
     let tokens = settings.signing_tokens;
     let reload = Reload::new(sources, tokens, Arc::clone(&service), acceptor, log, settings.reload);
-    tokio::spawn(reload.run(hangs_up));
-    tokio::spawn(keep_watchdog());
+    let aside = [tokio::spawn(reload.run(hangs_up)), tokio::spawn(keep_watchdog())];
     let serving = {
         let server = Arc::clone(&server);
         tokio::spawn(async move { doors.serve(&server).await })
@@ -71,6 +70,12 @@ pub async fn run(settings: Settings, log: Log) -> Result<()> {
         _ = terminate.recv() => {}
         _ = interrupt.recv() => {}
     }
+    for task in aside {
+        task.abort();
+        let _ = task.await;
+    }
+    // The store of the tickets is closed with the last of those who hold it.
+    drop((server, service));
     Ok(())
 }
 
