@@ -1,27 +1,16 @@
 //! Files that change: they are looked at from time to time, aside from what answers, and taken if
 //! they can be read; else what was read before stays.
-use crate::files::{self, signing::Blocks, FileFault, Sources};
+use crate::files::{self, look::Look, signing::Blocks, FileFault, Sources};
 use crate::logs::Log;
 use crate::routes::Service;
 use crate::server::Acceptor;
 use crate::tokens::Tokens;
-use std::os::unix::fs::MetadataExt;
-use std::path::{Path, PathBuf};
+use std::path::PathBuf;
 use std::sync::{Arc, Mutex};
 use std::time::Duration;
 use stir_trust::locks::Held;
 use tokio::signal::unix::Signal;
 use tokio::task::spawn_blocking;
-
-/// What tells that the file of the tokens changed: its size, its number, and when it was written
-/// and changed.
-type Stamp = Option<[i64; 6]>;
-
-fn stamp(path: Option<&Path>) -> Stamp {
-    let data = std::fs::metadata(path?).ok()?;
-    let (size, number) = (data.size() as i64, data.ino() as i64);
-    Some([size, number, data.mtime(), data.mtime_nsec(), data.ctime(), data.ctime_nsec()])
-}
 
 /// The files, and what is read of them.
 pub struct Reload {
@@ -45,7 +34,8 @@ struct Last {
     blocks: Option<FileFault>,
     tokens: Option<String>,
     tls: Option<String>,
-    token_file: Stamp,
+    /// How their file looked when they were read.
+    token_file: Option<Look>,
 }
 
 impl Reload {
@@ -58,7 +48,8 @@ impl Reload {
         log: Log,
         every: Duration,
     ) -> Reload {
-        let last = Last { token_file: stamp(tokens.as_deref()), ..Last::default() }.into();
+        let token_file = tokens.as_deref().map(Look::at);
+        let last = Last { token_file, ..Last::default() }.into();
         let patience = every / 4;
         let shared = Arc::new(Shared { sources, tokens, service, acceptor, last, patience });
         Reload { shared, log, every }
@@ -151,13 +142,13 @@ impl Shared {
     }
 
     fn tokens(&self, is_told: bool, last: &mut Last) {
-        let path = self.tokens.as_deref();
-        let now = stamp(path);
-        if path.is_none() || !is_told && now == last.token_file {
+        let Some(path) = self.tokens.as_deref() else { return };
+        let now = Some(Look::at(path));
+        if !is_told && now == last.token_file {
             return;
         }
         last.token_file = now;
-        let read = Tokens::read(path);
+        let read = Tokens::read(Some(path));
         self.service.judge.metrics.reload(read.is_ok());
         let read = read.map(|tokens| self.service.tokens.store(Arc::new(tokens)));
         last.tokens = told_fault(read);

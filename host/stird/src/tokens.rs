@@ -1,11 +1,15 @@
 //! Who may have calls signed: whoever has a token, if there are tokens; else whoever is on this
 //! host, or has shown a certificate.
+use crate::files::{whole, FileFault};
 use crate::lines::lines_of;
 use openssl::memcmp;
 use openssl::sha::sha256;
 use std::net::IpAddr;
 use std::os::unix::fs::PermissionsExt;
 use std::path::{Path, PathBuf};
+
+/// The most bytes of the file.
+const MOST_FILE: usize = 1 << 20;
 
 /// How many characters a token has.
 const LEAST: usize = 16;
@@ -40,13 +44,8 @@ pub enum Denied {
 #[derive(Debug, thiserror::Error)]
 pub enum TokensError {
     /// The file can't be read.
-    #[error("{}: {error}", path.display())]
-    Unread {
-        /// The file.
-        path: PathBuf,
-        /// Why.
-        error: std::io::Error,
-    },
+    #[error("{0}")]
+    File(#[from] FileFault),
     /// A token isn't one.
     #[error(
         "{}: token {number} isn't {LEAST} to {MOST} characters of ASCII without blanks",
@@ -80,8 +79,7 @@ impl Tokens {
     /// It can't be read, or has no token or a line that is none.
     pub fn read(path: Option<&Path>) -> Result<Tokens, TokensError> {
         let Some(path) = path else { return Ok(Tokens::default()) };
-        let text = std::fs::read(path)
-            .map_err(|error| TokensError::Unread { path: path.into(), error })?;
+        let text = whole(path, MOST_FILE)?;
         let mut sums = Vec::new();
         for token in lines_of(&text) {
             let is_good =

@@ -28,7 +28,7 @@ pub use listed::Listed;
 pub use reading::read;
 pub use world::World;
 
-use std::path::PathBuf;
+use std::path::{Path, PathBuf};
 
 /// Which files are read, and the settings under which calls are judged. Names in the chain map are
 /// as they stand there: relative ones from the folder in which the service runs, as of `stir
@@ -57,4 +57,24 @@ pub struct Sources {
     pub table: PathBuf,
     /// The signing table, if there is one.
     pub signing: Option<PathBuf>,
+}
+
+/// The bytes of a file that is taken by itself, at most so many.
+///
+/// # Errors
+///
+/// It isn't a file, can't be read, or has more.
+///
+/// ```
+/// use stird::files::{whole, Why};
+///
+/// let fault = whole("/dev/null".as_ref(), 10).expect_err("it is a device");
+/// assert!(matches!(fault.why, Why::NoFile(_)), "{fault}");
+/// ```
+pub fn whole(path: &Path, most: usize) -> Result<Vec<u8>, FileFault> {
+    match bytes::read(path, most).bytes {
+        Ok(bytes) if bytes.len() > most => Err(FileFault::of(path, Why::Long(most))),
+        Ok(bytes) => Ok(bytes),
+        Err(why) => Err(FileFault::of(path, why)),
+    }
 }

@@ -7,10 +7,10 @@ use crate::server::{Acceptor, Server};
 use crate::settings::Listen;
 use crate::tokens::Peer;
 use hyper::StatusCode;
-use std::fs::Permissions;
+use std::fs::{DirBuilder, Permissions};
 use std::io;
 use std::net::{IpAddr, SocketAddr, ToSocketAddrs};
-use std::os::unix::fs::{FileTypeExt, PermissionsExt};
+use std::os::unix::fs::{DirBuilderExt, FileTypeExt, PermissionsExt};
 use std::os::unix::net::UnixStream as Blocking;
 use std::path::{Path, PathBuf};
 use std::sync::Arc;
@@ -158,17 +158,20 @@ fn unix(path: &Path, mode: u32) -> Result<UnixListener, DoorsError> {
         Ok(_) if Blocking::connect(path).is_ok() => return Err(DoorsError::Taken(path.into())),
         Ok(_) => {}
     }
-    let mut hidden = path.as_os_str().to_os_string();
-    hidden.push(format!(".{}", std::process::id()));
-    let hidden = PathBuf::from(hidden);
-    let listener = UnixListener::bind(&hidden).map_err(failed)?;
-    let placed = std::fs::set_permissions(&hidden, Permissions::from_mode(mode))
-        .and_then(|()| std::fs::rename(&hidden, path));
-    if let Err(error) = placed {
-        let _ = std::fs::remove_file(&hidden);
-        return Err(failed(error));
-    }
-    Ok(listener)
+    // A folder that is this user's alone, since a socket that is made has the mode of the process.
+    let mut folder = path.as_os_str().to_os_string();
+    folder.push(format!(".{}", std::process::id()));
+    let folder = PathBuf::from(folder);
+    DirBuilder::new().mode(0o700).create(&folder).map_err(failed)?;
+    let hidden = folder.join("s");
+    let placed = UnixListener::bind(&hidden).and_then(|listener| {
+        std::fs::set_permissions(&hidden, Permissions::from_mode(mode))?;
+        std::fs::rename(&hidden, path)?;
+        Ok(listener)
+    });
+    let _ = std::fs::remove_file(&hidden);
+    let _ = std::fs::remove_dir(&folder);
+    placed.map_err(failed)
 }
 
 impl Listener {
@@ -176,7 +179,8 @@ impl Listener {
         match self {
             Listener::Tcp(listener, acceptor) => {
                 let (stream, peer) = listener.accept().await?;
-                stream.set_nodelay(true)?;
+                // If it can't be set the peer is gone, which is seen when it is read.
+                let _ = stream.set_nodelay(true);
                 Ok(Came::Tcp(stream, peer, acceptor.clone()))
             }
             Listener::Unix(listener) => Ok(Came::Unix(listener.accept().await?.0)),
@@ -223,18 +227,26 @@ async fn accept_all(listener: Listener, server: Arc<Server>, alive: mpsc::Sender
                 }
             },
             // The peer went away before it was accepted.
-            Err(error) if error.kind() == io::ErrorKind::ConnectionAborted => {}
-            // No descriptor is free, or no memory: that takes a while, and an idle one has both.
+            Err(error) if is_of_peer(&error) => {}
             Err(error) => {
                 if last_told.is_none_or(|last| last.elapsed() > TOLD) {
                     last_told = Some(Instant::now());
                     tracing::warn!("a connection can't be accepted: {error}");
                 }
-                server.places.free();
+                // An idle one has a descriptor, and memory.
+                if matches!(error.raw_os_error(), Some(libc::EMFILE | libc::ENFILE)) {
+                    server.places.free();
+                }
                 sleep(PAUSE).await;
             }
         }
     }
+}
+
+/// Whether the fault is one of the connection that came, and not of this host (accept(2)).
+fn is_of_peer(error: &io::Error) -> bool {
+    use io::ErrorKind::{ConnectionAborted, ConnectionReset, Interrupted};
+    matches!(error.kind(), ConnectionAborted | ConnectionReset | Interrupted)
 }
 
 /// Serves a connection, by TLS if that is to be spoken.

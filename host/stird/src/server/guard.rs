@@ -19,7 +19,7 @@ use tokio::io::{AsyncRead, AsyncReadExt, AsyncWrite, AsyncWriteExt, ReadBuf};
 use tokio::time::{sleep, sleep_until, timeout, Instant, Sleep};
 
 /// How many bytes are read at once.
-const ROOM: usize = 16_384;
+const ROOM: usize = 8192;
 
 /// How long a peer may go on sending after its last answer, so that it sees it.
 const LINGER: Duration = Duration::from_secs(2);
@@ -111,20 +111,20 @@ impl Guard {
         }
     }
 
-    /// What hyper's next read begins with, after what it did meanwhile.
+    /// What hyper's next read begins with, after what it did meanwhile. It reads no further than a
+    /// request until that is answered.
     fn settle(&mut self) {
-        match self.reading {
-            Reading::Between => match self.talk.body.swap(0, SeqCst) {
+        if matches!(self.reading, Reading::Between) {
+            match self.talk.body.swap(0, SeqCst) {
                 0 => {}
-                1 => self.came_whole(),
+                1 => self.reading = Reading::Whole,
                 size => self.reading = Reading::Body(size - 1),
-            },
-            Reading::Whole => {
-                self.reading = Reading::Head(Head::default());
-                self.until = Some(Instant::now() + self.times.idle);
-                self.talk.seat.does(Doing::Nothing);
             }
-            Reading::Head(_) | Reading::Body(_) => {}
+        }
+        if matches!(self.reading, Reading::Whole) {
+            self.reading = Reading::Head(Head::default());
+            self.until = Some(Instant::now() + self.times.idle);
+            self.talk.seat.does(Doing::Nothing);
         }
     }
 
@@ -281,5 +281,75 @@ impl AsyncWrite for Guard {
 
     fn poll_shutdown(self: Pin<&mut Self>, context: &mut Context<'_>) -> Poll<io::Result<()>> {
         Pin::new(&mut self.get_mut().stream).poll_shutdown(context)
+    }
+}
+
+#[cfg(test)]
+mod tests {
+    use super::*;
+    use tokio::net::UnixStream;
+
+    /// A guard over bytes that came, and what it and its requests tell each other.
+    async fn over(bytes: &[u8]) -> (Guard, Arc<Talk>, UnixStream) {
+        let (mut far, near) = UnixStream::pair().expect("a pair");
+        far.write_all(bytes).await.expect("they are sent");
+        let talk = Arc::new(Talk::new(Arc::new(Seat::new(std::time::Instant::now()))));
+        let wait = Duration::from_millis(50);
+        let times = Times { request: wait, idle: 2 * wait };
+        (Guard::new(Stream::Unix(near), Arc::clone(&talk), times), talk, far)
+    }
+
+    /// What one read gives.
+    async fn read(guard: &mut Guard) -> io::Result<String> {
+        let mut room = [0; 100];
+        let size = guard.read(&mut room).await?;
+        Ok(String::from_utf8_lossy(&room[..size]).into_owned())
+    }
+
+    #[tokio::test]
+    async fn each_head_is_looked_at_whatever_stands_before_it() {
+        for (before, size) in [("", 0), ("body", 4)] {
+            let good = format!("POST / HTTP/1.1\r\nContent-Length: {size}\r\n\r\n");
+            let bad = "GET / HTTP/1.1\nA: b\r\n\r\n";
+            let sent = [good.as_str(), before, &good, before, bad].concat();
+            let (mut guard, talk, _far) = over(sent.as_bytes()).await;
+            for _ in 0..2 {
+                assert_eq!(read(&mut guard).await.expect("a head"), good);
+                talk.head_came(Some(size));
+                if size > 0 {
+                    assert_eq!(read(&mut guard).await.expect("a body"), before);
+                }
+                assert_eq!(talk.seat.doing(), Doing::Answering);
+            }
+            assert!(read(&mut guard).await.is_err(), "a bare LF is taken");
+            let answer = guard.last_answer().map(|answer| answer.status.as_u16());
+            assert_eq!(answer, Some(400));
+        }
+    }
+
+    #[tokio::test]
+    async fn what_doesnt_come_in_time_is_late_and_silence_is_an_end() {
+        let (mut guard, talk, _far) = over(b"GET / HT").await;
+        assert_eq!(read(&mut guard).await.expect("its begin"), "GET / HT");
+        assert_eq!(talk.seat.doing(), Doing::Receiving);
+        assert!(read(&mut guard).await.is_err(), "it isn't late");
+        assert_eq!(guard.last_answer().map(|answer| answer.status.as_u16()), Some(408));
+        let (mut guard, talk, _far) = over(b"POST / HTTP/1.1\r\n\r\nbo").await;
+        read(&mut guard).await.expect("a head");
+        talk.head_came(Some(4));
+        assert_eq!(read(&mut guard).await.expect("half a body"), "bo");
+        assert!(read(&mut guard).await.is_err() && talk.is_late(), "it isn't late");
+        assert_eq!(guard.last_answer(), None, "its request is answered by hyper");
+        let (mut guard, _, _far) = over(b"").await;
+        assert_eq!(read(&mut guard).await.expect("an end"), "");
+        assert_eq!(guard.last_answer(), None);
+    }
+
+    #[tokio::test]
+    async fn a_body_whose_size_isnt_known_is_all_that_follows() {
+        let (mut guard, talk, _far) = over(b"POST / HTTP/1.1\r\n\r\n1\nx\r\n\n").await;
+        read(&mut guard).await.expect("a head");
+        talk.head_came(None);
+        assert_eq!(read(&mut guard).await.expect("all"), "1\nx\r\n\n");
     }
 }

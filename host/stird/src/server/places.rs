@@ -43,7 +43,8 @@ pub struct Seat {
 }
 
 impl Seat {
-    fn new(start: Instant) -> Seat {
+    /// One that does nothing yet.
+    pub fn new(start: Instant) -> Seat {
         let seat = Seat {
             start,
             doing: AtomicU64::new(0),
@@ -92,12 +93,18 @@ pub struct Places {
 #[derive(Default)]
 struct Taken {
     next: u64,
-    seats: HashMap<u64, Arc<Seat>>,
+    seats: HashMap<u64, Taker>,
     each: HashMap<IpAddr, usize>,
     /// How many have to go, and are still there.
     leaving: usize,
     /// Those that may go, with what each did when they were looked up.
     candidates: VecDeque<(u64, u64)>,
+}
+
+/// Who has a place.
+struct Taker {
+    address: Option<IpAddr>,
+    seat: Arc<Seat>,
 }
 
 /// Why there is no place.
@@ -144,8 +151,7 @@ impl Places {
     pub fn take(self: &Arc<Places>, address: Option<IpAddr>) -> Result<Place, Full> {
         let address = address.map(counted);
         let mut taken = self.held.lock().held();
-        let has = address.and_then(|address| taken.each.get(&address).copied()).unwrap_or(0);
-        if address.is_some() && has >= self.each {
+        if address.is_some_and(|address| !self.has_room(&mut taken, address)) {
             return Err(Full::Address);
         }
         let stay = taken.seats.len().saturating_sub(taken.leaving);
@@ -156,13 +162,28 @@ impl Places {
         let number = taken.next;
         taken.next += 1;
         let seat = Arc::new(Seat::new(self.start));
-        taken.seats.insert(number, Arc::clone(&seat));
+        taken.seats.insert(number, Taker { address, seat: Arc::clone(&seat) });
         if let Some(address) = address {
             *taken.each.entry(address).or_default() += 1;
         }
         self.metrics.connections.set(taken.seats.len() as i64);
         drop(taken);
         Ok(Place { places: Arc::clone(self), number, address, seat })
+    }
+
+    /// Whether one more of this address has a place, if need be that of another one.
+    fn has_room(&self, taken: &mut Taken, address: IpAddr) -> bool {
+        let all = taken.each.get(&address).copied().unwrap_or(0);
+        if all < self.each {
+            return true;
+        }
+        let is_of = |taker: &&Taker| taker.address == Some(address);
+        let leaving = taken.seats.values().filter(is_of).filter(|taker| taker.seat.is_leaving());
+        if all - leaving.count().min(all) < self.each {
+            return true;
+        }
+        let mut candidates = self.candidates(taken, Some(address));
+        self.free_first(taken, &mut candidates)
     }
 
     /// Has the connection go that is without a request for longest, or else the one whose request
@@ -172,30 +193,39 @@ impl Places {
     }
 
     fn free_one(&self, taken: &mut Taken) -> bool {
-        for anew in [false, true] {
-            if anew {
-                taken.candidates = self.candidates(taken);
-            }
-            while let Some((number, doing)) = taken.candidates.pop_front() {
-                let seat = taken.seats.get(&number);
-                let found = seat.filter(|seat| {
-                    seat.doing.load(SeqCst) == doing && !seat.is_leaving.swap(true, SeqCst)
-                });
-                if let Some(seat) = found {
-                    seat.leave.notify_one();
-                    taken.leaving += 1;
-                    self.metrics.closed.inc();
-                    return true;
-                }
+        let mut candidates = std::mem::take(&mut taken.candidates);
+        let mut is_found = self.free_first(taken, &mut candidates);
+        if !is_found {
+            candidates = self.candidates(taken, None);
+            is_found = self.free_first(taken, &mut candidates);
+        }
+        taken.candidates = candidates;
+        is_found
+    }
+
+    /// Has the first of these go that does what it did then. Whether there is one.
+    fn free_first(&self, taken: &mut Taken, candidates: &mut VecDeque<(u64, u64)>) -> bool {
+        while let Some((number, doing)) = candidates.pop_front() {
+            let seat = taken.seats.get(&number).map(|taker| &taker.seat);
+            let found = seat.filter(|seat| {
+                seat.doing.load(SeqCst) == doing && !seat.is_leaving.swap(true, SeqCst)
+            });
+            if let Some(seat) = found {
+                seat.leave.notify_one();
+                taken.leaving += 1;
+                self.metrics.closed.inc();
+                return true;
             }
         }
         false
     }
 
-    /// Those that may go, the first one first.
-    fn candidates(&self, taken: &Taken) -> VecDeque<(u64, u64)> {
+    /// Those that may go, the first one first: of this address, or of all.
+    fn candidates(&self, taken: &Taken, of: Option<IpAddr>) -> VecDeque<(u64, u64)> {
         let slow = self.start.elapsed().saturating_sub(SLOW).as_millis() as u64;
         let mut found: Vec<_> = (taken.seats.iter())
+            .filter(|(_, taker)| of.is_none() || taker.address == of)
+            .map(|(number, taker)| (number, &taker.seat))
             .filter(|(_, seat)| !seat.is_leaving())
             .filter(|(_, seat)| match seat.doing() {
                 Doing::Nothing => true,
@@ -298,14 +328,31 @@ mod tests {
     #[test]
     fn an_address_has_so_many_places() {
         let places = places(9, 2);
-        let one = from(&places, "192.0.2.1").expect("one is free");
-        let _other = from(&places, "::ffff:192.0.2.1").expect("one is free");
+        let busy = |address| {
+            let place = from(&places, address)?;
+            place.seat.does(Doing::Answering);
+            Ok::<Place, Full>(place)
+        };
+        let one = busy("192.0.2.1").expect("one is free");
+        let _other = busy("::ffff:192.0.2.1").expect("one is free");
         assert_eq!(from(&places, "192.0.2.1").err(), Some(Full::Address));
         assert!(from(&places, "192.0.2.2").is_ok() && places.take(None).is_ok());
         drop(one);
-        let _again = from(&places, "192.0.2.1").expect("one is free again");
-        let _six = [from(&places, "2001:db8::1"), from(&places, "2001:db8::2")];
+        let _again = busy("192.0.2.1").expect("one is free again");
+        let _six = [busy("2001:db8::1"), busy("2001:db8::2")];
         assert_eq!(from(&places, "2001:db8::3").err(), Some(Full::Address));
         assert!(from(&places, "2001:db8:0:1::1").is_ok(), "another network");
+    }
+
+    #[test]
+    fn silent_connections_of_an_address_make_place_for_its_others() {
+        let places = places(9, 2);
+        let other = from(&places, "192.0.2.2").expect("one is free");
+        let silent = [from(&places, "192.0.2.1"), from(&places, "192.0.2.1")];
+        let more: Vec<_> = (0..2).map(|_| from(&places, "192.0.2.1").expect("one goes")).collect();
+        for place in silent.into_iter().map(|place| place.expect("it was free")) {
+            assert!(place.seat.is_leaving());
+        }
+        assert!(!other.seat.is_leaving() && more.iter().all(|place| !place.seat.is_leaving()));
     }
 }

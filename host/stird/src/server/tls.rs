@@ -1,26 +1,26 @@
 //! TLS over TCP, by OpenSSL.
+use crate::files::{whole, FileFault};
 use crate::settings::Tls;
 use arc_swap::ArcSwap;
 use openssl::error::ErrorStack;
 use openssl::pkey::{PKey, Private};
 use openssl::ssl::{Ssl, SslAcceptor, SslMethod, SslVerifyMode};
+use openssl::stack::Stack;
 use openssl::x509::{X509Name, X509};
 use std::path::{Path, PathBuf};
 use std::pin::Pin;
 use tokio::net::TcpStream;
 use tokio_openssl::SslStream;
 
+/// The most bytes of a file.
+const MOST_FILE: usize = 1 << 20;
+
 /// Why TLS can't be spoken.
 #[derive(Debug, thiserror::Error)]
 pub enum TlsError {
     /// A file can't be read.
-    #[error("{}: {error}", path.display())]
-    Unread {
-        /// The file.
-        path: PathBuf,
-        /// Why.
-        error: std::io::Error,
-    },
+    #[error("{0}")]
+    File(#[from] FileFault),
     /// A file isn't what it should be.
     #[error("{}: {what}: {error}", path.display())]
     Form {
@@ -48,13 +48,9 @@ pub struct Acceptor {
     inner: ArcSwap<SslAcceptor>,
 }
 
-fn read(path: &Path) -> Result<Vec<u8>, TlsError> {
-    std::fs::read(path).map_err(|error| TlsError::Unread { path: path.into(), error })
-}
-
 fn certificates(path: &Path) -> Result<Vec<X509>, TlsError> {
     let what = "no certificates in PEM";
-    let found = X509::stack_from_pem(&read(path)?).map_err(|error| TlsError::Form {
+    let found = X509::stack_from_pem(&whole(path, MOST_FILE)?).map_err(|error| TlsError::Form {
         path: path.into(),
         what,
         error,
@@ -67,13 +63,12 @@ fn certificates(path: &Path) -> Result<Vec<X509>, TlsError> {
 
 /// A private key. One with a password is refused; nobody is asked for it.
 fn key(path: &Path) -> Result<PKey<Private>, TlsError> {
-    PKey::private_key_from_pem_callback(&read(path)?, |_| Err(ErrorStack::get())).map_err(|error| {
-        TlsError::Form {
+    PKey::private_key_from_pem_callback(&whole(path, MOST_FILE)?, |_| Err(ErrorStack::get()))
+        .map_err(|error| TlsError::Form {
             path: path.into(),
             what: "no private key in PEM without a password",
             error,
-        }
-    })
+        })
 }
 
 fn acceptor(files: &Tls) -> Result<SslAcceptor, TlsError> {
@@ -94,10 +89,12 @@ fn acceptor(files: &Tls) -> Result<SslAcceptor, TlsError> {
     })?;
     made.set_session_id_context(b"stird")?;
     if let Some(path) = &files.clients {
+        let mut names = Stack::new()?;
         for authority in certificates(path)? {
+            names.push(X509Name::from_der(&authority.subject_name().to_der()?)?)?;
             made.cert_store_mut().add_cert(authority)?;
         }
-        made.set_client_ca_list(X509Name::load_client_ca_file(path)?);
+        made.set_client_ca_list(names);
         made.set_verify(SslVerifyMode::PEER | SslVerifyMode::FAIL_IF_NO_PEER_CERT);
     }
     Ok(made.build())
