@@ -262,6 +262,52 @@ async fn a_file_that_vanishes_is_made_anew_with_all_that_is_held() {
     assert_eq!(call(&open(&path, &clock), &*clock, 100).await, lost(100));
 }
 
+#[tokio::test]
+async fn a_ticket_that_was_written_though_its_call_is_unjudged_isnt_free() {
+    let (folder, clock) = (Folder::new("unsure"), Moved::at(START));
+    let (path, log) = (folder.file("tickets"), folder.file("tickets-wal"));
+    let tickets = open(&path, &clock);
+    assert_eq!(call(&tickets, &*clock, 1).await, Claim::Won);
+    // What is written now comes to the file, but not before its log is seen to be gone.
+    fs::remove_file(&log).unwrap();
+    fs::create_dir(&log).unwrap();
+    let claims = [call(&tickets, &*clock, 2).await, call(&tickets, &*clock, 2).await];
+    assert_eq!(claims, [Claim::Unable; 2]);
+    why(&tickets);
+    fs::remove_dir(&log).unwrap();
+    tickets.look().await;
+    assert_eq!(tickets.health(), Health::Well);
+    for number in [1, 2] {
+        assert_eq!(call(&tickets, &*clock, number).await, lost(number));
+    }
+    drop(tickets);
+    assert_eq!(open(&path, &clock).count(), Some(2));
+}
+
+#[tokio::test]
+async fn a_file_in_the_place_of_another_loses_no_ticket_of_its_own() {
+    let (folder, clock) = (Folder::new("both"), Moved::at(START));
+    let (path, other) = (folder.file("tickets"), folder.file("other"));
+    let others = open(&other, &clock);
+    for number in 100..110 {
+        assert_eq!(call(&others, &*clock, number).await, Claim::Won);
+    }
+    drop(others);
+    let tickets = open(&path, &clock);
+    for number in 1..5 {
+        assert_eq!(call(&tickets, &*clock, number).await, Claim::Won);
+    }
+    fs::rename(&other, &path).unwrap();
+    for number in 5..10 {
+        assert_eq!(call(&tickets, &*clock, number).await, Claim::Won);
+    }
+    drop(tickets);
+    let tickets = open(&path, &clock);
+    for number in (1..10).chain(100..110) {
+        assert_eq!(call(&tickets, &*clock, number).await, lost(number));
+    }
+}
+
 fn take_if(take: bool, path: &Path) {
     if take {
         fs::remove_file(path).unwrap();

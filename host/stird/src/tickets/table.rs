@@ -348,6 +348,41 @@ mod tests {
     }
 
     #[test]
+    fn a_ticket_is_forgotten_no_second_before_its_bounded_time_is_over() {
+        let mut trial = Trial::at(1_000_000);
+        trial.call(1, 999_980);
+        trial.now += 3600;
+        for (wait, answer) in [(0, held(1)), (50, held(1)), (1, Claimed::Forgotten)] {
+            trial.wait(wait);
+            trial.call(100 + wait, trial.now);
+            assert_eq!(trial.call(1, 999_980), answer, "{wait}");
+        }
+    }
+
+    #[test]
+    fn a_ticket_that_was_claimed_while_the_clock_was_fast_is_kept_until_its_time_comes() {
+        let mut trial = Trial::at(1_003_600);
+        trial.call(1, 1_003_600);
+        trial.now = 1_007_200;
+        trial.call(2, 1_007_200);
+        trial.now = 1_000_000;
+        trial.wait(200);
+        trial.call(3, 1_000_200);
+        assert_eq!((trial.call(1, 1_003_600), trial.call(2, 1_007_200)), (held(1), held(2)));
+    }
+
+    #[test]
+    fn an_older_call_that_is_judged_again_is_told_as_long_as_its_moment_stays() {
+        let mut trial = Trial::at(1_000_000);
+        for wait in [0, 10, 600, 6_000] {
+            trial.wait(wait);
+            let monotonic = trial.monotonic;
+            let answer = if wait == 0 { Claimed::Free } else { held(1) };
+            assert_eq!(trial.call_at(5_000, 1, 5_000, monotonic), answer, "{wait}");
+        }
+    }
+
+    #[test]
     fn callers_whose_clocks_differ_harm_each_other_not() {
         let mut trial = Trial::at(1_000_000);
         for second in 0..600 {

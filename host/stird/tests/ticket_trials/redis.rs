@@ -105,17 +105,20 @@ pub async fn parrot(answer: &'static [u8]) -> u16 {
     port
 }
 
-/// A way to a Redis, on which something is done with each piece of what it answers. Gives its port.
+/// A way to a Redis, on which something is done with each piece of what it answers: the number of
+/// the connection, and of its piece, say which. Gives its port.
 pub async fn way<T>(to: u16, treat: T) -> u16
 where
-    T: Fn(usize, Vec<u8>) -> (Duration, Option<Vec<u8>>) + Clone + Send + Sync + 'static,
+    T: Fn(usize, usize, Vec<u8>) -> (Duration, Option<Vec<u8>>) + Clone + Send + Sync + 'static,
 {
     let listener = TcpListener::bind("127.0.0.1:0").await.unwrap();
     let port = listener.local_addr().unwrap().port();
     tokio::spawn(async move {
-        while let Ok((near, _)) = listener.accept().await {
+        for number in 0.. {
+            let (near, _) = listener.accept().await.unwrap();
             let far = TcpStream::connect(("127.0.0.1", to)).await.unwrap();
-            tokio::spawn(carry(near, far, treat.clone()));
+            let treat = treat.clone();
+            tokio::spawn(carry(near, far, move |answer, bytes| treat(number, answer, bytes)));
         }
     });
     port

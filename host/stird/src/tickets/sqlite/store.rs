@@ -3,6 +3,7 @@ use crate::tickets::stretches::Stretches;
 use crate::tickets::{Passed, Ticket, TicketsError};
 use rusqlite::{params, Connection, ErrorCode, OpenFlags};
 use std::fs;
+use std::io;
 use std::os::unix::fs::MetadataExt;
 use std::path::{Path, PathBuf};
 use std::time::Duration;
@@ -47,7 +48,7 @@ pub struct Content {
 /// What a transaction changes.
 #[derive(Default)]
 pub struct Change<'a> {
-    /// The rows that are new, or written again.
+    /// The rows that are new.
     pub rows: &'a [Row],
     /// The seconds whose rows go.
     pub gone: &'a [u64],
@@ -91,7 +92,8 @@ impl Store {
         let mode: String =
             connection.pragma_update_and_check(None, "journal_mode", "WAL", get).map_err(fault)?;
         if mode != "wal" {
-            return Err(TicketsError::Foreign { path: path.into() });
+            let source = io::Error::other("SQLite can't write ahead here");
+            return Err(TicketsError::File { path: path.into(), source });
         }
         let level = if sync { "FULL" } else { "NORMAL" };
         connection.pragma_update(None, "synchronous", level).map_err(fault)?;
@@ -158,8 +160,8 @@ impl Store {
     fn change(&mut self, change: &Change<'_>) -> rusqlite::Result<()> {
         let transaction = self.connection.transaction()?;
         {
-            let mut enter = transaction
-                .prepare_cached("INSERT OR REPLACE INTO tickets VALUES (?1, ?2, ?3, ?4, ?5)")?;
+            let mut enter =
+                transaction.prepare_cached("INSERT INTO tickets VALUES (?1, ?2, ?3, ?4, ?5)")?;
             for row in change.rows {
                 let Passed { last, number } = row.passed;
                 enter.execute(params![

@@ -101,7 +101,7 @@ impl Writer {
         for order in orders {
             match order {
                 Order::Write(Claimed { ticket, passed, life }, answer) => {
-                    rows.push(Row { ticket, passed, life, turn: self.take_turn() });
+                    rows.push(Row { ticket, passed, life, turn: 0 });
                     self.greatest = self.greatest.max(passed.number);
                     writing.push(answer);
                 }
@@ -114,7 +114,7 @@ impl Writer {
         }
         if looks || !rows.is_empty() {
             self.shared.begin();
-            let done = self.keep(&rows);
+            let done = self.keep(&mut rows);
             self.settle(&rows, &done);
             for answer in writing {
                 // Whoever asked may be gone by now. The ticket stays claimed.
@@ -147,7 +147,7 @@ impl Writer {
 
     /// Writes rows, and what was forgotten meanwhile. If that fails the file is opened again, and
     /// it is tried once more.
-    fn keep(&mut self, rows: &[Row]) -> Result<(), Failed> {
+    fn keep(&mut self, rows: &mut [Row]) -> Result<(), Failed> {
         let forgotten = self.take_gone();
         match self.try_to_keep(rows, forgotten.as_ref()) {
             Err(Failed::Within(_)) => self
@@ -157,11 +157,18 @@ impl Writer {
         }
     }
 
-    fn try_to_keep(&mut self, rows: &[Row], forgotten: Option<&Stretches>) -> Result<(), Failed> {
+    fn try_to_keep(
+        &mut self,
+        rows: &mut [Row],
+        forgotten: Option<&Stretches>,
+    ) -> Result<(), Failed> {
         let mut store = match self.store.take() {
             Some(store) => store,
             None => self.open_again().map_err(Failed::Before)?,
         };
+        // Each try has turns of its own, since the file may be another one by now. A ticket that
+        // stands in two rows is one all the same.
+        rows.iter_mut().for_each(|row| row.turn = self.take_turn());
         let written = if !rows.is_empty() || forgotten.is_some() {
             let (gone, greatest) = (&self.owed, self.greatest);
             store.write(&Change { rows, gone, forgotten, greatest })
