@@ -50,9 +50,7 @@ async fn of_calls_at_several_services_with_one_ticket_one_passes() {
     won.sort_unstable();
     assert_eq!(won, (1..=20).collect::<Vec<_>>());
     assert_eq!((services[0].0.health(), services[0].0.count()), (Health::Well, None));
-    let connections = server.ask(&["INFO", "clients"]);
-    let open = connections.lines().find_map(|line| line.strip_prefix("connected_clients:"));
-    assert!(open.unwrap().parse::<u32>().unwrap() <= 3 * 64 + 1, "{connections}");
+    assert!(server.connections() <= 3 * 64, "{}", server.connections());
 }
 
 #[tokio::test]
@@ -186,6 +184,11 @@ async fn of_connections_that_fell_silent_one_costs_time() {
         assert_eq!(call(&tickets, &*clock, number).await, Claim::Won, "{number}");
     }
     assert!(start.elapsed() < 2 * LIMIT, "{:?}", start.elapsed());
+    // The others were closed with the first.
+    while server.connections() > 1 {
+        assert!(start.elapsed() < 4 * LIMIT, "{} are open", server.connections());
+        tokio::time::sleep(Duration::from_millis(20)).await;
+    }
 }
 
 #[tokio::test]
@@ -387,6 +390,38 @@ async fn a_ticket_whose_key_ended_doesnt_pass_again_though_the_clock_goes_back()
     clock.wait(10);
     server.ask(&["FLUSHALL"]);
     clock.set(start);
+    assert_eq!(call_since(&tickets, &*clock, 1, start).await, Claim::Forgotten);
+    assert_eq!(call_since(&tickets, &*clock, 2, start + 1).await, Claim::Won);
+}
+
+#[tokio::test]
+async fn keys_that_may_have_ended_as_the_clock_of_the_redis_leapt_are_forgotten() {
+    let server = Server::new("leap", &[]);
+    let ahead = Arc::new(AtomicUsize::new(0));
+    let seconds = ahead.clone();
+    let port = way(server.port, move |_, _, bytes| {
+        let text = String::from_utf8(bytes).unwrap();
+        // The answer to TIME is the second, in ten digits, and the part of a second.
+        let bytes = match text.strip_prefix("*2\r\n$10\r\n") {
+            Some(time) => {
+                let second: usize = time[..10].parse().unwrap();
+                let second = second + seconds.load(Ordering::SeqCst);
+                format!("*2\r\n$10\r\n{second}{}", &time[10..]).into_bytes()
+            }
+            None => text.into_bytes(),
+        };
+        (Duration::ZERO, Some(bytes))
+    })
+    .await;
+    let (tickets, clock) = redis(&format!("127.0.0.1:{port}"));
+    let start = clock.now();
+    assert_eq!(call(&tickets, &*clock, 1).await, Claim::Won);
+    tickets.look().await;
+    assert_eq!(call_since(&tickets, &*clock, 1, start).await, lost(1));
+    ahead.store(3_600, Ordering::SeqCst);
+    tickets.look().await;
+    assert_eq!(tickets.health(), Health::Well);
+    server.ask(&["FLUSHALL"]);
     assert_eq!(call_since(&tickets, &*clock, 1, start).await, Claim::Forgotten);
     assert_eq!(call_since(&tickets, &*clock, 2, start + 1).await, Claim::Won);
 }

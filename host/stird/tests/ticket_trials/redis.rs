@@ -51,6 +51,13 @@ impl Server {
         assert!(run("kill", &[name, &self.child.id().to_string()]));
     }
 
+    /// How many connections it has, besides the one that asks for this.
+    pub fn connections(&self) -> usize {
+        let facts = self.ask(&["INFO", "clients"]);
+        let count = facts.lines().find_map(|line| line.strip_prefix("connected_clients:"));
+        count.and_then(|count| count.trim().parse::<usize>().ok()).unwrap() - 1
+    }
+
     /// What `redis-cli` says to these words.
     pub fn ask(&self, words: &[&str]) -> String {
         ask(self.port, words)
