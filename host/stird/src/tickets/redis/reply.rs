@@ -166,6 +166,43 @@ mod tests {
         }
     }
 
+    #[tokio::test]
+    async fn whatever_bytes_come_the_reader_ends() {
+        for seed in 1..20_000_u64 {
+            let mut state = seed.wrapping_mul(0x9e37_79b9_7f4a_7c15);
+            let mut random = |bound: usize| {
+                state = state.wrapping_mul(6_364_136_223_846_793_005).wrapping_add(1);
+                (state >> 33) as usize % bound
+            };
+            let pieces = [
+                &b"+"[..],
+                b"-",
+                b":",
+                b"$",
+                b"*",
+                b"_",
+                b"-1",
+                b"0",
+                b"1",
+                b"2",
+                b"17",
+                b"\r\n",
+                b"\r",
+                b"\n",
+                b"ab",
+                b"\xc3\xa9",
+                b"\xff",
+                b"99999999999999999999",
+                b"OK\r\n",
+            ];
+            let bytes: Vec<u8> =
+                (0..random(30)).flat_map(|_| pieces[random(pieces.len())]).copied().collect();
+            let reply = answered(&bytes);
+            let ended = tokio::time::timeout(std::time::Duration::from_secs(5), reply).await;
+            assert!(ended.is_ok(), "seed {seed}: {}", shown(&bytes));
+        }
+    }
+
     #[test]
     fn what_is_said_has_the_length_of_each_word() {
         assert_eq!(said(&[b"GET", b"a\r\nb"]), b"*2\r\n$3\r\nGET\r\n$4\r\na\r\nb\r\n");

@@ -27,15 +27,14 @@ pub fn take_over(path: &Path, now: u64) -> Result<(), TicketsError> {
     // Of a link it is the file to which it leads that is taken over.
     let path = &fs::canonicalize(path).map_err(fault)?;
     let text = fs::read(path).map_err(fault)?;
-    let content =
+    let (rows, content) =
         read(&text, now).map_err(|line| TicketsError::Journal { path: path.into(), line })?;
     let new = with(path, "-import");
     remove(&new).and_then(|()| remove(&log_of(&new))).map_err(fault)?;
     let mut store = Store::open(&new, true)?;
     store.write(&Change {
-        rows: &content.rows,
-        // No row has this second; it is named so that the greatest number is kept.
-        gone: &[u64::MAX],
+        rows: &rows,
+        gone: &[],
         forgotten: Some(&content.forgotten),
         greatest: content.greatest,
     })?;
@@ -80,8 +79,8 @@ fn with(path: &Path, end: &str) -> PathBuf {
 }
 
 /// What the whole lines say, or the number of the first that is none.
-fn read(text: &[u8], now: u64) -> Result<Content, usize> {
-    let mut content = Content::default();
+fn read(text: &[u8], now: u64) -> Result<(Vec<Row>, Content), usize> {
+    let (mut rows, mut content) = (Vec::new(), Content::default());
     let mut lines: Vec<&[u8]> = text.split(|byte| *byte == b'\n').collect();
     // What comes after the last end of a line was cut off.
     lines.pop();
@@ -89,8 +88,8 @@ fn read(text: &[u8], now: u64) -> Result<Content, usize> {
         match entry(line).ok_or(index + 1)? {
             Entry::Nothing => {}
             Entry::Ticket(ticket, passed) => {
-                let turn = content.rows.len() as u64;
-                content.rows.push(Row { ticket, passed, life: LIFE, turn });
+                let turn = rows.len() as u64;
+                rows.push(Row { ticket, passed, life: LIFE, turn });
                 content.greatest = content.greatest.max(passed.number);
             }
             // One ahead of the clock was written while the clock was fast.
@@ -101,7 +100,7 @@ fn read(text: &[u8], now: u64) -> Result<Content, usize> {
             }
         }
     }
-    Ok(content)
+    Ok((rows, content))
 }
 
 enum Entry {
@@ -144,10 +143,9 @@ mod tests {
     fn the_lines_of_a_journal_are_read_up_to_one_that_was_cut_off() {
         let first = "00ff".repeat(16);
         let text = format!("forgotten 90\n{first} 500 7\n\n{first} 400 3\n0303");
-        let content = read(text.as_bytes(), 1000).unwrap();
+        let (rows, content) = read(text.as_bytes(), 1000).unwrap();
         let ticket = [0, 255].repeat(16);
-        let rows: Vec<_> =
-            content.rows.iter().map(|row| (row.ticket.to_vec(), row.passed.last)).collect();
+        let rows: Vec<_> = rows.iter().map(|row| (row.ticket.to_vec(), row.passed.last)).collect();
         assert_eq!(rows, [(ticket.clone(), 500), (ticket, 400)]);
         assert_eq!(content.greatest, 7);
         assert_eq!(content.forgotten.iter().collect::<Vec<_>>(), [(0, 89)]);
@@ -155,9 +153,9 @@ mod tests {
 
     #[test]
     fn what_was_forgotten_ahead_of_the_clock_is_not_taken_over() {
-        let content = read(b"forgotten 5000\n", 1000).unwrap();
+        let (_, content) = read(b"forgotten 5000\n", 1000).unwrap();
         assert_eq!(content.forgotten.iter().collect::<Vec<_>>(), [(0, 999)]);
-        assert_eq!(read(b"forgotten 0\n", 1000).unwrap().forgotten.iter().count(), 0);
+        assert_eq!(read(b"forgotten 0\n", 1000).unwrap().1.forgotten.iter().count(), 0);
     }
 
     #[test]

@@ -100,13 +100,10 @@ impl Sqlite {
     ) -> Result<Sqlite, TicketsError> {
         journal::take_over(path, clock.now())?;
         let store = Store::open(path, sync)?;
-        let content = store.content()?;
-        let mut table = Table::telling(most);
+        let (mut table, monotonic) = (Table::telling(most), clock.monotonic());
+        let content =
+            store.content(|row| table.restore(row.ticket, row.passed, row.life, monotonic))?;
         table.add_forgotten(&content.forgotten);
-        let monotonic = clock.monotonic();
-        for row in &content.rows {
-            table.restore(row.ticket, row.passed, row.life, monotonic);
-        }
         let condition = Condition { ill: None, tried: Instant::now(), busy: None };
         let shared = Arc::new(Shared {
             path: path.into(),

@@ -36,13 +36,14 @@ pub struct Row {
     pub turn: u64,
 }
 
-/// What a file holds.
+/// What a file holds beside its rows.
 #[derive(Debug, Default)]
 pub struct Content {
-    pub rows: Vec<Row>,
     pub forgotten: Stretches,
     /// The greatest number of a call.
     pub greatest: u64,
+    /// The first turn that no row has.
+    pub turn: u64,
 }
 
 /// What a transaction changes.
@@ -52,9 +53,10 @@ pub struct Change<'a> {
     pub rows: &'a [Row],
     /// The seconds whose rows go.
     pub gone: &'a [u64],
-    /// All that was forgotten.
+    /// All that was forgotten, if that changed.
     pub forgotten: Option<&'a Stretches>,
-    /// The greatest number of a call.
+    /// The greatest number of a call. It is written with what was forgotten, since it may be that
+    /// of a row that goes.
     pub greatest: u64,
 }
 
@@ -120,12 +122,12 @@ impl Store {
         transaction.commit()
     }
 
-    /// All that the file holds.
-    pub fn content(&self) -> Result<Content, TicketsError> {
-        self.read().map_err(|source| fault(&self.path, source))
+    /// All that the file holds. The rows are handed out one by one.
+    pub fn content(&self, each: impl FnMut(Row)) -> Result<Content, TicketsError> {
+        self.read(each).map_err(|source| fault(&self.path, source))
     }
 
-    fn read(&self) -> rusqlite::Result<Content> {
+    fn read(&self, mut each: impl FnMut(Row)) -> rusqlite::Result<Content> {
         let mut content = Content::default();
         let mut all =
             self.connection.prepare("SELECT last, turn, ticket, number, life FROM tickets")?;
@@ -135,7 +137,8 @@ impl Store {
             let row =
                 Row { ticket: row.get(2)?, passed, life: number(row, 4)?, turn: number(row, 1)? };
             content.greatest = content.greatest.max(passed.number);
-            content.rows.push(row);
+            content.turn = content.turn.max(row.turn.wrapping_add(1));
+            each(row);
         }
         let mut all = self.connection.prepare("SELECT first, last FROM forgotten")?;
         let mut rows = all.query([])?;
@@ -173,16 +176,11 @@ impl Store {
                 ])?;
             }
         }
-        if !change.gone.is_empty() {
-            let mut delete = transaction.prepare_cached("DELETE FROM tickets WHERE last = ?1")?;
-            for last in change.gone {
-                delete.execute([*last as i64])?;
-            }
-            transaction.execute(
-                "INSERT OR REPLACE INTO facts VALUES ('greatest', ?1)",
-                [change.greatest as i64],
-            )?;
+        let mut delete = transaction.prepare_cached("DELETE FROM tickets WHERE last = ?1")?;
+        for last in change.gone {
+            delete.execute([*last as i64])?;
         }
+        drop(delete);
         if let Some(forgotten) = change.forgotten {
             transaction.execute("DELETE FROM forgotten", [])?;
             for (first, last) in forgotten.iter() {
@@ -191,6 +189,10 @@ impl Store {
                     [first as i64, last as i64],
                 )?;
             }
+            transaction.execute(
+                "INSERT OR REPLACE INTO facts VALUES ('greatest', ?1)",
+                [change.greatest as i64],
+            )?;
         }
         transaction.commit()
     }

@@ -72,7 +72,7 @@ impl Writer {
         Writer {
             shared,
             store: Some(store),
-            turn: next_turn(content),
+            turn: content.turn,
             greatest: content.greatest,
             owed: Vec::new(),
             written: Instant::now(),
@@ -224,18 +224,19 @@ impl Writer {
     }
 
     fn bring_together(&mut self, store: &mut Store) -> Result<(), TicketsError> {
-        let content = store.content()?;
-        self.turn = self.turn.max(next_turn(&content));
+        let mut rows = Vec::new();
+        let content = store.content(|row| rows.push(row))?;
+        self.turn = self.turn.max(content.turn);
         self.greatest = self.greatest.max(content.greatest);
         let owed: HashSet<u64> = self.owed.iter().copied().collect();
-        let there: HashSet<Ticket> = content.rows.iter().map(|row| row.ticket).collect();
+        let there: HashSet<Ticket> = rows.iter().map(|row| row.ticket).collect();
         let monotonic = self.shared.clock.monotonic();
         let (missing, forgotten) = {
             let mut table = self.shared.table.lock().held();
             settle_unsure(&mut table, &there, monotonic);
             let mut missing = table.all_in(State::Kept, monotonic);
             missing.retain(|(ticket, _, _)| !there.contains(ticket));
-            for row in content.rows.iter().filter(|row| !owed.contains(&row.passed.last)) {
+            for row in rows.iter().filter(|row| !owed.contains(&row.passed.last)) {
                 table.restore(row.ticket, row.passed, row.life, monotonic);
             }
             table.add_forgotten(&content.forgotten);
@@ -262,8 +263,4 @@ fn settle_unsure(table: &mut Table, there: &HashSet<Ticket>, monotonic: u64) {
             table.release(&ticket);
         }
     }
-}
-
-fn next_turn(content: &Content) -> u64 {
-    content.rows.iter().map(|row| row.turn).max().map_or(0, |turn| turn.wrapping_add(1))
 }
