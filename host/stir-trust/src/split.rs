@@ -8,6 +8,15 @@
 const NAME: &[u8] = b"P-Asserted-Identity";
 
 /// The message with each such list written as one field a value; nothing if there is none.
+///
+/// ```
+/// let message = b"INVITE sip:a SIP/2.0\r\nP-Asserted-Identity: <sip:b>, <tel:+1>\r\n\r\n";
+/// let split = stir_trust::split::lists(message).expect("it has a list");
+/// let wanted = "INVITE sip:a SIP/2.0\r\nP-Asserted-Identity: <sip:b>\r\n\
+///     P-Asserted-Identity: <tel:+1>\r\n\r\n";
+/// assert_eq!(split, wanted.as_bytes());
+/// assert_eq!(stir_trust::split::lists(&split), None);
+/// ```
 pub fn lists(message: &[u8]) -> Option<Vec<u8>> {
     let mut lines = message.split_inclusive(|byte| *byte == b'\n').peekable();
     if !lines.clone().take_while(|line| !is_end(line)).any(is_asserted) {

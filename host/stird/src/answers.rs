@@ -41,6 +41,14 @@ impl Answer {
     }
 
     /// An answer of JSON.
+    ///
+    /// ```
+    /// use hyper::StatusCode;
+    /// use stird::answers::Answer;
+    ///
+    /// let answer = Answer::json(StatusCode::OK, &["a"]);
+    /// assert_eq!((answer.kind, &answer.body[..]), ("application/json", &b"[\"a\"]"[..]));
+    /// ```
     pub fn json(status: StatusCode, value: &impl Serialize) -> Answer {
         match serde_json::to_vec(value) {
             Ok(body) => Answer { kind: "application/json", ..Answer::text(status, body) },
@@ -98,6 +106,12 @@ pub const KEPT: u64 = 32;
 type Name = [u8; 32];
 
 /// The name of a request.
+///
+/// ```
+/// use stird::answers::name_of;
+///
+/// assert_ne!(name_of(&[b"/verify", b"key"]), name_of(&[b"/verifyk", b"ey"]));
+/// ```
 pub fn name_of(parts: &[&[u8]]) -> Name {
     let mut sum = Sha256::new();
     for part in parts {

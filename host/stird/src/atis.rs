@@ -243,6 +243,16 @@ fn address(number: &str) -> String {
 /// # Errors
 ///
 /// The body is no such request.
+///
+/// ```
+/// use stird::atis::{verification, NO_BODY};
+///
+/// let body = br#"{"verificationRequest":{"from":{"tn":"12155551212"},"to":{"tn":"12355550124"},
+///     "identity":"a.b.c;info=<https://d>"}}"#;
+/// let message = verification(body).expect("a request").message;
+/// assert!(message.starts_with(b"INVITE sip:+12355550124@"));
+/// assert_eq!(verification(b"").err(), Some(NO_BODY));
+/// ```
 pub fn verification(body: &[u8]) -> Result<Verification, Refusal> {
     let VerificationBody { request } = read(body)?;
     let (from, to) = (request.from.text()?, request.to.text()?);

@@ -106,6 +106,16 @@ impl Metrics {
     /// # Errors
     ///
     /// A name is used twice, or is none.
+    ///
+    /// ```
+    /// use stird::{judge::Outcome, metrics::Metrics};
+    ///
+    /// let metrics = Metrics::new()?;
+    /// metrics.count(&Outcome::Valid);
+    /// let text = String::from_utf8_lossy(&metrics.text()).into_owned();
+    /// assert!(text.contains(r#"stir_calls_total{outcome="valid",rule=""} 1"#));
+    /// # Ok::<(), prometheus::Error>(())
+    /// ```
     pub fn new() -> Result<Metrics, Error> {
         let maker = Maker(Registry::new());
         let help = "Calls that were judged, by what came of them.";

@@ -73,6 +73,13 @@ pub enum Door {
 
 impl Door {
     /// The door at this path.
+    ///
+    /// ```
+    /// use stird::routes::Door;
+    ///
+    /// assert_eq!(Door::at("/verify"), Some(Door::Verify));
+    /// assert_eq!(Door::at("/verify/"), None);
+    /// ```
     pub fn at(path: &str) -> Option<Door> {
         match path {
             "/verify" => Some(Door::Verify),

@@ -104,6 +104,17 @@ impl Tokens {
     /// # Errors
     ///
     /// Why it isn't.
+    ///
+    /// ```
+    /// use stird::tokens::{Denied, Peer, Tokens};
+    ///
+    /// let tokens = Tokens::read(None)?;
+    /// let local = Peer { address: "127.0.0.1".parse().ok(), is_certified: false };
+    /// assert_eq!(tokens.admits(None, local), Ok(()));
+    /// let other = Peer { address: "192.0.2.1".parse().ok(), is_certified: false };
+    /// assert_eq!(tokens.admits(None, other), Err(Denied::Unknown));
+    /// # Ok::<(), stird::tokens::TokensError>(())
+    /// ```
     pub fn admits(&self, authorization: Option<&[u8]>, peer: Peer) -> Result<(), Denied> {
         let Some(sums) = &self.sums else {
             return if peer.is_known() { Ok(()) } else { Err(Denied::Unknown) };

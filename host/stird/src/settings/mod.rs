@@ -97,6 +97,19 @@ pub enum SettingsError {
 }
 
 /// What these words order, and the file of settings that they name.
+///
+/// # Errors
+///
+/// They can't be taken; or help, or the version, is wanted.
+///
+/// ```
+/// use stird::settings::{read, Listen};
+///
+/// let words = ["--chains", "a", "--anchors", "b", "--table", "c", "--listen", "unix:/run/stird"];
+/// let settings = read(words.map(Into::into))?;
+/// assert_eq!(settings.listen, [Listen::Unix("/run/stird".into())]);
+/// # Ok::<(), stird::settings::SettingsError>(())
+/// ```
 pub fn read(words: impl IntoIterator<Item = OsString>) -> Result<Settings, SettingsError> {
     let mut words = words
         .into_iter()
