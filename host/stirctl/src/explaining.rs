@@ -1,0 +1,48 @@
+//! The command `explain`.
+
+use crate::input::Input;
+use crate::judging::judge_by;
+use crate::log::{End, Log};
+use crate::sink::{Sink, STDOUT};
+use crate::words::Explain;
+use crate::{Ended, Fault};
+
+/// Writes which rules the calls meet. The status is 0 if each meets all.
+pub(crate) fn explain(words: &Explain) -> Ended {
+    let mut out = Sink::open(STDOUT)?;
+    match explained(words, &mut out) {
+        Ok(are_valid) => {
+            out.commit()?;
+            Ok(u8::from(!are_valid))
+        }
+        Err(fault @ (Fault::Words(_) | Fault::Write(..) | Fault::Input(..))) => Err(fault),
+        Err(fault) => {
+            out.put(|out| writeln!(out, "{fault}"))?;
+            out.commit()?;
+            Ok(fault.status())
+        }
+    }
+}
+
+fn explained(words: &Explain, out: &mut Sink) -> Result<bool, Fault> {
+    let judge = judge_by(&words.by)?;
+    let Input { name, source, bar } = Input::open(&words.input)?;
+    let (mut log, mut are_valid) = (Log::after(source, 0, 0), true);
+    while let Some(piece) = log.piece() {
+        for (number, moment, message) in piece.calls() {
+            let number = number.try_into().unwrap_or(u32::MAX);
+            if words.call.is_some_and(|call| call != number) {
+                continue;
+            }
+            let (lines, is_valid) = judge.explain(number, moment, message)?;
+            out.put(|out| out.write_all(lines.as_bytes()))?;
+            are_valid &= is_valid;
+        }
+    }
+    bar.finish_and_clear();
+    match log.end() {
+        Some(End::Failed) => Err(Fault::Read(name)),
+        Some(End::Refused(place)) => Err(Fault::Refused(name, place)),
+        Some(End::Whole) | None => Ok(are_valid),
+    }
+}

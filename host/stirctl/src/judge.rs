@@ -1,0 +1,191 @@
+//! Calls judged by themselves, any number at once: by rules 1 to 17 and 19.
+
+use crate::chains::{Chains, Found, Known};
+use crate::log::Piece;
+use crate::provider::Provider;
+use crate::Fault;
+use rayon::prelude::*;
+use std::sync::Arc;
+use stir::{Call, Passes, Refused, World};
+
+/// So many calls at least are judged by a thread before another one takes some of its calls.
+const FEWEST: usize = 8;
+
+/// What calls are judged by.
+pub(crate) struct Judge {
+    pub world: World,
+    pub chains: Chains,
+    pub provider: Provider,
+    /// Whether it is told who called whom and who signed.
+    pub tells: bool,
+}
+
+/// What comes of a call by itself.
+#[derive(Clone, Copy, Debug, PartialEq, Eq)]
+pub(crate) enum Outcome {
+    /// It breaks no rule but that on replay, perhaps.
+    Passes(Passes),
+    Refused(Refused),
+    /// The file of this field's chain couldn't be read.
+    Unread(u32),
+}
+
+/// A call that was judged by itself.
+#[derive(Debug)]
+pub(crate) struct Judged {
+    pub number: u64,
+    pub moment: u64,
+    pub outcome: Outcome,
+    pub about: Option<Box<About>>,
+}
+
+/// What its PASSporTs say of a call, if it breaks none of rules 1 to 9.
+#[derive(Debug, Default)]
+pub(crate) struct About {
+    /// The claims of the PASSporT that speaks for the caller.
+    pub claims: Claims,
+    /// The PASSporTs, that one first.
+    pub passports: Vec<Passport>,
+}
+
+/// A PASSporT's Identity field, its x5u, and its chain if that is known.
+#[derive(Debug)]
+pub(crate) struct Passport {
+    pub field: u32,
+    pub x5u: String,
+    pub known: Option<Arc<Known>>,
+}
+
+/// What is told of the claims of a PASSporT (RFC 8225, section 5; RFC 8588, sections 4 and 5).
+#[derive(Debug, Default)]
+pub(crate) struct Claims {
+    pub caller: String,
+    pub called: String,
+    pub attestation: String,
+    pub origid: String,
+}
+
+impl Claims {
+    /// The claims of a payload. What isn't a text is told as none.
+    fn of(payload: &str) -> Claims {
+        let payload: serde_json::Value = serde_json::from_str(payload).unwrap_or_default();
+        let text = |at: &str| {
+            payload.pointer(at).and_then(|value| value.as_str()).unwrap_or_default().to_owned()
+        };
+        let called = payload.pointer("/dest/tn").and_then(|tn| tn.as_array());
+        let called = called.into_iter().flatten().filter_map(|number| number.as_str());
+        Claims {
+            caller: text("/orig/tn"),
+            called: called.collect::<Vec<_>>().join(" "),
+            attestation: text("/attest"),
+            origid: text("/origid"),
+        }
+    }
+}
+
+/// A call with the chains of its PASSporTs, as far as they are known.
+struct Read {
+    call: Call,
+    found: Vec<(Vec<u8>, Found)>,
+}
+
+impl Judge {
+    /// Judges the calls of a piece, on all threads of this pool; the answers stand in their order.
+    pub fn piece(&self, piece: &Piece) -> Vec<Result<Judged, Fault>> {
+        let calls: Vec<_> = piece.calls().collect();
+        let calls = calls.par_iter().with_min_len(FEWEST);
+        calls.map(|(number, moment, message)| self.call(*number, *moment, message)).collect()
+    }
+
+    /// Judges a call.
+    pub fn call(&self, number: u64, moment: u64, message: &[u8]) -> Result<Judged, Fault> {
+        let Read { mut call, found } = self.read(moment, message)?;
+        let outcome = match self.set_aside(&mut call, &found)? {
+            Some(field) => Outcome::Unread(field),
+            None => match call.verify(|question| self.provider.confirms(question))? {
+                stir::Verdict::Passes(passes) => Outcome::Passes(passes),
+                stir::Verdict::Refused(refused) => Outcome::Refused(refused),
+            },
+        };
+        let about = if self.tells { Some(Box::new(about(&mut call, found)?)) } else { None };
+        Ok(Judged { number, moment, outcome, about })
+    }
+
+    /// The lines of `stir explain` on a call, and whether it breaks no rule.
+    pub fn explain(
+        &self,
+        number: u32,
+        moment: u64,
+        message: &[u8],
+    ) -> Result<(String, bool), Fault> {
+        let Read { mut call, found } = self.read(moment, message)?;
+        if let Some(field) = self.set_aside(&mut call, &found)? {
+            let holds: String = (1..10).map(|rule| format!("{number} {rule} ok\n")).collect();
+            return Ok((format!("{holds}{number} 10 unread {field}.0\n"), false));
+        }
+        let asked = call.questions()?.questions;
+        let good: Vec<bool> = asked.iter().map(|it| self.provider.confirms(it)).collect();
+        let explained = call.explain(number, &good)?;
+        Ok((explained.lines, matches!(explained.verdict, stir::Verdict::Passes(_))))
+    }
+
+    /// Reads a call, and hands in its chains.
+    fn read(&self, moment: u64, message: &[u8]) -> Result<Read, Fault> {
+        let mut call = self.world.call(moment, message)?;
+        let mut found = Vec::with_capacity(call.passports());
+        for index in 0..call.passports() {
+            let x5u = call.x5u(index)?;
+            let chain = self.chains.get(&x5u, &self.provider)?;
+            if let Found::Known(known) = &chain {
+                call.set_chain(index, &known.chain)?;
+            }
+            found.push((x5u, chain));
+        }
+        Ok(Read { call, found })
+    }
+
+    /// The field of the first PASSporT whose chain isn't known, if the file of that chain couldn't
+    /// be read.
+    fn set_aside(&self, call: &mut Call, found: &[(Vec<u8>, Found)]) -> Result<Option<u32>, Fault> {
+        let first = found.iter().position(|(_, found)| !matches!(found, Found::Known(_)));
+        match first {
+            Some(index) if matches!(found.get(index), Some((_, Found::Unread))) => {
+                Ok(call.claims()?.get(index).map(|claims| claims.field))
+            }
+            _ => Ok(None),
+        }
+    }
+}
+
+/// What is told of a call.
+fn about(call: &mut Call, found: Vec<(Vec<u8>, Found)>) -> Result<About, Fault> {
+    if found.is_empty() {
+        return Ok(About::default());
+    }
+    let told = call.claims()?;
+    let payload = told.first().and_then(|claims| claims.payload.as_deref()).unwrap_or_default();
+    let claims = Claims::of(payload);
+    let passports = told.iter().zip(found).map(|(claims, (x5u, found))| Passport {
+        field: claims.field,
+        x5u: String::from_utf8_lossy(&x5u).into_owned(),
+        known: match found {
+            Found::Known(known) => Some(known),
+            Found::Missing | Found::Unread => None,
+        },
+    });
+    Ok(About { claims, passports: passports.collect() })
+}
+
+impl About {
+    /// The x5u of the field that a verdict's place names, or else of the one that speaks for the
+    /// caller, and the codes in the leaf to which it leads.
+    pub fn signer(&self, field: Option<u32>) -> (&str, &str) {
+        let named = self.passports.iter().find(|passport| Some(passport.field) == field);
+        match named.or(self.passports.first()) {
+            Some(Passport { x5u, known, .. }) => {
+                (x5u, known.as_ref().map_or("", |known| known.codes.as_str()))
+            }
+            None => ("", ""),
+        }
+    }
+}

@@ -1,0 +1,121 @@
+//! The command `judge`.
+
+use crate::answers::Answers;
+use crate::chains::{read_map, Chains};
+use crate::input::Input;
+use crate::judge::Judge;
+use crate::log::End;
+use crate::outputs::Outputs;
+use crate::provider::Provider;
+use crate::run::{Day, Run};
+use crate::sink::{Sink, STDOUT};
+use crate::state::State;
+use crate::words::{self, By, Pool, To};
+use crate::{say, world, Ended, Fault};
+use rayon::{ThreadPool, ThreadPoolBuilder};
+use std::collections::HashSet;
+use stir::World;
+use stir_trust::Verifier;
+
+/// Judges the calls of the inputs, and writes what came of them. The status is 0 if each is valid.
+pub(crate) fn judge(words: &words::Judge) -> Ended {
+    let mut outputs = outputs(&words.to)?;
+    let ended = judged(words, &mut outputs).and_then(|are_valid| {
+        std::mem::take(&mut outputs).commit(&title(&words.inputs))?;
+        Ok(u8::from(!are_valid))
+    });
+    ended.or_else(|fault| match outputs.fail(&fault)? {
+        true => Ok(fault.status()),
+        false => Err(fault),
+    })
+}
+
+/// The outputs that the words name.
+pub(crate) fn outputs(to: &To) -> Result<Outputs, Fault> {
+    let To { report, json, csv, words, summary, svg } = to;
+    let named = [report, json, csv, words, summary, svg];
+    let named: Vec<&String> = named.into_iter().flatten().collect();
+    if named.iter().collect::<HashSet<_>>().len() < named.len() {
+        return Err(Fault::Words("two outputs can't have one name".into()));
+    }
+    let open = |name: &Option<String>| name.as_deref().map(Sink::open).transpose();
+    Ok(Outputs {
+        report: if named.is_empty() { Some(Sink::open(STDOUT)?) } else { open(report)? },
+        json: open(json)?,
+        csv: open(csv)?.map(csv::Writer::from_writer),
+        words: open(words)?,
+        counts: open(summary)?,
+        picture: open(svg)?,
+        ..Outputs::default()
+    })
+}
+
+/// Judges the calls, and says whether each is valid.
+fn judged(words: &words::Judge, outputs: &mut Outputs) -> Result<bool, Fault> {
+    let mut judge = judge_by(&words.by)?;
+    judge.tells = outputs.tells();
+    let window = words.by.rules.past;
+    let state = words.state.as_deref().map(|name| State::read(name, window)).transpose()?;
+    let mut day = Day::after(&state.clone().unwrap_or_default());
+    let run = Run { judge: &judge, pool: &pool(&words.pool)? };
+    let mut fault = None;
+    for word in &words.inputs {
+        let Input { name, source, bar } = Input::open(word)?;
+        let end = run.log(source, (day.call, day.moment), |judged| {
+            let verdict = day.settle(&judged);
+            outputs.call(judged.number, judged.moment, judged.about.as_deref(), &verdict)
+        });
+        bar.finish_and_clear();
+        fault = match end? {
+            End::Whole => continue,
+            End::Failed => Some(Fault::Read(name)),
+            End::Refused(place) => Some(Fault::Refused(name, place)),
+        };
+        break;
+    }
+    if state.is_some() {
+        outputs.put_in_report(&day.state(window).text())?;
+    }
+    fault.map_or(Ok(day.are_valid), Err)
+}
+
+/// What calls are judged by: the files in the order in which `stir verify` reads them.
+pub(crate) fn judge_by(by: &By) -> Result<Judge, Fault> {
+    let settings = by.rules.settings();
+    World::open(&settings, b"", b"").map_err(|error| Fault::Words(error.to_string()))?;
+    let files = read_map(&by.chains)?;
+    let anchors = match (&by.anchors, &by.roots) {
+        (Some(name), _) => world::anchors(&settings, name)?,
+        (None, Some(name)) => {
+            let (anchors, said) = world::roots(&settings, name)?;
+            said.iter().for_each(|text| say(text));
+            anchors
+        }
+        (None, None) => Vec::new(),
+    };
+    let table = world::table(&settings, &by.table)?;
+    let provider = match &by.answers {
+        Some(name) => Provider::Answers(Answers::read(name)?),
+        None => Provider::Es256(
+            Verifier::new().map_err(|error| Fault::Words(format!("OpenSSL: {error}")))?,
+        ),
+    };
+    let world = World::open(&settings, &anchors, &table)?;
+    Ok(Judge { chains: Chains::new(world.clone(), files), world, provider, tells: false })
+}
+
+/// The threads that judge.
+pub(crate) fn pool(words: &Pool) -> Result<ThreadPool, Fault> {
+    let jobs = words.jobs.unwrap_or(0);
+    ThreadPoolBuilder::new().num_threads(jobs).build().map_err(|_| Fault::Memory)
+}
+
+/// What a table or a picture of these inputs is called.
+pub(crate) fn title(inputs: &[String]) -> String {
+    match inputs {
+        [one] if one == STDOUT => "Calls".into(),
+        [one] => format!("Calls of {one}"),
+        [one, .., other] => format!("Calls of {one} to {other}"),
+        [] => "Calls".into(),
+    }
+}

@@ -1,0 +1,56 @@
+//! `stirctl`: the operator's program of `stir`. It judges the calls of logs and captures by the
+//! proved library (the crate `stir`), with ES256 by OpenSSL, and tells what came of them.
+//! docs/COMMANDS.md has its commands.
+#![forbid(unsafe_code)]
+
+mod answers;
+mod chains;
+mod confirming;
+mod explaining;
+mod fault;
+mod files;
+mod input;
+mod judge;
+mod judging;
+mod log;
+mod outputs;
+mod picture;
+mod provider;
+mod reporting;
+mod run;
+mod sink;
+mod state;
+mod summary;
+mod telling;
+mod tickets;
+mod verdict;
+pub mod words;
+mod world;
+
+pub use fault::Fault;
+use std::io::Write;
+
+/// The status of a command, or why it ended early.
+type Ended = Result<u8, Fault>;
+
+/// Does what the words say, and gives the status. A fault is said on standard error, if it doesn't
+/// stand in the report.
+pub fn main(words: words::Words) -> u8 {
+    let ended = match words.command {
+        words::Command::Judge(words) => judging::judge(&words),
+        words::Command::Explain(words) => explaining::explain(&words),
+        words::Command::Report(words) => reporting::report(&words),
+        words::Command::Confirm(words) => confirming::confirm(&words),
+    };
+    ended.unwrap_or_else(|fault| {
+        say(&fault.to_string());
+        fault.status()
+    })
+}
+
+/// Says something to whoever started the program.
+pub(crate) fn say(text: &str) {
+    let text: String = text.chars().map(|it| if it.is_control() { '?' } else { it }).collect();
+    // If nobody hears it, nobody can be told so.
+    let _ = writeln!(std::io::stderr(), "stirctl: {text}");
+}

@@ -1,0 +1,202 @@
+//! The words of the program.
+
+use clap::{Args, Parser, Subcommand};
+use stir::Settings;
+
+/// Judges telephone calls by STIR/SHAKEN, and tells of them: logs and captures of INVITEs, over the
+/// proved library of stir, with signatures by OpenSSL.
+///
+/// The status is 0 if each call is valid, 1 if some call isn't; 2 for bad words; 3 if an input can't
+/// be read, 4 if an output can't be written, 5 if an input is missing or outside its form, and 6 if
+/// memory ran out. docs/OPERATING.md tells how a day is judged.
+#[derive(Debug, Parser)]
+#[command(name = "stirctl", version, max_term_width = 100)]
+pub struct Words {
+    #[command(subcommand)]
+    pub command: Command,
+}
+
+#[derive(Debug, Subcommand)]
+pub enum Command {
+    Judge(Judge),
+    Explain(Explain),
+    Report(Report),
+    Confirm(Confirm),
+}
+
+/// Judges the calls of logs and captures, and writes what came of them.
+#[derive(Debug, Args)]
+pub struct Judge {
+    #[command(flatten)]
+    pub by: By,
+    #[command(flatten)]
+    pub to: To,
+    #[command(flatten)]
+    pub pool: Pool,
+    /// The state of an earlier run, from which the calls go on: its whole report, or an empty file
+    /// for the first run. The new state stands at the end of the report
+    #[arg(long, value_name = "FILE")]
+    pub state: Option<String>,
+    /// Call logs or captures, in the order of their calls; `-` is the standard input
+    #[arg(required = true, value_name = "INPUT")]
+    pub inputs: Vec<String>,
+}
+
+/// Writes which rules each call meets, up to the first that it breaks, as `stir explain` does. Replays
+/// aren't looked at.
+#[derive(Debug, Args)]
+pub struct Explain {
+    #[command(flatten)]
+    pub by: By,
+    /// Explains the call of this number alone
+    #[arg(long, value_name = "NUMBER", value_parser = call)]
+    pub call: Option<u32>,
+    /// A call log or a capture; `-` is the standard input
+    #[arg(value_name = "INPUT")]
+    pub input: String,
+}
+
+/// Joins a log and the report that `stir verify` or `stirctl judge` wrote of it: who called whom, who
+/// signed, and what the verdicts mean.
+#[derive(Debug, Args)]
+pub struct Report {
+    #[command(flatten)]
+    pub to: To,
+    /// The chain map, or a folder with the map chains.txt; without it no codes of signers are told
+    #[arg(long, value_name = "FILE")]
+    pub chains: Option<String>,
+    #[command(flatten)]
+    pub rules: Rules,
+    #[command(flatten)]
+    pub pool: Pool,
+    /// Makes the report again from what --json wrote; LOG is that
+    #[arg(long, conflicts_with = "report_file")]
+    pub back: bool,
+    /// The log
+    #[arg(value_name = "LOG")]
+    pub log: String,
+    /// Its report; the standard input if it isn't given. It may have a state at its end
+    #[arg(value_name = "REPORT", id = "report_file", default_value = "-")]
+    pub of: String,
+}
+
+/// Reads questions about signatures, as `stir ask` writes them, and writes those whose signature is
+/// good (ES256): the answers file of `stir verify`. If a line is no question, nothing is written.
+#[derive(Debug, Args)]
+pub struct Confirm {
+    #[command(flatten)]
+    pub pool: Pool,
+    /// Files of questions; the standard input if none is named
+    #[arg(value_name = "FILE", default_value = "-")]
+    pub files: Vec<String>,
+}
+
+/// What calls are judged by.
+#[derive(Debug, Args)]
+pub struct By {
+    /// The trust anchors, in PEM. What the library doesn't take for an anchor is named and left out
+    #[arg(long, value_name = "FILE", required_unless_present = "anchors")]
+    pub roots: Option<String>,
+    /// The trust anchors, one after another in DER
+    #[arg(long, value_name = "FILE", conflicts_with = "roots")]
+    pub anchors: Option<String>,
+    /// The chain map, which says what file has the certificates of what x5u; or a folder with the
+    /// map chains.txt
+    #[arg(long, value_name = "FILE")]
+    pub chains: String,
+    /// The code table: which numbers a service provider code covers
+    #[arg(long, value_name = "FILE")]
+    pub table: String,
+    /// An answers file that says which signatures are good, in the place of OpenSSL
+    #[arg(long, value_name = "FILE")]
+    pub answers: Option<String>,
+    #[command(flatten)]
+    pub rules: Rules,
+}
+
+/// How numbers and times are looked at.
+#[derive(Debug, Args)]
+pub struct Rules {
+    /// How many seconds old a PASSporT may be, at most 86400
+    #[arg(long, value_name = "SECONDS", default_value = "60", value_parser = seconds)]
+    pub past: u64,
+    /// How many seconds a PASSporT may be ahead of its call, at most 86400
+    #[arg(long, value_name = "SECONDS", default_value = "5", value_parser = seconds)]
+    pub future: u64,
+    /// The country of numbers without +, 1 to 3 digits
+    #[arg(long, value_name = "DIGITS", default_value = "1", value_parser = country)]
+    pub country: String,
+    /// How many digits a national number has, 1 to 14
+    #[arg(long, value_name = "COUNT", default_value = "10", value_parser = national)]
+    pub national: u8,
+}
+
+/// What is written, each to a file or to `-`, the standard output; a file gets its name once it is
+/// whole. If none is named, the report goes to the standard output.
+#[derive(Debug, Args)]
+pub struct To {
+    /// The report of `stir verify`
+    #[arg(long, value_name = "FILE")]
+    pub report: Option<String>,
+    /// A JSON object a line, for each call
+    #[arg(long, value_name = "FILE")]
+    pub json: Option<String>,
+    /// The same as CSV
+    #[arg(long, value_name = "FILE")]
+    pub csv: Option<String>,
+    /// The same in words
+    #[arg(long, value_name = "FILE")]
+    pub words: Option<String>,
+    /// Counts of the calls by rule, signer and hour
+    #[arg(long, value_name = "FILE")]
+    pub summary: Option<String>,
+    /// A picture of the counts, in SVG
+    #[arg(long, value_name = "FILE")]
+    pub svg: Option<String>,
+}
+
+/// How many threads work.
+#[derive(Debug, Args)]
+pub struct Pool {
+    /// How many threads judge; as many as there are processors if it isn't given
+    #[arg(long, value_name = "COUNT", value_parser = jobs)]
+    pub jobs: Option<usize>,
+}
+
+impl Rules {
+    /// The same as the library takes them.
+    pub fn settings(&self) -> Settings {
+        let Rules { past, future, country, national } = self;
+        Settings { past: *past, future: *future, country: country.clone(), national: *national }
+    }
+}
+
+fn number(text: &str, least: u64, most: u64) -> Result<u64, String> {
+    let number = crate::files::number(text.as_bytes(), most).filter(|number| *number >= least);
+    number.ok_or_else(|| format!("a number from {least} to {most} is wanted"))
+}
+
+fn seconds(text: &str) -> Result<u64, String> {
+    number(text, 0, 86_400)
+}
+
+fn national(text: &str) -> Result<u8, String> {
+    number(text, 1, 14).map(|number| number as u8)
+}
+
+fn call(text: &str) -> Result<u32, String> {
+    number(text, 1, u32::MAX.into()).map(|number| number as u32)
+}
+
+fn jobs(text: &str) -> Result<usize, String> {
+    number(text, 1, 256).map(|number| number as usize)
+}
+
+fn country(text: &str) -> Result<String, String> {
+    let is_one = (1..=3).contains(&text.len()) && text.bytes().all(|digit| digit.is_ascii_digit());
+    if is_one {
+        Ok(text.into())
+    } else {
+        Err("1 to 3 digits are wanted".into())
+    }
+}
