@@ -26,7 +26,7 @@ pub(crate) fn explain(words: &Explain) -> Ended {
 
 fn explained(words: &Explain, out: &mut Sink) -> Result<bool, Fault> {
     let judge = judge_by(&words.by)?;
-    let Input { name, source, bar } = Input::open(&words.input)?;
+    let Input { name, source, bar, .. } = Input::open(&words.input)?;
     let (mut log, mut are_valid) = (Log::after(source, 0, 0), true);
     while let Some(piece) = log.piece() {
         for (number, moment, message) in piece.calls() {

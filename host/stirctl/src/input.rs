@@ -1,7 +1,9 @@
 //! What calls come from: call logs, and captures, which become call logs first; each as it is or
 //! packed by gzip.
 
+use crate::capture::{is_capture, Captures};
 use crate::files::{self, Unread};
+use crate::say;
 use crate::Fault;
 use flate2::read::MultiGzDecoder;
 use indicatif::{ProgressBar, ProgressStyle};
@@ -19,7 +21,7 @@ const PACKED: &[u8] = b"\x1f\x8b";
 /// How many bytes tell what an input is.
 const SIGN: u64 = 4;
 
-type Source = Box<dyn Read + Send>;
+pub(crate) type Source = Box<dyn Read + Send>;
 
 /// An input that was opened.
 pub(crate) struct Input {
@@ -29,6 +31,8 @@ pub(crate) struct Input {
     pub source: Source,
     /// How far its reading is.
     pub bar: ProgressBar,
+    /// Whether it is a capture, and not a log.
+    pub is_capture: bool,
 }
 
 impl Input {
@@ -43,15 +47,55 @@ impl Input {
         };
         let bar = bar(size);
         let (sign, source) = peeked(Box::new(bar.wrap_read(source)));
-        let source =
-            if sign.starts_with(PACKED) { Box::new(MultiGzDecoder::new(source)) } else { source };
-        Ok(Input { name, source, bar })
+        let (sign, source) = if sign.starts_with(PACKED) {
+            peeked(Box::new(MultiGzDecoder::new(source)))
+        } else {
+            (sign, source)
+        };
+        Ok(Input { name, source, bar, is_capture: is_capture(&sign) })
     }
+}
+
+/// Calls the function on the log of each of these inputs, with the name that it has in a fault.
+/// Captures that stand one after another become one log, in the order of time.
+pub(crate) fn each_log(
+    words: &[String],
+    as_is: bool,
+    mut call: impl FnMut(String, Source) -> Result<(), Fault>,
+) -> Result<(), Fault> {
+    let mut captures = Captures::new(as_is)?;
+    for word in words {
+        let Input { name, source, bar, is_capture } = Input::open(word)?;
+        if is_capture {
+            captures.add(&name, source)?;
+        } else {
+            let before = std::mem::replace(&mut captures, Captures::new(as_is)?);
+            of_captures(before, &mut call)?;
+            call(name, source)?;
+        }
+        bar.finish_and_clear();
+    }
+    of_captures(captures, &mut call)
+}
+
+fn of_captures(
+    captures: Captures,
+    call: &mut impl FnMut(String, Source) -> Result<(), Fault>,
+) -> Result<(), Fault> {
+    if captures.is_empty() {
+        return Ok(());
+    }
+    let (log, name, said) = captures.log()?;
+    say(&said);
+    let bar = bar(log.metadata().map_or(0, |about| about.len()));
+    let called = call(name, Box::new(bar.wrap_read(log)));
+    bar.finish_and_clear();
+    called
 }
 
 /// All bytes of the input of this word, unpacked, if they are no more than so many.
 pub(crate) fn whole(word: &str, most: u64) -> Result<Vec<u8>, Fault> {
-    let Input { name, source, bar } = Input::open(word)?;
+    let Input { name, source, bar, .. } = Input::open(word)?;
     let mut bytes = Vec::new();
     let read = source.take(most + 1).read_to_end(&mut bytes);
     bar.finish_and_clear();

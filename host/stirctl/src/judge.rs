@@ -5,6 +5,9 @@ use crate::log::Piece;
 use crate::provider::Provider;
 use crate::Fault;
 use rayon::prelude::*;
+use serde::de::IgnoredAny;
+use serde::{Deserialize, Deserializer};
+use std::borrow::Cow;
 use std::sync::Arc;
 use stir::{Call, Passes, Refused, World};
 
@@ -68,18 +71,61 @@ pub(crate) struct Claims {
 impl Claims {
     /// The claims of a payload. What isn't a text is told as none.
     fn of(payload: &str) -> Claims {
-        let payload: serde_json::Value = serde_json::from_str(payload).unwrap_or_default();
-        let text = |at: &str| {
-            payload.pointer(at).and_then(|value| value.as_str()).unwrap_or_default().to_owned()
-        };
-        let called = payload.pointer("/dest/tn").and_then(|tn| tn.as_array());
-        let called = called.into_iter().flatten().filter_map(|number| number.as_str());
+        let payload: Payload<'_> = serde_json::from_str(payload).unwrap_or_default();
+        let called: Vec<&str> = payload.dest.tn.iter().map(AsRef::as_ref).collect();
         Claims {
-            caller: text("/orig/tn"),
-            called: called.collect::<Vec<_>>().join(" "),
-            attestation: text("/attest"),
-            origid: text("/origid"),
+            caller: payload.orig.tn.into_owned(),
+            called: called.join(" "),
+            attestation: payload.attest.0.into_owned(),
+            origid: payload.origid.0.into_owned(),
         }
+    }
+}
+
+/// The claims that are told, as they stand in a payload whose rules 6 and 7 hold.
+#[derive(Default, Deserialize)]
+#[serde(default)]
+struct Payload<'a> {
+    #[serde(borrow)]
+    orig: Orig<'a>,
+    #[serde(borrow)]
+    dest: Dest<'a>,
+    #[serde(borrow)]
+    attest: Text<'a>,
+    #[serde(borrow)]
+    origid: Text<'a>,
+}
+
+#[derive(Default, Deserialize)]
+#[serde(default)]
+struct Orig<'a> {
+    #[serde(borrow)]
+    tn: Cow<'a, str>,
+}
+
+#[derive(Default, Deserialize)]
+#[serde(default)]
+struct Dest<'a> {
+    #[serde(borrow)]
+    tn: Vec<Cow<'a, str>>,
+}
+
+/// A text, or what is none: a PASSporT without a type may have any value in its place.
+#[derive(Default)]
+struct Text<'a>(Cow<'a, str>);
+
+impl<'de: 'a, 'a> Deserialize<'de> for Text<'a> {
+    fn deserialize<D: Deserializer<'de>>(from: D) -> Result<Text<'a>, D::Error> {
+        #[derive(Deserialize)]
+        #[serde(untagged)]
+        enum Value<'a> {
+            Text(#[serde(borrow)] Cow<'a, str>),
+            Other(IgnoredAny),
+        }
+        Ok(match Value::deserialize(from)? {
+            Value::Text(text) => Text(text),
+            Value::Other(_) => Text::default(),
+        })
     }
 }
 
@@ -167,7 +213,7 @@ fn about(call: &mut Call, found: Vec<(Vec<u8>, Found)>) -> Result<About, Fault> 
     let claims = Claims::of(payload);
     let passports = told.iter().zip(found).map(|(claims, (x5u, found))| Passport {
         field: claims.field,
-        x5u: String::from_utf8_lossy(&x5u).into_owned(),
+        x5u: String::from_utf8(x5u).unwrap_or_default(),
         known: match found {
             Found::Known(known) => Some(known),
             Found::Missing | Found::Unread => None,
@@ -186,6 +232,33 @@ impl About {
                 (x5u, known.as_ref().map_or("", |known| known.codes.as_str()))
             }
             None => ("", ""),
+        }
+    }
+}
+
+#[cfg(test)]
+mod tests {
+    use super::*;
+
+    #[test]
+    fn claims_are_told_whatever_else_stands_in_a_payload() {
+        for (payload, told) in [
+            (
+                r#"{"attest":"A","dest":{"tn":["1","2"]},"iat":1,"orig":{"tn":"3"},"origid":"x"}"#,
+                ["3", "1 2", "A", "x"],
+            ),
+            (
+                r#"{"attest":[1,{"a":null}],"dest":{"tn":["1"],"uri":["u"]},"orig":{"tn":"3"},"z":7}"#,
+                ["3", "1", "", ""],
+            ),
+            (
+                r#"{"attest":"\"\u00e9","dest":{"tn":["1"]},"orig":{"tn":"*#"}}"#,
+                ["*#", "1", "\"\u{e9}", ""],
+            ),
+            ("", ["", "", "", ""]),
+        ] {
+            let Claims { caller, called, attestation, origid } = Claims::of(payload);
+            assert_eq!([caller, called, attestation, origid], told, "{payload}");
         }
     }
 }

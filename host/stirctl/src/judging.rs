@@ -2,7 +2,7 @@
 
 use crate::answers::Answers;
 use crate::chains::{read_map, Chains};
-use crate::input::Input;
+use crate::input::each_log;
 use crate::judge::Judge;
 use crate::log::End;
 use crate::outputs::Outputs;
@@ -58,25 +58,21 @@ fn judged(words: &words::Judge, outputs: &mut Outputs) -> Result<bool, Fault> {
     let state = words.state.as_deref().map(|name| State::read(name, window)).transpose()?;
     let mut day = Day::after(&state.clone().unwrap_or_default());
     let run = Run { judge: &judge, pool: &pool(&words.pool)? };
-    let mut fault = None;
-    for word in &words.inputs {
-        let Input { name, source, bar } = Input::open(word)?;
+    let ended = each_log(&words.inputs, words.as_is, |name, source| {
         let end = run.log(source, (day.call, day.moment), |judged| {
             let verdict = day.settle(&judged);
             outputs.call(judged.number, judged.moment, judged.about.as_deref(), &verdict)
         });
-        bar.finish_and_clear();
-        fault = match end? {
-            End::Whole => continue,
-            End::Failed => Some(Fault::Read(name)),
-            End::Refused(place) => Some(Fault::Refused(name, place)),
-        };
-        break;
-    }
-    if state.is_some() {
+        match end? {
+            End::Whole => Ok(()),
+            End::Failed => Err(Fault::Read(name)),
+            End::Refused(place) => Err(Fault::Refused(name, place)),
+        }
+    });
+    if state.is_some() && ended != Err(Fault::Memory) {
         outputs.put_in_report(&day.state(window).text())?;
     }
-    fault.map_or(Ok(day.are_valid), Err)
+    ended.map(|()| day.are_valid)
 }
 
 /// What calls are judged by: the files in the order in which `stir verify` reads them.

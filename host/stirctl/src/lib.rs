@@ -4,6 +4,7 @@
 #![forbid(unsafe_code)]
 
 mod answers;
+mod capture;
 mod chains;
 mod confirming;
 mod explaining;
@@ -13,6 +14,7 @@ mod input;
 mod judge;
 mod judging;
 mod log;
+mod logging;
 mod outputs;
 mod picture;
 mod provider;
@@ -41,6 +43,7 @@ pub fn main(words: words::Words) -> u8 {
         words::Command::Explain(words) => explaining::explain(&words),
         words::Command::Report(words) => reporting::report(&words),
         words::Command::Confirm(words) => confirming::confirm(&words),
+        words::Command::Log(words) => logging::log(&words),
     };
     ended.unwrap_or_else(|fault| {
         say(&fault.to_string());

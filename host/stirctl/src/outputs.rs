@@ -65,6 +65,8 @@ pub(crate) struct Outputs {
     pub counts: Option<Sink>,
     pub picture: Option<Sink>,
     pub summary: Summary,
+    /// Room for a line of JSON.
+    pub line: Vec<u8>,
 }
 
 impl Outputs {
@@ -91,9 +93,11 @@ impl Outputs {
         let Some(about) = about else { return Ok(()) };
         let row = Row::of(call, moment, about, verdict);
         if let Some(json) = &mut self.json {
+            self.line.clear();
             json.put(|out| {
-                serde_json::to_writer(&mut *out, &row)?;
-                out.write_all(b"\n")
+                serde_json::to_writer(&mut self.line, &row)?;
+                self.line.push(b'\n');
+                out.write_all(&self.line)
             })?;
         }
         if let Some(csv) = &mut self.csv {
@@ -118,7 +122,7 @@ impl Outputs {
 
     /// Ends a run whose log is whole: counts and picture are written, and all files get their names.
     pub fn commit(self, title: &str) -> Result<(), Fault> {
-        let Outputs { report, json, csv, words, counts, picture, summary } = self;
+        let Outputs { report, json, csv, words, counts, picture, summary, line: _ } = self;
         for sink in report.into_iter().chain(json).chain(words) {
             sink.commit()?;
         }

@@ -77,7 +77,7 @@ fn joined(
 ) -> Result<Option<u64>, Fault> {
     let judge = judge(words)?;
     let run = Run { judge: &judge, pool: &pool(&words.pool)? };
-    let Input { name, source, bar } = Input::open(&words.log)?;
+    let Input { name, source, bar, .. } = Input::open(&words.log)?;
     // The first call has the number that the run before left to it.
     let first = verdicts.first().map_or(1, |(call, _)| *call);
     let (mut left, mut is_cut) = (verdicts.iter(), false);

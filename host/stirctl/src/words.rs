@@ -22,6 +22,7 @@ pub enum Command {
     Explain(Explain),
     Report(Report),
     Confirm(Confirm),
+    Log(Log),
 }
 
 /// Judges the calls of logs and captures, and writes what came of them.
@@ -37,7 +38,12 @@ pub struct Judge {
     /// for the first run. The new state stands at the end of the report
     #[arg(long, value_name = "FILE")]
     pub state: Option<String>,
-    /// Call logs or captures, in the order of their calls; `-` is the standard input
+    /// Leaves P-Asserted-Identity fields of captures with several values as they are. Else each value
+    /// gets a field, which means the same, since one value of a field is judged
+    #[arg(long)]
+    pub as_is: bool,
+    /// Call logs, or captures (pcap or pcapng, of SIP over UDP), in the order of their calls; each may
+    /// be packed by gzip. `-` is the standard input
     #[arg(required = true, value_name = "INPUT")]
     pub inputs: Vec<String>,
 }
@@ -78,6 +84,19 @@ pub struct Report {
     /// Its report; the standard input if it isn't given. It may have a state at its end
     #[arg(value_name = "REPORT", id = "report_file", default_value = "-")]
     pub of: String,
+}
+
+/// Writes the call log of captures: their INVITEs, each with the second at which it came, in the order
+/// of time and without retransmissions.
+#[derive(Debug, Args)]
+pub struct Log {
+    /// Leaves P-Asserted-Identity fields with several values as they are
+    #[arg(long)]
+    pub as_is: bool,
+    /// Captures (pcap or pcapng, of SIP over UDP), as they are or packed by gzip; `-` is the standard
+    /// input
+    #[arg(required = true, value_name = "CAPTURE")]
+    pub captures: Vec<String>,
 }
 
 /// Reads questions about signatures, as `stir ask` writes them, and writes those whose signature is

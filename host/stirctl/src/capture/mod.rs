@@ -1,0 +1,134 @@
+//! Captures of SIP over UDP, made call logs: their INVITE requests, in the order in which they came,
+//! without retransmissions.
+
+mod frames;
+mod packets;
+mod spool;
+
+pub(crate) use frames::is_capture;
+
+use crate::Fault;
+use frames::{Broken, Frames};
+use packets::{Carried, Packets};
+use spool::Spool;
+use std::fs::File;
+use std::io::{BufReader, Read, Seek};
+
+const BUFFER: usize = 1 << 20;
+
+/// With what an INVITE request begins (RFC 3261, section 7.1).
+const INVITE: &[u8] = b"INVITE ";
+
+/// Who reads what isn't read here.
+const BY_TSHARK: &str = "which tools/stir-log reads by tshark";
+
+/// The INVITEs of captures.
+pub(crate) struct Captures {
+    spool: Spool,
+    as_is: bool,
+    counts: Counts,
+    /// The name of the first.
+    name: String,
+}
+
+/// What was passed over.
+#[derive(Debug, Default)]
+struct Counts {
+    others: u64,
+    cut: u64,
+    fragments: u64,
+    split: u64,
+    on_port: u64,
+}
+
+impl Captures {
+    /// None so far. P-Asserted-Identity fields with several values become one field a value, which
+    /// means the same (RFC 3261, section 7.3.1), unless messages are taken as they are.
+    pub fn new(as_is: bool) -> Result<Captures, Fault> {
+        let (spool, counts) = (Spool::new()?, Counts::default());
+        Ok(Captures { spool, as_is, counts, name: String::new() })
+    }
+
+    /// Whether none was added.
+    pub fn is_empty(&self) -> bool {
+        self.name.is_empty()
+    }
+
+    /// Adds the INVITEs of the capture of this name.
+    pub fn add(&mut self, name: &str, source: impl Read) -> Result<(), Fault> {
+        if self.is_empty() {
+            self.name = name.into();
+        }
+        let broken = |broken| match broken {
+            Broken::Failed => Fault::Read(name.into()),
+            Broken::Form(why) => Fault::Input(name.into(), why),
+        };
+        let mut frames = Frames::new(BufReader::with_capacity(BUFFER, source)).map_err(broken)?;
+        let mut packets = Packets::default();
+        while let Some(frame) = frames.next().map_err(broken)? {
+            if !packets::is_read(frame.link) {
+                let why = format!("packets of link type {}, {BY_TSHARK}", frame.link);
+                return Err(Fault::Input(name.into(), why));
+            }
+            let Some(bytes) = frame.bytes else {
+                self.counts.cut += 1;
+                continue;
+            };
+            match packets.carried(frame.time, frame.link, &bytes) {
+                Carried::Datagram { source, content, is_on_port } => {
+                    self.counts.on_port += u64::from(is_on_port);
+                    self.take(frame.time, &source, &content)?;
+                }
+                Carried::SipOverTcp => {
+                    let why = format!("SIP over TCP, {BY_TSHARK}");
+                    return Err(Fault::Input(name.into(), why));
+                }
+                Carried::Fragment => {}
+                Carried::Other => self.counts.others += 1,
+            }
+        }
+        self.counts.fragments += packets.missing();
+        Ok(())
+    }
+
+    fn take(&mut self, time: u64, source: &[u8], message: &[u8]) -> Result<(), Fault> {
+        if !message.starts_with(INVITE) {
+            self.counts.others += 1;
+            return Ok(());
+        }
+        match (!self.as_is).then(|| stir_trust::split::lists(message)).flatten() {
+            Some(split) => {
+                self.counts.split += 1;
+                self.spool.add(time, source, &split)
+            }
+            None => self.spool.add(time, source, message),
+        }
+    }
+
+    /// A log of the calls from its first byte on, the name of its capture, and what is said of
+    /// both.
+    pub fn log(self) -> Result<(File, String, String), Fault> {
+        let Captures { spool, counts, name, .. } = self;
+        let (mut log, calls, repeated) = spool.log()?;
+        log.rewind().map_err(|error| Fault::write("a temporary file", &error))?;
+        let left_out = [
+            ("retransmissions", repeated),
+            ("other messages", counts.others),
+            ("cut packets", counts.cut),
+            ("datagrams with missing fragments", counts.fragments),
+        ];
+        let left_out = left_out.iter().filter(|(_, count)| *count > 0);
+        let left_out: Vec<_> = left_out.map(|(what, count)| format!("{what} {count}")).collect();
+        let mut said = format!("calls {calls}");
+        if !left_out.is_empty() {
+            said += &format!("; left out: {}", left_out.join(", "));
+        }
+        if counts.split > 0 {
+            said += &format!("; messages with P-Asserted-Identity split: {}", counts.split);
+        }
+        if calls == 0 && counts.on_port > 0 {
+            said += "; there was traffic on port 5060, and no call in it";
+        }
+        Ok((log, name, said))
+    }
+}
