@@ -20,6 +20,7 @@ def pytest_addoption(parser):
     group = parser.getgroup('stir')
     group.addoption('--program', type=pathlib.Path, default=TOP / 'crates/stir/out/stir', help='the program (crates/stir/out/stir)')
     group.addoption('--stird', type=pathlib.Path, default=TOP / 'host/out/release/stird', help='the service (host/out/release/stird)')
+    group.addoption('--ctl', type=pathlib.Path, default=TOP / 'host/out/release/stirctl', help='the program stirctl (host/out/release/stirctl)')
     group.addoption('--judge', type=pathlib.Path, default=TOP / 'host/out/release/examples/judge', help='the example of host/stir that judges logs')
     group.addoption('--library', type=pathlib.Path, default=TOP / 'crates/stir_c/out', help='the folder of libstir_c.a (crates/stir_c/out)')
     group.addoption('--keys', type=int, default=10, help='how many keys and messages go through openssl (10)')

@@ -5,6 +5,7 @@ use crate::files::{self, lines, says_nothing, whole, Unread};
 use crate::provider::Provider;
 use crate::Fault;
 use std::collections::HashMap;
+use std::io::{self, Write};
 use std::path::{Path, PathBuf};
 use std::sync::{Arc, OnceLock, PoisonError, RwLock};
 use stir::{Chain, Part, World};
@@ -61,7 +62,7 @@ struct Generations {
 /// of which x5u.
 pub(crate) fn read_map(name: &str) -> Result<HashMap<Vec<u8>, PathBuf>, Fault> {
     let in_folder = Path::new(name).join(MAP_IN_FOLDER);
-    let (map, folder) = match Path::new(name).is_dir() {
+    let (map, folder) = match in_folder.is_file() {
         true => (in_folder.to_string_lossy().into_owned(), Some(Path::new(name))),
         false => (name.to_owned(), None),
     };
@@ -106,6 +107,14 @@ impl Chains {
     /// The chains of a map, each to be judged under this world.
     pub fn new(world: World, files: HashMap<Vec<u8>, PathBuf>) -> Chains {
         Chains { world, files, kept: RwLock::default() }
+    }
+
+    /// Writes the chain map.
+    pub fn write(&self, to: &mut dyn Write) -> io::Result<()> {
+        self.files.iter().try_for_each(|(x5u, file)| {
+            to.write_all(x5u)?;
+            writeln!(to, " {}", file.display())
+        })
     }
 
     /// What is known of the chain of an x5u. It is read and judged if nobody needed it lately;

@@ -15,7 +15,7 @@ pub(crate) fn explain(words: &Explain) -> Ended {
             out.commit()?;
             Ok(u8::from(!are_valid))
         }
-        Err(fault @ (Fault::Words(_) | Fault::Write(..) | Fault::Input(..))) => Err(fault),
+        Err(fault) if !fault.is_of_a_report() => Err(fault),
         Err(fault) => {
             out.put(|out| writeln!(out, "{fault}"))?;
             out.commit()?;
@@ -25,7 +25,7 @@ pub(crate) fn explain(words: &Explain) -> Ended {
 }
 
 fn explained(words: &Explain, out: &mut Sink) -> Result<bool, Fault> {
-    let judge = judge_by(&words.by)?;
+    let judge = judge_by(&words.by, false)?;
     let Input { name, source, bar, .. } = Input::open(&words.input)?;
     let (mut log, mut are_valid) = (Log::after(source, 0, 0), true);
     while let Some(piece) = log.piece() {

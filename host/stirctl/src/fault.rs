@@ -33,7 +33,7 @@ pub enum Fault {
     /// A capture, or what was made of certificates, isn't what it has to be; and why.
     #[error("{0}: {1}")]
     Input(String, String),
-    /// Two reports that have to be equal aren't.
+    /// The report of the program by which a run is checked is another one.
     #[error("{0}")]
     Differs(String),
     /// Memory ran out.
@@ -55,6 +55,15 @@ impl Fault {
             Fault::Missing(_) | Fault::Long(_) | Fault::Refused(..) | Fault::Input(..) => 5,
             Fault::Memory => 6,
             Fault::Differs(_) => 7,
+        }
+    }
+
+    /// Whether the program `stir` has its line too, at the end of a report.
+    pub(crate) fn is_of_a_report(&self) -> bool {
+        match self {
+            Fault::Read(_) | Fault::Missing(_) | Fault::Long(_) | Fault::Refused(..) => true,
+            Fault::Memory => true,
+            Fault::Words(_) | Fault::Write(..) | Fault::Input(..) | Fault::Differs(_) => false,
         }
     }
 

@@ -19,8 +19,16 @@ pub(crate) struct Judge {
     pub world: World,
     pub chains: Chains,
     pub provider: Provider,
+    pub files: Files,
     /// Whether it is told who called whom and who signed.
     pub tells: bool,
+}
+
+/// The trust anchors and the code table as they were read.
+#[derive(Debug, Default)]
+pub(crate) struct Files {
+    pub anchors: Vec<u8>,
+    pub table: Vec<u8>,
 }
 
 /// What comes of a call by itself.

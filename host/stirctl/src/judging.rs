@@ -2,8 +2,9 @@
 
 use crate::answers::Answers;
 use crate::chains::{read_map, Chains};
+use crate::checking::Check;
 use crate::input::each_log;
-use crate::judge::Judge;
+use crate::judge::{Files, Judge};
 use crate::log::End;
 use crate::outputs::Outputs;
 use crate::provider::Provider;
@@ -14,6 +15,7 @@ use crate::words::{self, By, Pool, To};
 use crate::{say, world, Ended, Fault};
 use rayon::{ThreadPool, ThreadPoolBuilder};
 use std::collections::HashSet;
+use std::sync::Mutex;
 use stir::World;
 use stir_trust::Verifier;
 
@@ -52,13 +54,19 @@ pub(crate) fn outputs(to: &To) -> Result<Outputs, Fault> {
 
 /// Judges the calls, and says whether each is valid.
 fn judged(words: &words::Judge, outputs: &mut Outputs) -> Result<bool, Fault> {
-    let mut judge = judge_by(&words.by)?;
+    let check = words.checked_by.as_deref().map(Check::new).transpose()?;
+    outputs.copy = check.as_ref().map(Check::report).transpose()?;
+    let mut judge = judge_by(&words.by, check.is_some())?;
     judge.tells = outputs.tells();
     let window = words.by.rules.past;
     let state = words.state.as_deref().map(|name| State::read(name, window)).transpose()?;
     let mut day = Day::after(&state.clone().unwrap_or_default());
     let run = Run { judge: &judge, pool: &pool(&words.pool)? };
     let ended = each_log(&words.inputs, words.as_is, |name, source| {
+        let source = match &check {
+            Some(check) => check.seen(source)?,
+            None => source,
+        };
         let end = run.log(source, (day.call, day.moment), |judged| {
             let verdict = day.settle(&judged);
             outputs.call(judged.number, judged.moment, judged.about.as_deref(), &verdict)
@@ -72,11 +80,16 @@ fn judged(words: &words::Judge, outputs: &mut Outputs) -> Result<bool, Fault> {
     if state.is_some() && ended != Err(Fault::Memory) {
         outputs.put_in_report(&day.state(window).text())?;
     }
-    ended.map(|()| day.are_valid)
+    ended?;
+    if let Some(check) = check {
+        check.holds(&words.by, words.state.as_deref(), &judge, day.are_valid, outputs)?;
+    }
+    Ok(day.are_valid)
 }
 
-/// What calls are judged by: the files in the order in which `stir verify` reads them.
-pub(crate) fn judge_by(by: &By) -> Result<Judge, Fault> {
+/// What calls are judged by: the files in the order in which `stir verify` reads them. What OpenSSL
+/// confirms is kept if that is wanted.
+pub(crate) fn judge_by(by: &By, keeps_answers: bool) -> Result<Judge, Fault> {
     let settings = by.rules.settings();
     World::open(&settings, b"", b"").map_err(|error| Fault::Words(error.to_string()))?;
     let files = read_map(&by.chains)?;
@@ -92,12 +105,15 @@ pub(crate) fn judge_by(by: &By) -> Result<Judge, Fault> {
     let table = world::table(&settings, &by.table)?;
     let provider = match &by.answers {
         Some(name) => Provider::Answers(Answers::read(name)?),
-        None => Provider::Es256(
-            Verifier::new().map_err(|error| Fault::Words(format!("OpenSSL: {error}")))?,
-        ),
+        None => {
+            let verifier =
+                Verifier::new().map_err(|error| Fault::Words(format!("OpenSSL: {error}")))?;
+            Provider::Es256 { verifier, good: keeps_answers.then(Mutex::default) }
+        }
     };
     let world = World::open(&settings, &anchors, &table)?;
-    Ok(Judge { chains: Chains::new(world.clone(), files), world, provider, tells: false })
+    let chains = Chains::new(world.clone(), files);
+    Ok(Judge { world, chains, provider, files: Files { anchors, table }, tells: false })
 }
 
 /// The threads that judge.

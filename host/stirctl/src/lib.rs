@@ -6,6 +6,7 @@
 mod answers;
 mod capture;
 mod chains;
+mod checking;
 mod confirming;
 mod explaining;
 mod fault;

@@ -59,6 +59,8 @@ impl<'a> Row<'a> {
 #[derive(Default)]
 pub(crate) struct Outputs {
     pub report: Option<Sink>,
+    /// The same once more, for a check.
+    pub copy: Option<Sink>,
     pub json: Option<Sink>,
     pub csv: Option<csv::Writer<Sink>>,
     pub words: Option<Sink>,
@@ -87,7 +89,7 @@ impl Outputs {
         about: Option<&About>,
         verdict: &Verdict,
     ) -> Result<(), Fault> {
-        if let Some(report) = &mut self.report {
+        for report in self.report.iter_mut().chain(&mut self.copy) {
             report.put(|mut out| verdict.write(call, &mut out))?;
         }
         let Some(about) = about else { return Ok(()) };
@@ -115,14 +117,15 @@ impl Outputs {
         Ok(())
     }
 
-    /// Writes text into the report alone.
+    /// Writes text into the report and its copy alone.
     pub fn put_in_report(&mut self, text: &[u8]) -> Result<(), Fault> {
-        self.report.as_mut().map_or(Ok(()), |report| report.put(|out| out.write_all(text)))
+        let mut reports = self.report.iter_mut().chain(&mut self.copy);
+        reports.try_for_each(|report| report.put(|out| out.write_all(text)))
     }
 
     /// Ends a run whose log is whole: counts and picture are written, and all files get their names.
     pub fn commit(self, title: &str) -> Result<(), Fault> {
-        let Outputs { report, json, csv, words, counts, picture, summary, line: _ } = self;
+        let Outputs { report, json, csv, words, counts, picture, summary, .. } = self;
         for sink in report.into_iter().chain(json).chain(words) {
             sink.commit()?;
         }
@@ -148,7 +151,7 @@ impl Outputs {
     pub fn fail(self, fault: &Fault) -> Result<bool, Fault> {
         let mut is_said = false;
         if let Some(mut report) = self.report.filter(Sink::is_stdout) {
-            if !matches!(fault, Fault::Write(..) | Fault::Words(_) | Fault::Input(..)) {
+            if fault.is_of_a_report() {
                 report.put(|out| writeln!(out, "{fault}"))?;
                 is_said = true;
             }

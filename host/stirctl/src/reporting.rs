@@ -4,7 +4,7 @@ use crate::answers::Answers;
 use crate::chains::{read_map, Chains};
 use crate::files::lines;
 use crate::input::{whole, Input};
-use crate::judge::Judge;
+use crate::judge::{Files, Judge};
 use crate::judging::{outputs, pool, title};
 use crate::log::End;
 use crate::outputs::Outputs;
@@ -113,7 +113,8 @@ fn judge(words: &Report) -> Result<Judge, Fault> {
         World::open(&settings, b"", b"").map_err(|error| Fault::Words(error.to_string()))?;
     let files = words.chains.as_deref().map_or(Ok(HashMap::new()), read_map)?;
     let chains = Chains::new(world.clone(), files);
-    Ok(Judge { world, chains, provider: Provider::Answers(Answers::default()), tells: true })
+    let provider = Provider::Answers(Answers::default());
+    Ok(Judge { world, chains, provider, files: Files::default(), tells: true })
 }
 
 /// Writes the report of which a text is the JSON.

@@ -38,6 +38,10 @@ pub struct Judge {
     /// for the first run. The new state stands at the end of the report
     #[arg(long, value_name = "FILE")]
     pub state: Option<String>,
+    /// Has this program, the proved `stir`, judge the same log by the answers that were made. If its
+    /// report has other bytes, the status is 7 and nothing is written under the names of files
+    #[arg(long, value_name = "PROGRAM")]
+    pub checked_by: Option<String>,
     /// Leaves P-Asserted-Identity fields of captures with several values as they are. Else each value
     /// gets a field, which means the same, since one value of a field is judged
     #[arg(long)]
