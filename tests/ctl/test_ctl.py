@@ -48,12 +48,15 @@ def test_all_outputs_are_written_at_once_and_say_the_same(run, tmp_path):
     told = [json.loads(line) for line in names['json'].read_text().splitlines()]
     assert [f'{it["call"]} {it["answer"]}' for it in told] == [' '.join(line.split()[:2]) for line in FIRST_REPORT.decode().splitlines()]
     assert told[0] | {'x5u': '', 'origid': ''} == {
-        'call': 1, 'moment': 1443208345, 'caller': '12155551212', 'called': '12125551213', 'attestation': told[0]['attestation'], 'origid': '', 'x5u': '',
+        'call': 1, 'moment': 1443208345, 'call_id': told[0]['call_id'], 'from': '', 'to': '', 'caller': '12155551212', 'called': '12125551213', 'attestation': told[0]['attestation'], 'origid': '', 'x5u': '',
         'signer': '709J', 'named': '', 'answer': 'valid', 'response': None, 'phrase': '', 'rule': None, 'place': None, 'verstat': 'TN-Validation-Passed',
         'reason': ''}
+    # Of a call without a PASSporT its header fields are told.
+    assert b'\r\nCall-ID: ' + told[4]['call_id'].encode() + b'\r\n' in FIRST.read_bytes() and told[4]['call_id']
+    assert told[4]['from'].endswith('>;tag=1') and told[4]['to'].startswith('<sip:+12125551213@') and not told[4]['caller']
     table = list(csv.DictReader(io.StringIO(names['csv'].read_text())))
     assert [{name: '' if value is None else str(value) for name, value in it.items()} for it in told] == table
-    assert names['words'].read_bytes().startswith(b'1 valid - - -\n    2015-09-25 19:12:25 UTC\n')
+    assert names['words'].read_bytes().startswith(b'1 valid - - -\n    2015-09-25 19:12:25 UTC, Call-ID ')
     assert '2015-09-25\n\ncalls 6' in names['summary'].read_text()
     assert names['svg'].read_text().startswith('<svg ') and '6 calls: 2 valid, 3 refused, 1 replay, 0 unread' in names['svg'].read_text()
     assert sorted(path.name for path in tmp_path.iterdir()) == sorted(names)
@@ -116,6 +119,14 @@ def test_a_capture_that_is_not_read_whole_makes_no_report(name, run, tmp_path):
     status, output, said = run('judge', *FILES, '--report', tmp_path / 'report', tmp_path / name)
     assert (status, output) == (5, b'') and name.encode() in said
     assert not (tmp_path / 'report').exists()
+
+
+def test_invites_inside_a_dialog_can_be_left_out(run, tmp_path):
+    calls = [(1, captures.message(1)), (2, captures.message(2, to=';tag=9')), (3, captures.NO_TAG)]
+    (tmp_path / 'calls.pcap').write_bytes(captures.pcap([(time, captures.ipv4(captures.udp(message))) for time, message in calls], captures.RAW))
+    assert run('log', 'calls.pcap', folder=tmp_path)[1] == captures.log(calls)
+    status, log, said = run('log', '--initial', 'calls.pcap', folder=tmp_path)
+    assert (status, log, said) == (0, captures.log([calls[0], calls[2]]), b'stirctl: calls 2; left out: re-INVITEs 1\n')
 
 
 def test_captures_are_put_in_the_order_of_time(run, tmp_path):

@@ -1,7 +1,7 @@
 //! What calls come from: call logs, and captures, which become call logs first; each as it is or
 //! packed by gzip.
 
-use crate::capture::{is_capture, Captures};
+use crate::capture::{is_capture, Captures, How};
 use crate::files::{self, Unread};
 use crate::say;
 use crate::Fault;
@@ -60,16 +60,16 @@ impl Input {
 /// Captures that stand one after another become one log, in the order of time.
 pub(crate) fn each_log(
     words: &[String],
-    as_is: bool,
+    how: How,
     mut call: impl FnMut(String, Source) -> Result<(), Fault>,
 ) -> Result<(), Fault> {
-    let mut captures = Captures::new(as_is)?;
+    let mut captures = Captures::new(how)?;
     for word in words {
         let Input { name, source, bar, is_capture } = Input::open(word)?;
         if is_capture {
             captures.add(&name, source)?;
         } else {
-            let before = std::mem::replace(&mut captures, Captures::new(as_is)?);
+            let before = std::mem::replace(&mut captures, Captures::new(how)?);
             of_captures(before, &mut call)?;
             call(name, source)?;
         }

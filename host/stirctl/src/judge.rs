@@ -50,12 +50,17 @@ pub(crate) struct Judged {
     pub about: Option<Box<About>>,
 }
 
-/// What its PASSporTs say of a call, if it breaks none of rules 1 to 9.
+/// What is told of a call.
 #[derive(Debug, Default)]
 pub(crate) struct About {
+    /// Its Call-ID.
+    pub call_id: String,
+    /// From and To, if nothing is told of its PASSporTs.
+    pub from: String,
+    pub to: String,
     /// The claims of the PASSporT that speaks for the caller.
     pub claims: Claims,
-    /// The PASSporTs, that one first.
+    /// The PASSporTs, that one first; none if the call breaks one of rules 1 to 9.
     pub passports: Vec<Passport>,
 }
 
@@ -213,8 +218,10 @@ impl Judge {
 
 /// What is told of a call.
 fn about(call: &mut Call, found: Vec<(Vec<u8>, Found)>) -> Result<About, Fault> {
+    let call_id = header(call, "Call-ID")?;
     if found.is_empty() {
-        return Ok(About::default());
+        let (from, to) = (header(call, "From")?, header(call, "To")?);
+        return Ok(About { call_id, from, to, ..About::default() });
     }
     let told = call.claims()?;
     let payload = told.first().and_then(|claims| claims.payload.as_deref()).unwrap_or_default();
@@ -227,7 +234,15 @@ fn about(call: &mut Call, found: Vec<(Vec<u8>, Found)>) -> Result<About, Fault> 
             Found::Missing | Found::Unread => None,
         },
     });
-    Ok(About { claims, passports: passports.collect() })
+    let passports = passports.collect();
+    Ok(About { call_id, claims, passports, ..About::default() })
+}
+
+/// The first value of the header field of this name, as text.
+fn header(call: &mut Call, name: &str) -> Result<String, Fault> {
+    let value = call.header(name).next().transpose()?.unwrap_or_default();
+    Ok(String::from_utf8(value)
+        .unwrap_or_else(|value| String::from_utf8_lossy(value.as_bytes()).into_owned()))
 }
 
 impl About {

@@ -1,6 +1,7 @@
 //! The command `judge`.
 
 use crate::answers::Answers;
+use crate::capture::How;
 use crate::chains::{read_map, Chains};
 use crate::checking::Check;
 use crate::input::each_log;
@@ -62,7 +63,8 @@ fn judged(words: &words::Judge, outputs: &mut Outputs) -> Result<bool, Fault> {
     let state = words.state.as_deref().map(|name| State::read(name, window)).transpose()?;
     let mut day = Day::after(&state.clone().unwrap_or_default());
     let run = Run { judge: &judge, pool: &pool(&words.pool)? };
-    let ended = each_log(&words.inputs, words.as_is, |name, source| {
+    let how = How { initial: words.initial, as_is: words.as_is };
+    let ended = each_log(&words.inputs, how, |name, source| {
         let source = match &check {
             Some(check) => check.seen(source)?,
             None => source,

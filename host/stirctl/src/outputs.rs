@@ -12,6 +12,9 @@ use serde::Serialize;
 pub(crate) struct Row<'a> {
     pub call: u64,
     pub moment: u64,
+    pub call_id: &'a str,
+    pub from: &'a str,
+    pub to: &'a str,
     pub caller: &'a str,
     pub called: &'a str,
     pub attestation: &'a str,
@@ -37,6 +40,9 @@ impl<'a> Row<'a> {
         Row {
             call,
             moment,
+            call_id: &about.call_id,
+            from: &about.from,
+            to: &about.to,
             caller: &about.claims.caller,
             called: &about.claims.called,
             attestation: &about.claims.attestation,

@@ -10,7 +10,8 @@ pub(crate) fn in_words(row: &Row<'_>, verdict: &Verdict) -> String {
     let vouched = [("attestation", row.attestation), ("origid", row.origid)];
     let vouched = vouched.iter().filter(|(_, value)| !value.is_empty());
     let vouched: String = vouched.map(|(name, value)| format!(", {name} {value}")).collect();
-    let (caller, called) = (someone(row.caller), someone(row.called));
+    let caller = someone([row.caller, row.from]);
+    let called = someone([row.called, row.to]);
     let meaning = match (verdict.phrase(), verdict.meaning()) {
         (_, meaning) if meaning.is_empty() => None,
         ("", meaning) => Some(meaning),
@@ -19,7 +20,7 @@ pub(crate) fn in_words(row: &Row<'_>, verdict: &Verdict) -> String {
     let reason = Some(verdict.reason()).filter(|reason| !reason.is_empty());
     let reason = reason.map_or(String::new(), |reason| format!(", Reason: {reason}"));
     let lines = [
-        Some(format!("{day} {time} UTC")),
+        Some(format!("{day} {time} UTC, Call-ID {}", or(row.call_id, "none"))),
         Some(format!("{caller} calls {called}{vouched}")),
         Some(signed(row, verdict)),
         meaning,
@@ -28,12 +29,17 @@ pub(crate) fn in_words(row: &Row<'_>, verdict: &Verdict) -> String {
     lines.into_iter().flatten().map(|line| format!("    {}\n", printable(&line))).collect()
 }
 
-/// Who has this number.
-fn someone(number: &str) -> &str {
-    if number.is_empty() {
-        "somebody"
+/// A number, or else the header field in which it stands.
+fn someone([number, field]: [&str; 2]) -> &str {
+    or(number, or(field, "somebody"))
+}
+
+/// A text, or another one if it is empty.
+fn or<'a>(text: &'a str, other: &'a str) -> &'a str {
+    if text.is_empty() {
+        other
     } else {
-        number
+        text
     }
 }
 

@@ -42,6 +42,10 @@ pub struct Judge {
     /// report has other bytes, the status is 7 and nothing is written under the names of files
     #[arg(long, value_name = "PROGRAM")]
     pub checked_by: Option<String>,
+    /// Leaves out INVITEs of captures that stand inside a dialog: their To has a tag (RFC 3261,
+    /// section 14)
+    #[arg(long)]
+    pub initial: bool,
     /// Leaves P-Asserted-Identity fields of captures with several values as they are. Else each value
     /// gets a field, which means the same, since one value of a field is judged
     #[arg(long)]
@@ -94,6 +98,9 @@ pub struct Report {
 /// of time and without retransmissions.
 #[derive(Debug, Args)]
 pub struct Log {
+    /// Leaves out INVITEs that stand inside a dialog: their To has a tag (RFC 3261, section 14)
+    #[arg(long)]
+    pub initial: bool,
     /// Leaves P-Asserted-Identity fields with several values as they are
     #[arg(long)]
     pub as_is: bool,

@@ -13,6 +13,7 @@ use packets::{Carried, Packets};
 use spool::Spool;
 use std::fs::File;
 use std::io::{BufReader, Read, Seek};
+use stir::{Settings, World};
 
 const BUFFER: usize = 1 << 20;
 
@@ -22,10 +23,22 @@ const INVITE: &[u8] = b"INVITE ";
 /// Who reads what isn't read here.
 const BY_TSHARK: &str = "which tools/stir-log reads by tshark";
 
+/// Which INVITEs of captures are calls, and how they are taken.
+#[derive(Clone, Copy, Debug)]
+pub(crate) struct How {
+    /// Those inside a dialog aren't (RFC 3261, section 14).
+    pub initial: bool,
+    /// P-Asserted-Identity fields with several values stay. Else they become one field a value,
+    /// which means the same (RFC 3261, section 7.3.1).
+    pub as_is: bool,
+}
+
 /// The INVITEs of captures.
 pub(crate) struct Captures {
     spool: Spool,
-    as_is: bool,
+    how: How,
+    /// What tells header fields.
+    world: World,
     counts: Counts,
     /// The name of the first.
     name: String,
@@ -38,15 +51,16 @@ struct Counts {
     cut: u64,
     fragments: u64,
     split: u64,
+    in_dialogs: u64,
     on_port: u64,
 }
 
 impl Captures {
-    /// None so far. P-Asserted-Identity fields with several values become one field a value, which
-    /// means the same (RFC 3261, section 7.3.1), unless messages are taken as they are.
-    pub fn new(as_is: bool) -> Result<Captures, Fault> {
+    /// None so far.
+    pub fn new(how: How) -> Result<Captures, Fault> {
         let (spool, counts) = (Spool::new()?, Counts::default());
-        Ok(Captures { spool, as_is, counts, name: String::new() })
+        let world = World::open(&Settings::default(), b"", b"")?;
+        Ok(Captures { spool, how, world, counts, name: String::new() })
     }
 
     /// Whether none was added.
@@ -96,13 +110,24 @@ impl Captures {
             self.counts.others += 1;
             return Ok(());
         }
-        match (!self.as_is).then(|| stir_trust::split::lists(message)).flatten() {
+        if self.how.initial && self.is_in_dialog(time, message)? {
+            self.counts.in_dialogs += 1;
+            return Ok(());
+        }
+        match (!self.how.as_is).then(|| stir_trust::split::lists(message)).flatten() {
             Some(split) => {
                 self.counts.split += 1;
                 self.spool.add(time, source, &split)
             }
             None => self.spool.add(time, source, message),
         }
+    }
+
+    /// Whether To has a tag (RFC 3261, section 12.2).
+    fn is_in_dialog(&self, time: u64, message: &[u8]) -> Result<bool, Fault> {
+        let mut call = self.world.call(time / 1_000_000_000, message)?;
+        let to = call.header("To").next().transpose()?.unwrap_or_default();
+        Ok(has_tag(&to))
     }
 
     /// A log of the calls from its first byte on, the name of its capture, and what is said of
@@ -113,6 +138,7 @@ impl Captures {
         log.rewind().map_err(|error| Fault::write("a temporary file", &error))?;
         let left_out = [
             ("retransmissions", repeated),
+            ("re-INVITEs", counts.in_dialogs),
             ("other messages", counts.others),
             ("cut packets", counts.cut),
             ("datagrams with missing fragments", counts.fragments),
@@ -130,5 +156,47 @@ impl Captures {
             said += "; there was traffic on port 5060, and no call in it";
         }
         Ok((log, name, said))
+    }
+}
+
+/// Whether the value of From or To has the parameter `tag` (RFC 3261, sections 20.20 and 20.39):
+/// after its `>`, or after its first `;` if it has no angle brackets.
+fn has_tag(value: &[u8]) -> bool {
+    let (mut is_quoted, mut is_escaped, mut plain) = (false, false, Vec::new());
+    for byte in value {
+        match (is_quoted, is_escaped, byte) {
+            (true, true, _) => is_escaped = false,
+            (true, false, b'\\') => is_escaped = true,
+            (_, _, b'"') => is_quoted = !is_quoted,
+            (false, _, byte) => plain.push(byte.to_ascii_lowercase()),
+            (true, false, _) => {}
+        }
+    }
+    let after = plain.rsplit(|byte| *byte == b'>').next().unwrap_or_default();
+    after.split(|byte| *byte == b';').skip(1).any(|parameter| {
+        let name = parameter.split(|byte| *byte == b'=').next().unwrap_or_default();
+        parameter.contains(&b'=') && name.trim_ascii() == b"tag"
+    })
+}
+
+#[cfg(test)]
+mod tests {
+    use super::*;
+
+    #[test]
+    fn a_tag_is_a_parameter_and_no_text_that_looks_like_one() {
+        for (value, has) in [
+            ("<sip:a@example.org>;tag=1", true),
+            ("\"b\" <sip:a@example.org> ; x=y ; TAG = 1", true),
+            ("sip:a@example.org;tag=1", true),
+            ("<sip:a@example.org;tag=1>", false),
+            ("\"a;tag=1\" <sip:b;tag=2>", false),
+            ("\"a\\\";tag=1\" <sip:b>", false),
+            ("<sip:a>;tags=1", false),
+            ("<sip:a>;tag", false),
+            ("", false),
+        ] {
+            assert_eq!(has_tag(value.as_bytes()), has, "{value}");
+        }
     }
 }
