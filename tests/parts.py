@@ -32,6 +32,7 @@ PARTS = {
     'fuzz': ('python3', 'tests/fuzz/run.py', '1', '300', PROGRAM),
     'tools': (*SIDE_BY_SIDE, 'tests/tools'),
     'day': ('examples/carrier/day',),
+    'ctl': ('tests/ctl/try',),
     'service': ('tests/service/try',),
     'proxy': ('python3', 'tests/service/proxy.py', STIRD),
     'cluster': ('tests/cluster/try',),
