@@ -26,9 +26,22 @@ pub struct Reading {
 /// more. Nothing but a file of bytes is opened, so no FIFO is waited for. What was changed while it
 /// was read is read again.
 pub fn read(path: &Path, most: usize) -> Reading {
+    read_while(path, most, || ())
+}
+
+/// The bytes that were read, if they are no more than these.
+pub(super) fn is_within(bytes: Vec<u8>, most: usize) -> Result<Vec<u8>, Why> {
+    if bytes.len() > most {
+        return Err(Why::Long(most));
+    }
+    Ok(bytes)
+}
+
+/// The same, while something is done each time that the bytes were read.
+fn read_while(path: &Path, most: usize, mut meanwhile: impl FnMut()) -> Reading {
     for attempt in 0..TRIES {
         std::thread::sleep(PAUSE * attempt);
-        match read_once(path, most) {
+        match read_once(path, most, &mut meanwhile) {
             Ok((bytes, before, after))
                 if before == after && Look::at(path) == Look::There(after) =>
             {
@@ -47,7 +60,11 @@ pub fn read(path: &Path, most: usize) -> Reading {
 }
 
 /// Its bytes, and how it looked before they were read and after.
-fn read_once(path: &Path, most: usize) -> Result<(Vec<u8>, Stamp, Stamp), Why> {
+fn read_once(
+    path: &Path,
+    most: usize,
+    meanwhile: impl FnOnce(),
+) -> Result<(Vec<u8>, Stamp, Stamp), Why> {
     let is_file = |stamp: Stamp| match stamp.kind {
         Kind::File => Ok(stamp),
         kind => Err(Why::NoFile(kind)),
@@ -64,6 +81,7 @@ fn read_once(path: &Path, most: usize) -> Result<(Vec<u8>, Stamp, Stamp), Why> {
     let size = usize::try_from(before.size).unwrap_or(usize::MAX).min(most);
     bytes.try_reserve(size.saturating_add(1)).map_err(|_| Why::NoMemory)?;
     take(&file, most).read_to_end(&mut bytes).map_err(Why::of)?;
+    meanwhile();
     let after = stamp_of(file.metadata())?;
     Ok((bytes, before, after))
 }
@@ -111,8 +129,6 @@ pub fn wait_for_rest(files: &[(&Path, &Look)]) {
 #[cfg(test)]
 mod tests {
     use super::*;
-    use std::io::Write;
-    use std::sync::atomic::{AtomicBool, Ordering};
 
     /// A file in the folder for such, by the name of its test.
     fn file(test: &str, bytes: &[u8]) -> std::path::PathBuf {
@@ -142,33 +158,41 @@ mod tests {
     }
 
     #[test]
-    fn what_is_changed_while_it_is_read_isnt_taken() {
-        let path = file("growing", &[7; 8_000_000]);
-        let done = AtomicBool::new(false);
-        let changing = std::thread::scope(|threads| {
-            threads.spawn(|| {
-                let file = OpenOptions::new().append(true).open(&path);
-                let mut file = file.expect("it is opened");
-                while !done.load(Ordering::SeqCst) {
-                    file.write_all(b"7").expect("a byte more");
-                }
-            });
-            let mut changing = 0;
-            for _ in 0..20 {
-                let came = read(&path, 16_000_000);
-                match (came.bytes, came.look) {
-                    (Ok(bytes), Look::There(stamp)) => {
-                        assert_eq!(u64::try_from(bytes.len()), Ok(stamp.size));
-                    }
-                    (Err(Why::Changing), _) => changing += 1,
-                    other => panic!("{other:?}"),
-                }
+    fn what_is_changed_while_it_is_read_is_read_again() {
+        let (path, other) = (file("changed", b"first"), file("other", b"other"));
+        let mut times = 0;
+        let came = read_while(&path, 100, || {
+            times += 1;
+            if times <= 2 {
+                std::fs::write(&path, format!("written {times}")).expect("written");
             }
-            done.store(true, Ordering::SeqCst);
-            changing
         });
-        assert!(changing > 0, "it was never changed while it was read");
-        assert!(read(&path, 16_000_000).bytes.is_ok(), "it rests");
+        assert_eq!((came.bytes, times), (Ok(b"written 2".to_vec()), 3));
+        // Another file was put in its place.
+        let came = read_while(&path, 100, || {
+            let _ = std::fs::rename(&other, &path);
+        });
+        assert_eq!((came.bytes, came.look), (Ok(b"other".to_vec()), Look::at(&path)));
+        // A link leads to another one.
+        let (other, link) = (file("linked", b"linked"), path.with_extension("link"));
+        let lead = |to: &Path| {
+            let new = path.with_extension("new");
+            std::os::unix::fs::symlink(to, &new).expect("a link");
+            std::fs::rename(&new, &link).expect("renamed");
+        };
+        lead(&path);
+        let came = read_while(&link, 100, || lead(&other));
+        assert_eq!((came.bytes, came.look), (Ok(b"linked".to_vec()), Look::at(&other)));
+        for path in [&other, &link] {
+            std::fs::remove_file(path).expect("removed");
+        }
+        // It never rests.
+        let mut times = 0;
+        let came = read_while(&path, 100, || {
+            times += 1;
+            std::fs::write(&path, "x".repeat(times)).expect("written");
+        });
+        assert_eq!((came.bytes, came.again, times), (Err(Why::Changing), true, 5));
         std::fs::remove_file(&path).expect("removed");
     }
 }

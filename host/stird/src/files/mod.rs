@@ -72,9 +72,6 @@ pub struct Sources {
 /// assert!(matches!(fault.why, Why::NoFile(_)), "{fault}");
 /// ```
 pub fn whole(path: &Path, most: usize) -> Result<Vec<u8>, FileFault> {
-    match bytes::read(path, most).bytes {
-        Ok(bytes) if bytes.len() > most => Err(FileFault::of(path, Why::Long(most))),
-        Ok(bytes) => Ok(bytes),
-        Err(why) => Err(FileFault::of(path, why)),
-    }
+    let bytes = bytes::read(path, most).bytes.and_then(|bytes| bytes::is_within(bytes, most));
+    bytes.map_err(|why| FileFault::of(path, why))
 }

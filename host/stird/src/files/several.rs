@@ -21,10 +21,7 @@ impl Files {
         let came = bytes::read(path, most);
         let again = came.again || matches!(came.bytes, Err(Why::Missing | Why::NoFile(_)));
         self.0.push((path.into(), came.look, again));
-        let bytes = came.bytes?;
-        if bytes.len() > most {
-            return Err(Why::Long(most));
-        }
+        let bytes = came.bytes.and_then(|bytes| bytes::is_within(bytes, most))?;
         let mode = if let Look::There(stamp) = came.look { stamp.mode } else { 0 };
         Ok(File { bytes, mode })
     }

@@ -1,6 +1,6 @@
 //! A file that stands alone: the chain map, the trust anchors, the code table.
 use super::bytes;
-use super::fault::{FileFault, Why};
+use super::fault::FileFault;
 use super::look::Look;
 use std::path::Path;
 use std::sync::Arc;
@@ -32,12 +32,9 @@ impl Single {
             return Ok(before.clone());
         }
         let came = bytes::read(path, MOST_BYTES);
-        let is_long = |bytes: &Vec<u8>| bytes.len() > MOST_BYTES;
-        let (bytes, again) = match came.bytes {
-            Ok(bytes) if is_long(&bytes) => (Err(Why::Long(MOST_BYTES)), came.again),
-            Ok(bytes) => (Ok(bytes), came.again),
-            Err(why) => (Err(why), true),
-        };
+        // What can't be read is tried again each time, and what is too long once it was changed.
+        let again = came.again || came.bytes.is_err();
+        let bytes = came.bytes.and_then(|bytes| bytes::is_within(bytes, MOST_BYTES));
         match (bytes, before) {
             (Ok(bytes), before) => {
                 let same = before.filter(|before| *before.bytes == *bytes);
