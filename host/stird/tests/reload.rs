@@ -415,7 +415,7 @@ fn a_storm_of_renames_is_taken_without_a_fault() {
         done.store(true, Ordering::SeqCst);
         world
     });
-    assert!(readings > 10, "{readings} readings");
+    assert!(readings > 3, "{readings} readings");
     files.renew(3);
     let before = at(&world, 3);
     assert_ne!(at(&settled(&sources, world), 3), before);
