@@ -29,7 +29,7 @@ SameCalls [] (other ∷ others) = ⊥
 SameCalls (round ∷ rounds) [] = ⊥
 SameCalls (round ∷ rounds) (other ∷ others) = (round.calls ≡ other.calls) × SameCalls rounds others
 
-some_calls : (round : Round) (rounds : List Round) → IsCut (round ∷ rounds) → 1 ≤ length round.calls
+pub some_calls : (round : Round) (rounds : List Round) → IsCut (round ∷ rounds) → 1 ≤ length round.calls
 some_calls round [] cut = cut.0
 some_calls round (next ∷ rounds) cut = let full = cut.0 in omega (arith, full)
 
@@ -40,7 +40,7 @@ no_calls round rounds cut none =
     omega (arith, some, count)
 
 -- two lists that go on from parts of one length are the same in both parts
-same_parts : {X : Type 0} (xs ys more others : List X) → length xs ≡ length ys → xs ++ more ≡ ys ++ others → (xs ≡ ys) × (more ≡ others)
+pub same_parts : {X : Type 0} (xs ys more others : List X) → length xs ≡ length ys → xs ++ more ≡ ys ++ others → (xs ≡ ys) × (more ≡ others)
 same_parts [] [] more others lengths same = (refl, same)
 same_parts [] (y ∷ ys) more others lengths same = absurd (cc)
 same_parts (x ∷ xs) [] more others lengths same = absurd (cc)
@@ -85,7 +85,7 @@ turned : (outcome other : Outcome) → AreAlike outcome other → AreAlike other
 turned outcome other alike = record { same_passes = sym alike.same_passes; decided = λ same. sym (alike.decided (sym same)) }
 
 -- what the rules say of the call decides, if it isn't set aside
-outcomes_of : (world other : World) (settings : Settings) (entry : Entry) (mine yours : Outcome) → First world (call_in settings entry) ≡ First other (call_in settings entry)
+pub outcomes_of : (world other : World) (settings : Settings) (entry : Entry) (mine yours : Outcome) → First world (call_in settings entry) ≡ First other (call_in settings entry)
     → Answers world settings entry mine → Answers other settings entry yours → is_unread mine ≡ false → is_unasked mine ≡ false → is_unread yours ≡ false
     → is_unasked yours ≡ false → AreAlike mine yours
 outcomes_of world other settings entry Valid Valid same a b u v x y = record { same_passes = refl; decided = λ e. refl }
@@ -133,13 +133,13 @@ all_turned (outcome ∷ outcomes) [] alike = alike
 all_turned (outcome ∷ outcomes) (other ∷ others) (here, more) = (turned outcome other here, all_turned outcomes others more)
 
 -- of the first of them, and of the others
-first_aside : (outcome : Outcome) (outcomes : List Outcome) → NoneAside (outcome ∷ outcomes) → (is_unread outcome ≡ false) × (is_unasked outcome ≡ false) × NoneAside outcomes
+pub first_aside : (outcome : Outcome) (outcomes : List Outcome) → NoneAside (outcome ∷ outcomes) → (is_unread outcome ≡ false) × (is_unasked outcome ≡ false) × NoneAside outcomes
 first_aside outcome outcomes none =
     let read = or_parts (is_unread outcome) (list_any is_unread outcomes) none.read in
     let asked = or_parts (is_unasked outcome) (list_any is_unasked outcomes) none.asked in
     (read.0, asked.0, record { read = read.1; asked = asked.1 })
 
-all_alike : (world other : World) (settings : Settings) → ((entry : Entry) → First world (call_in settings entry) ≡ First other (call_in settings entry))
+pub all_alike : (world other : World) (settings : Settings) → ((entry : Entry) → First world (call_in settings entry) ≡ First other (call_in settings entry))
     → (calls : List Entry) (mine yours : List Outcome) → EachPair (Answers world settings) calls mine → EachPair (Answers other settings) calls yours
     → NoneAside mine → NoneAside yours → AllAlike mine yours
 all_alike world other settings same [] [] [] a b none none_other = tt
@@ -167,11 +167,11 @@ rows_alike settings (call ∷ calls) (mine ∷ more) (yours ∷ others) (here, l
 rows_alike settings (call ∷ calls) (mine ∷ more) (yours ∷ others) (here, later) (suc place) row stands = rows_alike settings calls more others later place row stands
 
 -- if each call has one answer of the replay rule, it has one outcome
-abbrev OneEach : Settings → List Entry → List Outcome → List Outcome → Type 0
+abbrev pub OneEach : Settings → List Entry → List Outcome → List Outcome → Type 0
 OneEach settings calls mine yours = (place : ℕ) (row other : Row) → Stands (rows_of settings calls mine) place row → Stands (rows_of settings calls yours) place other
     → row.answer ≡ other.answer
 
-same_outcomes : (world other : World) (settings : Settings) (calls : List Entry) (mine yours : List Outcome) → EachPair (Answers world settings) calls mine
+pub same_outcomes : (world other : World) (settings : Settings) (calls : List Entry) (mine yours : List Outcome) → EachPair (Answers world settings) calls mine
     → EachPair (Answers other settings) calls yours → AllAlike mine yours → OneEach settings calls mine yours → mine ≡ yours
 same_outcomes world other settings [] [] [] a b alike one = refl
 same_outcomes world other settings [] (mine ∷ more) yours a b alike one = absurd a
@@ -205,7 +205,7 @@ any_left test (x ∷ xs) ys none =
     let more = any_left test xs ys here.1 in
     (ap (λ t. t || list_any test xs) here.0 ∙ more.0, more.1)
 
-parts_aside : (xs ys : List Outcome) → NoneAside (xs ++ ys) → NoneAside xs × NoneAside ys
+pub parts_aside : (xs ys : List Outcome) → NoneAside (xs ++ ys) → NoneAside xs × NoneAside ys
 parts_aside xs ys none =
     let read = any_left is_unread xs ys none.read in
     let asked = any_left is_unasked xs ys none.asked in

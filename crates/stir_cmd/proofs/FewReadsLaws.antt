@@ -47,7 +47,7 @@ one_call law passed call other behind more next there same =
     let both : call ∷ [] ≡ other ∷ [] = one.0 in
     (cc, one.1)
 
-begins_by : OneLog → (passed : Passed) (all calls : List Entry) (rest behind : List ℕ) → AreCalls passed all → NoEntry (after_all passed all) rest → AreCalls passed calls
+pub begins_by : OneLog → (passed : Passed) (all calls : List Entry) (rest behind : List ℕ) → AreCalls passed all → NoEntry (after_all passed all) rest → AreCalls passed calls
     → entry_texts all ++ rest ≡ entry_texts calls ++ behind → (more : List Entry) × (all ≡ calls ++ more)
 begins_by law passed all [] rest behind a none b e = (all, refl)
 begins_by law passed [] (c ∷ cs) rest behind a none b e = absurd (none c (entry_texts cs ++ behind) b.0 (e ∙ append_assoc (entry_text c) (entry_texts cs) behind))

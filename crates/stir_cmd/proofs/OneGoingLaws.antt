@@ -45,13 +45,13 @@ there (r ∷ rows) (o ∷ others) (here, more) (suc place) row stands = there ro
 
 -- ---- places
 
-same_or_other : (a b : ℕ) → (a ≡ b) ⊎ (a ≢ b)
+pub same_or_other : (a b : ℕ) → (a ≡ b) ⊎ (a ≢ b)
 same_or_other zero zero = inl refl
 same_or_other zero (suc b) = inr (λ same. omega (arith, same))
 same_or_other (suc a) zero = inr (λ same. omega (arith, same))
 same_or_other (suc a) (suc b) = elim (same_or_other a b) [ inl same ↦ inl (ap suc same) | inr other ↦ inr (λ same. other (omega (arith, same))) ]
 
-one_row : (rows : List Row) (place other : ℕ) (row winner : Row) → place ≡ other → Stands rows place row → Stands rows other winner → row ≡ winner
+pub one_row : (rows : List Row) (place other : ℕ) (row winner : Row) → place ≡ other → Stands rows place row → Stands rows other winner → row ≡ winner
 one_row rows place other row winner same stands there = same_Some row winner (sym stands ∙ ap (λ p. slice_get rows p) same ∙ there)
 
 -- ---- valid calls
@@ -146,7 +146,7 @@ module _ (held next other_next : Held) (rows others : List Row) (same : AreOneCa
       mine.refused place row stands is ∙ sym (yours.refused place other stands_other (sym one.passes ∙ is))
   by_passes place row other stands stands_other one true is = by_held place row other stands stands_other one is (held row.ticket) refl
 
-  one_in_round : (place : ℕ) (row other : Row) → Stands rows place row → Stands others place other → row.answer ≡ other.answer
+  pub one_in_round : (place : ℕ) (row other : Row) → Stands rows place row → Stands others place other → row.answer ≡ other.answer
   one_in_round place row other stands stands_other =
       let (o, stands_o, one) = there rows others same place row stands in
       by_passes place row other stands stands_other (subst (λ (x : Row). IsOneCall row x) (same_Some o other (sym stands_o ∙ stands_other)) one) row.passes refl
@@ -174,7 +174,7 @@ module _ (held next other_next : Held) (rows others : List Row) (same : AreOneCa
         | inr none ↦ mine.no_more ticket is none ∙ sym (yours.no_more ticket is (none_there ticket none))
       ]
 
-  same_left : Same next other_next
+  pub same_left : Same next other_next
   same_left ticket = left_by ticket (held ticket) refl
 
 -- ---- rounds

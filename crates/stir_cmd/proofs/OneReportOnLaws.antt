@@ -47,7 +47,7 @@ use Rattle.stir_cmd.proofs.SameReadings.{SameWorldLaw, one_content, one_ok, same
 
 -- ---- the state that was read
 
-one_start : (files others : Files) → AreOneMap files others → (judging : JudgingView) (name : List ℕ) (mine yours : GoingMaterials) → GoingOf (Some files) judging name mine
+pub one_start : (files others : Files) → AreOneMap files others → (judging : JudgingView) (name : List ℕ) (mine yours : GoingMaterials) → GoingOf (Some files) judging name mine
     → GoingOf (Some others) judging name yours
     → mine.state ≡ yours.state
 one_start files others same judging name mine yours a b =
@@ -57,7 +57,7 @@ one_start files others same judging name mine yours a b =
 
 -- ---- the rounds, as the replay rule sees them
 
-one_rows : (settings : Settings) (calls : List Entry) (mine yours : List Outcome) → AllAlike mine yours → AreOneCalls (rows_of settings calls mine) (rows_of settings calls yours)
+pub one_rows : (settings : Settings) (calls : List Entry) (mine yours : List Outcome) → AllAlike mine yours → AreOneCalls (rows_of settings calls mine) (rows_of settings calls yours)
 one_rows settings [] mine yours alike = tt
 one_rows settings (call ∷ calls) [] [] alike = tt
 one_rows settings (call ∷ calls) [] (yours ∷ others) alike = absurd alike
@@ -65,13 +65,13 @@ one_rows settings (call ∷ calls) (mine ∷ more) [] alike = absurd alike
 one_rows settings (call ∷ calls) (mine ∷ more) (yours ∷ others) (here, later) =
     (record { number = refl; moment = refl; ticket = refl; last = refl; passes = here.same_passes }, one_rows settings calls more others later)
 
-one_moment : (rows others : List Row) → AreOneCalls rows others → first_moment rows ≡ first_moment others
+pub one_moment : (rows others : List Row) → AreOneCalls rows others → first_moment rows ≡ first_moment others
 one_moment [] [] same = refl
 one_moment [] (other ∷ others) same = absurd same
 one_moment (row ∷ rows) [] same = absurd same
 one_moment (row ∷ rows) (other ∷ others) (here, more) = here.moment
 
-one_rounds : (config : JudgeConfig) (rounds others : List Round) → RoundsAlike rounds others → AreOneRounds (row_rounds config rounds) (row_rounds config others)
+pub one_rounds : (config : JudgeConfig) (rounds others : List Round) → RoundsAlike rounds others → AreOneRounds (row_rounds config rounds) (row_rounds config others)
 one_rounds config [] [] alike = tt
 one_rounds config [] (next ∷ others) alike = absurd alike
 one_rounds config (here ∷ rounds) [] alike = absurd alike
@@ -84,7 +84,7 @@ one_rounds config (here ∷ rounds) (next ∷ others) (calls, alike, more) =
       one_rounds config rounds others more,
     )
 
-each_in_order : (config : JudgeConfig) (rounds : List Round) → AllInOrder config rounds → EachInOrder (row_rounds config rounds)
+pub each_in_order : (config : JudgeConfig) (rounds : List Round) → AllInOrder config rounds → EachInOrder (row_rounds config rounds)
 each_in_order config [] order = tt
 each_in_order config (round ∷ rounds) (first, more) = (first, each_in_order config rounds more)
 
@@ -98,7 +98,7 @@ kept_once (Some mine) (Some yours) same =
     let kept = same_Some (kept_of_past mine) (kept_of_past yours) same in
     λ i. Some (record { call = (kept i).call; last = (kept i).last })
 
-one_handed : (config : JudgeConfig) (passed also : Passed) (calls others : List Entry) (next other_next : Held) (mine yours : StateView) → passed ≡ also → calls ≡ others → Same next other_next
+pub one_handed : (config : JudgeConfig) (passed also : Passed) (calls others : List Entry) (next other_next : Held) (mine yours : StateView) → passed ≡ also → calls ≡ others → Same next other_next
     → IsHanded config passed calls next mine → IsHanded config also others other_next yours → mine ≡ yours
 one_handed config passed also calls others next other_next mine yours same_passed same_calls left a b =
     let call : mine.call ≡ yours.call = a.call ∙ (λ i. last_number (same_passed i).number (same_calls i)) ∙ sym b.call in

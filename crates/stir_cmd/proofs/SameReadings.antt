@@ -1,5 +1,5 @@
 -- Two readings of the same text say the same, however a chain map, a code table or answers are kept.
-use Rattle.std.proofs.Common.{◌≡◌, ◌↔◌, ℕ, List, Some, Result, Ok, refl, sym, ◌∙◌, ap, subst}
+use Rattle.std.proofs.Common.{◌≡◌, ◌↔◌, ℕ, List, Some, Result, Ok, sym, ◌∙◌, ap, subst}
 use Rattle.std.proofs.lemmas.Option.{same_Some}
 use Rattle.cert_store.specs.ChainMap.{MapOf, file_in, listed}
 use Rattle.cert_store.specs.Files.{Files as ChainFiles}

@@ -21,6 +21,7 @@ pub mod Drilling
 pub mod Claiming
 pub mod Causes
 pub mod OneReport
+pub mod OnePrefix
 pub mod OneSummary
 pub mod Rows
 pub mod ByWords

@@ -5,6 +5,7 @@ ghost use Rattle.stir_cmd.specs.Outside.{outside_of};
 ghost use Rattle.stir_cmd.specs.Causes.{HasCauses, IsComplete, IsSaid, IsThrough, Ran, RanOrShort};
 ghost use Rattle.stir_cmd.specs.FewReads.{FewReads};
 ghost use Rattle.stir_cmd.specs.Headline.{Headline};
+ghost use Rattle.stir_cmd.specs.OnePrefix.{GivesOnePrefix};
 ghost use Rattle.stir_cmd.specs.OneReport.{GivesOneReport};
 ghost use Rattle.stir_cmd.specs.OneSummary.{GivesOneSummary};
 ghost use Rattle.call_log.specs.Entry.{Entry};
@@ -70,6 +71,13 @@ pub fn run<R: Threads + Sync, S: Shelf, I: Source, O: Sink>(
     // order they are kept, and the same log: if no read of a file fails in either, both write the same bytes and end with the same status, unless memory
     // runs out.
     ensures one_report { GivesOneReport (order_of (texts words.now))
+        (outside_of S.Shelf I.Source O.Sink shelf.old input.old sink.old)
+        (outside_of S.Shelf I.Source O.Sink shelf.new input.new sink.new) result }
+
+    // The same of runs that a fault of the log, or of its source, ended: with 0, 1, 3 or 5. A run judges all bytes of the log, or those that were taken before
+    // the source failed. If another's bytes go on from these, its lines go on from these lines. If they are the same bytes, and both ended with 0 or 1 or
+    // with one status, both wrote the same.
+    ensures one_prefix { GivesOnePrefix (order_of (texts words.now))
         (outside_of S.Shelf I.Source O.Sink shelf.old input.old sink.old)
         (outside_of S.Shelf I.Source O.Sink shelf.new input.new sink.new) result }
 
