@@ -265,7 +265,8 @@ stir_said stir_call_claims(stir_call *call, uint8_t *room, size_t room_size);
  *
  * The value has no blanks at its ends; of a field of several lines it is their parts, with a space between two that aren't empty. It has at most 65,535
  * bytes. If they are 0, the field is there, and its value is empty. STIR_NONE: there is no such field, or the message can't be read, which breaks rule 1.
- * A call that breaks another rule has its fields too. Each call reads the message anew, so ask for as many fields as are needed and no more.
+ * A call that breaks another rule has its fields too. Each call reads the message anew, and a message of 65,535 bytes may have more than 21,000 fields: ask
+ * for a bounded number of them.
  */
 stir_said stir_call_header(stir_call *call, const uint8_t *name, size_t name_size, uint32_t index, uint8_t *room, size_t room_size);
 

@@ -181,8 +181,8 @@ impl Call {
     /// form is its long name, as `i` is `Call-ID` (RFC 3261, sections 7.3.1 and 7.3.3). A value has
     /// no blanks at its ends, and that of a field of several lines is in one.
     ///
-    /// Each step reads the message anew, so take as many as are needed and no more. After an error
-    /// there is no further step.
+    /// Each step reads the message anew, and a message may have more than 21,000 fields: take a
+    /// bounded number of them. After an error there is no further step.
     ///
     /// # Errors
     ///
