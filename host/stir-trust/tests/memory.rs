@@ -1,56 +1,15 @@
 //! OpenSSL without memory: nothing is taken for bad that isn't known, and nothing of it remembered.
-use std::ffi::{c_char, c_int, c_void};
-use std::sync::atomic::{AtomicIsize, Ordering};
+use std::env;
+use std::path::Path;
+use std::process::Command;
 use stir::Question;
 use stir_trust::Verifier;
 
-type Malloc = unsafe extern "C" fn(usize, *const c_char, c_int) -> *mut c_void;
-type Realloc = unsafe extern "C" fn(*mut c_void, usize, *const c_char, c_int) -> *mut c_void;
-type Free = unsafe extern "C" fn(*mut c_void, *const c_char, c_int);
+/// Says how many requests OpenSSL is given memory for (scarce.c); without it, for all.
+const REQUESTS: &str = "OPENSSL_REQUESTS";
 
-extern "C" {
-    fn CRYPTO_set_mem_functions(malloc: Malloc, realloc: Realloc, free: Free) -> c_int;
-    fn malloc(size: usize) -> *mut c_void;
-    fn realloc(at: *mut c_void, size: usize) -> *mut c_void;
-    fn free(at: *mut c_void);
-}
-
-/// How many more times there is memory; below 0 always.
-static LEFT: AtomicIsize = AtomicIsize::new(-1);
-
-fn is_there() -> bool {
-    let less = |left: isize| (left > 0).then(|| left - 1);
-    LEFT.load(Ordering::SeqCst) < 0
-        || LEFT.fetch_update(Ordering::SeqCst, Ordering::SeqCst, less).is_ok()
-}
-
-unsafe extern "C" fn scarce_malloc(size: usize, _: *const c_char, _: c_int) -> *mut c_void {
-    // SAFETY: it is asked as OpenSSL asks.
-    if is_there() {
-        unsafe { malloc(size) }
-    } else {
-        std::ptr::null_mut()
-    }
-}
-
-unsafe extern "C" fn scarce_realloc(
-    at: *mut c_void,
-    size: usize,
-    _: *const c_char,
-    _: c_int,
-) -> *mut c_void {
-    // SAFETY: it is asked as OpenSSL asks.
-    if is_there() {
-        unsafe { realloc(at, size) }
-    } else {
-        std::ptr::null_mut()
-    }
-}
-
-unsafe extern "C" fn freeing(at: *mut c_void, _: *const c_char, _: c_int) {
-    // SAFETY: it is asked as OpenSSL asks.
-    unsafe { free(at) }
-}
+/// Is there in the process that has scarce.c.
+const IS_SCARCE: &str = "OPENSSL_IS_SCARCE";
 
 /// RFC 6979, section A.2.5, "sample" with SHA-256.
 const SAMPLE: &str = "0460FED4BA255A9D31C961EB74C6356D68C049B8923B61FA6CE669622E60F29FB6\
@@ -60,18 +19,18 @@ const SAMPLE: &str = "0460FED4BA255A9D31C961EB74C6356D68C049B8923B61FA6CE669622E
     F7CB1C942D657C41D436C7A1B6E29F65F3E900DBB9AFF4064DC4AB2F843ACDA8";
 
 /// Does something with memory for so many requests.
-fn with<T>(requests: isize, what: impl FnOnce() -> T) -> T {
-    LEFT.store(requests, Ordering::SeqCst);
+fn with<T>(requests: usize, what: impl FnOnce() -> T) -> T {
+    env::set_var(REQUESTS, requests.to_string());
     let came = what();
-    LEFT.store(-1, Ordering::SeqCst);
+    env::remove_var(REQUESTS);
     came
 }
 
 #[test]
 fn a_good_signature_is_never_taken_for_bad_and_a_bad_one_never_for_good() {
-    // SAFETY: OpenSSL has taken no memory yet; the three are its malloc, realloc and free.
-    let set = unsafe { CRYPTO_set_mem_functions(scarce_malloc, scarce_realloc, freeing) };
-    assert_eq!(set, 1, "OpenSSL had taken memory before");
+    if env::var_os(IS_SCARCE).is_none() {
+        return with_scarce_memory();
+    }
     let byte = |at: usize| u8::from_str_radix(&SAMPLE[2 * at..][..2], 16).expect("hex digits");
     let good = Question::new(std::array::from_fn(byte));
     let mut bytes = *good.bytes();
@@ -92,4 +51,25 @@ fn a_good_signature_is_never_taken_for_bad_and_a_bad_one_never_for_good() {
         }
     }
     assert!(failed > 20 && answered > 20, "{failed} failed and {answered} didn't");
+}
+
+/// Runs this test in a process whose OpenSSL asks scarce.c for memory.
+fn with_scarce_memory() {
+    let folder = env::temp_dir().join(format!("stir-trust-scarce-{}", std::process::id()));
+    std::fs::create_dir_all(&folder).expect("a folder");
+    let library = folder.join("scarce.so");
+    let source = Path::new(env!("CARGO_MANIFEST_DIR")).join("tests/scarce.c");
+    let made = Command::new("cc")
+        .args(["-shared", "-fPIC", "-Wall", "-Werror", "-o"])
+        .args([&library, &source])
+        .arg("-lcrypto")
+        .status();
+    assert!(made.expect("cc").success(), "scarce.c isn't compiled");
+    let ran = Command::new(env::current_exe().expect("this program"))
+        .arg("--nocapture")
+        .env("LD_PRELOAD", &library)
+        .env(IS_SCARCE, "yes")
+        .status();
+    std::fs::remove_dir_all(&folder).expect("it is removed");
+    assert!(ran.expect("the test").success(), "with scarce memory");
 }
