@@ -34,7 +34,7 @@ def unread(stird, world, folder):
     shutil.copy(world.folder / "table.txt", table)
     words[words.index("--table") + 1] = str(table)
     with Stird(stird, [*words, "--moments", "asked"]) as service:
-        service.process.stderr.close()
+        service.unheard()
         table.rename(folder / "table-that-went.txt")
         assert wait_until(lambda: service.metric("stir_failed_reloads_total") >= 2), "a missing table isn't told"
         lives(service, world, 1)
