@@ -36,10 +36,10 @@ CASES = {
 
 
 def speed():
-    """Microseconds of a verification of ES256 by openssl."""
+    """Microseconds of a verification of ES256 by openssl: the last word of its line is how many it does a second."""
     told = subprocess.run(["openssl", "speed", "-seconds", "1", "ecdsap256"], stdout=subprocess.PIPE, stderr=subprocess.DEVNULL, check=True).stdout.decode()
     line = next(line for line in told.splitlines() if "nistp256" in line)
-    return float(line.split()[-3].rstrip("s")) * 1e6
+    return 1e6 / float(line.split()[-1])
 
 
 def measured(program, world, case, requests, client, folder):
