@@ -359,9 +359,12 @@ def heads(at):
 
 # ---- mutated files
 
+PASSES = "valid", 0
+
+
 class Files:
-    """The files of a service, each of which may be mutated."""
-    NAMES = ("chain-0.der", "anchors.der", "table.txt", "chains.txt", "blocks.txt", "key-0.pem")
+    """The files of a service, each of which may be mutated. The second chain signs nothing, so a start takes it whatever it has."""
+    NAMES = ("chain-0.der", "chain-1.der", "chain-1.der", "anchors.der", "table.txt", "chains.txt", "blocks.txt", "key-0.pem")
 
     def __init__(self, folder):
         self.world = World(folder, 2)
@@ -380,10 +383,10 @@ class Files:
 
 
 def asks(service, files, number):
-    """What it says of a call and of one to be signed."""
-    one = service.verify(files.world.call(0, START, number), START)
+    """What it says of a call by each chain, and of one to be signed."""
+    told = [service.verify(files.world.call(n, START, number), START) for n in (0, 1)]
     status, _ = service.json("/stir/v1/signing", signing.request(files.world.number(0, 5)))
-    return one["outcome"], one["rule"], status
+    return *((one["outcome"], one["rule"]) for one in told), status
 
 
 def starts(at):
@@ -431,12 +434,16 @@ def reloads(at):
                     files.put(name, content)
         for name, content in files.contents.items():
             files.put(name, content)
-        assert wait_until(lambda: asks(service, files, next(at.numbers) % 9000) == ("valid", 0, 200)), "it doesn't judge as before"
+        assert wait_until(lambda: asks(service, files, next(at.numbers) % 9000) == (PASSES, PASSES, 200)), "it doesn't judge as before"
     return f"{at.files} files: {told(came)}"
 
 
 def told(came):
-    return ", ".join(f"{' '.join(map(str, what)) if isinstance(what, tuple) else what} {count}" for what, count in came.most_common())
+    """What came how often: of what runs, the rules that the two calls break and the status of signing."""
+    def words(what):
+        return what if isinstance(what, str) else " ".join(str(part[1] if isinstance(part, tuple) else part) for part in what)
+
+    return ", ".join(f"{words(what)}: {count}" for what, count in came.most_common())
 
 
 PARTS = {part.__name__: part for part in (kills, forget, crowd, requests, heads, starts, reloads)}
