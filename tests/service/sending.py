@@ -1,7 +1,7 @@
 """Calls that are sent on to another number, through the library for C, with real keys."""
 import ctypes
 
-from header import Handle, bytes_of, chain_by, good_of, judged, loaded, output, parts, shared_object, world_by, written
+from header import Handle, bytes_of, chain_by, good_of, judged, loaded, parts, sent_on, shared_object, world_by, written
 from world import START
 
 TARGET = b"sip:+12000020009@example.net"
@@ -33,24 +33,16 @@ def goes_on(stir, program, world, held, chains, folder):
         call, good = opened(stir, world, held, message, chains)
         words = order(call, good, chains[world.x5u(n).encode()], target, world.x5u(n).encode())
         said = stir.stir_to_retarget(*words)
-        assert said.kind == 0, (said.kind, said.rule)
-        signature = world.signature(n, bytes(said.ticket))
+        digest, signature, wanted = sent_on(program, world, n, target, message, folder)
+        assert (said.kind, bytes(said.ticket)) == (0, digest), (said.kind, said.rule)
         onward, made = written(stir.stir_retargeted, *words, *bytes_of(signature))
         assert made.kind == 0 and bytes(made.ticket) == bytes(32), made.kind
         assert onward.startswith(b"INVITE %s SIP/2.0\r\n" % target) and onward.count(b"\r\nIdentity: ") == message.count(b"\r\nIdentity: ") + 1
-        assert onward == by_program(program, world, n, target, message, bytes(said.ticket), signature, folder), "the program writes another message"
+        assert onward == wanted, "the program writes another message"
         passed = judged(stir, held, chains, START, onward)
-        assert (passed.kind, bytes(passed.ticket)) == (0, bytes(said.ticket)), (passed.kind, passed.rule)
+        assert (passed.kind, bytes(passed.ticket)) == (0, digest), (passed.kind, passed.rule)
         stir.stir_call_close(ctypes.byref(call))
         message = onward
-
-
-def by_program(program, world, n, target, message, digest, signature, folder):
-    """What `retarget` of the program writes."""
-    asked = output(program, ["ask", *world.words()], folder, world.log([(START, message)]))
-    (folder / "sent").write_bytes(asked + f"sign k {digest.hex()} {signature.hex()}\n".encode())
-    words = ["retarget", *world.words(), "--answers", "sent", "--leaf", str(world.folder / f"leaf-{n}.der"), "--key", "k", "--x5u", world.x5u(n)]
-    return output(program, [*words, "--iat", str(START), "--moment", str(START), f"--target={target.decode()}"], folder, message)
 
 
 def is_held(stir, world, held, chains):

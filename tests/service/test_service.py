@@ -63,7 +63,7 @@ TESTS = {
     "the library says of the log what the program says": lambda at: same.log(at.judge, at.stir, at.world, at.calls, at.folder),
     "a C program judges and explains by the header": lambda at: header.by_c(TOP, at.stir, at.library, at.world, at.folder),
     "the example in the header compiles": lambda at: header.example_in_header(TOP, at.library, at.folder),
-    "four threads in C share, judge, fetch and close at once": lambda at: header.shared_by_c(TOP, at.library, at.world, at.folder),
+    "four threads in C share, judge, send on, fetch and close at once": lambda at: header.shared_by_c(TOP, at.stir, at.library, at.world, at.folder),
     "a C program signs by the header": lambda at: header.signed_by_c(TOP, at.stir, at.library, at.world, at.folder),
     "header fields are found by their names": lambda at: fields.all(at.library, at.world, at.folder),
     "calls are sent on with real keys, and are valid at the next hop": lambda at: sending.all(at.stir, at.library, at.world, at.folder),
