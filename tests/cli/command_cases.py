@@ -80,11 +80,18 @@ def run(program, words, given, files, streams=(), sizes=()):
     return done.returncode, done.stdout or b'', done.stderr
 
 
-def folder_case(case, program):
+def folder_case(case):
+    """The case of a folder."""
     words = [word for word in content(case / 'args').split(b'\n') if word]
     files = {path.name: path.read_bytes() for path in case.glob('files/*')}
-    got = run(program, words, content(case / 'stdin'), files, content(case / 'streams').decode().split())
-    return (int(content(case / 'status')), content(case / 'stdout'), b''), got
+    streams, status = content(case / 'streams').decode().split(), int(content(case / 'status'))
+    return functools.partial(row_case, words, content(case / 'stdin'), files, streams, status, [content(case / 'stdout')])
+
+
+def folders():
+    """Each case that is a folder, with its name."""
+    for case in sorted(path for path in HERE.iterdir() if (path / 'status').exists()):
+        yield case.name, folder_case(case)
 
 
 ESCAPES = {'s': b' ', 'n': b'\n', 'r': b'\r', 't': b'\t', '\\': b'\\'}
@@ -266,8 +273,7 @@ def ticket_case(number, program):
 
 def cases():
     """Each case: its name, and a function of the program to what is wanted and what came."""
-    for case in sorted(path for path in HERE.iterdir() if (path / 'status').exists()):
-        yield case.name, functools.partial(folder_case, case)
+    yield from folders()
     for path in sorted(HERE.glob('*.rows')):
         yield from rows(path)
     for number, (words, status, output) in enumerate(program_cases(), 1):
