@@ -1,5 +1,7 @@
 /* Calls stir.h: writes the digest that is to be signed of the file `message` to the file `digest`; and with the file `signature` the signed message
-   to the file `signed`. */
+   to the file `signed`.
+
+       sign SECOND X5U FORM    FORM is base, compact, or shaken with its attestation, as in shaken-A */
 #include "stir.h"
 
 #include "files.h"
@@ -14,6 +16,20 @@ static void write_file(const char *name, const uint8_t *at, size_t size) {
     }
 }
 
+/* The number of a form in the header. */
+static uint8_t form_of(const char *name) {
+    static const struct {
+        const char *name;
+        uint8_t form;
+    } forms[] = {{"base", STIR_BASE}, {"compact", STIR_COMPACT}, {"shaken-A", STIR_SHAKEN_A}, {"shaken-B", STIR_SHAKEN_B}, {"shaken-C", STIR_SHAKEN_C}};
+    for (size_t at = 0; at < sizeof forms / sizeof *forms; at++) {
+        if (!strcmp(name, forms[at].name)) {
+            return forms[at].form;
+        }
+    }
+    exit(2);
+}
+
 /* The certificate of the key, under a world with this much of the table. */
 static stir_chain key_of(bytes leaf, bytes table, size_t table_size) {
     stir_settings settings = {60, 5, {'1'}, 1, 10};
@@ -26,10 +42,10 @@ static stir_chain key_of(bytes leaf, bytes table, size_t table_size) {
 }
 
 int main(int count, char **words) {
-    if (count != 3) {
+    if (count != 4) {
         return 2;
     }
-    stir_order order = {strtoull(words[1], NULL, 10), STIR_SHAKEN_A, {0}}, bad;
+    stir_order order = {strtoull(words[1], NULL, 10), form_of(words[3]), {0}}, bad;
     memcpy(order.origid, "123e4567-e89b-12d3-a456-426655440000", 36);
     const uint8_t *x5u = (const uint8_t *)words[2];
     size_t x5u_size = strlen(words[2]);
