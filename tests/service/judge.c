@@ -85,13 +85,17 @@ static void closed(void) {
     stir_chain chain = {0}, chain_out = {0};
     stir_call call = {0};
     stir_order order = {1, STIR_BASE, {0}};
-    const uint8_t *x = (const uint8_t *)"x";
+    const uint8_t *x = (const uint8_t *)"x", signature[64] = {0};
     uint32_t kinds[] = {
         stir_world_share(&world, &world_out).kind, stir_chain_open(&world, x, 1, &chain_out).kind, stir_chain_questions(&chain, room, sizeof room).kind,
         stir_chain_confirm(&chain, x, 1).kind, stir_chain_part(&chain, 1, STIR_SERIAL, room, sizeof room).kind, stir_chain_share(&chain, &chain_out).kind,
         stir_call_open(&world, 1, x, 1, &call).kind, stir_call_x5u(&call, 0, room, sizeof room).kind, stir_call_chain(&call, 0, &chain).kind,
-        stir_call_claims(&call, room, sizeof room).kind, stir_call_questions(&call, room, sizeof room).kind, stir_call_judge(&call, x, 1).kind, stir_call_explain(&call, 1, x, 1, room, sizeof room).kind,
+        stir_call_claims(&call, room, sizeof room).kind, stir_call_header(&call, x, 1, 0, room, sizeof room).kind,
+        stir_call_questions(&call, room, sizeof room).kind, stir_call_judge(&call, x, 1).kind, stir_call_explain(&call, 1, x, 1, room, sizeof room).kind,
         stir_call_lines(&call, room, sizeof room).kind, stir_to_sign(&chain, &order, x, 1, x, 1).kind,
+        stir_signed(&chain, &order, x, 1, x, 1, signature, sizeof signature, room, sizeof room).kind, stir_to_divert(&chain, 1, x, 1, x, 1, x, 1).kind,
+        stir_diverted(&chain, 1, x, 1, x, 1, x, 1, signature, sizeof signature, room, sizeof room).kind, stir_to_retarget(&call, x, 1, &chain, 1, x, 1, x, 1).kind,
+        stir_retargeted(&call, x, 1, &chain, 1, x, 1, x, 1, signature, sizeof signature, room, sizeof room).kind,
     };
     int others = 0;
     for (size_t at = 0; at < sizeof kinds / sizeof *kinds; at++) {
