@@ -7,6 +7,7 @@ Each PART by its name, or all:
 
     kills        ten times killed under load, with its tickets on a disk and in a Redis
     forget       20,000 tickets that are no longer fresh go, while calls come
+    late         a request comes again for 32 seconds
     crowd        COUNT idle connections beside one that asks
     requests     COUNT mutated messages and JSON bodies, four at once
     heads        a fifth as many mutated HTTP connections
@@ -205,6 +206,22 @@ def forget(at):
         assert held <= 2000, f"{held:.0f} are held"
         assert service.outcome(calls[-1][1], START) in ("replay", "unjudged"), "what was forgotten passes again"
     return f"20000 tickets; {len(times)} calls meanwhile took {max(times) * 1000:.0f} ms at most"
+
+
+# ---- requests that come again
+
+def late(at):
+    """The answer to a request is kept for its key for 32 seconds, and no longer."""
+    with Stird(at.stird, [*at.world.words(), "--moments", "asked"]) as service:
+        begun, message = time.monotonic(), at.world.call(0, START, next(at.numbers))
+        assert service.outcome(message, START, {"Idempotency-Key": "one"}) == "valid"
+        while service.outcome(message, START, {"Idempotency-Key": "one"}) == "valid":
+            assert time.monotonic() - begun < 40, "it is kept for more than 40 seconds"
+            time.sleep(0.2)
+        took = time.monotonic() - begun
+        assert took >= 31, f"it was kept for {took:.1f} seconds alone"
+        assert service.outcome(message, START, {"Idempotency-Key": "one"}) == "replay"
+    return f"an answer was kept for {took:.1f} seconds"
 
 
 # ---- a crowd
@@ -446,7 +463,7 @@ def told(came):
     return ", ".join(f"{words(what)}: {count}" for what, count in came.most_common())
 
 
-PARTS = {part.__name__: part for part in (kills, forget, crowd, requests, heads, starts, reloads)}
+PARTS = {part.__name__: part for part in (kills, forget, late, crowd, requests, heads, starts, reloads)}
 
 
 class At:

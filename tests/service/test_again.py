@@ -91,3 +91,17 @@ def test_the_other_doors_take_a_key_too(name, started, world):
     message = world.call(2, START, 9)
     lines = [service.ask("POST", "/verify/line", message, {"X-Moment": str(START), name: "two"}) for _ in range(2)]
     assert lines == [(200, b"0 TN-Validation-Passed ")] * 2
+
+
+def test_so_many_answers_are_kept_and_the_oldest_go_first(started, world):
+    service, messages = started("--answers", 3), [world.call(number % world.count, START, number) for number in range(1, 6)]
+    assert [service.outcome(message, START, {"Idempotency-Key": f"key-{at}"}) for at, message in enumerate(messages)] == ["valid"] * 5
+    assert service.metric("stir_answers") <= 3
+    assert service.metric("stir_dropped_answers_total") >= 2
+    assert service.outcome(messages[-1], START, {"Idempotency-Key": "key-4"}) == "valid"
+    assert service.outcome(messages[0], START, {"Idempotency-Key": "key-0"}) == "replay"
+
+
+def test_no_answer_is_kept_if_none_is_to_be(started, world):
+    service, message = started("--answers", 0), world.call(0, START, 1)
+    assert [service.outcome(message, START, {"Idempotency-Key": "one"}) for _ in range(2)] == ["valid", "replay"]

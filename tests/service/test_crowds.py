@@ -5,6 +5,7 @@ import socket
 import threading
 import time
 
+import pytest
 from stird import status_of, wait_until
 from world import START
 
@@ -138,3 +139,17 @@ def test_what_a_thousand_large_bodies_hold_is_bounded_and_given_back(started, wo
         assert memory() - before < 100 << 20
     assert wait_until(lambda: memory() - before < 40 << 20), f"{memory() - before} bytes are held"
     assert service.outcome(world.call(0, START, 1), START) == "valid"
+
+
+def test_more_connections_than_the_system_allows_stop_the_start(started):
+    """By a limit that the service may not raise."""
+    with pytest.raises(RuntimeError) as fault:
+        started("--connections", 65536, before=lambda: resource.setrlimit(resource.RLIMIT_NOFILE, (4096, 4096)))
+    assert "descriptors" in str(fault.value) and "panicked" not in str(fault.value), fault.value
+
+
+def test_the_limit_that_may_be_raised_is_raised(started, world):
+    service = started("--connections", 1000, before=lambda: resource.setrlimit(resource.RLIMIT_NOFILE, (256, 4096)))
+    with Crowd(service, 600) as crowd:
+        assert service.outcome(world.call(0, START, 1), START) == "valid"
+        assert crowd.open() == 600

@@ -2,6 +2,7 @@
 import http.client
 import json
 import os
+import signal
 import socket
 import ssl
 import stat
@@ -125,6 +126,30 @@ def test_a_client_shows_its_certificate_if_that_is_wished(started, keys):
             continue
         assert status_of(text) != 200, f"{client} was let in"
     assert status_of(by_tls(service.port, keys, "client")) == 200
+
+
+def test_a_new_certificate_is_taken_when_the_service_is_told_to_read_its_files(started, keys, tmp_path):
+    """That of a root which the client doesn't know gives way to one of a root that it knows."""
+    for name in ("pem", "key"):
+        (tmp_path / f"server.{name}").write_bytes((keys / f"stranger.{name}").read_bytes())
+    service = started("--tls-certificate", tmp_path / "server.pem", "--tls-key", tmp_path / "server.key")
+    with pytest.raises(ssl.SSLError):
+        by_tls(service.port, keys)
+    for name in ("pem", "key"):
+        (tmp_path / f"server.{name}").write_bytes((keys / f"server.{name}").read_bytes())
+    service.process.send_signal(signal.SIGHUP)
+
+    def is_taken():
+        try:
+            return status_of(by_tls(service.port, keys)) == 200
+        except ssl.SSLError:
+            return False
+
+    assert wait_until(is_taken)
+    (tmp_path / "server.pem").write_text("no certificate")
+    service.process.send_signal(signal.SIGHUP)
+    assert wait_until(lambda: service.told("server.pem")), service.text()
+    assert status_of(by_tls(service.port, keys)) == 200, "what was read before doesn't stay"
 
 
 def test_an_old_version_of_tls_isnt_spoken(started, keys):

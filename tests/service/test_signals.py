@@ -1,12 +1,14 @@
 """Signals: one ends the service after what is under way is answered, another has it read its files again."""
+import json
 import os
 import signal
 import socket
+import subprocess
 import threading
 import time
 
 import pytest
-from stird import Stird, status_of, wait_until
+from stird import Stird, free_port, status_of, wait_until
 from world import START
 
 
@@ -121,3 +123,25 @@ def test_other_signals_end_nothing(started, world):
     time.sleep(0.5)
     assert service.lives()
     assert service.outcome(world.call(0, START, 1), START) == "valid"
+
+
+@pytest.mark.parametrize("form", ["text", "json"])
+def test_what_it_tells_goes_on_in_a_new_file_after_the_old_one_was_moved(form, stird, world, tmp_path):
+    log, old = tmp_path / "log", tmp_path / "old"
+    port = free_port()
+    words = [stird, *world.words(), "--listen", f"127.0.0.1:{port}", "--log", form, "--log-file", log, "--reload", "1"]
+    process = subprocess.Popen(words, stderr=subprocess.PIPE)
+    try:
+        assert wait_until(lambda: log.exists() and f"listens at 127.0.0.1:{port}" in log.read_text()), "it doesn't say that it listens"
+        log.rename(old)
+        process.send_signal(signal.SIGHUP)
+        assert wait_until(log.exists), "it has no new file"
+        process.terminate()
+        assert process.wait(10) == 0
+        assert log.read_text(), "its end isn't told"
+        lines = old.read_text().splitlines() + log.read_text().splitlines()
+        assert all(isinstance(json.loads(line), dict) for line in lines) if form == "json" else all(line.startswith("stird: ") for line in lines), lines
+        assert process.stderr.read() == b""
+    finally:
+        process.kill()
+        process.wait()
