@@ -68,6 +68,7 @@ fn start(settings: Settings) -> Result<()> {
     let log = Log::start(settings.log, settings.log_file.as_deref())?;
     let runtime = tokio::runtime::Builder::new_multi_thread()
         .thread_stack_size(STACK)
+        .on_thread_start(stird::server::make_date)
         .enable_all()
         .build()?;
     let done = runtime.block_on(stird::start::run(settings, log.clone()));

@@ -1,5 +1,6 @@
 //! HTTP/1.1 by hyper: listeners, connections, and the limits on both.
 mod connection;
+mod date;
 mod doors;
 mod guard;
 mod head;
@@ -7,6 +8,7 @@ mod places;
 mod stream;
 mod tls;
 
+pub use date::make_date;
 pub use doors::{Doors, DoorsError};
 pub use places::{Places, AT_ONCE};
 pub use tls::{Acceptor, TlsError};
