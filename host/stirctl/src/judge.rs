@@ -5,9 +5,10 @@ use crate::log::Piece;
 use crate::provider::Provider;
 use crate::Fault;
 use rayon::prelude::*;
-use serde::de::IgnoredAny;
+use serde::de::{IgnoredAny, MapAccess, SeqAccess, Visitor};
 use serde::{Deserialize, Deserializer};
 use std::borrow::Cow;
+use std::fmt;
 use std::sync::Arc;
 use stir::{Call, Passes, Refused, World};
 
@@ -129,16 +130,51 @@ struct Text<'a>(Cow<'a, str>);
 
 impl<'de: 'a, 'a> Deserialize<'de> for Text<'a> {
     fn deserialize<D: Deserializer<'de>>(from: D) -> Result<Text<'a>, D::Error> {
-        #[derive(Deserialize)]
-        #[serde(untagged)]
-        enum Value<'a> {
-            Text(#[serde(borrow)] Cow<'a, str>),
-            Other(IgnoredAny),
-        }
-        Ok(match Value::deserialize(from)? {
-            Value::Text(text) => Text(text),
-            Value::Other(_) => Text::default(),
-        })
+        from.deserialize_any(TextOrNone)
+    }
+}
+
+struct TextOrNone;
+
+impl<'de> Visitor<'de> for TextOrNone {
+    type Value = Text<'de>;
+
+    fn expecting(&self, to: &mut fmt::Formatter<'_>) -> fmt::Result {
+        to.write_str("any value")
+    }
+
+    fn visit_borrowed_str<E>(self, text: &'de str) -> Result<Text<'de>, E> {
+        Ok(Text(Cow::Borrowed(text)))
+    }
+
+    fn visit_str<E>(self, text: &str) -> Result<Text<'de>, E> {
+        Ok(Text(Cow::Owned(text.to_owned())))
+    }
+
+    fn visit_bool<E>(self, _: bool) -> Result<Text<'de>, E> {
+        Ok(Text::default())
+    }
+
+    fn visit_i64<E>(self, _: i64) -> Result<Text<'de>, E> {
+        Ok(Text::default())
+    }
+
+    fn visit_u64<E>(self, _: u64) -> Result<Text<'de>, E> {
+        Ok(Text::default())
+    }
+
+    fn visit_unit<E>(self) -> Result<Text<'de>, E> {
+        Ok(Text::default())
+    }
+
+    fn visit_seq<A: SeqAccess<'de>>(self, mut of: A) -> Result<Text<'de>, A::Error> {
+        while of.next_element::<IgnoredAny>()?.is_some() {}
+        Ok(Text::default())
+    }
+
+    fn visit_map<A: MapAccess<'de>>(self, mut of: A) -> Result<Text<'de>, A::Error> {
+        while of.next_entry::<IgnoredAny, IgnoredAny>()?.is_some() {}
+        Ok(Text::default())
     }
 }
 
@@ -271,12 +307,20 @@ mod tests {
                 ["3", "1 2", "A", "x"],
             ),
             (
-                r#"{"attest":[1,{"a":null}],"dest":{"tn":["1"],"uri":["u"]},"orig":{"tn":"3"},"z":7}"#,
+                r#"{"attest":[1,{"a":null}],"dest":{"tn":["1"]},"orig":{"tn":"3"},"z":7}"#,
                 ["3", "1", "", ""],
             ),
             (
                 r#"{"attest":"\"\u00e9","dest":{"tn":["1"]},"orig":{"tn":"*#"}}"#,
                 ["*#", "1", "\"\u{e9}", ""],
+            ),
+            (
+                r#"{"attest":true,"dest":{"tn":["1"]},"orig":{"tn":"3"},"origid":-7}"#,
+                ["3", "1", "", ""],
+            ),
+            (
+                r#"{"attest":null,"dest":{"tn":["1"]},"orig":{"tn":"3"},"origid":7}"#,
+                ["3", "1", "", ""],
             ),
             ("", ["", "", "", ""]),
         ] {

@@ -129,7 +129,8 @@ impl Outputs {
         reports.try_for_each(|report| report.put(|out| out.write_all(text)))
     }
 
-    /// Ends a run whose log is whole: counts and picture are written, and all files get their names.
+    /// Ends a run whose log is whole: counts and picture are written, and all files get their
+    /// names.
     pub fn commit(self, title: &str) -> Result<(), Fault> {
         let Outputs { report, json, csv, words, counts, picture, summary, .. } = self;
         for sink in report.into_iter().chain(json).chain(words) {

@@ -7,8 +7,8 @@ use stir::Passes;
 /// How many tickets there are before those whose time is up are forgotten.
 const FEW: usize = 4_096;
 
-/// The calls that passed, by their tickets. A call whose PASSporT isn't fresh any more breaks rule 9
-/// by itself, so its ticket isn't asked for again.
+/// The calls that passed, by their tickets. A call whose PASSporT isn't fresh any more breaks rule
+/// 9 by itself, so its ticket isn't asked for again.
 #[derive(Debug)]
 pub(crate) struct Tickets {
     kept: HashMap<[u8; 32], (u64, u64)>,

@@ -1,5 +1,5 @@
-//! What comes of a call: its line in a report (docs/FORMATS.md, "Report"), and what that means for a
-//! carrier (docs/RULES.md, docs/OPERATING.md).
+//! What comes of a call: its line in a report (docs/FORMATS.md, "Report"), and what that means for
+//! a carrier (docs/RULES.md, docs/OPERATING.md).
 
 use crate::files::number;
 use std::io::Write;

@@ -6,9 +6,9 @@ use stir::Settings;
 /// Judges telephone calls by STIR/SHAKEN, and tells of them: logs and captures of INVITEs, over the
 /// proved library of stir, with signatures by OpenSSL.
 ///
-/// The status is 0 if each call is valid, 1 if some call isn't; 2 for bad words; 3 if an input can't
-/// be read, 4 if an output can't be written, 5 if an input is missing or outside its form, and 6 if
-/// memory ran out. docs/OPERATING.md tells how a day is judged.
+/// The status is 0 if each call is valid, 1 if some call isn't; 2 for bad words; 3 if an input
+/// can't be read, 4 if an output can't be written, 5 if an input is missing or outside its form,
+/// and 6 if memory ran out. docs/OPERATING.md tells how a day is judged.
 #[derive(Debug, Parser)]
 #[command(name = "stirctl", version, max_term_width = 100)]
 pub struct Words {
@@ -38,26 +38,26 @@ pub struct Judge {
     /// for the first run. The new state stands at the end of the report
     #[arg(long, value_name = "FILE")]
     pub state: Option<String>,
-    /// Has this program, the proved `stir`, judge the same log by the answers that were made. If its
-    /// report has other bytes, the status is 7 and nothing is written under the names of files
+    /// Has this program, the proved `stir`, judge the same log by the answers that were made. If
+    /// its report has other bytes, the status is 7 and nothing is written under the names of files
     #[arg(long, value_name = "PROGRAM")]
     pub checked_by: Option<String>,
     /// Leaves out INVITEs of captures that stand inside a dialog: their To has a tag (RFC 3261,
     /// section 14)
     #[arg(long)]
     pub initial: bool,
-    /// Leaves P-Asserted-Identity fields of captures with several values as they are. Else each value
-    /// gets a field, which means the same, since one value of a field is judged
+    /// Leaves P-Asserted-Identity fields of captures with several values as they are. Else each
+    /// value gets a field, which means the same, since one value of a field is judged
     #[arg(long)]
     pub as_is: bool,
-    /// Call logs, or captures (pcap or pcapng, of SIP over UDP), in the order of their calls; each may
-    /// be packed by gzip. `-` is the standard input
+    /// Call logs, or captures (pcap or pcapng, of SIP over UDP), in the order of their calls; each
+    /// may be packed by gzip. `-` is the standard input
     #[arg(required = true, value_name = "INPUT")]
     pub inputs: Vec<String>,
 }
 
-/// Writes which rules each call meets, up to the first that it breaks, as `stir explain` does. Replays
-/// aren't looked at.
+/// Writes which rules each call meets, up to the first that it breaks, as `stir explain` does.
+/// Replays aren't looked at.
 #[derive(Debug, Args)]
 pub struct Explain {
     #[command(flatten)]
@@ -70,8 +70,8 @@ pub struct Explain {
     pub input: String,
 }
 
-/// Joins a log and the report that `stir verify` or `stirctl judge` wrote of it: who called whom, who
-/// signed, and what the verdicts mean.
+/// Joins a log and the report that `stir verify` or `stirctl judge` wrote of it: who called whom,
+/// who signed, and what the verdicts mean.
 #[derive(Debug, Args)]
 pub struct Report {
     #[command(flatten)]
@@ -94,8 +94,8 @@ pub struct Report {
     pub of: String,
 }
 
-/// Writes the call log of captures: their INVITEs, each with the second at which it came, in the order
-/// of time and without retransmissions.
+/// Writes the call log of captures: their INVITEs, each with the second at which it came, in the
+/// order of time and without retransmissions.
 #[derive(Debug, Args)]
 pub struct Log {
     /// Leaves out INVITEs that stand inside a dialog: their To has a tag (RFC 3261, section 14)
@@ -104,8 +104,8 @@ pub struct Log {
     /// Leaves P-Asserted-Identity fields with several values as they are
     #[arg(long)]
     pub as_is: bool,
-    /// Captures (pcap or pcapng, of SIP over UDP), as they are or packed by gzip; `-` is the standard
-    /// input
+    /// Captures (pcap or pcapng, of SIP over UDP), as they are or packed by gzip; `-` is the
+    /// standard input
     #[arg(required = true, value_name = "CAPTURE")]
     pub captures: Vec<String>,
 }

@@ -1,5 +1,5 @@
-//! Captures of SIP over UDP, made call logs: their INVITE requests, in the order in which they came,
-//! without retransmissions.
+//! Captures of SIP over UDP, made call logs: their INVITE requests, in the order in which they
+//! came, without retransmissions.
 
 mod frames;
 mod packets;

@@ -1,5 +1,5 @@
-//! What packets carry: Ethernet, also with VLAN tags (IEEE 802.1Q), raw IP, and what `tcpdump -i any`
-//! writes; IPv4 and IPv6, with the fragments of a datagram put together.
+//! What packets carry: Ethernet, also with VLAN tags (IEEE 802.1Q), raw IP, and what `tcpdump -i
+//! any` writes; IPv4 and IPv6, with the fragments of a datagram put together.
 
 use std::collections::{BTreeMap, HashMap};
 
