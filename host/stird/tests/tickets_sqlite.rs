@@ -405,6 +405,8 @@ async fn a_disk_that_hangs_holds_no_call_for_long() {
     let calls = (2..40).map(|number| call(&tickets, &*clock, number));
     let claims = futures_util::future::join_all(calls).await;
     let (took, replay) = (start.elapsed(), call(&tickets, &*clock, 1).await);
+    // The write began a little later than the claims.
+    tokio::time::sleep(Duration::from_millis(300)).await;
     let again = Instant::now();
     let quick = call(&tickets, &*clock, 50).await;
     let (again, health) = (again.elapsed(), tickets.health());

@@ -116,11 +116,12 @@ impl Writer {
             self.shared.begin();
             let done = self.keep(&mut rows);
             self.settle(&rows, &done);
+            let is_kept = done.is_ok();
+            self.shared.end(done.err().map(|failed| failed.fault().to_string()));
             for answer in writing {
                 // Whoever asked may be gone by now. The ticket stays claimed.
-                let _ = answer.send(done.is_ok());
+                let _ = answer.send(is_kept);
             }
-            self.shared.end(done.err().map(|failed| failed.fault().to_string()));
         }
         for answer in waiting {
             let _ = answer.send(true);
