@@ -19,8 +19,8 @@ const KEPT_BLOCKS: &str = "glibc.malloc.tcache_count=64";
 /// Is set for a program that was started anew, so that it isn't again if the first one is gone.
 const STARTED_ANEW: &str = "STIRD_STARTED_ANEW";
 
-/// How much stack a thread of the runtime has: the library needs 256 kilobytes of it.
-const STACK: usize = 4 << 20;
+/// How many threads do what isn't an answer: they take connections, and look at files and stores.
+const OTHERS: usize = 2;
 
 fn main() -> ExitCode {
     keep_blocks();
@@ -66,11 +66,8 @@ fn keep_blocks() {
 
 fn start(settings: Settings) -> Result<()> {
     let log = Log::start(settings.log, settings.log_file.as_deref())?;
-    let runtime = tokio::runtime::Builder::new_multi_thread()
-        .thread_stack_size(STACK)
-        .on_thread_start(stird::server::make_date)
-        .enable_all()
-        .build()?;
+    let runtime =
+        tokio::runtime::Builder::new_multi_thread().worker_threads(OTHERS).enable_all().build()?;
     let done = runtime.block_on(stird::start::run(settings, log.clone()));
     // What hangs aside, as a file of a network that is gone, doesn't keep it from its end.
     runtime.shutdown_background();

@@ -7,7 +7,7 @@ use crate::logs::Log;
 use crate::metrics::Metrics;
 use crate::reload::{tell_of_blocks, Reload};
 use crate::routes::Service;
-use crate::server::{Acceptor, Doors, Places, Server, Times, AT_ONCE};
+use crate::server::{Acceptor, Doors, Hands, Places, Server, Times, AT_ONCE};
 use crate::settings::Settings;
 use crate::tickets::{Clock, Memory, Redis, Sqlite, SystemClock, Tickets};
 use crate::tokens::Tokens;
@@ -44,6 +44,7 @@ pub async fn run(settings: Settings, log: Log) -> Result<()> {
     let (end, ending) = watch::channel(false);
     let server = Arc::new(Server {
         places: Places::new(settings.connections, settings.connections_each, metrics),
+        hands: Hands::start().context("threads that answer")?,
         times: Times { request: settings.request, idle: settings.idle },
         service: Arc::clone(&service),
         ending,

@@ -16,7 +16,7 @@ use std::path::{Path, PathBuf};
 use std::sync::Arc;
 use std::time::Duration;
 use tokio::io::{AsyncReadExt, AsyncWriteExt};
-use tokio::net::{TcpListener, TcpStream, UnixListener};
+use tokio::net::{TcpListener, TcpStream, UnixListener, UnixStream};
 use tokio::sync::{mpsc, Semaphore};
 use tokio::time::{sleep, timeout, Instant};
 
@@ -62,10 +62,10 @@ enum Listener {
     Unix(UnixListener),
 }
 
-/// A connection that came in.
+/// A connection that came in. It belongs to no runtime yet.
 enum Came {
-    Tcp(TcpStream, SocketAddr, Option<Arc<Acceptor>>),
-    Unix(tokio::net::UnixStream),
+    Tcp(std::net::TcpStream, SocketAddr, Option<Arc<Acceptor>>),
+    Unix(Blocking),
 }
 
 /// All listeners, and their addresses. At the end the Unix sockets are removed.
@@ -181,9 +181,9 @@ impl Listener {
                 let (stream, peer) = listener.accept().await?;
                 // If it can't be set the peer is gone, which is seen when it is read.
                 let _ = stream.set_nodelay(true);
-                Ok(Came::Tcp(stream, peer, acceptor.clone()))
+                Ok(Came::Tcp(stream.into_std()?, peer, acceptor.clone()))
             }
-            Listener::Unix(listener) => Ok(Came::Unix(listener.accept().await?.0)),
+            Listener::Unix(listener) => Ok(Came::Unix(listener.accept().await?.0.into_std()?)),
         }
     }
 }
@@ -210,9 +210,10 @@ async fn accept_all(listener: Listener, server: Arc<Server>, alive: mpsc::Sender
         match came {
             Ok(came) => match server.places.take(came.address()) {
                 Ok(place) => {
-                    let (server, alive) = (Arc::clone(&server), alive.clone());
-                    tokio::spawn(async move {
-                        greet(came, place, server).await;
+                    let (serving, alive) = (Arc::clone(&server), alive.clone());
+                    server.hands.hand(move || async move {
+                        // One that can't be taken into the runtime is closed.
+                        let _ = greet(came, place, serving).await;
                         drop(alive);
                     });
                 }
@@ -250,35 +251,37 @@ fn is_of_peer(error: &io::Error) -> bool {
 }
 
 /// Serves a connection, by TLS if that is to be spoken.
-async fn greet(came: Came, place: Place, server: Arc<Server>) {
+async fn greet(came: Came, place: Place, server: Arc<Server>) -> io::Result<()> {
     let address = came.address();
     let (stream, is_certified) = match came {
-        Came::Unix(stream) => (Stream::Unix(stream), false),
-        Came::Tcp(stream, _, None) => (Stream::Tcp(stream), false),
+        Came::Unix(stream) => (Stream::Unix(UnixStream::from_std(stream)?), false),
+        Came::Tcp(stream, _, None) => (Stream::Tcp(TcpStream::from_std(stream)?), false),
         Came::Tcp(stream, _, Some(acceptor)) => {
             place.seat.does(Doing::Receiving);
+            let stream = TcpStream::from_std(stream)?;
             let greeted = tokio::select! {
                 greeted = timeout(server.times.request, acceptor.accept(stream)) => greeted,
-                () = place.seat.leave.notified() => return,
+                () = place.seat.leave.notified() => return Ok(()),
             };
-            let Ok(Some((stream, is_certified))) = greeted else { return };
+            let Ok(Some((stream, is_certified))) = greeted else { return Ok(()) };
             (Stream::Tls(Box::new(stream)), is_certified)
         }
     };
     serve(stream, Peer { address, is_certified }, place, server).await;
+    Ok(())
 }
 
 /// Says that there are too many connections, if that can be said without TLS.
-async fn turn_away(came: Came) {
+async fn turn_away(came: Came) -> io::Result<()> {
     let mut stream = match came {
-        Came::Unix(stream) => Stream::Unix(stream),
-        Came::Tcp(stream, _, None) => Stream::Tcp(stream),
-        Came::Tcp(_, _, Some(_)) => return,
+        Came::Unix(stream) => Stream::Unix(UnixStream::from_std(stream)?),
+        Came::Tcp(stream, _, None) => Stream::Tcp(TcpStream::from_std(stream)?),
+        Came::Tcp(_, _, Some(_)) => return Ok(()),
     };
     let answer = Answer::text(StatusCode::SERVICE_UNAVAILABLE, "too many connections\n");
-    let said = stream.write_all(&answer.bytes()).await;
-    if said.is_ok() && stream.shutdown().await.is_ok() {
-        let mut room = [0; 4096];
-        while stream.read(&mut room).await.is_ok_and(|size| size > 0) {}
-    }
+    stream.write_all(&answer.bytes()).await?;
+    stream.shutdown().await?;
+    let mut room = [0; 4096];
+    while stream.read(&mut room).await? > 0 {}
+    Ok(())
 }

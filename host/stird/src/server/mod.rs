@@ -3,13 +3,14 @@ mod connection;
 mod date;
 mod doors;
 mod guard;
+mod hands;
 mod head;
 mod places;
 mod stream;
 mod tls;
 
-pub use date::make_date;
 pub use doors::{Doors, DoorsError};
+pub use hands::Hands;
 pub use places::{Places, AT_ONCE};
 pub use tls::{Acceptor, TlsError};
 
@@ -38,6 +39,8 @@ pub struct Server {
     pub service: Arc<Service>,
     /// The places for connections.
     pub places: Arc<Places>,
+    /// The threads that answer.
+    pub hands: Hands,
     /// How long things may take.
     pub times: Times,
     /// Becomes true when the service comes to its end.
