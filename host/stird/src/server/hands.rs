@@ -10,6 +10,10 @@ use std::sync::Arc;
 use tokio::runtime::{Builder, Runtime};
 use tokio::sync::mpsc::{unbounded_channel, UnboundedReceiver, UnboundedSender};
 
+/// How many there are for each processor. A call takes a processor for a while, and what else its
+/// thread has waits for that; with more threads than processors others go on meanwhile.
+const FOR_EACH: usize = 8;
+
 /// How much stack such a thread has: the library needs 256 kilobytes of it.
 const STACK: usize = 4 << 20;
 
@@ -41,14 +45,14 @@ impl Drop for Held {
 }
 
 impl Hands {
-    /// As many as there are processors.
+    /// Some for each processor.
     ///
     /// # Errors
     ///
     /// A thread or its runtime can't be made.
     pub fn start() -> io::Result<Hands> {
-        let count = std::thread::available_parallelism().map_or(1, NonZeroUsize::get);
-        let all = (0..count).map(|_| Hand::start()).collect::<io::Result<_>>()?;
+        let processors = std::thread::available_parallelism().map_or(1, NonZeroUsize::get);
+        let all = (0..FOR_EACH * processors).map(|_| Hand::start()).collect::<io::Result<_>>()?;
         Ok(Hands { all, next: AtomicUsize::new(0) })
     }
 
