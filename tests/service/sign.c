@@ -41,6 +41,25 @@ static stir_chain key_of(bytes leaf, bytes table, size_t table_size) {
     return key;
 }
 
+static stir_said wanted(stir_chain *key, const stir_order *order, const char *x5u, const char *message) {
+    return stir_to_sign(key, order, (const uint8_t *)x5u, strlen(x5u), (const uint8_t *)message, strlen(message));
+}
+
+/* How many refusals and bad inputs have another number than that of their name. */
+static int misnamed(stir_chain *key, stir_chain *bare, stir_chain *none, stir_order order, const char *x5u) {
+    static const char *numbers = "INVITE sip:+2@a SIP/2.0\r\nFrom: <sip:+12000020007@a>\r\nTo: <sip:+2@a>\r\n\r\n";
+    static const char *names = "INVITE sip:+2@a SIP/2.0\r\nFrom: <sip:alice@a>\r\nTo: <sip:+2@a>\r\n\r\n";
+    uint8_t room[1];
+    order.form = STIR_SHAKEN_A;
+    int others = wanted(key, &order, x5u, "hello").rule != STIR_FORM;
+    others += wanted(key, &order, x5u, names).rule != STIR_NO_NUMBER;
+    others += wanted(bare, &order, x5u, numbers).rule != STIR_AUTHORITY;
+    others += wanted(none, &order, x5u, numbers).input != STIR_CERTIFICATE;
+    others += wanted(key, &order, "", numbers).input != STIR_ORDER;
+    others += stir_signed(key, &order, room, 0, room, 0, room, 0, room, 0).input != STIR_SIGNATURE;
+    return others;
+}
+
 int main(int count, char **words) {
     if (count != 4) {
         return 2;
@@ -50,7 +69,7 @@ int main(int count, char **words) {
     const uint8_t *x5u = (const uint8_t *)words[2];
     size_t x5u_size = strlen(words[2]);
     bytes message = read_file("message"), leaf = read_file("leaf"), table = read_file("table"), signature = read_file("signature");
-    stir_chain key = key_of(leaf, table, table.size), bare = key_of(leaf, table, 0);
+    stir_chain key = key_of(leaf, table, table.size), bare = key_of(leaf, table, 0), none = key_of(table, table, 0);
 
     stir_said said = stir_to_sign(&key, &order, x5u, x5u_size, message.at, message.size);
     printf("to sign: kind %u rule %u input %u\n", said.kind, said.rule, said.input);
@@ -68,8 +87,10 @@ int main(int count, char **words) {
     printf("no identifier: kind %u input %u\n", said.kind, said.input);
     said = stir_to_sign(&bare, &order, x5u, x5u_size, message.at, message.size);
     printf("no number for the code: kind %u rule %u\n", said.kind, said.rule);
+    printf("misnamed: %d\n", misnamed(&key, &bare, &none, order, words[2]));
     stir_chain_close(&key);
     stir_chain_close(&bare);
+    stir_chain_close(&none);
     free(message.at);
     free(leaf.at);
     free(table.at);
