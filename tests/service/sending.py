@@ -1,10 +1,16 @@
 """Calls that are sent on to another number, through the library for C, with real keys."""
 import ctypes
+import pathlib
+import re
 
 from header import Handle, bytes_of, chain_by, good_of, judged, loaded, parts, sent_on, shared_object, world_by, written
 from world import START
 
 TARGET = b"sip:+12000020009@example.net"
+
+# The numbers in stir.h, by their names.
+HEADER = pathlib.Path(__file__).resolve().parents[2] / "include" / "stir.h"
+NUMBERS = {name: int(number) for name, number in re.findall(r"\b(STIR_\w+) = (\d+)\b", HEADER.read_text())}
 
 
 def opened(stir, world, held, message, chains):
@@ -56,18 +62,18 @@ def is_held(stir, world, held, chains):
     wanted = stir.stir_call_judge(ctypes.byref(call), *bytes_of(nothing))
     assert bytes(refused) == bytes(wanted) and (wanted.kind, wanted.rule) == (1, 16), (refused.kind, refused.rule)
     back = b"sip:+%s@example.net" % called.encode()
-    for rule, words in (
-        (21, {"target": b"sip:alice@example.net"}),
-        (21, {"target": b"sip:+12000020009@example.net x"}),
-        (22, {"target": back}),
-        (25, {"key": other}),
+    for name, words in (
+        ("STIR_NO_TARGET", {"target": b"sip:alice@example.net"}),
+        ("STIR_NO_TARGET", {"target": b"sip:+12000020009@example.net x"}),
+        ("STIR_LOOP", {"target": back}),
+        ("STIR_NO_AUTHORITY", {"key": other}),
         # The target comes before the certificate.
-        (22, {"target": back, "key": other}),
+        ("STIR_LOOP", {"target": back, "key": other}),
     ):
         said = stir.stir_to_retarget(*order(call, good, **({"key": key} | words)))
-        assert (said.kind, said.rule, said.code, said.size) == (1, rule, 0, 0), (rule, said.kind, said.rule)
+        assert (said.kind, said.rule, said.code, said.size) == (1, NUMBERS[name], 0, 0), (name, said.kind, said.rule)
         room, told = written(stir.stir_retargeted, *order(call, good, **({"key": key} | words)), *bytes_of(bytes(64)))
-        assert bytes(told) == bytes(said) and room == b"", rule
+        assert bytes(told) == bytes(said) and room == b"", name
     bad = chain_by(stir, held, b"x")
     for number, words, signature in (
         (7, {"key": bad, "iat": 253_402_300_800}, 64),
@@ -97,7 +103,7 @@ def is_held(stir, world, held, chains):
 def full(stir, world, held, chains):
     """A call that was diverted eight times goes on to no other number; one that was diverted seven times does."""
     hops = [world.number(n, 9) for n in range(1, 10)]
-    for count, wanted in ((8, (0, 0)), (9, (1, 23))):
+    for count, wanted in ((8, (0, 0)), (9, (1, NUMBERS["STIR_FULL"]))):
         fields = [world.identity(0, world.number(0, 5), hops[0], START, 3)]
         fields += [world.diversion(n, world.number(0, 5), hops[n - 1], hops[n], START) for n in range(1, count)]
         message = world.invite(world.number(0, 5), hops[0], 3, "\r\nIdentity: ".join(fields), hops[count - 1])
