@@ -1,5 +1,5 @@
 //! What a judge of telephone calls has to trust beside its proved library: ES256 (RFC 7518, section
-//! 3.4) and private keys, by OpenSSL.
+//! 3.4) and private keys, by OpenSSL; and certificates that are [fetched](fetch).
 //!
 //! ```
 //! // RFC 6979, section A.2.5: a key, the digest of "sample", and a signature over it.
@@ -19,6 +19,7 @@
 #![warn(missing_docs)]
 
 mod es256;
+pub mod fetch;
 mod key;
 pub mod locks;
 pub mod split;

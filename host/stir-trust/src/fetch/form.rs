@@ -1,0 +1,241 @@
+//! Certificates in PEM (RFC 7468), DER, and PKCS #7 in either (RFC 5652, section 5.1).
+//!
+//! A certificate is what OpenSSL reads as one, to its last byte; it is kept as it stands. What it
+//! says is the judge's to read, but for names, by which the leaf comes first, and its last second.
+use openssl::asn1::{Asn1Time, Asn1TimeRef};
+use openssl::base64;
+use openssl::error::ErrorStack;
+use openssl::x509::X509;
+use std::cmp::Ordering;
+use thiserror::Error;
+
+/// So many certificates are put in order; more are no chain that a judge takes.
+const MOST_ORDERED: usize = 32;
+
+/// Why what was fetched isn't certificates.
+///
+/// ```
+/// use stir_trust::fetch::{chain_of, FormFault};
+///
+/// assert_eq!(chain_of(b"<html>"), Err(FormFault::None));
+/// ```
+#[derive(Clone, Copy, Debug, Error, PartialEq, Eq)]
+pub enum FormFault {
+    /// There are none, in PEM, DER or PKCS #7.
+    #[error("it has no certificates in PEM, DER or PKCS #7")]
+    None,
+    /// One in PEM isn't closed, or isn't base64.
+    #[error("a certificate in PEM is spoilt")]
+    Pem,
+    /// This one, counted from 1, isn't a certificate.
+    #[error("certificate {0} can't be read")]
+    Certificate(usize),
+}
+
+/// The certificates of these bytes, in DER, the leaf's first and each before its issuer's; in the
+/// order in which they stand if they are no such path.
+///
+/// # Errors
+///
+/// They aren't certificates.
+///
+/// ```
+/// use stir_trust::fetch::{chain_of, FormFault};
+///
+/// let spoilt = b"-----BEGIN CERTIFICATE-----\nAAAA\n-----END CERTIFICATE-----\n";
+/// assert_eq!(chain_of(spoilt), Err(FormFault::Certificate(1)));
+/// ```
+pub fn chain_of(bytes: &[u8]) -> Result<Vec<Vec<u8>>, FormFault> {
+    let found = match blocks_of(bytes)? {
+        None => of_der(bytes)?,
+        Some(blocks) => {
+            let mut found = Vec::new();
+            for Block { kind, content } in blocks {
+                match kind {
+                    Kind::Certificate => found.push(content),
+                    Kind::Message => found.extend(of_der(&content)?),
+                }
+            }
+            found
+        }
+    };
+    if found.is_empty() {
+        return Err(FormFault::None);
+    }
+    let mut read = Vec::with_capacity(found.len());
+    for (number, der) in found.iter().enumerate() {
+        let is_whole = element(der).is_some_and(|(_, _, rest)| rest.is_empty());
+        let certificate = X509::from_der(der).ok().filter(|_| is_whole);
+        read.push(certificate.ok_or(FormFault::Certificate(number + 1))?);
+    }
+    let order = leaf_first(&read).unwrap_or_else(|| (0..found.len()).collect());
+    Ok(order.into_iter().filter_map(|number| found.get(number).cloned()).collect())
+}
+
+/// The last second, in Unix time, at which all of these certificates in DER are valid; 0 if that
+/// is before 1970.
+///
+/// # Errors
+///
+/// One can't be read.
+///
+/// ```
+/// use stir_trust::fetch::{ends_of, FormFault};
+///
+/// assert_eq!(ends_of(&[vec![0x30, 0]]), Err(FormFault::Certificate(1)));
+/// ```
+pub fn ends_of(chain: &[Vec<u8>]) -> Result<u64, FormFault> {
+    let mut ends = u64::MAX;
+    for (number, der) in chain.iter().enumerate() {
+        let end = X509::from_der(der).and_then(|read| second_of(read.not_after()));
+        ends = ends.min(end.map_err(|_| FormFault::Certificate(number + 1))?);
+    }
+    Ok(ends)
+}
+
+fn second_of(time: &Asn1TimeRef) -> Result<u64, ErrorStack> {
+    let since = Asn1Time::from_unix(0)?.diff(time)?;
+    let seconds = i64::from(since.days) * 86_400 + i64::from(since.secs);
+    Ok(u64::try_from(seconds).unwrap_or(0))
+}
+
+/// A block of PEM, decoded.
+struct Block {
+    kind: Kind,
+    content: Vec<u8>,
+}
+
+/// What a block of PEM holds.
+#[derive(Clone, Copy)]
+enum Kind {
+    Certificate,
+    Message,
+}
+
+const LABELS: [(&[u8], Kind); 3] =
+    [(b"CERTIFICATE", Kind::Certificate), (b"PKCS7", Kind::Message), (b"CMS", Kind::Message)];
+
+/// The blocks of certificates and messages in a text of PEM; nothing if it has no block at all.
+fn blocks_of(text: &[u8]) -> Result<Option<Vec<Block>>, FormFault> {
+    const BEGIN: &[u8] = b"-----BEGIN ";
+    let Some(mut at) = place_of(text, BEGIN) else { return Ok(None) };
+    let mut blocks = Vec::new();
+    loop {
+        let rest = text.get(at + BEGIN.len()..).ok_or(FormFault::Pem)?;
+        let labelled = LABELS.iter().find_map(|(label, kind)| {
+            let rest = rest.strip_prefix(*label)?.strip_prefix(b"-----")?;
+            Some((*label, *kind, rest))
+        });
+        // Blocks of another kind, such as keys, are passed over.
+        let mut rest = rest;
+        if let Some((label, kind, inside)) = labelled {
+            let end = [b"-----END ", label, b"-----"].concat();
+            let length = place_of(inside, &end).ok_or(FormFault::Pem)?;
+            let content = decoded(inside.get(..length).unwrap_or_default())?;
+            blocks.push(Block { kind, content });
+            rest = inside.get(length..).unwrap_or_default();
+        }
+        let passed = text.len() - rest.len();
+        match place_of(rest, BEGIN) {
+            Some(next) => at = passed + next,
+            None => return Ok(Some(blocks)),
+        }
+    }
+}
+
+fn place_of(text: &[u8], what: &[u8]) -> Option<usize> {
+    text.windows(what.len()).position(|part| part == what)
+}
+
+/// The bytes of a text in base64 (RFC 4648, section 4) with blanks and line ends.
+fn decoded(text: &[u8]) -> Result<Vec<u8>, FormFault> {
+    let text: Vec<u8> = text.iter().copied().filter(|byte| !byte.is_ascii_whitespace()).collect();
+    let text = String::from_utf8(text).map_err(|_| FormFault::Pem)?;
+    base64::decode_block(&text).map_err(|_| FormFault::Pem)
+}
+
+/// The certificates of a PKCS #7 message, or those that stand one after another.
+fn of_der(bytes: &[u8]) -> Result<Vec<Vec<u8>>, FormFault> {
+    if let Some(certificates) = of_message(bytes) {
+        return elements(certificates).ok_or(FormFault::None);
+    }
+    elements(bytes).ok_or(FormFault::None)
+}
+
+/// The certificates in a SignedData, one after another (RFC 5652, sections 3 and 5.1):
+/// `SEQUENCE { OID, [0] { SEQUENCE { version, SET, SEQUENCE, [0] certificates .. } } }`.
+fn of_message(bytes: &[u8]) -> Option<&[u8]> {
+    const SIGNED_DATA: &[u8] = &[0x2A, 0x86, 0x48, 0x86, 0xF7, 0x0D, 0x01, 0x07, 0x02];
+    let (0x30, inside, b"") = element(bytes)? else { return None };
+    let (0x06, SIGNED_DATA, inside) = element(inside)? else { return None };
+    let (0xA0, inside, b"") = element(inside)? else { return None };
+    let (0x30, inside, b"") = element(inside)? else { return None };
+    let (0x02, _, inside) = element(inside)? else { return None };
+    let (0x31, _, inside) = element(inside)? else { return None };
+    let (0x30, _, inside) = element(inside)? else { return None };
+    let (0xA0, certificates, _) = element(inside)? else { return None };
+    Some(certificates)
+}
+
+/// The sequences that these bytes are, each whole; nothing if they are something else.
+fn elements(bytes: &[u8]) -> Option<Vec<Vec<u8>>> {
+    let (mut found, mut bytes) = (Vec::new(), bytes);
+    while !bytes.is_empty() {
+        let (0x30, _, rest) = element(bytes)? else { return None };
+        found.push(bytes.get(..bytes.len() - rest.len())?.to_vec());
+        bytes = rest;
+    }
+    Some(found)
+}
+
+/// The first element's tag and content, and what comes after it (X.690, sections 8.1 and 10.1).
+fn element(bytes: &[u8]) -> Option<(u8, &[u8], &[u8])> {
+    let (tag, rest) = bytes.split_first()?;
+    let (first, rest) = rest.split_first()?;
+    let (length, rest) = match first {
+        0..=0x7F => (usize::from(*first), rest),
+        0x81..=0x84 => {
+            let (digits, rest) = rest.split_at_checked(usize::from(first & 0x7F))?;
+            (digits.iter().fold(0, |length, digit| length << 8 | usize::from(*digit)), rest)
+        }
+        _ => return None,
+    };
+    let (content, rest) = rest.split_at_checked(length)?;
+    Some((*tag, content, rest))
+}
+
+/// The numbers of the certificates from the leaf's on, each before its issuer's (RFC 5280, section
+/// 6.1), if they are such a path.
+fn leaf_first(chain: &[X509]) -> Option<Vec<usize>> {
+    if chain.len() > MOST_ORDERED {
+        return None;
+    }
+    let is_issued = |number: usize, by: usize| -> Option<bool> {
+        let (issued, by) = (chain.get(number)?, chain.get(by)?);
+        Some(issued.issuer_name().try_cmp(by.subject_name()).ok()? == Ordering::Equal)
+    };
+    let mut leaves = Vec::new();
+    for leaf in 0..chain.len() {
+        let mut is_leaf = true;
+        for other in (0..chain.len()).filter(|other| *other != leaf) {
+            is_leaf &= !is_issued(other, leaf)? || is_issued(other, other)?;
+        }
+        if is_leaf {
+            leaves.push(leaf);
+        }
+    }
+    let [leaf] = leaves[..] else { return None };
+    let (mut order, mut last) = (vec![leaf], leaf);
+    while order.len() < chain.len() {
+        let mut after = Vec::new();
+        for number in (0..chain.len()).filter(|number| !order.contains(number)) {
+            if is_issued(last, number)? {
+                after.push(number);
+            }
+        }
+        let [next] = after[..] else { return None };
+        order.push(next);
+        last = next;
+    }
+    Some(order)
+}
