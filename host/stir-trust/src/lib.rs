@@ -1,5 +1,6 @@
 //! What a judge of telephone calls has to trust beside its proved library: ES256 (RFC 7518, section
-//! 3.4) and private keys, by OpenSSL; and certificates that are [fetched](fetch).
+//! 3.4) and private keys, by OpenSSL; and certificates that are [fetched](fetch)
+//! and [kept](cache).
 //!
 //! ```
 //! // RFC 6979, section A.2.5: a key, the digest of "sample", and a signature over it.
@@ -18,6 +19,7 @@
 #![forbid(unsafe_code)]
 #![warn(missing_docs)]
 
+pub mod cache;
 mod es256;
 pub mod fetch;
 mod key;

@@ -46,8 +46,16 @@ pub fn answer(status: &str, fields: &str) -> Does {
 /// A server, and what was asked of it.
 pub struct Server {
     pub port: u16,
-    pub connections: Arc<AtomicUsize>,
-    targets: Arc<Mutex<Vec<String>>>,
+    asked: Arc<Asked>,
+}
+
+/// What was asked of a server.
+#[derive(Default)]
+struct Asked {
+    connections: AtomicUsize,
+    targets: Mutex<Vec<String>>,
+    now: AtomicUsize,
+    most: AtomicUsize,
 }
 
 type Behaviour = dyn Fn(&str) -> Does + Send + Sync;
@@ -77,16 +85,17 @@ impl Server {
         let acceptor = builder.build();
         let listener = TcpListener::bind("127.0.0.1:0").await.expect("a port");
         let port = listener.local_addr().expect("an address").port();
-        let (connections, targets) = (Arc::<AtomicUsize>::default(), Arc::<Mutex<_>>::default());
-        let server =
-            Server { port, connections: Arc::clone(&connections), targets: Arc::clone(&targets) };
+        let asked = Arc::<Asked>::default();
+        let server = Server { port, asked: Arc::clone(&asked) };
         let does: Arc<Behaviour> = Arc::new(does);
         tokio::spawn(async move {
             while let Ok((stream, _)) = listener.accept().await {
-                connections.fetch_add(1, Ordering::SeqCst);
+                asked.connections.fetch_add(1, Ordering::SeqCst);
                 let ssl = Ssl::new(acceptor.context()).expect("TLS");
-                let (does, targets) = (Arc::clone(&does), Arc::clone(&targets));
-                tokio::spawn(served(ssl, stream, does, targets));
+                let (does, asked) = (Arc::clone(&does), Arc::clone(&asked));
+                tokio::spawn(async move {
+                    served(ssl, stream, does, &asked).await;
+                });
             }
         });
         server
@@ -94,11 +103,16 @@ impl Server {
 
     /// What was asked for, in its order.
     pub fn targets(&self) -> Vec<String> {
-        self.targets.lock().expect("targets").clone()
+        self.asked.targets.lock().expect("targets").clone()
     }
 
     pub fn connections(&self) -> usize {
-        self.connections.load(Ordering::SeqCst)
+        self.asked.connections.load(Ordering::SeqCst)
+    }
+
+    /// The most requests that waited for their answer at once.
+    pub fn most_at_once(&self) -> usize {
+        self.asked.most.load(Ordering::SeqCst)
     }
 
     /// A fetcher that may ask this server under the name `cr.example`.
@@ -121,12 +135,7 @@ impl Server {
     }
 }
 
-async fn served(
-    ssl: Ssl,
-    stream: TcpStream,
-    does: Arc<Behaviour>,
-    targets: Arc<Mutex<Vec<String>>>,
-) -> Option<()> {
+async fn served(ssl: Ssl, stream: TcpStream, does: Arc<Behaviour>, asked: &Asked) -> Option<()> {
     let mut stream = SslStream::new(ssl, stream).ok()?;
     Pin::new(&mut stream).accept().await.ok()?;
     let mut head = Vec::new();
@@ -135,7 +144,7 @@ async fn served(
     }
     let head = String::from_utf8(head).ok()?;
     let target = head.strip_prefix("GET ")?.split(' ').next()?.to_owned();
-    targets.lock().expect("targets").push(target.clone());
+    asked.targets.lock().expect("targets").push(target.clone());
     match does(&target) {
         Does::Says(answer) => stream.write_all(&answer).await.ok()?,
         Does::Drips(answer, each) => {
@@ -151,7 +160,10 @@ async fn served(
             }
         }
         Does::Waits(time, answer) => {
+            let now = asked.now.fetch_add(1, Ordering::SeqCst) + 1;
+            asked.most.fetch_max(now, Ordering::SeqCst);
             tokio::time::sleep(time).await;
+            asked.now.fetch_sub(1, Ordering::SeqCst);
             stream.write_all(&answer).await.ok()?;
         }
     }
