@@ -129,6 +129,18 @@ impl Folder {
         Some(Entry { der: chain.concat().into(), fetched, due, ends })
     }
 
+    /// The file of an x5u, whether it is there or not.
+    ///
+    /// ```
+    /// let folder = stir_trust::cache::Folder::open(&std::env::temp_dir(), 20_000)?;
+    /// let file = folder.file_of("https://cr.example/a.pem");
+    /// assert_eq!(file.parent(), Some(&*std::env::temp_dir()));
+    /// # Ok::<(), stir_trust::cache::FolderFault>(())
+    /// ```
+    pub fn file_of(&self, x5u: &str) -> PathBuf {
+        self.path.join(name_of(x5u))
+    }
+
     /// Writes these chains. What others wrote stays, if it was fetched later or is another's.
     ///
     /// # Errors
