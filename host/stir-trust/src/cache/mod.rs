@@ -178,8 +178,8 @@ impl Cache {
         }
     }
 
-    /// The chain of this x5u, for which so long is waited at most. Whoever waits in vain leaves
-    /// the fetch on its way.
+    /// The chain of this x5u, for which so long is waited at most; not at all if that is zero.
+    /// Whoever waits in vain leaves the fetch on its way.
     ///
     /// # Errors
     ///
@@ -193,7 +193,7 @@ impl Cache {
     /// let settings = Settings::new(Hosts::read(b"*\n")?);
     /// let fetcher = Fetcher::new(settings, Arc::new(SystemResolver))?;
     /// let cache = Cache::new(fetcher, Bounds::default(), Arc::new(SystemClock));
-    /// let late = runtime.block_on(cache.wait("https://cr.invalid/a.pem", Duration::ZERO));
+    /// let late = runtime.block_on(cache.wait("https://localhost/a.pem", Duration::ZERO));
     /// assert_eq!(late, Err(Miss::Late));
     /// # Ok::<(), Box<dyn std::error::Error>>(())
     /// ```
@@ -205,6 +205,9 @@ impl Cache {
             }
             flights::joined(&self.0, state, x5u, For::First)?
         };
+        if limit.is_zero() {
+            return Err(Miss::Late);
+        }
         let landed = async {
             loop {
                 if let Some(brought) = &*flight.borrow_and_update() {

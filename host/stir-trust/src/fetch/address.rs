@@ -1,7 +1,15 @@
 //! The addresses of a host, and which of them may be asked.
 use async_trait::async_trait;
 use std::io;
-use std::net::{IpAddr, Ipv4Addr, Ipv6Addr};
+use std::net::{IpAddr, Ipv4Addr, Ipv6Addr, ToSocketAddrs};
+use std::sync::{Arc, OnceLock};
+use tokio::sync::Semaphore;
+
+/// The most look-ups of the system's resolver that go on at once. Nothing ends one early, so those
+/// that nobody waits for any more count too.
+const MOST_LOOK_UPS: usize = 32;
+
+static LOOK_UPS: OnceLock<Arc<Semaphore>> = OnceLock::new();
 
 /// Networks of IPv4 that are no part of the internet, or no host's (RFC 6890 and IANA's registry
 /// of special addresses), with the bits of their prefixes.
@@ -127,7 +135,7 @@ pub trait Resolver: Send + Sync {
 }
 
 /// The system's resolver, with what `/etc/hosts` and its other sources say. It blocks a thread
-/// that is there for such, and no task.
+/// that is there for such, of a bounded number, and no task.
 ///
 /// ```
 /// use stir_trust::fetch::{Resolver, SystemResolver};
@@ -143,14 +151,37 @@ pub struct SystemResolver;
 #[async_trait]
 impl Resolver for SystemResolver {
     async fn addresses(&self, name: &str) -> io::Result<Vec<IpAddr>> {
-        let found = tokio::net::lookup_host((name, 443)).await?;
-        Ok(found.map(|address| address.ip()).collect())
+        let turn = Arc::clone(look_ups()).acquire_owned().await.map_err(io::Error::other)?;
+        let name = name.to_owned();
+        let look_up = move || {
+            let _turn = turn;
+            Ok((name.as_str(), 443).to_socket_addrs()?.map(|address| address.ip()).collect())
+        };
+        tokio::task::spawn_blocking(look_up).await?
     }
+}
+
+fn look_ups() -> &'static Arc<Semaphore> {
+    LOOK_UPS.get_or_init(|| Arc::new(Semaphore::new(MOST_LOOK_UPS)))
 }
 
 #[cfg(test)]
 mod tests {
     use super::*;
+    use std::time::Duration;
+
+    #[tokio::test]
+    async fn look_ups_of_the_system_have_a_bound() {
+        let turns = look_ups().acquire_many(MOST_LOOK_UPS as u32).await.expect("all turns");
+        let late = Duration::from_millis(200);
+        let waits = tokio::time::timeout(late, SystemResolver.addresses("localhost")).await;
+        assert!(waits.is_err(), "{waits:?}");
+        drop(turns);
+        let found = SystemResolver.addresses("localhost").await.expect("localhost");
+        assert!(!found.is_empty() && found.iter().all(IpAddr::is_loopback), "{found:?}");
+        assert_eq!(look_ups().available_permits(), MOST_LOOK_UPS);
+        assert!(SystemResolver.addresses(&"a".repeat(300)).await.is_err(), "no name");
+    }
 
     #[test]
     fn public_addresses_are_told_from_others_at_the_edges_of_each_network() {
