@@ -39,16 +39,17 @@ struct Last {
 }
 
 impl Reload {
-    /// Of this service, which has read them once; they are looked at so often.
+    /// Of this service, which has read them once; they are looked at so often. Of the file of
+    /// tokens it is said how it looked before it was read.
     pub fn new(
         sources: Sources,
-        tokens: Option<PathBuf>,
+        tokens: Option<(Look, PathBuf)>,
         service: Arc<Service>,
         acceptor: Option<Arc<Acceptor>>,
         log: Log,
         every: Duration,
     ) -> Reload {
-        let token_file = tokens.as_deref().map(Look::at);
+        let (token_file, tokens) = tokens.unzip();
         let last = Last { token_file, ..Last::default() }.into();
         let patience = every / 4;
         let shared = Arc::new(Shared { sources, tokens, service, acceptor, last, patience });

@@ -1,6 +1,6 @@
 //! The service from its start to its end.
 use crate::answers::Answers;
-use crate::files::{self, signing::Blocks, Sources};
+use crate::files::{self, look::Look, signing::Blocks, Sources};
 use crate::health::Standing;
 use crate::judge::Judge;
 use crate::logs::Log;
@@ -37,6 +37,8 @@ pub async fn run(settings: Settings, log: Log) -> Result<()> {
     let clock: Arc<dyn Clock> = Arc::new(SystemClock);
     let acceptor = settings.tls.clone().map(Acceptor::read).transpose()?.map(Arc::new);
     let sources = settings.sources();
+    // Looked at before it is read, so that a change in between isn't missed.
+    let tokens = settings.signing_tokens.clone().map(|path| (Look::at(&path), path));
     let service = Arc::new(service(&settings, &sources, &metrics, &clock)?);
     service.judge.tickets.look().await;
     let doors = Doors::open(&settings.listen, settings.socket_mode, acceptor.as_ref())?;
@@ -49,7 +51,6 @@ pub async fn run(settings: Settings, log: Log) -> Result<()> {
         service: Arc::clone(&service),
         ending,
     });
-    let tokens = settings.signing_tokens;
     let reload = Reload::new(sources, tokens, Arc::clone(&service), acceptor, log, settings.reload);
     let aside = [tokio::spawn(reload.run(hangs_up)), tokio::spawn(keep_watchdog())];
     let serving = {
