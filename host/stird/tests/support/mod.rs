@@ -224,7 +224,10 @@ pub fn as_another_user(test: &str) -> bool {
     }
     let folder = Folder::new();
     let program = folder.path("test");
-    std::fs::copy(std::env::current_exe().expect("this program"), &program).expect("a copy");
+    // By a process of its own: what this one writes may stay open in a child that another thread
+    // starts meanwhile, and can't be executed then.
+    let this = std::env::current_exe().expect("this program");
+    run(std::process::Command::new("cp").args([&this, &program]));
     run(std::process::Command::new("setpriv")
         .args(["--reuid=65534", "--regid=65534", "--clear-groups"])
         .arg(&program)
