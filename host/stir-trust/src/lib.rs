@@ -1,6 +1,6 @@
 //! What a judge of telephone calls has to trust beside its proved library: ES256 (RFC 7518, section
-//! 3.4) and private keys, by OpenSSL; and certificates that are [fetched](fetch)
-//! and [kept](cache).
+//! 3.4) and private keys, by OpenSSL; a [chain map](chain_map); and certificates that are
+//! [fetched](fetch) and [kept](cache).
 //!
 //! ```
 //! // RFC 6979, section A.2.5: a key, the digest of "sample", and a signature over it.
@@ -20,6 +20,7 @@
 #![warn(missing_docs)]
 
 pub mod cache;
+pub mod chain_map;
 mod es256;
 pub mod fetch;
 mod key;

@@ -2,7 +2,7 @@
 
 use crate::answers::Answers;
 use crate::capture::How;
-use crate::chains::{read_map, Chains};
+use crate::chains::{Chains, Map};
 use crate::checking::Check;
 use crate::input::each_log;
 use crate::judge::{Files, Judge};
@@ -94,7 +94,7 @@ fn judged(words: &words::Judge, outputs: &mut Outputs) -> Result<bool, Fault> {
 pub(crate) fn judge_by(by: &By, keeps_answers: bool) -> Result<Judge, Fault> {
     let settings = by.rules.settings();
     World::open(&settings, b"", b"").map_err(|error| Fault::Words(error.to_string()))?;
-    let files = read_map(&by.chains)?;
+    let map = Map::read(&by.chains)?;
     let anchors = match (&by.anchors, &by.roots) {
         (Some(name), _) => world::anchors(&settings, name)?,
         (None, Some(name)) => {
@@ -114,7 +114,7 @@ pub(crate) fn judge_by(by: &By, keeps_answers: bool) -> Result<Judge, Fault> {
         }
     };
     let world = World::open(&settings, &anchors, &table)?;
-    let chains = Chains::new(world.clone(), files);
+    let chains = Chains::new(world.clone(), map);
     Ok(Judge { world, chains, provider, files: Files { anchors, table }, tells: false })
 }
 

@@ -1,7 +1,7 @@
 //! The command `report`.
 
 use crate::answers::Answers;
-use crate::chains::{read_map, Chains};
+use crate::chains::{Chains, Map};
 use crate::files::lines;
 use crate::input::{whole, Input};
 use crate::judge::{Files, Judge};
@@ -15,7 +15,6 @@ use crate::state::BEGINS;
 use crate::verdict::Verdict;
 use crate::words::{Report, To};
 use crate::{say, Ended, Fault};
-use std::collections::HashMap;
 use stir::World;
 
 /// The most bytes of a report.
@@ -111,8 +110,8 @@ fn judge(words: &Report) -> Result<Judge, Fault> {
     let settings = words.rules.settings();
     let world =
         World::open(&settings, b"", b"").map_err(|error| Fault::Words(error.to_string()))?;
-    let files = words.chains.as_deref().map_or(Ok(HashMap::new()), read_map)?;
-    let chains = Chains::new(world.clone(), files);
+    let map = words.chains.as_deref().map_or(Ok(Map::default()), Map::read)?;
+    let chains = Chains::new(world.clone(), map);
     let provider = Provider::Answers(Answers::default());
     Ok(Judge { world, chains, provider, files: Files::default(), tells: true })
 }

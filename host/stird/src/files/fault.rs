@@ -1,10 +1,10 @@
 //! Why a file isn't taken.
-use super::chain_map::LineFault;
 use super::look::Kind;
 use super::signing_line::BlockFault;
 use std::fmt::{self, Display, Formatter};
 use std::io;
 use std::path::{Path, PathBuf};
+use stir_trust::chain_map::LineFault;
 use thiserror::Error;
 
 /// A file that isn't taken, with the line at fault, counted from 1, if it is one.

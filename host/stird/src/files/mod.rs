@@ -11,7 +11,6 @@
 //! that a reader has all of a world or all of the one before.
 
 mod bytes;
-pub mod chain_map;
 mod fault;
 mod listed;
 pub mod look;

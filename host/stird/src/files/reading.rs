@@ -1,6 +1,5 @@
 //! A reading of the files: what changed is read, and all else is taken from the one before.
 use super::bytes::wait_for_rest;
-use super::chain_map::ChainMap;
 use super::fault::FileFault;
 use super::listed::ChainFile;
 use super::look::Look;
@@ -13,6 +12,7 @@ use std::path::Path;
 use std::sync::Arc;
 use std::time::{Duration, Instant};
 use stir::{Error, Input};
+use stir_trust::chain_map::ChainMap;
 use stir_trust::Verifier;
 
 /// How long certificates are confirmed when the files are read. What isn't confirmed by then is

@@ -1,5 +1,4 @@
 //! What calls are judged by, as it was read.
-use super::chain_map::ChainMap;
 use super::fault::FileFault;
 use super::listed::{ChainFile, Listed};
 use super::reading::Change;
@@ -11,6 +10,7 @@ use std::sync::atomic::{AtomicUsize, Ordering};
 use std::sync::{Arc, Mutex, OnceLock};
 use std::time::{Duration, Instant};
 use stir::Error;
+use stir_trust::chain_map::ChainMap;
 use stir_trust::locks::Held;
 use stir_trust::Verifier;
 
@@ -239,7 +239,7 @@ impl Totals {
         }
         let is_there =
             |number: &usize| parts.files.get(*number).is_some_and(|file| file.chain().is_some());
-        totals.chains = parts.listed.all().filter(is_there).count();
+        totals.chains = parts.listed.all().filter(|(_, number)| is_there(number)).count();
         totals
     }
 }

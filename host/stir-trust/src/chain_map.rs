@@ -1,5 +1,12 @@
-//! The chain map: which file has the certificates of which x5u (docs/FORMATS.md). Which file that
-//! is, the service says; what the file's certificates say, the proved library does.
+//! The chain map: which file has the certificates of which x5u (docs/FORMATS.md). What the file's
+//! certificates say, the proved library does.
+//!
+//! ```
+//! use stir_trust::chain_map::ChainMap;
+//!
+//! let map = ChainMap::read(b"https://cr.example/a.pem a.der\n").expect("a map");
+//! assert_eq!(map.file(b"https://cr.example/a.pem"), Some(0));
+//! ```
 use std::collections::hash_map::Entry;
 use std::collections::HashMap;
 use std::ffi::OsStr;
@@ -8,15 +15,34 @@ use std::path::{Path, PathBuf};
 use thiserror::Error;
 
 /// The most bytes of a map.
+///
+/// ```
+/// assert_eq!(stir_trust::chain_map::MOST_BYTES, 16 << 20);
+/// ```
 pub const MOST_BYTES: usize = 16_777_216;
 
 /// The most lines of a map.
-const MOST_LINES: usize = 50_000;
+///
+/// ```
+/// assert_eq!(stir_trust::chain_map::MOST_LINES, 50_000);
+/// ```
+pub const MOST_LINES: usize = 50_000;
 
 /// The most bytes of a file's name.
-const LONGEST_NAME: usize = 255;
+///
+/// ```
+/// assert_eq!(stir_trust::chain_map::LONGEST_NAME, 255);
+/// ```
+pub const LONGEST_NAME: usize = 255;
 
 /// Why a line of a map isn't taken.
+///
+/// ```
+/// use stir_trust::chain_map::{ChainMap, LineFault};
+///
+/// let fault = ChainMap::read(b"https://a a.der\nhttps://a b.der\n").err();
+/// assert_eq!(fault, Some((2, LineFault::Twice)));
+/// ```
 #[derive(Clone, Copy, Debug, Error, PartialEq, Eq)]
 pub enum LineFault {
     /// There are too many.
@@ -40,7 +66,12 @@ pub enum LineFault {
 }
 
 /// The file of each x5u.
-#[derive(Debug, Default)]
+///
+/// ```
+/// # use stir_trust::chain_map::ChainMap;
+/// assert_eq!(ChainMap::default().names().len(), 0);
+/// ```
+#[derive(Clone, Debug, Default)]
 pub struct ChainMap {
     /// The number of each x5u's file.
     files: HashMap<Box<[u8]>, usize>,
@@ -49,10 +80,14 @@ pub struct ChainMap {
 }
 
 impl ChainMap {
-    /// Reads the lines of a map; or the first that isn't taken, counted from 1, and why.
+    /// Reads the lines of a map.
+    ///
+    /// # Errors
+    ///
+    /// The first line that isn't taken, counted from 1, and why.
     ///
     /// ```
-    /// use stird::files::chain_map::{ChainMap, LineFault};
+    /// use stir_trust::chain_map::{ChainMap, LineFault};
     ///
     /// let map = ChainMap::read(b"; ours\nhttps://a a.der\n").expect("a map");
     /// assert_eq!(map.file(b"https://a"), Some(0));
@@ -84,18 +119,36 @@ impl ChainMap {
     }
 
     /// The number of the file of an x5u.
+    ///
+    /// ```
+    /// # use stir_trust::chain_map::ChainMap;
+    /// let map = ChainMap::read(b"https://a a.der\nhttps://b a.der\n").expect("a map");
+    /// assert_eq!((map.file(b"https://b"), map.file(b"https://c")), (Some(0), None));
+    /// ```
     pub fn file(&self, x5u: &[u8]) -> Option<usize> {
         self.files.get(x5u).copied()
     }
 
-    /// The names of the files, by their numbers.
+    /// The names of the files, by their numbers; each once, in the order of the lines.
+    ///
+    /// ```
+    /// # use stir_trust::chain_map::ChainMap;
+    /// let map = ChainMap::read(b"https://a b.der\nhttps://b a.der\n").expect("a map");
+    /// assert_eq!(map.names(), [std::path::Path::new("b.der"), "a.der".as_ref()]);
+    /// ```
     pub fn names(&self) -> &[PathBuf] {
         &self.names
     }
 
-    /// The numbers of the files of all x5us.
-    pub fn all(&self) -> impl Iterator<Item = usize> + '_ {
-        self.files.values().copied()
+    /// All x5us with the numbers of their files, in any order.
+    ///
+    /// ```
+    /// # use stir_trust::chain_map::ChainMap;
+    /// let map = ChainMap::read(b"https://a a.der\n").expect("a map");
+    /// assert!(map.all().eq([(b"https://a".as_slice(), 0)]));
+    /// ```
+    pub fn all(&self) -> impl Iterator<Item = (&[u8], usize)> + '_ {
+        self.files.iter().map(|(x5u, file)| (&**x5u, *file))
     }
 }
 
