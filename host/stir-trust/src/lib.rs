@@ -1,6 +1,6 @@
 //! What a judge of telephone calls has to trust beside its proved library: ES256 (RFC 7518, section
-//! 3.4) and private keys, by OpenSSL; a [chain map](chain_map); and certificates that are
-//! [fetched](fetch) and [kept](cache).
+//! 3.4) and private keys, by OpenSSL; trust anchors ([roots]) and a [chain map](chain_map); and
+//! certificates that are [fetched](fetch) and [kept](cache).
 //!
 //! ```
 //! // RFC 6979, section A.2.5: a key, the digest of "sample", and a signature over it.
@@ -25,6 +25,8 @@ mod es256;
 pub mod fetch;
 mod key;
 pub mod locks;
+pub mod names;
+pub mod roots;
 pub mod split;
 
 pub use es256::{Unanswered, Verifier};

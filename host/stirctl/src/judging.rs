@@ -13,7 +13,7 @@ use crate::run::{Day, Run};
 use crate::sink::{Sink, STDOUT};
 use crate::state::State;
 use crate::words::{self, By, Pool, To};
-use crate::{say, world, Ended, Fault};
+use crate::{world, Ended, Fault};
 use rayon::{ThreadPool, ThreadPoolBuilder};
 use std::collections::HashSet;
 use std::sync::Mutex;
@@ -97,11 +97,7 @@ pub(crate) fn judge_by(by: &By, keeps_answers: bool) -> Result<Judge, Fault> {
     let map = Map::read(&by.chains)?;
     let anchors = match (&by.anchors, &by.roots) {
         (Some(name), _) => world::anchors(&settings, name)?,
-        (None, Some(name)) => {
-            let (anchors, said) = world::roots(&settings, name)?;
-            said.iter().for_each(|text| say(text));
-            anchors
-        }
+        (None, Some(name)) => world::roots(&settings, name)?,
         (None, None) => Vec::new(),
     };
     let table = world::table(&settings, &by.table)?;

@@ -2,18 +2,14 @@
 //! they are bad.
 
 use crate::files::whole;
-use crate::Fault;
-use openssl::x509::X509;
+use crate::{say, Fault};
 use stir::{Error, Input, Settings, World};
+use stir_trust::roots::{is_anchor, Roots, RootsFault, MOST_ANCHORS, MOST_BYTES};
 
 const MOST_ANCHORS_BYTES: u64 = 2_097_152;
 const MOST_TABLE_BYTES: u64 = 16_777_216;
 
-/// The most bytes of a file of roots in PEM.
-const MOST_ROOTS_BYTES: u64 = 8 << 20;
-
-/// The most trust anchors, and the most bytes of a certificate.
-const MOST_ANCHORS: usize = 256;
+/// The most bytes of a certificate.
 const LONGEST_CERTIFICATE: usize = 8_192;
 
 /// The trust anchors of a file in DER, one after another.
@@ -49,52 +45,16 @@ fn first_bad_anchor(settings: &Settings, anchors: &[u8]) -> Result<usize, Fault>
     Ok(start)
 }
 
-/// Whether the library takes these bytes for trust anchors.
-pub(crate) fn is_anchor(settings: &Settings, der: &[u8]) -> Result<bool, Fault> {
-    match World::open(settings, der, b"") {
-        Ok(_) => Ok(true),
-        Err(Error::BadInput(_)) => Ok(false),
-        Err(error) => Err(error.into()),
-    }
-}
-
 /// The certificates of a file of roots in PEM that the library takes for trust anchors, one after
-/// another in DER; and what is said of each other one, which is left out.
-pub(crate) fn roots(settings: &Settings, name: &str) -> Result<(Vec<u8>, Vec<String>), Fault> {
-    let pem = whole(name, MOST_ROOTS_BYTES)?;
-    let found = X509::stack_from_pem(&pem).ok().filter(|found| !found.is_empty());
-    let found = found.ok_or_else(|| no_certificates(name))?;
-    let (mut anchors, mut count, mut said) = (Vec::new(), 0, Vec::new());
-    for (number, root) in (1..).zip(&found) {
-        let der = root.to_der().map_err(|_| no_certificates(name))?;
-        if is_anchor(settings, &der)? {
-            anchors.extend_from_slice(&der);
-            count += 1;
-        } else {
-            let subject = subject_of(root);
-            let why = "is no trust anchor of the profile, and is left out";
-            said.push(format!("{name}: certificate {number}, {subject}, {why}"));
-        }
-    }
-    if count > MOST_ANCHORS {
-        let why = format!("{count} trust anchors, and {MOST_ANCHORS} are taken");
-        return Err(Fault::Input(name.into(), why));
-    }
-    Ok((anchors, said))
-}
-
-fn no_certificates(name: &str) -> Fault {
-    Fault::Input(name.into(), "no certificates in PEM".into())
-}
-
-/// A subject's name for a person.
-pub(crate) fn subject_of(certificate: &X509) -> String {
-    let entries = certificate.subject_name().entries().filter_map(|entry| {
-        let name = entry.object().nid().short_name().ok()?;
-        Some(format!("{name}={}", entry.data().as_utf8().ok()?))
-    });
-    let text = entries.collect::<Vec<_>>().join(", ");
-    text.chars().map(|letter| if letter.is_control() { '?' } else { letter }).collect()
+/// another in DER. Each other one is named, and left out.
+pub(crate) fn roots(settings: &Settings, name: &str) -> Result<Vec<u8>, Fault> {
+    let pem = whole(name, MOST_BYTES as u64)?;
+    let Roots { anchors, left_out } = Roots::read(settings, &pem).map_err(|fault| match fault {
+        RootsFault::Library(error) => error.into(),
+        fault => Fault::Input(name.into(), fault.to_string()),
+    })?;
+    left_out.iter().for_each(|left| say(&format!("{name}: {left}")));
+    Ok(anchors)
 }
 
 /// The code table of a file.
