@@ -23,6 +23,7 @@ pub mod cache;
 pub mod chain_map;
 mod es256;
 pub mod fetch;
+pub mod issuers;
 mod key;
 pub mod locks;
 pub mod names;
