@@ -44,6 +44,9 @@ pub enum KeyFault {
     /// A passphrase is wanted, and nobody is asked for one.
     #[error("its private key is encrypted, and nobody is asked for a passphrase")]
     Encrypted,
+    /// It is encrypted, and this passphrase opens none.
+    #[error("it has no private key in PEM that this passphrase opens")]
+    OtherPassphrase,
     /// It is one of another kind.
     #[error("its private key isn't one of P-256")]
     OtherKind,
@@ -74,9 +77,44 @@ impl Key {
         if is_encrypted(pem) {
             return Err(KeyFault::Encrypted);
         }
-        drop(ErrorStack::get());
         // With a passphrase, if only an empty one, OpenSSL asks nobody for another.
-        let key = PKey::private_key_from_pem_passphrase(pem, b"").map_err(|_| KeyFault::NoKey)?;
+        Key::opened(pem, b"")
+    }
+
+    /// The same of a key that may be encrypted: this passphrase opens it. One that isn't encrypted
+    /// is taken as it is.
+    ///
+    /// # Errors
+    ///
+    /// Those of [`Key::from_pem`], but that an encrypted key is refused only if the passphrase
+    /// isn't its own.
+    ///
+    /// ```
+    /// # let pem = openssl_key();
+    /// use stir_trust::{Key, KeyFault};
+    ///
+    /// assert!(Key::from_pem_by(&pem, b"a pass phrase").is_ok());
+    /// let fault = Key::from_pem_by(&pem, b"another one").err();
+    /// assert_eq!(fault, Some(KeyFault::OtherPassphrase));
+    /// # fn openssl_key() -> Vec<u8> {
+    /// #     use openssl::{ec::{EcGroup, EcKey}, nid::Nid, symm::Cipher};
+    /// #     let curve = EcGroup::from_curve_name(Nid::X9_62_PRIME256V1).unwrap();
+    /// #     let (key, cipher) = (EcKey::generate(&curve).unwrap(), Cipher::aes_128_cbc());
+    /// #     key.private_key_to_pem_passphrase(cipher, b"a pass phrase").unwrap()
+    /// # }
+    /// ```
+    pub fn from_pem_by(pem: &[u8], passphrase: &[u8]) -> Result<Key, KeyFault> {
+        Key::opened(pem, passphrase).map_err(|fault| match fault {
+            KeyFault::NoKey if is_encrypted(pem) => KeyFault::OtherPassphrase,
+            other => other,
+        })
+    }
+
+    /// The first private key of a text in PEM, opened by this passphrase if it is encrypted.
+    fn opened(pem: &[u8], passphrase: &[u8]) -> Result<Key, KeyFault> {
+        drop(ErrorStack::get());
+        let key = PKey::private_key_from_pem_passphrase(pem, passphrase);
+        let key = key.map_err(|_| KeyFault::NoKey)?;
         let key = key.ec_key().map_err(|_| KeyFault::OtherKind)?;
         if key.group().curve_name() != Some(Nid::X9_62_PRIME256V1) {
             return Err(KeyFault::OtherKind);
@@ -151,7 +189,9 @@ mod tests {
         let point = public_of(&made).unwrap();
         let pkcs8 = PKey::from_ec_key(made.clone()).unwrap().private_key_to_pem_pkcs8().unwrap();
         for pem in [made.private_key_to_pem().unwrap(), pkcs8] {
-            assert_eq!(Key::from_pem(&pem).ok().map(|key| *key.public()), Some(point));
+            for key in [Key::from_pem(&pem), Key::from_pem_by(&pem, b"word")] {
+                assert_eq!(key.ok().map(|key| *key.public()), Some(point));
+            }
         }
     }
 
@@ -166,6 +206,12 @@ mod tests {
                 pkey.private_key_to_pem_pkcs8_passphrase(cipher, word).unwrap(),
             ] {
                 assert_eq!(Key::from_pem(&pem).err(), Some(KeyFault::Encrypted));
+                let point = Key::from_pem_by(&pem, word).ok().map(|key| *key.public());
+                assert_eq!(point, public_of(&made));
+                for other in [&b""[..], b"another"] {
+                    let fault = Key::from_pem_by(&pem, other).err();
+                    assert_eq!(fault, Some(KeyFault::OtherPassphrase));
+                }
                 // Whatever hides it, no terminal is asked: the test would wait for ever.
                 let hidden = String::from_utf8(pem).unwrap().replace("ENCRYPTED", "HIDDEN");
                 assert!(Key::from_pem(hidden.as_bytes()).is_err());
@@ -189,6 +235,7 @@ mod tests {
             (Vec::new(), KeyFault::NoKey),
         ] {
             assert_eq!(Key::from_pem(&pem).err(), Some(fault));
+            assert_eq!(Key::from_pem_by(&pem, b"word").err(), Some(fault));
         }
     }
 

@@ -46,6 +46,28 @@ pub enum FormFault {
 /// assert_eq!(chain_of(spoilt), Err(FormFault::Certificate(1)));
 /// ```
 pub fn chain_of(bytes: &[u8]) -> Result<Vec<Vec<u8>>, FormFault> {
+    let (found, read) = read(bytes)?;
+    let order = leaf_first(&read).unwrap_or_else(|| (0..found.len()).collect());
+    Ok(order.into_iter().filter_map(|number| found.get(number).cloned()).collect())
+}
+
+/// The certificates of these bytes, in DER and in the order in which they stand.
+///
+/// # Errors
+///
+/// They aren't certificates.
+///
+/// ```
+/// use stir_trust::fetch::{certificates_of, FormFault};
+///
+/// assert_eq!(certificates_of(b"-----BEGIN CERTIFICATE-----\n"), Err(FormFault::Pem));
+/// ```
+pub fn certificates_of(bytes: &[u8]) -> Result<Vec<Vec<u8>>, FormFault> {
+    Ok(read(bytes)?.0)
+}
+
+/// The certificates of these bytes, in DER and as OpenSSL reads them.
+fn read(bytes: &[u8]) -> Result<(Vec<Vec<u8>>, Vec<X509>), FormFault> {
     let found = match blocks_of(bytes)? {
         None => of_der(bytes)?,
         Some(blocks) => {
@@ -68,8 +90,7 @@ pub fn chain_of(bytes: &[u8]) -> Result<Vec<Vec<u8>>, FormFault> {
         let certificate = X509::from_der(der).ok().filter(|_| is_whole);
         read.push(certificate.ok_or(FormFault::Certificate(number + 1))?);
     }
-    let order = leaf_first(&read).unwrap_or_else(|| (0..found.len()).collect());
-    Ok(order.into_iter().filter_map(|number| found.get(number).cloned()).collect())
+    Ok((found, read))
 }
 
 /// The last second, in Unix time, at which all of these certificates in DER are valid; 0 if that

@@ -34,7 +34,7 @@ mod reason;
 mod redirects;
 
 pub use address::{is_public, Reach, Resolver, SystemResolver};
-pub use form::{chain_of, ends_of, FormFault};
+pub use form::{certificates_of, chain_of, ends_of, FormFault};
 pub use hosts::{Hosts, HostsFault};
 pub use reason::{Limit, Reason};
 pub use redirects::MOST_REDIRECTS;
