@@ -6,7 +6,10 @@ import os
 import subprocess
 import sys
 
+import ctl_cases
+import days
 import pytest
+import reports
 import rows
 
 TOP = rows.TESTS.parent
@@ -21,23 +24,26 @@ FIRST = EXAMPLES / 'first-call/calls.log'
 FIRST_REPORT = (EXAMPLES / 'first-call/output').read_bytes()
 
 
-@pytest.fixture(scope='session')
-def ctl(request):
-    return request.config.getoption('ctl').resolve()
-
-
-@pytest.fixture
-def run(ctl):
-    """Runs `stirctl` where the files of the examples lie, and returns its status, its output and what it says."""
-    def go(*words, given=b'', folder=EXAMPLES.parent, stdout=subprocess.PIPE):
-        done = subprocess.run([ctl, *words], input=given, stdout=stdout, stderr=subprocess.PIPE, cwd=folder, timeout=120)
-        return done.returncode, done.stdout, done.stderr
-    return go
-
-
 @pytest.mark.parametrize('case', [pytest.param(case[1:], id=case[0]) for case in rows.cases()])
 def test_it_writes_what_the_proved_program_writes(case, ctl, equal):
     equal(*rows.result(ctl, *case), given=case[0])
+
+
+@pytest.mark.parametrize('line', [pytest.param(line, id=f'cases:{number}') for number, line in ctl_cases.lines()])
+def test_line(line, run, tmp_path, equal):
+    equal(*ctl_cases.case(line, run, tmp_path), given=line)
+
+
+def test_openssl_agrees_on_signatures(run, each, request):
+    each(ctl_cases.agreements(run, request.config.getoption('keys')))
+
+
+def test_reports(run, each):
+    each(reports.results(run))
+
+
+def test_days(ctl, each, request):
+    each(days.results(ctl, request.config.getoption('program').resolve()))
 
 
 def test_all_outputs_are_written_at_once_and_say_the_same(run, tmp_path):

@@ -33,13 +33,12 @@ def on_terminal(tool, given, folder):
 def results(tools, files):
     """Each case: its name, what is wanted, and what came. That nothing is written to a pipe is shown by the cases of `cases`."""
     with tempfile.TemporaryDirectory() as folder:
-        for name in ('run-udp.pcap', 'run.log', 'questions'):
+        for name in ('run-udp.pcap', 'run.log'):
             with open(os.path.join(folder, name), 'wb') as file:
                 file.write(files[name])
         with open(os.path.join(folder, 'hosts'), 'w') as file:
             file.write('cert.example.org\n')
         for words, given, said in ((['stir-log', 'run-udp.pcap'], b'', 'stir-log: calls 5\n'), (['stir-log', '--x5u', 'run.log'], b'', ''),
-                                   (['stir-confirm', 'questions'], b'', ''),
                                    (['stir-fetch', '--hosts', 'hosts'], b'u\n', 'stir-fetch: u: no https URI; there is no file of it\n')):
             got = on_terminal([str(tools / words[0]), *words[1:]], given, folder)
             bars = BAR % words[0].removeprefix('stir-')

@@ -1,12 +1,11 @@
 """Runs the tools around the program on the cases of this folder: the lines of `cases`, and the modules that say what no line can say.
 
-`--keys COUNT` is the number of keys and messages that go through openssl. What needs a package that is missing is skipped.
+What needs a package that is missing is skipped.
 """
 import importlib.util
 import shutil
 
 import asserted
-import days
 import debian
 import fetching
 import gates
@@ -14,11 +13,10 @@ import packaged
 import pages
 import pytest
 import refusals
-import reports
 import starts
 import terminals
 import tool_cases
-from tool_cases import FILES, HERE, NEED_LIBRARY, TOOLS, tool
+from tool_cases import FILES, TOOLS, tool
 
 LIBRARY = 'python3-cryptography'
 HAS_LIBRARY = importlib.util.find_spec('cryptography') is not None
@@ -31,12 +29,12 @@ def needs(*names):
 
 
 def needs_of(line):
-    return [LIBRARY] * line.startswith(NEED_LIBRARY) + ['tshark'] * line.startswith('+tshark')
+    return ['tshark'] * line.startswith('+tshark')
 
 
 @pytest.mark.parametrize('line', [pytest.param(line, id=f'cases:{number}', marks=needs(*needs_of(line))) for number, line in tool_cases.lines()])
-def test_line(line, program, equal):
-    equal(*tool_cases.case(line, program), given=line)
+def test_line(line, equal):
+    equal(*tool_cases.case(line), given=line)
 
 
 def test_words(each, program):
@@ -55,16 +53,8 @@ def test_pages(each, program):
     each(pages.results(program, HAS_LIBRARY))
 
 
-def test_reports(each):
-    each(reports.results(tool, HERE / 'files'))
-
-
 def test_asserted(each, program):
     each(asserted.results(tool, program))
-
-
-def test_days(each, program):
-    each(days.results(program))
 
 
 def test_packaged(each):
@@ -84,8 +74,3 @@ def test_terminals(each):
 @needs(LIBRARY, 'openssl')
 def test_fetching(each):
     each(fetching.results(tool))
-
-
-@needs(LIBRARY, 'openssl')
-def test_openssl(each, request):
-    each(tool_cases.agreements(request.config.getoption('keys')))

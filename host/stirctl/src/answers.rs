@@ -57,6 +57,12 @@ pub(crate) fn question(line: &[u8]) -> Option<Question> {
     }
 }
 
+/// Whether a key may have this name.
+pub(crate) fn is_key_name(name: &[u8]) -> bool {
+    let is_in_name = |byte: &u8| byte.is_ascii_graphic() && !NO_NAME.contains(byte);
+    (1..=LONGEST_NAME).contains(&name.len()) && name.iter().all(is_in_name)
+}
+
 fn read_line(line: &[u8]) -> Option<Line<'_>> {
     let mut words = line.split(|byte| *byte == b' ');
     let mut next = || words.next();
@@ -76,11 +82,7 @@ fn read_line(line: &[u8]) -> Option<Line<'_>> {
             bytes[97..].copy_from_slice(&r_and_s);
             (key[0] == 4).then(|| Line::Confirm(Box::new(Question::new(bytes))))
         }
-        b"sign" => {
-            let is_in_name = |byte: &u8| byte.is_ascii_graphic() && !NO_NAME.contains(byte);
-            let is_name = (1..=LONGEST_NAME).contains(&who.len()) && who.iter().all(is_in_name);
-            is_name.then_some(Line::Sign(who, digest))
-        }
+        b"sign" => is_key_name(who).then_some(Line::Sign(who, digest)),
         _ => None,
     }
 }

@@ -2,7 +2,7 @@
 
 use crate::answers::question;
 use crate::files::{lines, says_nothing};
-use crate::input::whole;
+use crate::input::{name_of, whole};
 use crate::judging::pool;
 use crate::sink::{Sink, STDOUT};
 use crate::words::Confirm;
@@ -21,8 +21,7 @@ pub(crate) fn confirm(words: &Confirm) -> Ended {
     let mut asked = Vec::new();
     for (name, text) in &texts? {
         for (number, line) in lines(text).filter(|(_, line)| !says_nothing(line)) {
-            let name = if *name == STDOUT { "input" } else { name };
-            let refused = || Fault::Refused(name.into(), number);
+            let refused = || Fault::Refused(name_of(name).into(), number);
             asked.push((line.to_vec(), question(line).ok_or_else(refused)?));
         }
     }

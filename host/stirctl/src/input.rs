@@ -21,6 +21,15 @@ const PACKED: &[u8] = b"\x1f\x8b";
 /// How many bytes tell what an input is.
 const SIGN: u64 = 4;
 
+/// What the input of this word is called in a line about it.
+pub(crate) fn name_of(word: &str) -> &str {
+    if word == STDIN {
+        INPUT
+    } else {
+        word
+    }
+}
+
 pub(crate) type Source = Box<dyn Read + Send>;
 
 /// An input that was opened.

@@ -5,9 +5,13 @@
 
 mod answers;
 mod capture;
+mod certificates;
+mod chaining;
 mod chains;
 mod checking;
+mod code_table;
 mod confirming;
+mod days;
 mod explaining;
 mod fault;
 mod files;
@@ -21,6 +25,8 @@ mod picture;
 mod provider;
 mod reporting;
 mod run;
+mod showing;
+mod signing;
 mod sink;
 mod state;
 mod summary;
@@ -44,7 +50,11 @@ pub fn main(words: words::Words) -> u8 {
         words::Command::Explain(words) => explaining::explain(&words),
         words::Command::Report(words) => reporting::report(&words),
         words::Command::Confirm(words) => confirming::confirm(&words),
+        words::Command::Day(words) => days::day(&words),
         words::Command::Log(words) => logging::log(&words),
+        words::Command::Chain(words) => chaining::chain(&words),
+        words::Command::Show(words) => showing::show(&words),
+        words::Command::Sign(words) => signing::sign(&words),
     };
     ended.unwrap_or_else(|fault| {
         say(&fault.to_string());

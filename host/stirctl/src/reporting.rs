@@ -3,7 +3,7 @@
 use crate::answers::Answers;
 use crate::chains::{Chains, Map};
 use crate::files::lines;
-use crate::input::{whole, Input};
+use crate::input::{name_of, whole, Input};
 use crate::judge::{Files, Judge};
 use crate::judging::{outputs, pool, title};
 use crate::log::End;
@@ -34,7 +34,7 @@ pub(crate) fn report(words: &Report) -> Ended {
     let last = joined(words, &verdicts, &mut outputs)?;
     match fault {
         // Of a log whose report isn't whole no file is made.
-        Some(line) => Err(Fault::Input(words.of.clone(), format!("the report ends with {line}"))),
+        Some(cut) => Err(cut.fault(&words.of)),
         None => {
             outputs.commit(&title(std::slice::from_ref(&words.log)))?;
             last.map_or(Ok(0), |call| {
@@ -54,18 +54,63 @@ fn told(to: &To) -> To {
     To { report, json, csv, words, summary: summary.clone(), svg: svg.clone() }
 }
 
-/// The verdicts of a report, up to its state; and the line with which it ends, if that is none of
-/// a report.
-fn verdicts(text: &[u8]) -> (Vec<(u64, Verdict)>, Option<String>) {
-    let mut verdicts = Vec::new();
-    for (_, line) in lines(text) {
-        match Verdict::read(line) {
-            Some(verdict) => verdicts.push(verdict),
-            None if line == BEGINS => break,
-            None => return (verdicts, Some(String::from_utf8_lossy(line).into_owned())),
+/// How a report that isn't whole ends.
+enum Cut {
+    /// With this line, which has this number and is none of a report.
+    Line(usize, String),
+    /// Within its state.
+    State,
+}
+
+impl Cut {
+    fn fault(self, name: &str) -> Fault {
+        let name = name_of(name);
+        match self {
+            Cut::Line(number, line) => {
+                Fault::Input(format!("{name}:{number}"), format!("no line of a report: {line}"))
+            }
+            Cut::State => {
+                Fault::Input(name.into(), "the state after the report is cut short".into())
+            }
         }
     }
-    (verdicts, None)
+}
+
+/// The verdicts of a report, up to its state; and how it ends if it isn't whole.
+fn verdicts(text: &[u8]) -> (Vec<(u64, Verdict)>, Option<Cut>) {
+    let (mut verdicts, mut part) = (Vec::new(), Part::Report);
+    for (number, line) in (1..).zip(text.split_inclusive(|byte| *byte == b'\n')) {
+        let whole = line.strip_suffix(b"\n");
+        part = match (part, whole, whole.and_then(Verdict::read)) {
+            (Part::Report, _, Some(verdict)) => {
+                verdicts.push(verdict);
+                Part::Report
+            }
+            (Part::Report, Some(BEGINS), _) => Part::State,
+            (Part::State, Some(line), _) if is_of_state(line) => Part::State,
+            (Part::State, Some(line), _) if line.starts_with(b"end ") => Part::End,
+            (Part::State, None, _) => break,
+            _ => {
+                let line = String::from_utf8_lossy(whole.unwrap_or(line)).into_owned();
+                return (verdicts, Some(Cut::Line(number, line)));
+            }
+        };
+    }
+    (verdicts, (part == Part::State).then_some(Cut::State))
+}
+
+/// What the next line of a report belongs to.
+#[derive(Clone, Copy, PartialEq, Eq)]
+enum Part {
+    Report,
+    State,
+    End,
+}
+
+/// Whether a line is one of a state, between its first and its last.
+fn is_of_state(line: &[u8]) -> bool {
+    let words: [&[u8]; 4] = [b"window ", b"call ", b"moment ", b"kept "];
+    words.iter().any(|word| line.starts_with(word))
 }
 
 /// Tells of the calls of a log that have a verdict, and gives the last of these if the log goes on.
@@ -102,7 +147,10 @@ fn joined(
 }
 
 fn not_of_this(words: &Report, call: u64) -> Fault {
-    Fault::Input(words.of.clone(), format!("it isn't the report of this log: see call {call}"))
+    Fault::Input(
+        name_of(&words.of).into(),
+        format!("it isn't the report of this log: see call {call}"),
+    )
 }
 
 /// What reads the calls. Rules on certificates and signatures aren't asked.

@@ -1,5 +1,7 @@
 //! The words of the program.
 
+pub mod certificates;
+
 use clap::{Args, Parser, Subcommand};
 use stir::Settings;
 
@@ -19,10 +21,14 @@ pub struct Words {
 #[derive(Debug, Subcommand)]
 pub enum Command {
     Judge(Judge),
+    Day(Day),
     Explain(Explain),
     Report(Report),
     Confirm(Confirm),
     Log(Log),
+    Chain(certificates::Chain),
+    Show(certificates::Show),
+    Sign(certificates::Sign),
 }
 
 /// Judges the calls of logs and captures, and writes what came of them.
@@ -54,6 +60,31 @@ pub struct Judge {
     /// may be packed by gzip. `-` is the standard input
     #[arg(required = true, value_name = "INPUT")]
     pub inputs: Vec<String>,
+}
+
+/// Judges the logs of a folder one after another, each with the state of the one before, so that
+/// together they are judged as one.
+///
+/// The files whose names end with .log are taken in the order of their names, which has to be the
+/// order of their calls. Of NAME.log the report, with the state for the next, becomes NAME.report.
+/// A report that stands there is whole: started again, the command goes on after the last one.
+#[derive(Debug, Args)]
+pub struct Day {
+    /// Where the reports are written; it is made if it isn't there
+    #[arg(long, value_name = "FOLDER")]
+    pub to: String,
+    /// In the names of these files {} stands for NAME
+    #[command(flatten)]
+    pub by: By,
+    #[command(flatten)]
+    pub pool: Pool,
+    /// Has this program, the proved `stir`, judge each log by the answers that were made, as
+    /// `judge` does
+    #[arg(long, value_name = "PROGRAM")]
+    pub checked_by: Option<String>,
+    /// The folder with the logs
+    #[arg(value_name = "LOGS")]
+    pub logs: String,
 }
 
 /// Writes which rules each call meets, up to the first that it breaks, as `stir explain` does.
@@ -145,7 +176,7 @@ pub struct By {
 }
 
 /// How numbers and times are looked at.
-#[derive(Debug, Args)]
+#[derive(Clone, Debug, Args)]
 pub struct Rules {
     /// How many seconds old a PASSporT may be, at most 86400
     #[arg(long, value_name = "SECONDS", default_value = "60", value_parser = seconds)]
@@ -163,7 +194,7 @@ pub struct Rules {
 
 /// What is written, each to a file or to `-`, the standard output; a file gets its name once it is
 /// whole. If none is named, the report goes to the standard output.
-#[derive(Debug, Args)]
+#[derive(Debug, Default, Args)]
 pub struct To {
     /// The report of `stir verify`
     #[arg(long, value_name = "FILE")]
@@ -186,7 +217,7 @@ pub struct To {
 }
 
 /// How many threads work.
-#[derive(Debug, Args)]
+#[derive(Clone, Debug, Args)]
 pub struct Pool {
     /// How many threads judge; as many as there are processors if it isn't given
     #[arg(long, value_name = "COUNT", value_parser = jobs)]

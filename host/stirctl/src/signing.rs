@@ -1,0 +1,123 @@
+//! The command `sign`.
+
+use crate::answers::is_key_name;
+use crate::certificates::leaf_first;
+use crate::files::{self, hex, lines, push_hex, says_nothing};
+use crate::input::{name_of, whole};
+use crate::sink::{Sink, STDOUT};
+use crate::words::certificates::Sign;
+use crate::{say, Ended, Fault};
+use openssl::bn::BigNumContext;
+use openssl::ec::PointConversionForm;
+use openssl::nid::Nid;
+use openssl::x509::X509Ref;
+use std::collections::HashSet;
+use stir_trust::{Key, KeyFault};
+
+/// The most bytes of a file of lines, and of a key or a password.
+const MOST_BYTES: u64 = 536_870_912;
+const LONGEST_KEY: u64 = 1 << 20;
+
+/// Signs what lines ask for. The status is 0.
+pub(crate) fn sign(words: &Sign) -> Ended {
+    if !is_key_name(words.name.as_bytes()) {
+        return Err(Fault::Words(format!("'{}' can be no name of a key", words.name)));
+    }
+    let key = read_key(words)?;
+    if let Some(leaf) = &words.leaf {
+        look_at(leaf, &key, &words.key)?;
+    }
+    let mut asked = Vec::new();
+    for word in &words.files {
+        asked.extend(asked_by(word)?);
+    }
+    let (mut out, mut signed) = (Sink::open(STDOUT)?, HashSet::new());
+    let own = asked.iter().filter(|(name, _)| name == words.name.as_bytes());
+    let count = own.clone().count();
+    for (name, digest) in own.filter(|(_, digest)| signed.insert(*digest)) {
+        let signature = key.sign(digest).map_err(|_| Fault::Memory)?;
+        let mut line = [b"sign ", &name[..], b" "].concat();
+        push_hex(&mut line, digest);
+        line.push(b' ');
+        push_hex(&mut line, &signature);
+        line.push(b'\n');
+        out.put(|out| out.write_all(&line))?;
+    }
+    out.commit()?;
+    if count < asked.len() {
+        say(&format!("{} lines of other keys passed over", asked.len() - count));
+    }
+    Ok(0)
+}
+
+/// The key, opened by its password if there is one.
+fn read_key(words: &Sign) -> Result<Key, Fault> {
+    let pem = files::whole(&words.key, LONGEST_KEY)?;
+    let key = match &words.password_file {
+        None => Key::from_pem(&pem),
+        Some(name) => {
+            let text = files::whole(name, LONGEST_KEY)?;
+            let password = lines(&text).next().map_or(&b""[..], |(_, line)| line);
+            Key::from_pem_by(&pem, password)
+        }
+    };
+    key.map_err(|fault| {
+        let why = match fault {
+            KeyFault::NoKey => "no private key in PEM".into(),
+            KeyFault::Encrypted => {
+                "the key is encrypted; --password-file FILE names a file with its password".into()
+            }
+            KeyFault::OtherPassphrase => "no private key in PEM that this password opens".into(),
+            KeyFault::OtherKind => "no key on P-256, which ES256 wants".into(),
+            other => other.to_string(),
+        };
+        Fault::Input(words.key.clone(), why)
+    })
+}
+
+/// Says that the key is that of the certificate; that it isn't is a fault.
+fn look_at(leaf: &str, key: &Key, name: &str) -> Result<(), Fault> {
+    let chain = leaf_first(leaf)?;
+    let point = chain.first().and_then(|certificate| point_of(&certificate.read));
+    if point.as_deref() != Some(key.public()) {
+        let why = "whoever verifies its signatures refuses them by rule 16";
+        return Err(Fault::Input(name.into(), format!("it isn't the key of {leaf}: {why}")));
+    }
+    say(&format!("{name} is the key of {leaf}"));
+    Ok(())
+}
+
+/// The point of a certificate's key, if it is one of P-256.
+fn point_of(certificate: &X509Ref) -> Option<Vec<u8>> {
+    let key = certificate.public_key().ok()?.ec_key().ok()?;
+    let is_it = key.group().curve_name() == Some(Nid::X9_62_PRIME256V1);
+    let mut numbers = BigNumContext::new().ok().filter(|_| is_it)?;
+    let form = PointConversionForm::UNCOMPRESSED;
+    key.public_key().to_bytes(key.group(), form, &mut numbers).ok()
+}
+
+type Asked = (Vec<u8>, [u8; 32]);
+
+/// The names and digests of a file's lines.
+fn asked_by(word: &str) -> Result<Vec<Asked>, Fault> {
+    let text = whole(word, MOST_BYTES)?;
+    let name = name_of(word);
+    let lines = lines(&text).filter(|(_, line)| !says_nothing(line));
+    lines
+        .map(|(number, line)| {
+            asked(line).ok_or_else(|| {
+                let why = "no line `no signature NAME DIGEST`".into();
+                Fault::Input(format!("{name}:{number}"), why)
+            })
+        })
+        .collect()
+}
+
+/// The name and the digest of a line `no signature NAME DIGEST`.
+fn asked(line: &[u8]) -> Option<Asked> {
+    let mut words = line.strip_prefix(b"no signature ")?.split(|byte| *byte == b' ');
+    let (name, digits, None) = (words.next()?, words.next()?, words.next()) else { return None };
+    let mut digest = [0; 32];
+    hex(digits, &mut digest)?;
+    is_key_name(name).then(|| (name.to_vec(), digest))
+}
