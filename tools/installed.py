@@ -1,5 +1,5 @@
-"""What stands where in the package, made of this tree: the program, the tools that a user needs, their pages, the completion, the examples and the
-documents."""
+"""What stands where in the package, made of this tree: the program, stirctl, the tools that a user needs, their pages, the completions, the examples
+and the documents."""
 import ast
 import gzip
 import os
@@ -9,7 +9,7 @@ import sys
 
 import completion
 import manual
-from proved import PROGRAM, TOP
+from proved import CTL, PROGRAM, TOP
 
 # Where the tools stand as in the repository, with `stir` and `examples` beside `tools`: each finds the others as it does there.
 SHARED = 'usr/share/stir'
@@ -97,6 +97,20 @@ def add_tools(root, release, date):
         link(root / COMPLETIONS / name, 'stir')
 
 
+def said_by_ctl(*words):
+    """What stirctl writes."""
+    return subprocess.run([CTL, *words], stdin=subprocess.DEVNULL, stdout=subprocess.PIPE, text=True, check=True).stdout
+
+
+def add_ctl(root, release, date):
+    """stirctl, with a page of what its commands say of their words, and its completion."""
+    put(root / 'usr/bin/stirctl', CTL.read_bytes(), 0o755)
+    said = said_by_ctl('--help')
+    commands = {name: said_by_ctl(name, '--help') for name in re.findall(r'^  ([a-z]+)  ', said, re.M) if name != 'help'}
+    put(root / PAGES / 'stirctl.1.gz', packed(manual.page_of_commands('stirctl', said, commands, release, date).encode()))
+    put(root / COMPLETIONS / 'stirctl', said_by_ctl('completion').encode())
+
+
 def add_documents(root):
     """The pages, and the documents with the folders in which their links find each other."""
     for file in sorted((TOP / 'man').glob('*.1')):
@@ -115,5 +129,6 @@ def stage(root, release, date):
     copied(TOP / 'examples', root / SHARED / 'examples')
     add_documents(root)
     add_tools(root, release, date)
+    add_ctl(root, release, date)
     link(root / SHARED / 'stir', '../../bin/stir')
     link(root / DOCUMENTS / 'examples', '../../stir/examples')

@@ -1,4 +1,5 @@
-"""The manual page of a tool around the program, made of what its `--help` says, or of its own text where it has no `--help`."""
+"""The manual page of a tool around the program, made of what its `--help` says, or of its own text where it has no `--help`; and that of a program with
+commands, made of what each says."""
 import re
 
 SECTIONS = {'positional arguments': 'ARGUMENTS', 'options': 'OPTIONS'}
@@ -47,3 +48,15 @@ def page(name, said, text, release, date):
         if title in sections:
             lines += [f'.SH {shown}', *words(sections[title])]
     return '\n'.join(lines + ['.SH SEE ALSO', '.BR stir (1)', '.PP', 'The pages in /usr/share/doc/stir/docs, above all OPERATING.md.', ''])
+
+
+def page_of_commands(name, said, commands, release, date):
+    """The page of a program, of what its `--help` says and, by their names, its commands'."""
+    text, _, _ = said.partition('\nUsage: ')
+    sentence = re.match(r'(.+?)[.:;](\s|$)', text, re.S)[1]
+    what = re.sub(r'\s+', ' ', sentence)
+    lines = [f'.TH {name.upper()} 1 {date} "stir {release}" "User Commands"', '.SH NAME', f'{escaped(name)} \\- {escaped(what[0].lower() + what[1:])}',
+             '.SH SYNOPSIS', f'.B {escaped(name)}', 'COMMAND WORD..', '.SH DESCRIPTION', *body(text)]
+    for command, told in commands.items():
+        lines += [f'.SH {name.upper()} {command.upper()}', '.EX', *map(escaped, told.rstrip().split('\n')), '.EE']
+    return '\n'.join(lines + ['.SH SEE ALSO', '.BR stir (1)', '.PP', 'The pages in /usr/share/doc/stir/docs, above all STIRCTL.md and OPERATING.md.', ''])

@@ -13,6 +13,10 @@ from outside import Fault
 TOP = pathlib.Path(__file__).resolve().parent.parent
 PROGRAM = TOP / 'crates' / 'stir' / 'out' / 'stir'
 
+# The operator's program, which isn't proved, and the folder of its sources, with what is made of them in `out`.
+HOST = TOP / 'host'
+CTL = HOST / 'out' / 'release' / 'stirctl'
+
 # Where what is made of the tree stands, which git ignores.
 OUT = TOP / 'out'
 RECORD = OUT / 'gate.json'
@@ -47,12 +51,26 @@ def checksum(path):
     return hashlib.sha256(path.read_bytes()).hexdigest()
 
 
+def files_below(folder):
+    """The files of a folder, but for what is made of them in a folder `out`."""
+    for room, names, files in os.walk(folder):
+        names[:] = sorted(name for name in names if name != 'out')
+        yield from (pathlib.Path(room, name) for name in sorted(files))
+
+
 def sources():
     """Each file that the program is proved and built from, and what else stands beside it: as the script `stir` looks at them."""
     yield TOP / 'crates.txt'
-    for folder, names, files in os.walk(TOP / 'crates'):
-        names[:] = sorted(name for name in names if name != 'out')
-        yield from (pathlib.Path(folder, name) for name in sorted(files))
+    yield from files_below(TOP / 'crates')
+
+
+def look_at_ctl():
+    """A fault if stirctl isn't there, or is older than a source of the host."""
+    if not os.access(CTL, os.X_OK):
+        raise Fault(f'{CTL.relative_to(TOP)} is missing: host/build makes it')
+    newer = next((file for file in files_below(HOST) if file.stat().st_mtime_ns > CTL.stat().st_mtime_ns), None)
+    if newer:
+        raise Fault(f'stirctl is older than {newer.relative_to(TOP)}: host/build makes it anew')
 
 
 def look_at_program():

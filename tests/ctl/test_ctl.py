@@ -38,6 +38,41 @@ def test_openssl_agrees_on_signatures(run, each, request):
     each(ctl_cases.agreements(run, request.config.getoption('keys')))
 
 
+def test_what_is_made_of_certificates_has_its_bounds(run, tmp_path):
+    ctl_cases.put_files(tmp_path)
+
+    def put(name, data):
+        (tmp_path / name).write_bytes(data)
+        return name
+
+    root, leaf = ((tmp_path / f'{name}.pem').read_bytes() for name in ('root', 'carrier'))
+    whole = (tmp_path / 'root.der').read_bytes()
+    assert run('chain', '--anchors', put('most.pem', root * 256), folder=tmp_path) == (0, whole * 256, b'')
+    assert run('chain', '--anchors', put('more.pem', root * 257), folder=tmp_path) == (2, b'', b'stirctl: 257 trust anchors, and a file has at most 256\n')
+    put('six.pem', leaf * 6), put('seven.pem', leaf * 7)
+    assert run('chain', given=b'u six.pem\n', folder=tmp_path)[0::2] == (1, b''.join(
+        b"stirctl: six.pem: the certificate of CN=middle,O=Example, which issued certificate %d, isn't in this file\n" % number for number in range(1, 7)))
+    status, output, said = run('chain', given=b'u seven.pem\n', folder=tmp_path)
+    assert (status, output, said.splitlines()[0]) == (1, b'u seven.der\n', b'stirctl: seven.pem: 7 certificates, and a chain has at most 6')
+    for count, wanted in ((19_998, (0, b'')), (19_999, (2, b'stirctl: 20001 codes, and a table has at most 20000\n'))):
+        put('own', b''.join(b'C%d 1 2\n' % number for number in range(count)))
+        status, output, said = run('chain', '--table', 'own', 'fetched-map', folder=tmp_path)
+        assert ((status, said), output.endswith(b'\n42AB *\n709J *\n')) == (wanted, status == 0)
+
+
+def test_bash_completes_commands_and_their_options(run, tmp_path):
+    script = tmp_path / 'completion'
+    script.write_bytes(run('completion')[1])
+
+    def completed(*words):
+        how = 'source "$0"; COMP_WORDS=("$@"); COMP_CWORD=$(($# - 1)); _stirctl stirctl; printf "%s\\n" "${COMPREPLY[@]}"'
+        done = subprocess.run(['bash', '-c', how, script, *words], stdout=subprocess.PIPE, stderr=subprocess.PIPE, check=True)
+        return done.stdout.decode().split(), done.stderr
+    assert completed('stirctl', 'sho') == (['show'], b'')
+    assert completed('stirctl', 'chain', '--an') == (['--anchors'], b'')
+    assert completed('stirctl', 'judge', '--ch')[0][-1] == '--checked-by'
+
+
 def test_reports(run, each):
     each(reports.results(run))
 

@@ -157,6 +157,26 @@ def test_what_is_outside_the_profile_is_named_and_the_rest_is_told(made, run):
     assert status == 1 and output.decode().endswith(f'\n    policy      {SHAKEN}\n    outside     extension 1.2.3, at byte {place}\n')
 
 
+def test_a_certificate_may_have_8192_bytes(run, tmp_path):
+    def sized(count):
+        """A certificate with so many bytes in an extension that the profile passes over."""
+        key = ec.generate_private_key(ec.SECP256R1())
+        builder = (x509.CertificateBuilder().subject_name(OWN).issuer_name(ISSUER).public_key(key.public_key()).serial_number(7)
+                   .not_valid_before(datetime.datetime(2024, 1, 1)).not_valid_after(datetime.datetime(2025, 1, 1))
+                   .add_extension(x509.UnrecognizedExtension(x509.ObjectIdentifier('1.2.3'), bytes(count)), False))
+        return builder.sign(key, hashes.SHA256()).public_bytes(serialization.Encoding.DER)
+
+    # A signature's two numbers have a byte more or less from time to time.
+    found, count = {}, 8192 - len(sized(7000)) + 7000
+    while not {8192, 8193} <= set(found):
+        for more in (-1, 0, 1, 2):
+            data = sized(count + more)
+            found[len(data)] = data
+    assert run('show', '--json', given=found[8192])[0] == 0
+    status, output, _ = run('show', '--json', given=found[8193])
+    assert (status, json.loads(output)['outside']) == (1, {'part': 'more than 8192 bytes', 'place': None})
+
+
 def test_words_say_the_same_a_line_each(made, run):
     status, output, _ = run('show', made['constrained'][1])
     lines = [line.strip() for line in output.decode().splitlines()]

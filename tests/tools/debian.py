@@ -26,6 +26,17 @@ OWN = ('claims', 'completion.py', 'crate', 'crates.py', 'gate', 'gate-cost', 'in
 TOOLCHAIN = 'toolchain 1 logic 0123456789abcdef'
 LOGIC = 'logic=0123456789abcdef01234567'
 PROGRAM = f'#!/bin/sh\n# \0libc.so.6\0GLIBC_2.4\0GLIBC_2.34\0rattle {LOGIC}\0\necho words refused\nexit 2\n'
+
+# In the place of stirctl: it says what its commands are, and of each the same.
+CTL = """#!/bin/sh
+# \0libssl.so.3\0libgcc_s.so.1\0libc.so.6\0GLIBC_2.36\0
+case "$1 $2" in
+    '--help ') printf 'Judges calls: all of them.\n\nUsage: stirctl <COMMAND>\n\nCommands:\n  judge  Judges calls\n  help   Prints this\n' ;;
+    'completion ') echo 'complete -W judge stirctl' ;;
+    *) printf 'Judges calls.\n\nUsage: stirctl %s\n' "$1" ;;
+esac
+"""
+
 LAST = ('rt: ok; every proof was done in this run', '7 passed, 0 failed', 'part  result  seconds', 'cli  passed  8', '2 passed, 0 failed')
 
 # What the gate does is in the file `gate-does`, which git ignores.
@@ -69,6 +80,8 @@ class Tree:
         self.write('crates/stir/src/main.rt', '// a source\n')
         self.write('.ci/run', GATE, 0o755)
         self.write('program', PROGRAM, 0o755)
+        self.write('host/src/main.rs', '// a source\n')
+        self.write('host/out/release/stirctl', CTL, 0o755)
         self.write('.gitignore', (self.top / '.gitignore').read_text() + 'gate-does\n')
         (room / 'rt').write_text(f'#!/bin/sh\necho {TOOLCHAIN}\n')
         (room / 'rt').chmod(0o755)
@@ -157,13 +170,28 @@ def refused(tree):
     tree.write('program', PROGRAM + '\0libssl.so.3\0', 0o755)
     tree.commit()
     tree.gate('passes')
-    yield 'package: another library', (2, 'the program needs libssl, and the package would name the C library alone'), tree.run('package')
+    yield 'package: another library', (2, 'the program needs libssl, and the package would not name it'), tree.run('package')
     tree.write('program', PROGRAM.replace('logic=0', 'logic=1'), 0o755)
     tree.commit()
     tree.gate('passes')
     yield 'package: another toolchain', (2, f'the program is not one of the toolchain that says {TOOLCHAIN!r} of itself'), tree.run('package')
     tree.git('reset', '-q', '--hard', 'HEAD~2')
     tree.gate('passes')
+    yield from refused_by_ctl(tree)
+
+
+def refused_by_ctl(tree):
+    """What isn't packaged because of stirctl: each with the status and the sentence."""
+    ctl, source = tree.top / 'host/out/release/stirctl', tree.top / 'host/src/main.rs'
+    ctl.rename(ctl.with_name('other'))
+    yield 'package: no stirctl', (2, 'host/out/release/stirctl is missing: host/build makes it'), tree.run('package')
+    ctl.with_name('other').rename(ctl)
+    back = aged(source, ctl)
+    yield 'package: a newer source of stirctl', (2, 'stirctl is older than host/src/main.rs: host/build makes it anew'), tree.run('package')
+    back()
+    ctl.write_text(CTL + '\0libfreetype.so.6\0')
+    yield 'package: another library of stirctl', (2, 'stirctl needs libfreetype, and the package would not name it'), tree.run('package')
+    ctl.write_text(CTL)
 
 
 def completed(root, *words):
@@ -203,14 +231,19 @@ def content(tree, release):
     first = package.read_bytes()
     tree.run('package')
     yield 'package: made twice', True, package.read_bytes() == first
-    fields = f'Package: stir\nVersion: {release}\nArchitecture: amd64\nDepends: libc6 (>= 2.34), python3 (>= 3.11)\n'
+    fields = f'Package: stir\nVersion: {release}\nArchitecture: amd64\nDepends: libc6 (>= 2.36), libgcc-s1, libssl3, python3 (>= 3.11)\n'
     yield 'package: control', fields, control(package)
     root = tree.top / 'out/root'
     subprocess.run(['dpkg-deb', '--extract', package, root], check=True)
     yield 'package: the program', PROGRAM.encode(), (root / 'usr/bin/stir').read_bytes()
-    yield 'package: usr/bin', ['stir', *TOOLS], names(root / 'usr/bin')
+    yield 'package: stirctl', CTL.encode(), (root / 'usr/bin/stirctl').read_bytes()
+    yield 'package: usr/bin', sorted(['stir', 'stirctl', *TOOLS]), names(root / 'usr/bin')
     pages = names(root / 'usr/share/man/man1')
-    yield 'package: pages', [f'{name}.1.gz' for name in TOOLS], [name for name in pages if name != 'stir.1.gz']
+    yield 'package: pages', sorted(f'{name}.1.gz' for name in (*TOOLS, 'stirctl')), [name for name in pages if name != 'stir.1.gz']
+    said = page(root, 'stirctl')
+    yield 'package: page of stirctl', (True, True), ('stirctl - judges calls\n' in said, '.SH STIRCTL JUDGE\n.EX\nJudges calls.\n\nUsage: stirctl judge\n.EE\n' in said)
+    completion = (root / 'usr/share/bash-completion/completions/stirctl').read_text()
+    yield 'package: completion of stirctl', 'complete -W judge stirctl\n', completion
     yield 'package: tools of others', [], [name for name in OWN if name in names(root / 'usr/share/stir/tools')]
     for tool in HELPFUL:
         said = page(root, tool)

@@ -10,6 +10,7 @@ mod chaining;
 mod chains;
 mod checking;
 mod code_table;
+mod completing;
 mod confirming;
 mod days;
 mod explaining;
@@ -55,6 +56,7 @@ pub fn main(words: words::Words) -> u8 {
         words::Command::Chain(words) => chaining::chain(&words),
         words::Command::Show(words) => showing::show(&words),
         words::Command::Sign(words) => signing::sign(&words),
+        words::Command::Completion => completing::completion(),
     };
     ended.unwrap_or_else(|fault| {
         say(&fault.to_string());

@@ -29,6 +29,8 @@ pub enum Command {
     Chain(certificates::Chain),
     Show(certificates::Show),
     Sign(certificates::Sign),
+    /// Writes a completion for bash of these words
+    Completion,
 }
 
 /// Judges the calls of logs and captures, and writes what came of them.
