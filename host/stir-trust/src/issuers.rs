@@ -117,14 +117,16 @@ mod tests {
         builder.build().to_der()
     }
 
+    /// A chain, the anchors if they are named, and which issuers are missing.
+    type Case<'a> = (&'a [&'a Vec<u8>], Option<&'a [&'a Vec<u8>]>, &'a [(usize, &'a str)]);
+
     #[test]
     fn each_issuer_that_is_nowhere_is_told() {
         let der = |subject, issuer| issued(subject, issuer).expect(subject);
         let (leaf, middle, root) =
             (der("leaf", "middle"), der("middle", "root"), der("root", "root"));
         let other = der("other", "other");
-        type Lacks<'a> = &'a [(usize, &'a str)];
-        let cases: [(&[&Vec<u8>], Option<&[&Vec<u8>]>, Lacks<'_>); 9] = [
+        let cases: [Case<'_>; 9] = [
             (&[&leaf, &middle], Some(&[&root]), &[]),
             (&[&leaf], Some(&[&middle]), &[]),
             (&[&leaf], Some(&[&root]), &[(1, "CN=middle")]),
