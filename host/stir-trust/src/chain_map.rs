@@ -152,6 +152,18 @@ impl ChainMap {
     }
 }
 
+/// Whether a word may be an x5u: it has the bytes of a URI alone (RFC 3986, section 2).
+///
+/// ```
+/// use stir_trust::chain_map::is_x5u;
+///
+/// assert!(is_x5u(b"https://cr.example/a.pem") && !is_x5u(b"<a>") && !is_x5u(b"a b"));
+/// ```
+pub fn is_x5u(word: &[u8]) -> bool {
+    let is_in_one = |byte: &u8| byte.is_ascii_graphic() && !b"\"<>\\".contains(byte);
+    !word.is_empty() && word.iter().all(is_in_one)
+}
+
 /// The lines of a text, without their LF and a CR directly before it. The last one may lack its LF,
 /// and a CR that it ends with is then its own.
 fn lines(text: &[u8]) -> impl Iterator<Item = &[u8]> {
@@ -167,10 +179,9 @@ fn words(line: &[u8]) -> Result<(&[u8], &[u8]), LineFault> {
     let (Some(x5u), Some(name), None) = (words.next(), words.next(), words.next()) else {
         return Err(LineFault::Words);
     };
-    let is_of_x5u = |byte: &u8| byte.is_ascii_graphic() && !b"\"<>\\".contains(byte);
     if x5u.is_empty() || name.is_empty() {
         Err(LineFault::Words)
-    } else if !x5u.iter().all(is_of_x5u) {
+    } else if !is_x5u(x5u) {
         Err(LineFault::NoX5u)
     } else if !name.iter().all(u8::is_ascii_graphic) {
         Err(LineFault::NoName)

@@ -271,7 +271,7 @@ async fn what_couldnt_be_saved_is_saved_with_the_next_call() {
     let cache = cache.expect("a cache");
     cache.wait(&server.x5u("/a"), LONG).await.expect("certificates");
     let lock = File::create(own.0.join(".lock")).expect("a lock");
-    flock(&lock, FlockOperation::LockExclusive).expect("locked, as tools/stir-fetch does");
+    flock(&lock, FlockOperation::LockExclusive).expect("locked, as another program does");
     assert!(matches!(cache.save().await, Err(FolderFault::Busy(_))));
     assert!(own.folder().load(now()).expect("read").is_empty());
     flock(&lock, FlockOperation::Unlock).expect("given back");

@@ -7,7 +7,7 @@ use std::fs;
 use std::sync::atomic::{AtomicU64, Ordering};
 use std::sync::Arc;
 use std::time::Duration;
-use stir_trust::cache::{Clock, Folder, Run, Told};
+use stir_trust::cache::{Clock, Folder, Run, Times, Told};
 use stir_trust::fetch::Reason;
 
 /// A clock that tells this second.
@@ -28,7 +28,8 @@ async fn a_run_fetches_what_is_due_and_keeps_what_fails() {
     let path = std::env::temp_dir().join(format!("stir-a-run-{}", std::process::id()));
     drop(fs::remove_dir_all(&path));
     let (authority, identity) = identities();
-    let der = Identity::root("a", now() + 864_000).der();
+    let ends = now() + 864_000;
+    let der = Identity::root("a", ends).der();
     let body = der.clone();
     let broken = Arc::new(AtomicU64::new(0));
     let is_broken = Arc::clone(&broken);
@@ -53,21 +54,27 @@ async fn a_run_fetches_what_is_due_and_keeps_what_fails() {
         async move {
             let (mut good, mut failed) = (0, Vec::new());
             let there = run.fetch(x5us, |x5u, told| match told {
-                Told::Fetched => {
-                    let file = run.folder.file_of(x5u);
-                    assert!(file.exists(), "it is written when it is told: {x5u}");
+                Told::Fetched(entry) => {
+                    let file = fs::read(run.folder.file_of(x5u)).expect("it is written");
+                    assert_eq!(*entry.der, *file, "as it is told: {x5u}");
                     good += 1;
                 }
-                Told::Failed(reason) => failed.push((x5u.to_owned(), reason)),
+                Told::Failed { reason, stays } => {
+                    failed.push((x5u.to_owned(), reason, stays.map(|times| times.fetched)));
+                }
             });
             let there = there.await.expect("a run");
             (good, failed, there)
         }
     };
-    let gone = (server.x5u("/gone"), Reason::Status(404));
+    let first = clock.0.load(Ordering::SeqCst);
+    let gone = (server.x5u("/gone"), Reason::Status(404), None);
     let (good, failed, there) = fetched(false).await;
     assert_eq!((good, &failed[..], there.len()), (71, &[gone.clone()][..], 71));
-    assert_eq!((there[3].0.clone(), &*there[3].1.der), (x5us[3].clone(), &der[..]));
+    let times = Times { fetched: first, due: first + 1_000, ends };
+    assert_eq!(there[3], (x5us[3].clone(), times));
+    let file = Folder::open(&path, 50_000).expect("a folder").file_of(&x5us[3]);
+    assert_eq!(fs::read(file).expect("its file"), der);
     assert_eq!(server.targets().len(), 72, "what stands twice is fetched once");
 
     let (good, failed, there) = fetched(false).await;
@@ -77,8 +84,8 @@ async fn a_run_fetches_what_is_due_and_keeps_what_fails() {
     clock.0.fetch_add(1_001, Ordering::SeqCst);
     broken.store(1, Ordering::SeqCst);
     let (good, mut failed, there) = fetched(false).await;
-    failed.sort_by_key(|(x5u, _)| x5u.clone());
-    let later = (server.x5u("/later"), Reason::Status(503));
+    failed.sort_by_key(|(x5u, ..)| x5u.clone());
+    let later = (server.x5u("/later"), Reason::Status(503), Some(first));
     assert_eq!((good, failed, there.len()), (70, vec![gone, later], 71), "the old one stays");
     fs::remove_dir_all(&path).expect("removed");
 }

@@ -1,17 +1,17 @@
 //! What is kept, on a disk: a folder with a file a chain, and `fetched.json` that knows of each
 //! x5u its file, when it was fetched, when it is due and when its first certificate ends.
 //!
-//! It is the folder of `tools/stir-fetch`, which may make it, and both may write to it by turns.
+//! `stirctl fetch` may make it, and the service and it may write to it by turns.
 //! Each file is written beside its place and renamed, so that nobody sees a part of it, and a
 //! program that is killed spoils nothing. It is a cache: what is spoilt all the same, as by a
 //! machine that lost its power, is passed over and fetched again.
-use super::kept::Entry;
+use super::kept::{Entry, Times};
 use crate::fetch::{chain_of, ends_of, MOST_BYTES};
 use openssl::sha::sha256;
 use rustix::fs::{flock, FlockOperation};
 use serde::{Deserialize, Serialize};
 use serde_json::ser::{PrettyFormatter, Serializer};
-use std::collections::BTreeMap;
+use std::collections::{BTreeMap, HashMap};
 use std::fs::{self, File};
 use std::io::{self, Read};
 use std::path::{Path, PathBuf};
@@ -116,6 +116,26 @@ impl Folder {
         Ok(lines
             .filter_map(|(x5u, line)| Some((x5u.clone(), self.entry(&x5u, &line, now)?)))
             .collect())
+    }
+
+    /// Those of these x5us whose chains are in it at this second, with their times.
+    ///
+    /// # Errors
+    ///
+    /// `fetched.json` is there and can't be read.
+    ///
+    /// ```
+    /// let folder = stir_trust::cache::Folder::open(&std::env::temp_dir(), 20_000)?;
+    /// assert!(folder.times_of(&["https://cr.example/a.pem"], 10_000)?.is_empty());
+    /// # Ok::<(), stir_trust::cache::FolderFault>(())
+    /// ```
+    pub fn times_of(&self, x5us: &[&str], now: u64) -> Result<HashMap<String, Times>, FolderFault> {
+        let state = self.state()?;
+        let times = |x5u: &&str| {
+            let entry = self.entry(x5u, state.get(*x5u)?, now)?;
+            Some(((*x5u).to_owned(), entry.times()))
+        };
+        Ok(x5us.iter().filter_map(times).collect())
     }
 
     fn entry(&self, x5u: &str, line: &Line, now: u64) -> Option<Entry> {
@@ -245,7 +265,8 @@ impl Folder {
     }
 
     fn fault(&self, name: &str, error: io::Error) -> FolderFault {
-        FolderFault::System { file: self.path.join(name), error }
+        let file = if name.is_empty() { self.path.clone() } else { self.path.join(name) };
+        FolderFault::System { file, error }
     }
 }
 
@@ -276,7 +297,7 @@ mod tests {
     use super::*;
 
     #[test]
-    fn a_file_has_the_name_that_stir_fetch_gives_it() {
+    fn a_file_has_a_name_by_its_host_and_a_digest() {
         // By hashlib of Python 3.11.
         for (x5u, name) in [
             ("https://cr.example/a.pem", "cr.example-67650a2b36c21cc1.der"),

@@ -38,7 +38,32 @@ pub struct Entry {
     pub ends: u64,
 }
 
+/// The times of a chain that was fetched, in seconds of Unix time.
+///
+/// ```
+/// use stir_trust::cache::{Entry, Times};
+///
+/// let entry = Entry { der: [0x30, 0].into(), fetched: 10_000, due: 20_000, ends: 30_000 };
+/// assert_eq!(entry.times(), Times { fetched: 10_000, due: 20_000, ends: 30_000 });
+/// ```
+#[derive(Clone, Copy, Debug, PartialEq, Eq)]
+pub struct Times {
+    /// When it was fetched.
+    pub fetched: u64,
+    /// When it is to be fetched anew.
+    pub due: u64,
+    /// The last second at which all of its certificates are valid.
+    pub ends: u64,
+}
+
 impl Entry {
+    /// Its times.
+    ///
+    /// [The example](Times) has them all.
+    pub fn times(&self) -> Times {
+        Times { fetched: self.fetched, due: self.due, ends: self.ends }
+    }
+
     /// The entry of what was fetched at this second. It is due after the time that the server gave,
     /// from five minutes to a day, and before a certificate ends.
     ///

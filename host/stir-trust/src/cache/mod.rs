@@ -35,7 +35,7 @@ mod run;
 pub use bounds::{Bounds, Counts, Miss};
 pub use clock::{Clock, SystemClock};
 pub use folder::{Folder, FolderFault};
-pub use kept::Entry;
+pub use kept::{Entry, Times};
 pub use run::{Run, Told};
 
 use crate::fetch::Fetcher;

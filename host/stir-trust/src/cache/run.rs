@@ -1,6 +1,6 @@
 //! A run over x5us, by a program that fetches what is due and ends.
 use super::folder::{Folder, FolderFault};
-use super::kept::Entry;
+use super::kept::{Entry, Times};
 use super::Clock;
 use crate::fetch::{Fetcher, Reason};
 use std::collections::{HashMap, HashSet};
@@ -21,14 +21,20 @@ const PAUSE: Duration = Duration::from_millis(100);
 /// ```
 /// use stir_trust::{cache::Told, fetch::Reason};
 ///
-/// assert_eq!(Told::Failed(Reason::Dns), Told::Failed(Reason::Dns));
+/// let told = Told::Failed { reason: Reason::Dns, stays: None };
+/// assert!(matches!(told, Told::Failed { stays: None, .. }));
 /// ```
 #[derive(Clone, Debug, PartialEq, Eq)]
 pub enum Told {
     /// It was fetched, and is written.
-    Fetched,
-    /// It wasn't. What was in the folder stays.
-    Failed(Reason),
+    Fetched(Entry),
+    /// It wasn't. What was in the folder stays, with these times.
+    Failed {
+        /// Why.
+        reason: Reason,
+        /// The times of what stays.
+        stays: Option<Times>,
+    },
 }
 
 /// What a run fetches by, and into.
@@ -51,7 +57,7 @@ pub enum Told {
 /// let x5us = ["https://cr.example/a.pem".to_string()];
 /// let there = runtime.block_on(run.fetch(&x5us, |_, what| told.push(what)))?;
 /// assert!(there.is_empty());
-/// assert_eq!(told, [Told::Failed(Reason::Listed)]);
+/// assert_eq!(told, [Told::Failed { reason: Reason::Listed, stays: None }]);
 /// # std::fs::remove_dir_all(&path)?;
 /// # Ok::<(), Box<dyn std::error::Error>>(())
 /// ```
@@ -71,7 +77,8 @@ pub struct Run {
 impl Run {
     /// Fetches those of these x5us that aren't in the folder or are due, and tells what comes of
     /// each: that it is fetched once it is written, so a run that is killed loses no chain of which
-    /// it had told. Returns those of these x5us that are in the folder then, in their order.
+    /// it had told. Returns those of these x5us that are in the folder then, in their order, with
+    /// their times.
     ///
     /// # Errors
     ///
@@ -82,17 +89,22 @@ impl Run {
         &self,
         x5us: &[String],
         mut tell: impl FnMut(&str, Told),
-    ) -> Result<Vec<(String, Entry)>, FolderFault> {
+    ) -> Result<Vec<(String, Times)>, FolderFault> {
         // Before anybody is asked it is known whether the folder can be written.
         self.save(&[]).await?;
         let now = self.clock.now();
-        let found = self.in_thread(move |folder| folder.load(now)).await?;
-        let mut there: HashMap<String, Entry> = found.into_iter().collect();
         let mut seen = HashSet::new();
-        let x5us: Vec<&String> = x5us.iter().filter(|x5u| seen.insert(*x5u)).collect();
+        let x5us: Vec<&str> =
+            x5us.iter().map(AsRef::as_ref).filter(|it| seen.insert(*it)).collect();
+        let asked: Vec<String> = x5us.iter().map(|x5u| (*x5u).to_owned()).collect();
+        let times = move |folder: &Folder| {
+            let asked: Vec<&str> = asked.iter().map(AsRef::as_ref).collect();
+            folder.times_of(&asked, now)
+        };
+        let mut there: HashMap<String, Times> = self.in_thread(times).await?;
         let is_due =
-            |x5u: &&&String| self.is_all || there.get(**x5u).is_none_or(|entry| entry.due <= now);
-        let due: Vec<String> = x5us.iter().filter(is_due).map(|x5u| x5u.to_string()).collect();
+            |x5u: &&&str| self.is_all || there.get(**x5u).is_none_or(|times| times.due <= now);
+        let due: Vec<String> = x5us.iter().filter(is_due).map(|x5u| (*x5u).to_owned()).collect();
         let (mut due, mut going, mut batch) = (due.into_iter(), JoinSet::new(), Vec::new());
         loop {
             while going.len() < self.jobs.max(1) {
@@ -103,17 +115,20 @@ impl Run {
             let Some(landed) = going.join_next().await else { break };
             match landed.unwrap_or_else(|error| resume_unwind(error.into_panic())) {
                 (Ok(fetched), x5u) => batch.push((x5u, Entry::of(&fetched, self.clock.now()))),
-                (Err(reason), x5u) => tell(&x5u, Told::Failed(reason)),
+                (Err(reason), x5u) => {
+                    let stays = there.get(&x5u).copied();
+                    tell(&x5u, Told::Failed { reason, stays });
+                }
             }
             if batch.len() >= BATCH || going.is_empty() {
                 self.save(&batch).await?;
                 for (x5u, entry) in batch.drain(..) {
-                    tell(&x5u, Told::Fetched);
-                    there.insert(x5u, entry);
+                    there.insert(x5u.clone(), entry.times());
+                    tell(&x5u, Told::Fetched(entry));
                 }
             }
         }
-        let of = |x5u: &String| Some((x5u.clone(), there.get(x5u)?.clone()));
+        let of = |x5u: &str| Some((x5u.to_owned(), *there.get(x5u)?));
         Ok(x5us.into_iter().filter_map(of).collect())
     }
 
