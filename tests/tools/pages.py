@@ -7,6 +7,7 @@ tools/refusals makes; and README.md trusts the crates of the kit that tools/trus
 A command stands in a block that begins with ```sh, after `$ `, with what it writes below it on the standard output and standard error. A line that ends
 with a backslash goes on in the next. The commands of a block run in one shell, and the blocks of a page in one folder.
 """
+import os
 import pathlib
 import re
 import shutil
@@ -19,7 +20,11 @@ import refusals
 TOP = pathlib.Path(__file__).resolve().parent.parent.parent
 CRATES = TOP / 'crates'
 
-# The pages whose commands are run, and whether these need the Python package cryptography.
+# The program stirctl, as host/build leaves it; else the path may have it.
+CTL = TOP / 'host/out/release/stirctl'
+PATH = f'{CTL.parent}{os.pathsep}{os.environ["PATH"]}'
+
+# The pages whose commands are run, and whether these need the Python package cryptography and stirctl.
 SHOWN = {'README.md': False, 'docs/COMMANDS.md': False, 'docs/DAY.md': True}
 
 # Commands that aren't run here: the gate itself, and the proofs that it makes.
@@ -64,7 +69,8 @@ def commands(lines):
 def written(given, folder):
     """What each of these commands writes, run in one shell. A zero byte stands after each, and the status stays for the next."""
     script = ''.join(f"{command}\nstatus=$?; printf '\\0'; (exit $status)\n" for command in given)
-    done = subprocess.run(['sh'], input=script.encode(), stdout=subprocess.PIPE, stderr=subprocess.STDOUT, cwd=folder, timeout=600)
+    done = subprocess.run(['sh'], input=script.encode(), stdout=subprocess.PIPE, stderr=subprocess.STDOUT, cwd=folder, timeout=600,
+                          env=os.environ | {'PATH': PATH})
     return [part.decode(errors='replace') for part in done.stdout.split(b'\0')[:-1]]
 
 
@@ -77,8 +83,8 @@ def tree(program, room):
 
 def shown(program, has_library):
     """Each block of commands: its name, what is wanted, and what came."""
-    for page, needs_library in SHOWN.items():
-        if needs_library and not has_library:
+    for page, needs_more in SHOWN.items():
+        if needs_more and not (has_library and shutil.which('stirctl', path=PATH)):
             print(f'tools: the commands of {page} are not tried')
             continue
         with tempfile.TemporaryDirectory() as folder:

@@ -36,10 +36,7 @@ def results(tools, files):
         for name in ('run-udp.pcap', 'run.log'):
             with open(os.path.join(folder, name), 'wb') as file:
                 file.write(files[name])
-        with open(os.path.join(folder, 'hosts'), 'w') as file:
-            file.write('cert.example.org\n')
-        for words, given, said in ((['stir-log', 'run-udp.pcap'], b'', 'stir-log: calls 5\n'), (['stir-log', '--x5u', 'run.log'], b'', ''),
-                                   (['stir-fetch', '--hosts', 'hosts'], b'u\n', 'stir-fetch: u: no https URI; there is no file of it\n')):
+        for words, given, said in ((['stir-log', 'run-udp.pcap'], b'', 'stir-log: calls 5\n'), (['stir-log', '--x5u', 'run.log'], b'', '')):
             got = on_terminal([str(tools / words[0]), *words[1:]], given, folder)
             bars = BAR % words[0].removeprefix('stir-')
             yield f'{" ".join(words)} on a terminal', (True, said), (bool(re.match(bars, got)) and GONE in got, re.sub(bars, '', got).replace(GONE, ''))

@@ -7,7 +7,6 @@ import shutil
 
 import asserted
 import debian
-import fetching
 import gates
 import packaged
 import pages
@@ -69,8 +68,3 @@ def test_package(each):
 @needs(LIBRARY)
 def test_terminals(each):
     each(terminals.results(TOOLS, FILES))
-
-
-@needs(LIBRARY, 'openssl')
-def test_fetching(each):
-    each(fetching.results(tool))

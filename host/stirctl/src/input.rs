@@ -123,7 +123,7 @@ fn opened(name: &str) -> Result<File, Fault> {
 }
 
 /// A bar on a terminal; elsewhere nothing is drawn.
-fn bar(size: u64) -> ProgressBar {
+pub(crate) fn bar(size: u64) -> ProgressBar {
     let bar = if size > 0 { ProgressBar::new(size) } else { ProgressBar::new_spinner() };
     let style = if size > 0 {
         ProgressStyle::with_template("[{bar:30}] {percent}%, {eta} left")

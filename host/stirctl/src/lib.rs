@@ -4,6 +4,7 @@
 #![forbid(unsafe_code)]
 
 mod answers;
+mod asking;
 mod capture;
 mod certificates;
 mod chaining;
@@ -15,6 +16,7 @@ mod confirming;
 mod days;
 mod explaining;
 mod fault;
+mod fetching;
 mod files;
 mod input;
 mod judge;
@@ -52,6 +54,7 @@ pub fn main(words: words::Words) -> u8 {
         words::Command::Report(words) => reporting::report(&words),
         words::Command::Confirm(words) => confirming::confirm(&words),
         words::Command::Day(words) => days::day(&words),
+        words::Command::Fetch(words) => fetching::fetch(&words),
         words::Command::Log(words) => logging::log(&words),
         words::Command::Chain(words) => chaining::chain(&words),
         words::Command::Show(words) => showing::show(&words),

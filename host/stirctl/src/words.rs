@@ -1,6 +1,9 @@
 //! The words of the program.
 
 pub mod certificates;
+mod fetch;
+
+pub use fetch::Fetch;
 
 use clap::{Args, Parser, Subcommand};
 use stir::Settings;
@@ -25,6 +28,7 @@ pub enum Command {
     Explain(Explain),
     Report(Report),
     Confirm(Confirm),
+    Fetch(Fetch),
     Log(Log),
     Chain(certificates::Chain),
     Show(certificates::Show),
