@@ -3,8 +3,8 @@
 
     spoilt.py SEED COUNT STIRCTL PROGRAM [--jobs N]
 
-Each case spoils a log, a capture or a file that it is judged by (tests/fuzz). On a log `stirctl` has to end with the status and the bytes of the program. On a
-capture, of which the program says nothing, it has to end with a status of its own: 0, 1 or 5. A case of a seed is always the same.
+Each case spoils a log, a capture, certificates or a file that a log is judged by (tests/fuzz). On a log `stirctl` has to end with the status and the bytes of
+the program. On captures and certificates it has to end with a status of its own: 0, 1 or 5. A case of a seed is always the same.
 """
 import argparse
 import concurrent.futures
@@ -14,7 +14,8 @@ import subprocess
 import sys
 import tempfile
 
-TESTS = pathlib.Path(__file__).resolve().parent.parent
+HERE = pathlib.Path(__file__).resolve().parent
+TESTS = HERE.parent
 sys.path[:0] = [str(TESTS / name) for name in ('tools', 'fuzz', 'vectors', 'cli')]
 import captures  # noqa: E402
 import spoil  # noqa: E402
@@ -25,6 +26,7 @@ FILES = {path.name: path.read_bytes() for path in (TESTS.parent / 'examples/file
 BY = [b'--chains=chains.txt', b'--anchors=anchors.der', b'--table=table.txt', b'--answers=answers.txt']
 LOGS = [path.read_bytes() for path in sorted((TESTS.parent / 'examples').glob('*/*.log'))]
 CAPTURES = [data for name, data in sorted({**captures.FILES, **streams.FILES}.items()) if name.endswith(('.pcap', '.pcapng')) and len(data) < 50_000]
+CERTIFICATES = [path.read_bytes() for path in sorted(HERE.glob('files/*.*')) if path.suffix in ('.pem', '.der', '.p7b', '.p7c')]
 SPOILT = 'chains.txt', 'anchors.der', 'table.txt', 'answers.txt', 'passport.der', 'div.der', 'state'
 
 
@@ -42,6 +44,15 @@ def on_capture(rng, ctl):
         data = rng.choice([spoil.flip, spoil.flip, spoil.cut, spoil.double, spoil.exchange, spoil.put])(rng, data)[:200_000]
     status, _, said = run(ctl, [b'judge', *BY, b'--json=-', b'-'], data, FILES)
     return None if status in (0, 1, 5) and b'panicked' not in said else f'ended with {status}: {said[-300:]!r}'
+
+
+def on_certificates(rng, ctl):
+    data = rng.choice(CERTIFICATES)
+    for _ in range(rng.randint(1, 3)):
+        data = rng.choice([spoil.flip, spoil.flip, spoil.cut, spoil.double, spoil.exchange, spoil.put, spoil.element])(rng, data)[:200_000]
+    words = rng.choice([[b'show'], [b'show', b'--json'], [b'chain', b'--anchors', b'--all'], [b'chain', b'--leaf']])
+    status, _, said = run(ctl, words, data, FILES)
+    return None if status in (0, 1, 5) and b'panicked' not in said else f'{words} ended with {status}: {said[-300:]!r}'
 
 
 def on_log(rng, ctl, program):
@@ -64,7 +75,7 @@ def on_log(rng, ctl, program):
 def case(seed, number, ctl, program):
     rng = random.Random(f'{seed} {number}')
     try:
-        return on_capture(rng, ctl) if rng.random() < 0.3 else on_log(rng, ctl, program)
+        return rng.choices([on_capture, on_certificates], [3, 1])[0](rng, ctl) if rng.random() < 0.4 else on_log(rng, ctl, program)
     except subprocess.TimeoutExpired:
         return 'went on for a minute'
 

@@ -154,7 +154,7 @@ fn by_for(by: &By, name: &str) -> By {
         chains: by.chains.replace(NAME, name),
         table: by.table.replace(NAME, name),
         answers: named(&by.answers),
-        rules: by.rules.clone(),
+        ..by.clone()
     }
 }
 

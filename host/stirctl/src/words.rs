@@ -159,7 +159,7 @@ pub struct Confirm {
 }
 
 /// What calls are judged by.
-#[derive(Debug, Args)]
+#[derive(Clone, Debug, Args)]
 pub struct By {
     /// The trust anchors, in PEM. What the library doesn't take for an anchor is named and left out
     #[arg(long, value_name = "FILE", required_unless_present = "anchors")]

@@ -24,9 +24,9 @@ pub(crate) struct Told {
     pub issuer: String,
     /// The content of the serial number, in hex.
     pub serial: String,
-    /// The first and the last second at which it is valid, in Unix time.
-    pub not_before: i64,
-    pub not_after: i64,
+    /// The first and the last second at which it is valid, in Unix time, if that can be read.
+    pub not_before: Option<i64>,
+    pub not_after: Option<i64>,
     /// Its certificate policies (RFC 5280, section 4.2.1.4), which the profile passes over.
     pub policies: Vec<String>,
     /// What the profile has of it, if it isn't outside.
@@ -97,7 +97,6 @@ impl Told {
         certificate: &Certificate,
     ) -> Result<Told, Fault> {
         let Certificate { der, read } = certificate;
-        let failed = |error: ErrorStack| Fault::Input(file.into(), error.to_string());
         let parts = Parts::of(der);
         let mut told = Told {
             file: file.into(),
@@ -105,15 +104,15 @@ impl Told {
             subject: text_of(read.subject_name()),
             issuer: text_of(read.issuer_name()),
             serial: String::new(),
-            not_before: second_of(read.not_before()).map_err(failed)?,
-            not_after: second_of(read.not_after()).map_err(failed)?,
+            not_before: second_of(read.not_before()).ok(),
+            not_after: second_of(read.not_after()).ok(),
             policies: parts.as_ref().map(policies).unwrap_or_default(),
             profile: None,
             outside: None,
         };
         if is_outside(der)? {
             let serial = read.serial_number().to_bn().and_then(|it| it.to_hex_str());
-            told.serial = serial.map_err(failed)?.to_lowercase();
+            told.serial = serial.map_or(String::new(), |digits| digits.to_lowercase());
             told.outside = Some(broken(der)?);
             return Ok(told);
         }
@@ -133,8 +132,8 @@ impl Told {
         for line in lines.lines() {
             let (word, rest) = line.split_once(' ').unwrap_or((line, ""));
             match word {
-                "not-before" => self.not_before = rest.parse().unwrap_or(self.not_before),
-                "not-after" => self.not_after = rest.parse().unwrap_or(self.not_after),
+                "not-before" => self.not_before = rest.parse().ok(),
+                "not-after" => self.not_after = rest.parse().ok(),
                 "ca" => profile.ca = rest == "yes",
                 "path-length" => profile.path_length = number(rest.as_bytes(), u64::MAX),
                 "usage" => profile.usage = usages(rest),
@@ -234,13 +233,14 @@ impl fmt::Display for Told {
 }
 
 /// A moment for a person.
-fn day(moment: i64) -> String {
-    match u64::try_from(moment) {
-        Ok(moment) => {
+fn day(moment: Option<i64>) -> String {
+    match moment.map(|moment| (moment, u64::try_from(moment))) {
+        None => "a time that can't be read".into(),
+        Some((_, Ok(moment))) => {
             let (day, time) = date(moment);
             format!("{day} {time} UTC")
         }
-        Err(_) => format!("{} seconds before 1970", moment.unsigned_abs()),
+        Some((moment, Err(_))) => format!("{} seconds before 1970", moment.unsigned_abs()),
     }
 }
 
@@ -269,5 +269,51 @@ impl Profile {
             }));
         }
         lines
+    }
+}
+
+#[cfg(test)]
+mod tests {
+    use super::*;
+    use openssl::x509::X509;
+    use stir::Settings;
+
+    /// Numbers by a linear congruence (Knuth's MMIX), the high bits of each.
+    struct Random(u64);
+
+    impl Random {
+        fn below(&mut self, end: usize) -> usize {
+            let step = self.0.wrapping_mul(6_364_136_223_846_793_005);
+            self.0 = step.wrapping_add(1_442_695_040_888_963_407);
+            (self.0 >> 33) as usize % end.max(1)
+        }
+    }
+
+    #[test]
+    fn a_spoilt_certificate_is_told_and_its_broken_part_lies_within() {
+        let path = concat!(env!("CARGO_MANIFEST_DIR"), "/../../examples/files/passport.der");
+        let chain = std::fs::read(path).expect("the example");
+        let leaf = stir_trust::fetch::certificates_of(&chain).expect("a chain").swap_remove(0);
+        let world = World::open(&Settings::default(), b"", b"").expect("a world");
+        let (mut random, mut outside, mut unread) = (Random(1), 0, 0);
+        for number in 0..3_000 {
+            let mut der = leaf.clone();
+            for _ in 0..=random.below(2) {
+                let at = random.below(der.len());
+                der[at] ^= 1 << random.below(8);
+            }
+            let Ok(read) = X509::from_der(&der) else { continue };
+            let certificate = Certificate { der: der.clone(), read };
+            let told = Told::of(&world, "spoilt", 1, &certificate);
+            let told = told.unwrap_or_else(|fault| panic!("{number}: {fault}, {der:02x?}"));
+            match &told.outside {
+                None => continue,
+                Some(Broken::Part { place, .. }) => assert!(*place < der.len(), "{der:02x?}"),
+                Some(_) => unread += 1,
+            }
+            outside += 1;
+            assert!(told.to_string().contains("\n    outside     "), "{der:02x?}");
+        }
+        assert!(outside > 300 && unread < outside / 4, "{unread} of {outside}");
     }
 }
