@@ -139,6 +139,32 @@ def test_a_client_that_waits_for_leave_is_given_it(service):
         assert status_of(connection.recv(4096)) == 200
 
 
+@pytest.mark.parametrize(("wish", "told"), [
+    (b"", b"close"), (b"Connection: close\r\n", b"close"), (b"Connection: keep-alive\r\n", b"keep-alive"), (b"Connection: TE, Keep-Alive\r\n", b"keep-alive"),
+])
+def test_a_request_by_http_1_0_is_answered_by_the_version_that_is_spoken_here(wish, told, service):
+    """And it is told whether the connection stays (RFC 9110, section 6.2; RFC 9112, section 9.3)."""
+    one = b"POST /verify HTTP/1.0\r\n" + wish + MOMENT + length(CALL) + b"\r\n" + CALL
+    count = 3 if told == b"keep-alive" else 1
+    text = answered(service, one * 3, count)
+    heads = re.findall(rb"HTTP/1\.[^{]*", text)
+    assert len(heads) == count and all(head.startswith(b"HTTP/1.1 200 OK\r\n") for head in heads), text
+    assert all(b"\r\nConnection: " + told + b"\r\n" in head for head in heads), text
+
+
+def test_names_of_header_fields_are_written_as_the_standard_writes_them(service):
+    """Case doesn't matter in them (RFC 9110, section 5.1), but there are clients to which it does."""
+    head, _, _ = service.raw(GET.replace(b"\r\n\r\n", b"\r\nConnection: close\r\n\r\n"), 3).partition(b"\r\n\r\n")
+    names = {line.partition(b":")[0] for line in head.split(b"\r\n")[1:]}
+    assert names == {b"Content-Type", b"Content-Length", b"Connection", b"Date"}, head
+
+
+def test_a_request_that_doesnt_come_whole_is_late_whatever_its_head_has_not(service):
+    """One without Host is refused once it came."""
+    head = b"POST /verify HTTP/1.1\r\n" + length(CALL) + b"\r\n"
+    assert (statuses(answered(service, head + CALL[:-1], 1)), statuses(answered(service, head + CALL, 1))) == ([408], [400])
+
+
 @pytest.mark.parametrize("path", ["/healthz", "/livez", "/readyz", "/metrics"])
 def test_head_is_get_without_a_body(path, service):
     text = service.raw(f"HEAD {path} HTTP/1.1\r\nHost: x\r\nConnection: close\r\n\r\n".encode(), 3)

@@ -8,7 +8,7 @@ use crate::server::{Server, MOST_BODY, MOST_HEAD};
 use crate::tokens::Peer;
 use bytes::{Bytes, BytesMut};
 use hyper::body::HttpBody;
-use hyper::header::{AUTHORIZATION, CONTENT_LENGTH, HOST, TRANSFER_ENCODING};
+use hyper::header::{AUTHORIZATION, CONNECTION, CONTENT_LENGTH, HOST, TRANSFER_ENCODING};
 use hyper::server::conn::Http;
 use hyper::service::service_fn;
 use hyper::{Body, HeaderMap, Method, Response, StatusCode, Version};
@@ -32,6 +32,7 @@ pub async fn serve(stream: Stream, peer: Peer, place: Place, server: Arc<Server>
     let mut connection = Http::new()
         .http1_only(true)
         .http1_half_close(true)
+        .http1_title_case_headers(true)
         .max_buf_size(MOST_HEAD)
         .serve_connection(guard, service);
     let mut ending = server.ending.clone();
@@ -63,8 +64,24 @@ pub async fn serve(stream: Stream, peer: Peer, place: Place, server: Arc<Server>
     parts.io.end(answer).await;
 }
 
-/// The answer to a request.
+/// The answer to a request; to one after which the connection ends it says so.
 async fn answer(request: hyper::Request<Body>, peer: Peer, talk: &Talk, server: &Server) -> Answer {
+    let is_last = !stays(request.headers(), request.version());
+    let answer = answer_of(request, peer, talk, server).await;
+    if is_last {
+        answer.last()
+    } else {
+        answer
+    }
+}
+
+/// What a request is answered.
+async fn answer_of(
+    request: hyper::Request<Body>,
+    peer: Peer,
+    talk: &Talk,
+    server: &Server,
+) -> Answer {
     let (head, body) = request.into_parts();
     let refused = |status, last: bool| {
         server.service.judge.metrics.bad_requests.inc();
@@ -84,9 +101,6 @@ async fn answer(request: hyper::Request<Body>, peer: Peer, talk: &Talk, server: 
     let Ok(moment) = moment(&head.headers) else {
         return refused(StatusCode::BAD_REQUEST, true);
     };
-    if !has_host(&head.headers, head.version) {
-        return refused(StatusCode::BAD_REQUEST, true);
-    }
     let path = head.uri.path();
     let wants_length = head.method == Method::POST && Door::at(path).is_some_and(Door::takes_body);
     if wants_length && !head.headers.contains_key(CONTENT_LENGTH) {
@@ -97,6 +111,10 @@ async fn answer(request: hyper::Request<Body>, peer: Peer, talk: &Talk, server: 
         Err(_) if talk.is_late() => return refused(StatusCode::REQUEST_TIMEOUT, true),
         Err(_) => return refused(StatusCode::BAD_REQUEST, true),
     };
+    // Looked at in a request that came whole: one that doesn't is late, whatever its head has.
+    if !has_host(&head.headers, head.version) {
+        return refused(StatusCode::BAD_REQUEST, true);
+    }
     let field =
         |name: &str| (head.headers.get(name)).map(|value| Bytes::copy_from_slice(value.as_bytes()));
     let request = Request {
@@ -144,6 +162,15 @@ fn has_host(fields: &HeaderMap, version: Version) -> bool {
     count == 1 || count == 0 && version < Version::HTTP_11
 }
 
+/// Whether the connection stays after a request (RFC 9112, section 9.3).
+fn stays(fields: &HeaderMap, version: Version) -> bool {
+    let wishes = |wish: &str| {
+        let values = fields.get_all(CONNECTION).iter().filter_map(|value| value.to_str().ok());
+        values.flat_map(|value| value.split(',')).any(|word| word.trim().eq_ignore_ascii_case(wish))
+    };
+    !wishes("close") && (version >= Version::HTTP_11 || wishes("keep-alive"))
+}
+
 #[cfg(test)]
 mod tests {
     use super::*;
@@ -182,6 +209,24 @@ mod tests {
         ] {
             assert_eq!(has_host(&fields(lines), version), wanted, "{lines:?} {version:?}");
         }
+    }
+
+    #[test]
+    fn a_connection_stays_as_its_version_and_its_wish_have_it() {
+        for (value, by_1_0, by_1_1) in [
+            ("keep-alive", true, true),
+            ("TE, Keep-Alive", true, true),
+            ("close", false, false),
+            ("TE, Close", false, false),
+            ("close, keep-alive", false, false),
+            ("closed", false, true),
+            ("", false, true),
+        ] {
+            let fields = fields(&[("connection", value)]);
+            let stays = [Version::HTTP_10, Version::HTTP_11].map(|version| stays(&fields, version));
+            assert_eq!(stays, [by_1_0, by_1_1], "{value}");
+        }
+        assert!(!stays(&fields(&[]), Version::HTTP_10) && stays(&fields(&[]), Version::HTTP_11));
     }
 
     #[tokio::test]

@@ -13,7 +13,7 @@ use std::io;
 use std::pin::Pin;
 use std::sync::atomic::{AtomicBool, AtomicU64, Ordering::SeqCst};
 use std::sync::Arc;
-use std::task::{Context, Poll};
+use std::task::{ready, Context, Poll};
 use std::time::Duration;
 use tokio::io::{AsyncRead, AsyncReadExt, AsyncWrite, AsyncWriteExt, ReadBuf};
 use tokio::time::{sleep, sleep_until, timeout, Instant, Sleep};
@@ -23,6 +23,9 @@ const ROOM: usize = 8192;
 
 /// How long a peer may go on sending after its last answer, so that it sees it.
 const LINGER: Duration = Duration::from_secs(2);
+
+/// The version that is spoken here, as an answer begins with it.
+const OURS: &[u8] = b"HTTP/1.1";
 
 /// What a connection's stream and its requests tell each other.
 pub struct Talk {
@@ -87,6 +90,9 @@ pub struct Guard {
     timer: Pin<Box<Sleep>>,
     /// Runs while the peer takes nothing.
     blocked: Option<Pin<Box<Sleep>>>,
+    /// How many bytes of the version are written that the next answer begins with, if it goes to a
+    /// request by HTTP/1.0.
+    version: Option<usize>,
     fault: Option<Fault>,
     is_over: bool,
 }
@@ -106,6 +112,7 @@ impl Guard {
             until: Some(until),
             timer: Box::pin(sleep_until(until)),
             blocked: None,
+            version: None,
             fault: None,
             is_over: false,
         }
@@ -149,6 +156,7 @@ impl Guard {
                 match found {
                     Found::More => bytes.len(),
                     Found::End(size) => {
+                        self.version = head.is_older().then_some(0);
                         self.reading = Reading::Between;
                         size
                     }
@@ -190,6 +198,19 @@ impl Guard {
                 Poll::Ready(Err(fail(&mut self.fault, Fault::Late)))
             }
         }
+    }
+
+    /// Writes bytes of an answer. One to a request by HTTP/1.0 names the version that this server
+    /// speaks, and not that of the request, as hyper has it (RFC 9110, section 6.2).
+    fn write(&mut self, context: &mut Context<'_>, bytes: &[u8]) -> Poll<io::Result<usize>> {
+        let stream = Pin::new(&mut self.stream);
+        let Some(written) = self.version else { return stream.poll_write(context, bytes) };
+        let mut named = bytes.to_vec();
+        let rest = OURS.get(written..).unwrap_or_default();
+        named.iter_mut().zip(rest).for_each(|(byte, ours)| *byte = *ours);
+        let done = ready!(stream.poll_write(context, &named))?;
+        self.version = Some(written + done).filter(|written| *written < OURS.len());
+        Poll::Ready(Ok(done))
     }
 
     /// What is to be said to a peer before the end, which hyper didn't say.
@@ -242,6 +263,10 @@ impl AsyncRead for Guard {
     ) -> Poll<io::Result<()>> {
         let guard = self.get_mut();
         guard.settle();
+        // The next request is read once the answer to this one is written.
+        if guard.blocked.is_some() && matches!(guard.reading, Reading::Head(_)) {
+            return Poll::Pending;
+        }
         if guard.left.is_empty() {
             let mut read = ReadBuf::new(&mut guard.room);
             match Pin::new(&mut guard.stream).poll_read(context, &mut read) {
@@ -262,7 +287,7 @@ impl AsyncWrite for Guard {
         bytes: &[u8],
     ) -> Poll<io::Result<usize>> {
         let guard = self.get_mut();
-        let written = Pin::new(&mut guard.stream).poll_write(context, bytes);
+        let written = guard.write(context, bytes);
         if written.is_ready() {
             guard.blocked = None;
             return written;
@@ -343,6 +368,25 @@ mod tests {
         let (mut guard, _, _far) = over(b"").await;
         assert_eq!(read(&mut guard).await.expect("an end"), "");
         assert_eq!(guard.last_answer(), None);
+    }
+
+    #[tokio::test]
+    async fn an_answer_names_the_version_that_is_spoken_here_however_it_is_written() {
+        for size in [1, 3, 8, 9, 40] {
+            let (mut guard, talk, mut far) =
+                over(b"GET / HTTP/1.0\r\n\r\nGET / HTTP/1.1\r\n\r\n").await;
+            for answer in ["HTTP/1.0 200 OK\r\n\r\nHTTP/1.0 ", "HTTP/1.1 200 OK\r\n\r\nHTTP/1.0 "] {
+                read(&mut guard).await.expect("a head");
+                talk.head_came(Some(0));
+                for piece in answer.as_bytes().chunks(size) {
+                    guard.write_all(piece).await.expect("it is written");
+                }
+                let mut room = [0; 28];
+                far.read_exact(&mut room).await.expect("an answer");
+                let came = String::from_utf8_lossy(&room).into_owned();
+                assert_eq!(came, "HTTP/1.1 200 OK\r\n\r\nHTTP/1.0 ", "in pieces of {size}");
+            }
+        }
     }
 
     #[tokio::test]

@@ -63,6 +63,11 @@ impl Head {
         Found::More
     }
 
+    /// Whether the first line names the version before the one that is spoken here.
+    pub fn is_older(&self) -> bool {
+        &self.last == b"HTTP/1.0"
+    }
+
     fn take(&mut self, byte: u8) {
         self.is_begun = true;
         self.size += 1;
