@@ -63,6 +63,42 @@ def test_a_silent_crowd_shuts_nobody_out(started, world):
     assert service.outcome(world.call(0, START, 1), START) == "valid"
 
 
+def read(connection, wait=2):
+    """All that comes until the end of a connection."""
+    connection.settimeout(wait)
+    text = b""
+    while piece := connection.recv(4096):
+        text += piece
+    return text
+
+
+def test_whoever_loses_its_place_before_an_answer_is_told_so(started):
+    """Silent ones and slow ones get 503. One that had its answers and is idle is closed without a word, as any idle connection is."""
+    service = started("--connections", 4, "--idle", 30, "--request", 30)
+    with Crowd(service, 1, HEALTH.replace(b"Connection: close\r\n", b"")) as idle, Crowd(service, 1) as silent, Crowd(service, 2, HEALTH[:20]) as slow:
+        assert status_of(idle.held[0].recv(4096)) == 200
+        time.sleep(1.2)
+        with Crowd(service, 4) as others:
+            for connection in (*silent.held, *slow.held):
+                text = read(connection)
+                assert status_of(text) == 503 and b"Connection: close\r\n" in text and text.endswith(b"\r\n\r\ntoo many connections\n"), text
+            assert read(idle.held[0]) == b""
+            assert others.open() == 4, "one that is new was closed"
+
+
+def is_turned_away(service):
+    """Whether one more connection is turned away while there are sixteen on which a request comes."""
+    with Crowd(service, 16, b"POST /verify HTTP/1.1\r\n"):
+        time.sleep(0.1)
+        return asks(service) == 503
+
+
+def test_if_all_are_busy_one_more_is_turned_away(started):
+    """A request that comes for a second counts as slow, and its connection may go: on a busy machine that may be over before one more asks."""
+    service = started("--connections", 16)
+    assert any(is_turned_away(service) for _ in range(10)), "one more is served, though all are busy"
+
+
 def test_a_crowd_that_sends_a_byte_now_and_then_shuts_nobody_out(started):
     service = started("--connections", 16, "--request", 30, "--idle", 30)
     stop, text = threading.Event(), b"POST /verify HTTP/1.1\r\nHost: x\r\nX: " + b"y" * 1000

@@ -59,6 +59,11 @@ impl Answer {
         }
     }
 
+    /// The answer to who has no place among the connections, or loses it.
+    pub fn no_place() -> Answer {
+        Answer::text(StatusCode::SERVICE_UNAVAILABLE, "too many connections\n").last()
+    }
+
     /// The same, as the last one of its connection.
     pub fn last(self) -> Answer {
         Answer { last: true, ..self }

@@ -23,10 +23,10 @@ type Answered = Pin<Box<dyn Future<Output = Result<Response<Body>, Infallible>> 
 pub async fn serve(stream: Stream, peer: Peer, place: Place, server: Arc<Server>) {
     let talk = Arc::new(Talk::new(Arc::clone(&place.seat)));
     let guard = Guard::new(stream, Arc::clone(&talk), server.times);
-    let answers = Arc::clone(&server);
+    let (heard, answers) = (Arc::clone(&talk), Arc::clone(&server));
     let service = service_fn(move |request: hyper::Request<Body>| -> Answered {
-        talk.head_came(request.body().size_hint().exact());
-        let (talk, server) = (Arc::clone(&talk), Arc::clone(&answers));
+        heard.head_came(request.body().size_hint().exact());
+        let (talk, server) = (Arc::clone(&heard), Arc::clone(&answers));
         Box::pin(async move { Ok(answer(request, peer, &talk, &server).await.response()) })
     });
     let mut connection = Http::new()
@@ -51,6 +51,10 @@ pub async fn serve(stream: Stream, peer: Peer, place: Place, server: Arc<Server>
             Doing::Answering => true,
         };
         if !has_to_wait {
+            if place.seat.is_leaving() && talk.is_unanswered() {
+                let Some(parts) = connection.try_into_parts() else { return };
+                parts.io.dismiss(&Answer::no_place()).await;
+            }
             return;
         }
         Pin::new(&mut connection).graceful_shutdown();

@@ -6,7 +6,6 @@ use crate::server::stream::Stream;
 use crate::server::{Acceptor, Server};
 use crate::settings::Listen;
 use crate::tokens::Peer;
-use hyper::StatusCode;
 use std::fs::{DirBuilder, Permissions};
 use std::io;
 use std::net::{IpAddr, SocketAddr, ToSocketAddrs};
@@ -278,8 +277,7 @@ async fn turn_away(came: Came) -> io::Result<()> {
         Came::Tcp(stream, _, None) => Stream::Tcp(TcpStream::from_std(stream)?),
         Came::Tcp(_, _, Some(_)) => return Ok(()),
     };
-    let answer = Answer::text(StatusCode::SERVICE_UNAVAILABLE, "too many connections\n");
-    stream.write_all(&answer.bytes()).await?;
+    stream.write_all(&Answer::no_place().bytes()).await?;
     stream.shutdown().await?;
     let mut room = [0; 4096];
     while stream.read(&mut room).await? > 0 {}

@@ -24,6 +24,10 @@ const ROOM: usize = 8192;
 /// How long a peer may go on sending after its last answer, so that it sees it.
 const LINGER: Duration = Duration::from_secs(2);
 
+/// How long a peer whose place is taken may need to take its last answer: none, but for what the
+/// system and TLS do.
+const MOMENT: Duration = Duration::from_millis(50);
+
 /// The version that is spoken here, as an answer begins with it.
 const OURS: &[u8] = b"HTTP/1.1";
 
@@ -34,12 +38,14 @@ pub struct Talk {
     /// One more than the bytes of the body that follows; 0 if no head came.
     body: AtomicU64,
     is_late: AtomicBool,
+    has_asked: AtomicBool,
 }
 
 impl Talk {
     /// Of a connection with this seat.
     pub fn new(seat: Arc<Seat>) -> Talk {
-        Talk { seat, body: AtomicU64::new(0), is_late: AtomicBool::new(false) }
+        let (is_late, has_asked) = (AtomicBool::new(false), AtomicBool::new(false));
+        Talk { seat, body: AtomicU64::new(0), is_late, has_asked }
     }
 
     /// A head came whose body has so many bytes; if that isn't known, what follows is all of it.
@@ -47,7 +53,13 @@ impl Talk {
         if size == Some(0) {
             self.seat.does(Doing::Answering);
         }
+        self.has_asked.store(true, SeqCst);
         self.body.store(size.unwrap_or(u64::MAX).saturating_add(1), SeqCst);
+    }
+
+    /// Whether the peer waits for an answer, or has had none yet.
+    pub fn is_unanswered(&self) -> bool {
+        self.seat.doing() != Doing::Nothing || !self.has_asked.load(SeqCst)
     }
 
     /// Whether the request didn't come in its time.
@@ -211,6 +223,17 @@ impl Guard {
         let done = ready!(stream.poll_write(context, &named))?;
         self.version = Some(written + done).filter(|written| *written < OURS.len());
         Poll::Ready(Ok(done))
+    }
+
+    /// Closes the connection, since another one gets its place: says so, but waits for nothing.
+    pub async fn dismiss(mut self, answer: &Answer) {
+        if self.blocked.is_none() {
+            let last = async {
+                self.stream.write_all(&answer.bytes()).await?;
+                self.stream.shutdown().await
+            };
+            let _ = timeout(MOMENT, last).await;
+        }
     }
 
     /// What is to be said to a peer before the end, which hyper didn't say.
@@ -387,6 +410,19 @@ mod tests {
                 assert_eq!(came, "HTTP/1.1 200 OK\r\n\r\nHTTP/1.0 ", "in pieces of {size}");
             }
         }
+    }
+
+    #[tokio::test]
+    async fn who_has_had_an_answer_and_asks_nothing_waits_for_none() {
+        let (mut guard, talk, _far) = over(b"GET / HTTP/1.1\r\n\r\nG").await;
+        assert!(talk.is_unanswered(), "it is new");
+        read(&mut guard).await.expect("a head");
+        talk.head_came(Some(0));
+        assert!(talk.is_unanswered(), "it asks");
+        guard.settle();
+        assert!(!talk.is_unanswered(), "it is answered");
+        read(&mut guard).await.expect("a begin");
+        assert!(talk.is_unanswered(), "it asks again");
     }
 
     #[tokio::test]
