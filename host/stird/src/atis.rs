@@ -110,8 +110,8 @@ pub struct Signing {
     pub time: Option<u64>,
     /// The identifier.
     pub origid: String,
-    /// The best attestation.
-    pub attest: Attest,
+    /// The best attestation, if it is said.
+    pub attest: Option<Attest>,
 }
 
 /// The body of a request to verify.
@@ -147,7 +147,8 @@ struct SigningRequest {
     #[serde(default, deserialize_with = "given")]
     iat: Option<u64>,
     origid: String,
-    attest: String,
+    #[serde(default, deserialize_with = "given")]
+    attest: Option<String>,
 }
 
 #[derive(Deserialize)]
@@ -270,12 +271,13 @@ pub fn verification(body: &[u8]) -> Result<Verification, Refusal> {
 pub fn signing(body: &[u8]) -> Result<Signing, Refusal> {
     let SigningBody { request } = read(body)?;
     let (from, to) = (request.orig.text()?, request.dest.text()?);
+    let attest = request.attest.as_deref().map(|letter| attest_of(letter).ok_or(BAD_VALUE));
     Ok(Signing {
         message: invite(&from, &to, &[]),
         orig: from,
         time: request.iat,
         origid: request.origid,
-        attest: attest_of(&request.attest).ok_or(BAD_VALUE)?,
+        attest: attest.transpose()?,
     })
 }
 
@@ -364,11 +366,14 @@ mod tests {
         assert!(text.starts_with("INVITE sip:+12355550124@") && !text.contains("Identity"));
         assert_eq!(
             (request.orig.as_str(), request.time, request.attest),
-            ("12155551212", Some(1_443_208_345), Attest::B)
+            ("12155551212", Some(1_443_208_345), Some(Attest::B))
         );
+        let silent = br#"{"signingRequest":{"orig":{"tn":"1"},"dest":{"tn":"2"},"origid":"u"}}"#;
+        assert_eq!(signing(silent).map(|request| request.attest), Ok(None));
         for body in [
             r#"{"signingRequest":{"orig":{"tn":"1"},"dest":{"tn":"2"},"attest":"A"}}"#,
-            r#"{"signingRequest":{"orig":{"tn":"1"},"dest":{"tn":"2"},"origid":"u"}}"#,
+            r#"{"signingRequest":{"orig":{"tn":"1"},"dest":{"tn":"2"},"origid":"u",
+                "attest":null}}"#,
             r#"{"signingRequest":{"orig":{"tn":[]},"dest":{"tn":"2"},"origid":"u","attest":"A"}}"#,
             r#"{"signingRequest":{"orig":{"tn":"1"},"dest":{"tn":"2"},"origid":"u","attest":1}}"#,
         ] {

@@ -258,6 +258,7 @@ impl Service {
         self.judge.metrics.sign(made.is_ok());
         let message = made.map_err(|why| match why {
             Unsigned::NotOurs => atis::NOT_OURS,
+            Unsigned::NoAttest => atis::MISSING,
             Unsigned::BadValue => atis::BAD_VALUE,
             Unsigned::NotValid => atis::NOT_VALID,
             Unsigned::Failed => atis::FAILED,

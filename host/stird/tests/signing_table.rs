@@ -103,8 +103,13 @@ fn invite(orig: &str) -> Vec<u8> {
     .into_bytes()
 }
 
-fn sign(blocks: &Blocks, orig: &str, attest: Attest, iat: i64) -> Result<Vec<u8>, Unsigned> {
-    let message = invite(orig);
+fn sign(
+    blocks: &Blocks,
+    orig: &str,
+    attest: impl Into<Option<Attest>>,
+    iat: i64,
+) -> Result<Vec<u8>, Unsigned> {
+    let (message, attest) = (invite(orig), attest.into());
     blocks.sign(&Call { orig, message: &message, iat: second(iat), origid: ORIGID, attest })
 }
 
@@ -145,6 +150,35 @@ fn the_first_block_of_a_number_signs_for_it_and_nothing_else_does() {
     for orig in ["12000009999", "12000010015", "12000019999", "12000021000", "", "x"] {
         assert_eq!(sign(&blocks, orig, Attest::C, NOW), Err(Unsigned::NotOurs), "{orig:?}");
     }
+}
+
+#[test]
+fn without_a_word_on_it_a_request_gets_what_the_block_says_for_that_or_nothing() {
+    let signing = Signing::new();
+    let said = |line: String, unasked| line.replace('\n', &format!(" {unasked}\n"));
+    let lines = [
+        signing.line("12000010000", 10, "A", "code"),
+        said(signing.line("12000010010", 10, "A", "code"), "C"),
+        said(signing.line("12000010020", 10, "A", "code"), "A"),
+        said(signing.line("12000010030", 10, "B", "code"), "B"),
+    ];
+    let blocks = signing.read(&lines.concat()).expect("a table");
+    for (orig, asked, given) in [
+        ("12000010000", None, Err(Unsigned::NoAttest)),
+        ("12000010000", Some(Attest::A), Ok("A")),
+        ("12000010010", None, Ok("C")),
+        ("12000010010", Some(Attest::A), Ok("A")),
+        ("12000010020", None, Ok("A")),
+        ("12000010020", Some(Attest::C), Ok("C")),
+        ("12000010030", None, Ok("B")),
+        ("12000010030", Some(Attest::A), Ok("B")),
+        ("12000010040", None, Err(Unsigned::NotOurs)),
+    ] {
+        let signed = sign(&blocks, orig, asked, NOW).map(|message| attested(&message));
+        assert_eq!(signed, given.map(String::from), "{orig} {asked:?}");
+    }
+    let better = said(signing.line("12000010000", 10, "B", "code"), "A");
+    assert_eq!(signing.refused(&better), (Some(1), Why::Block(BlockFault::NoUnasked)));
 }
 
 #[test]

@@ -40,7 +40,7 @@ const MOST_WARNINGS: usize = 16;
 ///     message: b"INVITE ..",
 ///     iat: 1_767_225_600,
 ///     origid: "123e4567-e89b-12d3-a456-426655440000",
-///     attest: stir::Attest::A,
+///     attest: Some(stir::Attest::A),
 /// };
 /// assert_eq!(blocks.sign(&call), Err(Unsigned::NotOurs), "there is no table");
 /// # Ok::<(), stird::files::FileFault>(())

@@ -30,6 +30,7 @@ pub(super) struct Signer {
 pub(super) struct Block {
     numbers: RangeInclusive<u64>,
     attest: Attest,
+    unasked: Option<Attest>,
     pub signer: Arc<Signer>,
 }
 
@@ -38,6 +39,8 @@ pub(super) struct Block {
 pub enum Unsigned {
     /// No block has the number, or its certificate doesn't cover it.
     NotOurs,
+    /// No attestation is wanted, and the block says of none that it is given then.
+    NoAttest,
     /// What the library can't take or won't sign: a number or an identifier is no such thing.
     BadValue,
     /// The certificate isn't valid at that second.
@@ -56,8 +59,8 @@ pub struct Call<'a> {
     pub iat: u64,
     /// The identifier of the call, a UUID.
     pub origid: &'a str,
-    /// The best attestation that is wanted.
-    pub attest: Attest,
+    /// The best attestation that is wanted, if that is said.
+    pub attest: Option<Attest>,
 }
 
 impl Signer {
@@ -99,7 +102,8 @@ impl Signer {
 impl Block {
     /// The block of a line, if its certificate covers the first number of it and the last.
     pub(super) fn new(line: &Line, signer: Arc<Signer>) -> Result<Block, BlockFault> {
-        let block = Block { numbers: line.first..=line.last, attest: line.attest, signer };
+        let (numbers, attest, unasked) = (line.first..=line.last, line.attest, line.unasked);
+        let block = Block { numbers, attest, unasked, signer };
         block.test()?;
         Ok(block)
     }
@@ -118,19 +122,25 @@ impl Block {
                 message: &invite(&orig),
                 iat: 0,
                 origid: "00000000-0000-4000-8000-000000000000",
-                attest: self.attest,
+                attest: Some(self.attest),
             };
-            self.signer.chain.to_sign(&self.order(&call)).map_err(|error| match error {
-                SignError::Failed(Error::OutOfMemory) => Error::OutOfMemory.into(),
-                _ => BlockFault::Uncovered { x5u: self.signer.x5u.clone(), number },
-            })?;
+            self.signer.chain.to_sign(&self.order(&call, self.attest)).map_err(
+                |error| match error {
+                    SignError::Failed(Error::OutOfMemory) => Error::OutOfMemory.into(),
+                    _ => BlockFault::Uncovered { x5u: self.signer.x5u.clone(), number },
+                },
+            )?;
         }
         Ok(())
     }
 
-    fn order<'a>(&'a self, call: &'a Call) -> Order<'a> {
+    /// The attestation of a call: what is wanted, but no better than that of the block.
+    fn attest(&self, call: &Call) -> Option<Attest> {
         // The later letter is the lower attestation.
-        let attest = self.attest.max(call.attest);
+        call.attest.map(|wanted| wanted.max(self.attest)).or(self.unasked)
+    }
+
+    fn order<'a>(&'a self, call: &'a Call, attest: Attest) -> Order<'a> {
         Order {
             iat: call.iat,
             form: Form::Shaken { attest, origid: call.origid },
@@ -141,7 +151,8 @@ impl Block {
 
     /// The message of a call with its Identity field.
     pub(super) fn sign(&self, call: &Call) -> Result<Vec<u8>, Unsigned> {
-        let (order, signer) = (self.order(call), &self.signer);
+        let attest = self.attest(call).ok_or(Unsigned::NoAttest)?;
+        let (order, signer) = (self.order(call, attest), &self.signer);
         let digest = signer.chain.to_sign(&order).map_err(|error| match error {
             SignError::Withheld(Withheld::Authority) => Unsigned::NotOurs,
             SignError::Withheld(_) | SignError::Failed(Error::BadInput(_)) => Unsigned::BadValue,

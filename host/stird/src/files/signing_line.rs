@@ -5,9 +5,10 @@ use stir::Attest;
 use stir_trust::KeyFault;
 use thiserror::Error;
 
-/// A line `FIRST COUNT ATTEST KEY CERTIFICATES X5U`: a number and how many follow it, `A`, `B` or
-/// `C`, the file of a private key in PEM, the file of its certificates in DER, the leaf first, and
-/// the URI under which these are found.
+/// A line `FIRST COUNT ATTEST KEY CERTIFICATES X5U [UNASKED]`: a number and how many follow it,
+/// `A`, `B` or `C`, the file of a private key in PEM, that of its certificates in DER, the leaf
+/// first, the URI under which these are found, and perhaps the attestation of a request that names
+/// none.
 #[derive(Clone, Copy, Debug, PartialEq, Eq)]
 pub struct Line<'a> {
     /// The first number.
@@ -22,6 +23,8 @@ pub struct Line<'a> {
     pub certificates: &'a str,
     /// Their URI.
     pub x5u: &'a str,
+    /// What a request gets that doesn't say which attestation it wants; without it nothing.
+    pub unasked: Option<Attest>,
 }
 
 /// Why a line isn't taken.
@@ -30,8 +33,8 @@ pub enum BlockFault {
     /// It isn't UTF-8.
     #[error("it isn't text")]
     NoText,
-    /// It hasn't six words.
-    #[error("six words are wanted, with one space between them")]
+    /// It has neither six words nor seven.
+    #[error("six words are wanted, or seven, with one space between them")]
     Words,
     /// The first word.
     #[error("the first word is no telephone number: digits, the first of them not 0")]
@@ -42,6 +45,9 @@ pub enum BlockFault {
     /// The third word.
     #[error("the attestation is A, B or C")]
     NoAttest,
+    /// The seventh word.
+    #[error("the seventh word is A, B or C, and no better than the attestation of the block")]
+    NoUnasked,
     /// A file of the line can't be read.
     #[error("{}: {why}", .file.display())]
     File {
@@ -103,14 +109,19 @@ impl Line<'_> {
         let mut word = || words.next().filter(|word| !word.is_empty()).ok_or(BlockFault::Words);
         let (first, count, attest) = (word()?, word()?, word()?);
         let (key, certificates, x5u) = (word()?, word()?, word()?);
-        if words.next().is_some() {
+        let unasked = words.next();
+        if unasked.is_some_and(str::is_empty) || words.next().is_some() {
             return Err(BlockFault::Words);
         }
         let first = number_of(first).ok_or(BlockFault::NoNumber)?;
         let count = number_of(count).ok_or(BlockFault::NoCount)?;
         let last = first.checked_add(count - 1).ok_or(BlockFault::NoCount)?;
         let attest = attest_of(attest).ok_or(BlockFault::NoAttest)?;
-        Ok(Line { first, last, attest, key, certificates, x5u })
+        // The later letter is the lower attestation.
+        let taken = |letter| attest_of(letter).filter(|unasked| *unasked >= attest);
+        let unasked = unasked.map(|letter| taken(letter).ok_or(BlockFault::NoUnasked));
+        let unasked = unasked.transpose()?;
+        Ok(Line { first, last, attest, key, certificates, x5u, unasked })
     }
 }
 
@@ -147,12 +158,14 @@ mod tests {
 
     #[test]
     fn a_line_that_isnt_taken_says_why() {
-        use BlockFault::{NoAttest, NoCount, NoNumber, NoText, Words};
+        use BlockFault::{NoAttest, NoCount, NoNumber, NoText, NoUnasked, Words};
         for (line, fault) in [
             ("", Words),
             ("1 1 A k c", Words),
-            ("1 1 A k c x y", Words),
+            ("1 1 A k c x A y", Words),
+            ("1 1 A k c x A ", Words),
             ("1 1 A k c x ", Words),
+            ("1 1 A k c x  A", Words),
             ("1  1 A k c x", Words),
             (" 1 1 A k c x", Words),
             ("1\t1 A k c x", Words),
@@ -165,11 +178,28 @@ mod tests {
             ("18446744073709551615 2 A k c x", NoCount),
             ("1 1 a k c x", NoAttest),
             ("1 1 D k c x", NoAttest),
+            ("1 1 A k c x D", NoUnasked),
+            ("1 1 A k c x a", NoUnasked),
+            ("1 1 B k c x A", NoUnasked),
+            ("1 1 C k c x B", NoUnasked),
         ] {
             assert_eq!(Line::read(line.as_bytes()), Err(fault), "{line:?}");
         }
         assert_eq!(Line::read(b"1 1 A k c \xff"), Err(NoText));
         let last = Line::read(b"18446744073709551615 1 C k c x").expect("the last number");
         assert_eq!((last.first, last.last, last.attest), (u64::MAX, u64::MAX, Attest::C));
+    }
+
+    #[test]
+    fn a_seventh_word_is_no_better_than_the_third() {
+        for (line, unasked) in [
+            ("1 1 A k c x", None),
+            ("1 1 A k c x A", Some(Attest::A)),
+            ("1 1 A k c x C", Some(Attest::C)),
+            ("1 1 B k c x B", Some(Attest::B)),
+            ("1 1 C k c x C", Some(Attest::C)),
+        ] {
+            assert_eq!(Line::read(line.as_bytes()).map(|line| line.unasked), Ok(unasked), "{line}");
+        }
     }
 }
