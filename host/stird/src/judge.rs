@@ -2,7 +2,7 @@
 //! taken from the proved library, and its ticket claimed.
 use crate::files::World;
 use crate::metrics::{Metrics, Part};
-use crate::tickets::{Claim, Passed, Tickets};
+use crate::tickets::{Claim, Latest, Passed, Tickets};
 use arc_swap::ArcSwap;
 use std::sync::atomic::{AtomicU64, Ordering};
 use std::sync::Arc;
@@ -115,6 +115,8 @@ pub struct Judge {
     pub verifier: Verifier,
     /// Which tickets passed.
     pub tickets: Arc<dyn Tickets>,
+    /// The latest moment of a call, if they come in the order of one clock.
+    pub latest: Option<Latest>,
     /// The number of the last call.
     pub numbers: AtomicU64,
     /// What is counted.
@@ -152,6 +154,11 @@ impl Judge {
         let outcome = match verdict {
             Ok(Verdict::Refused(Refused { rule, code, field, part })) => {
                 Outcome::Refused { rule, code, field, part }
+            }
+            Ok(Verdict::Passes(Passes { last, .. }))
+                if self.latest.as_ref().is_some_and(|it| it.leaves_behind(moment, last)) =>
+            {
+                Outcome::Unjudged
             }
             Ok(Verdict::Passes(Passes { ticket, last })) => {
                 let timer = self.metrics.claims.start_timer();

@@ -9,7 +9,7 @@ use crate::reload::{tell_of_blocks, Reload};
 use crate::routes::Service;
 use crate::server::{Acceptor, Doors, Hands, Places, Server, Times, AT_ONCE};
 use crate::settings::Settings;
-use crate::tickets::{Clock, Memory, Redis, Sqlite, SystemClock, Tickets};
+use crate::tickets::{Clock, Latest, Memory, Redis, Sqlite, SystemClock, Tickets};
 use crate::tokens::Tokens;
 use anyhow::{bail, Context, Result};
 use arc_swap::ArcSwap;
@@ -104,6 +104,7 @@ fn service(
             verifier,
             numbers: tickets.greatest().into(),
             tickets,
+            latest: settings.ordered_moments.then(Latest::default),
             metrics: Arc::clone(metrics),
             split: settings.split,
         },

@@ -36,6 +36,8 @@ pub struct Settings {
     pub rules: Rules,
     /// Whether the moment of a call is what the caller says.
     pub asked_moments: bool,
+    /// Whether calls come in the order of their moments.
+    pub ordered_moments: bool,
     /// Whether lists in P-Asserted-Identity are split.
     pub split: bool,
     /// The file in which tickets are kept.
@@ -161,7 +163,8 @@ impl Settings {
                 country: words.country,
                 national: words.national,
             },
-            asked_moments: matches!(words.moments, Moments::Asked),
+            asked_moments: matches!(words.moments, Moments::Asked | Moments::Ordered),
+            ordered_moments: matches!(words.moments, Moments::Ordered),
             split: matches!(words.split, Choice::Yes),
             journal: words.journal,
             sync: matches!(words.sync, Choice::Yes),
@@ -210,6 +213,19 @@ mod tests {
             (60, 5, true, false)
         );
         assert_eq!((settings.connections, settings.connections_each), (256, usize::MAX));
+    }
+
+    #[test]
+    fn moments_are_the_clocks_or_asked_in_any_order_or_in_one() {
+        for (words, wanted) in [
+            ("", (false, false)),
+            ("--moments clock", (false, false)),
+            ("--moments asked", (true, false)),
+            ("--moments ordered", (true, true)),
+        ] {
+            let settings = of(&format!("--chains a --anchors b --table c {words}")).unwrap();
+            assert_eq!((settings.asked_moments, settings.ordered_moments), wanted, "{words}");
+        }
     }
 
     #[test]

@@ -66,7 +66,8 @@ pub(super) struct Words {
         value_parser = value_parser!(u8).range(1..=14))]
     pub national: u8,
 
-    /// The moment of a call: the clock's, or what X-Moment or time say
+    /// The moment of a call: the clock's, or what X-Moment or time say; or the same of calls that
+    /// come in the order of one clock
     #[arg(long, value_name = "WHOSE", default_value = "clock")]
     pub moments: Moments,
 
@@ -172,6 +173,7 @@ pub(super) enum Choice {
 pub(super) enum Moments {
     Clock,
     Asked,
+    Ordered,
 }
 
 /// The form of what is told.

@@ -19,6 +19,7 @@
 //!    calls of those very seconds whose tickets were claimed and forgotten while it was fast.
 mod clock;
 mod error;
+mod latest;
 mod memory;
 mod redis;
 mod sqlite;
@@ -27,6 +28,7 @@ mod table;
 
 pub use clock::{Clock, SystemClock};
 pub use error::TicketsError;
+pub use latest::Latest;
 pub use memory::Memory;
 pub use redis::{AddressFault, Redis};
 pub use sqlite::Sqlite;
