@@ -1,21 +1,17 @@
-"""Tries the library's C header and the service on a world of real keys.
+"""Tries the library's C header on a world of real keys; tests/before does so with the service.
 
-The service's answers must give the report of the program byte for byte (`--stird`, `--program`), and so must those of the crate `stir` (`--judge`).
-`--library` names the folder of libstir_c.a, for the C programs and for Python's ctypes. `--calls` and `--chains` say how large the world is. Times are measured here, so it runs without `-n`.
+What the crate `stir` answers must give the report of the program byte for byte (`--judge`, `--program`). `--library` names the folder of libstir_c.a, for
+the C programs and for Python's ctypes. `--calls` and `--chains` say how large the world is. Times are measured here, so it runs without `-n`.
 """
 import dataclasses
 import pathlib
 
 import fields
 import header
-import holding
 import judging
-import lasting
 import pytest
-import refusing
 import same
 import sending
-import signing
 from world import World
 
 TOP = pathlib.Path(__file__).resolve().parents[2]
@@ -25,7 +21,6 @@ CALLS = 600
 @dataclasses.dataclass(frozen=True)
 class Place:
     """What the tests share: the programs, the library, and a world with its calls and the program's report of them."""
-    stird: pathlib.Path
     stir: pathlib.Path
     library: pathlib.Path
     judge: pathlib.Path
@@ -42,23 +37,10 @@ def at(request, program, tmp_path_factory):
     world = World(folder / "world", given("chains"))
     calls = list(world.calls(given("calls") or CALLS))
     report = judging.report(program, TOP, world, calls, folder)
-    return Place(given("stird").resolve(), program, given("library").resolve(), given("judge").resolve(), folder, world, calls, report)
+    return Place(program, given("library").resolve(), given("judge").resolve(), folder, world, calls, report)
 
 
 TESTS = {
-    "the service gives the report of verify": lambda at: judging.whole_log(at.stird, at.world, at.calls, at.report),
-    "Identity fields may be spelled in any way": lambda at: judging.spelled(at.stird, at.stir, TOP, at.world, at.folder),
-    "the codes of trust anchors count": lambda at: judging.anchored(at.stird, at.stir, TOP, at.folder),
-    "of many trust anchors the first that fits counts": lambda at: judging.many_anchors(at.stird, at.stir, TOP, at.folder),
-    "four connections at once let each ticket pass once": lambda at: judging.at_once(at.stird, at.world, at.calls, at.report),
-    "the requests of ATIS-1000082 and the line for proxies": lambda at: judging.other_doors(at.stird, at.world),
-    "changed files are taken without a restart": lambda at: judging.reload(at.stird, at.world, at.folder),
-    "certificates are confirmed when the files are read": lambda at: judging.confirmed(at.stird, at.world, at.folder),
-    "killed at twenty moments no ticket passes twice": lambda at: holding.kills(at.stird, at.world, at.folder),
-    "several services over one Redis let a ticket pass once": lambda at: holding.shared(at.stird, at.world, at.folder),
-    "calls are signed for the numbers of a table alone": lambda at: signing.all(at.stird, at.world, at.folder),
-    "garbage, slow and huge requests are refused and hold nothing": lambda at: refusing.all(at.stird, at.world),
-    "what goes wrong around the service doesn't end it": lambda at: lasting.all(at.stird, at.world, at.folder),
     "the library says of each case of verify and explain what the program says": lambda at: same.rows(at.judge),
     "the library says of the log what the program says": lambda at: same.log(at.judge, at.stir, at.world, at.calls, at.folder),
     "a C program judges and explains by the header": lambda at: header.by_c(TOP, at.stir, at.library, at.world, at.folder),

@@ -34,7 +34,7 @@ def unread(stird, world, folder):
     shutil.copy(world.folder / "table.txt", table)
     words[words.index("--table") + 1] = str(table)
     with Stird(stird, [*words, "--moments", "asked"]) as service:
-        service.unheard()
+        service.process.stderr.close()
         table.rename(folder / "table-that-went.txt")
         assert wait_until(lambda: service.metric("stir_failed_reloads_total") >= 2), "a missing table isn't told"
         lives(service, world, 1)
@@ -58,7 +58,7 @@ def full(stird, world):
 def answers(port):
     with contextlib.suppress(OSError), socket.create_connection(("127.0.0.1", port), timeout=5) as connection:
         connection.sendall(b"GET /healthz HTTP/1.0\r\n\r\n")
-        return connection.recv(100).startswith(b"HTTP/1.0 200 ")
+        return connection.recv(100).startswith(b"HTTP/1.1 200 ")
     return False
 
 
