@@ -5,6 +5,7 @@ use super::{Inner, State};
 use crate::fetch::{Limit, Reason};
 use crate::locks::Held;
 use std::sync::Arc;
+use std::time::{Duration, Instant};
 use tokio::sync::{watch, Semaphore};
 
 /// What a flight brings, once it does.
@@ -35,7 +36,7 @@ pub(super) fn joined(
     if let Some(reason) = state.limits.failure(x5u, now) {
         return Err(reason);
     }
-    let host = inner.fetcher.host_of(x5u)?;
+    let host = state.fetcher.host_of(x5u)?;
     if state.flights.len() >= inner.bounds.flights {
         return Err(Reason::Limited(Limit::Flights));
     }
@@ -45,7 +46,11 @@ pub(super) fn joined(
     state.flights.insert(x5u.into(), flight.clone());
     let x5u = x5u.to_owned();
     let landing = Landing { inner: Arc::clone(inner), x5u, host, end: End::Gone };
-    tokio::spawn(flown(landing, turns, what, tell));
+    let flown = flown(landing, turns, what, tell);
+    match inner.runtime.get() {
+        Some(runtime) => drop(runtime.spawn(flown)),
+        None => drop(tokio::spawn(flown)),
+    }
     Ok(flight)
 }
 
@@ -56,7 +61,8 @@ async fn flown(
     what: For,
     tell: watch::Sender<Brought>,
 ) {
-    let brought = fetched(&landing, &turns, what).await;
+    let mut took = None;
+    let brought = fetched(&landing, &turns, what, &mut took).await;
     landing.end = match &brought {
         Ok(_) => End::Good,
         Err(reason) => End::Failed(reason.clone()),
@@ -64,13 +70,23 @@ async fn flown(
     if let Ok(entry) = &brought {
         landing.keep(entry);
     }
+    let (inner, x5u) = (Arc::clone(&landing.inner), landing.x5u.clone());
     // Those who come after it landed see what is kept or remembered.
     drop(landing);
+    if let Some(witness) = inner.witness.get() {
+        witness.landed(&x5u, took, brought.as_ref().map(drop));
+    }
     tell.send_replace(Some(brought));
 }
 
-/// Waits for its turns, at the host and in all, and fetches.
-async fn fetched(landing: &Landing, turns: &Semaphore, what: For) -> Result<Arc<Entry>, Reason> {
+/// Waits for its turns, at the host and in all, and fetches; how long that took is told, if
+/// anybody was asked.
+async fn fetched(
+    landing: &Landing,
+    turns: &Semaphore,
+    what: For,
+    took: &mut Option<Duration>,
+) -> Result<Arc<Entry>, Reason> {
     let Landing { inner, x5u, host, .. } = landing;
     let closed = |_| Reason::Limited(Limit::Flights);
     let _host = turns.acquire().await.map_err(closed)?;
@@ -80,11 +96,17 @@ async fn fetched(landing: &Landing, turns: &Semaphore, what: For) -> Result<Arc<
         For::Anew => Some(inner.anew.acquire().await.map_err(closed)?),
     };
     let _job = inner.jobs.acquire().await.map_err(closed)?;
-    if inner.state.lock().held().limits.is_broken(host, inner.clock.since_start()) {
-        return Err(Reason::Limited(Limit::Broken));
-    }
-    let fetched = inner.fetcher.fetch(x5u).await?;
-    Ok(Arc::new(Entry::of(&fetched, inner.clock.now())))
+    let fetcher = {
+        let state = inner.state.lock().held();
+        if state.limits.is_broken(host, inner.clock.since_start()) {
+            return Err(Reason::Limited(Limit::Broken));
+        }
+        Arc::clone(&state.fetcher)
+    };
+    let begun = Instant::now();
+    let fetched = fetcher.fetch(x5u).await;
+    *took = Some(begun.elapsed());
+    Ok(Arc::new(Entry::of(&fetched?, inner.clock.now())))
 }
 
 /// What a flight leaves when it ends, also if its task is dropped.
@@ -98,6 +120,10 @@ struct Landing {
 impl Landing {
     fn keep(&self, entry: &Arc<Entry>) {
         let state = &mut *self.inner.state.lock().held();
+        // Its host may have left the list since it was asked.
+        if state.fetcher.host_of(&self.x5u).is_err() {
+            return;
+        }
         for left in state.kept.put(&self.x5u, Arc::clone(entry)) {
             state.unsaved.remove(&left);
         }

@@ -1,6 +1,6 @@
 //! What is kept: a bounded number of entries and bytes, of which the least lately asked leaves.
 use crate::fetch::Fetched;
-use std::collections::{BTreeMap, HashMap};
+use std::collections::{BTreeMap, BinaryHeap, HashMap};
 use std::sync::Arc;
 
 /// For how long an entry is good by the server's word, at least and at most, in seconds.
@@ -80,7 +80,7 @@ impl Entry {
 
     /// The last second at which it is handed out. One that had ended when it was fetched is for the
     /// judge to refuse, until it is due.
-    fn last(&self) -> u64 {
+    pub(super) fn last(&self) -> u64 {
         let last = if self.ends > self.fetched { self.ends } else { self.due };
         last.min(self.fetched.saturating_add(OLDEST))
     }
@@ -191,6 +191,36 @@ impl Kept {
         old.iter().for_each(|x5u| self.remove(x5u));
         old
     }
+
+    /// Drops those of which this holds; with their URIs.
+    pub(super) fn drop_those(&mut self, is_gone: impl Fn(&str) -> bool) -> Vec<String> {
+        let gone: Vec<String> = self.slots.keys().filter(|x5u| is_gone(x5u)).cloned().collect();
+        gone.iter().for_each(|x5u| self.remove(x5u));
+        gone
+    }
+
+    /// The first of the URIs after this one, so many at most, with their entries.
+    pub(super) fn list(&self, after: Option<&str>, most: usize) -> Vec<(String, Arc<Entry>)> {
+        let mut first: BinaryHeap<&str> = BinaryHeap::with_capacity(most.min(self.len()) + 1);
+        for x5u in self.slots.keys().map(String::as_str) {
+            let is_later = after.is_none_or(|after| x5u > after);
+            let is_first = first.len() < most || first.peek().is_some_and(|last| x5u < *last);
+            if is_later && is_first {
+                first.push(x5u);
+                if first.len() > most {
+                    first.pop();
+                }
+            }
+        }
+        let entry = |x5u: &str| Some((x5u.to_owned(), self.entry(x5u)?));
+        first.into_sorted_vec().into_iter().filter_map(entry).collect()
+    }
+
+    /// The first end of those that hadn't ended when they were fetched.
+    pub(super) fn ends(&self) -> Option<u64> {
+        let entries = self.slots.values().map(|slot| &slot.entry);
+        entries.filter(|entry| entry.ends > entry.fetched).map(|entry| entry.ends).min()
+    }
 }
 
 /// When an entry is fetched anew if it is asked for: after 75 to 85 hundredths of its time, by its
@@ -258,6 +288,37 @@ mod tests {
             assert_eq!(kept.put("e", Arc::clone(&entry)), ["a"]);
             assert_eq!((kept.len(), kept.bytes(), kept.order.len()), (3, 3 * each, 3));
         }
+    }
+
+    #[test]
+    fn a_list_is_in_the_order_of_uris_and_goes_on_after_one() {
+        let mut kept = Kept::new(99, 99_999);
+        for x5u in ["d", "b", "e", "a", "c"] {
+            kept.put(x5u, Arc::new(entry(None, 10_000_000, 0)));
+        }
+        let list = |after, most| {
+            kept.list(after, most).into_iter().map(|(x5u, _)| x5u).collect::<Vec<_>>().concat()
+        };
+        assert_eq!(
+            (list(None, 2), list(None, 9), list(None, 0)),
+            ("ab".into(), "abcde".into(), "".into())
+        );
+        assert_eq!((list(Some("b"), 2), list(Some("bb"), 9)), ("cd".into(), "cde".into()));
+        assert_eq!((list(Some("e"), 9), list(Some(""), 1)), ("".into(), "a".into()));
+    }
+
+    #[test]
+    fn the_first_end_is_that_of_what_hadnt_ended_before() {
+        let mut kept = Kept::new(99, 99_999);
+        assert_eq!(kept.ends(), None);
+        kept.put("ended", Arc::new(entry(None, 900, 1_000)));
+        assert_eq!(kept.ends(), None);
+        for (x5u, ends) in [("late", 9_000), ("soon", 5_000)] {
+            kept.put(x5u, Arc::new(entry(None, ends, 1_000)));
+        }
+        assert_eq!(kept.ends(), Some(5_000));
+        assert_eq!(kept.drop_those(|x5u| x5u == "soon"), ["soon"]);
+        assert_eq!((kept.ends(), kept.len(), kept.order.len()), (Some(9_000), 2, 2));
     }
 
     #[test]

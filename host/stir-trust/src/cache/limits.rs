@@ -127,6 +127,12 @@ impl Limits {
         }
     }
 
+    /// Forgets all failures.
+    pub(super) fn forgive(&mut self) {
+        self.failures.clear();
+        self.hosts.values_mut().for_each(|host| host.failed = 0);
+    }
+
     /// Forgets, once a table is full, what says nothing any more. A failure is known for twice its
     /// time, so that the next one waits longer.
     fn forget(&mut self, now: Duration) {
@@ -286,6 +292,18 @@ mod tests {
         limits.end("a", "host", &End::Good, seconds(67));
         assert_eq!(begin(&mut limits, "host", seconds(68)), None);
         assert_eq!(begin(&mut limits, "host", seconds(68)), None);
+    }
+
+    #[test]
+    fn failures_are_forgotten_at_once_if_that_is_told() {
+        let mut limits = limits();
+        for number in 0..5 {
+            fail(&mut limits, &format!("x5u {number}"), DEAD, seconds(number));
+        }
+        limits.forgive();
+        assert_eq!(limits.failure("x5u 4", seconds(5)), None);
+        assert!(!limits.is_broken("host", seconds(5)));
+        assert_eq!(begin(&mut limits, "host", seconds(5)), None);
     }
 
     #[test]

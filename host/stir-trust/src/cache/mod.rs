@@ -31,12 +31,15 @@ mod folder;
 mod kept;
 mod limits;
 mod run;
+mod seen;
+mod witness;
 
 pub use bounds::{Bounds, Counts, Miss};
 pub use clock::{Clock, SystemClock};
 pub use folder::{Folder, FolderFault};
 pub use kept::{Entry, Times};
 pub use run::{Run, Told};
+pub use witness::Witness;
 
 use crate::fetch::Fetcher;
 use crate::locks::Held;
@@ -45,8 +48,9 @@ use kept::Kept;
 use limits::Limits;
 use std::collections::{HashMap, HashSet};
 use std::fmt::{self, Debug, Formatter};
-use std::sync::{Arc, Mutex};
+use std::sync::{Arc, Mutex, OnceLock};
 use std::time::Duration;
+use tokio::runtime::Handle;
 use tokio::sync::{watch, Semaphore};
 
 /// Chains by their x5us, fetched and kept. A clone is the same cache. It is used within a runtime
@@ -55,16 +59,19 @@ use tokio::sync::{watch, Semaphore};
 pub struct Cache(Arc<Inner>);
 
 struct Inner {
-    fetcher: Fetcher,
     bounds: Bounds,
     clock: Arc<dyn Clock>,
     folder: Option<Folder>,
     jobs: Semaphore,
     anew: Semaphore,
     state: Mutex<State>,
+    /// The runtime of the flights; that of whoever asks if none is said.
+    runtime: OnceLock<Handle>,
+    witness: OnceLock<Arc<dyn Witness>>,
 }
 
 struct State {
+    fetcher: Arc<Fetcher>,
     kept: Kept,
     limits: Limits,
     flights: HashMap<String, watch::Receiver<Brought>>,
@@ -95,8 +102,8 @@ impl Cache {
         Cache::made(fetcher, bounds, clock, None)
     }
 
-    /// A cache with what is in a folder, into which [`Cache::save`] writes. It reads files, so it
-    /// is called before the service serves.
+    /// A cache with what is in a folder of hosts that may be asked, into which [`Cache::save`]
+    /// writes. It reads files, so it is called before the service serves.
     ///
     /// # Errors
     ///
@@ -122,12 +129,13 @@ impl Cache {
     ) -> Result<Cache, FolderFault> {
         let found = folder.load(clock.now())?;
         let cache = Cache::made(fetcher, bounds, clock, Some(folder));
-        let mut state = cache.0.state.lock().held();
+        let state = &mut *cache.0.state.lock().held();
         for (x5u, entry) in found {
-            state.kept.put(&x5u, Arc::new(entry));
+            if state.fetcher.host_of(&x5u).is_ok() {
+                state.kept.put(&x5u, Arc::new(entry));
+            }
         }
-        drop(state);
-        Ok(cache)
+        Ok(cache.clone())
     }
 
     fn made(
@@ -137,6 +145,7 @@ impl Cache {
         folder: Option<Folder>,
     ) -> Cache {
         let state = Mutex::new(State {
+            fetcher: Arc::new(fetcher),
             kept: Kept::new(bounds.entries, bounds.bytes),
             limits: Limits::new(bounds),
             flights: HashMap::new(),
@@ -144,7 +153,8 @@ impl Cache {
             counts: Counts::default(),
         });
         let (jobs, anew) = (Semaphore::new(bounds.jobs), Semaphore::new(bounds.jobs.div_ceil(2)));
-        Cache(Arc::new(Inner { fetcher, bounds, clock, folder, jobs, anew, state }))
+        let (runtime, witness) = (OnceLock::new(), OnceLock::new());
+        Cache(Arc::new(Inner { bounds, clock, folder, jobs, anew, state, runtime, witness }))
     }
 
     /// The chain of this x5u, if it is kept. If it is soon due, it is fetched anew meanwhile.
