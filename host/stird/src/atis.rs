@@ -315,6 +315,9 @@ struct Verified {
     verification_response: VerificationResponse,
 }
 
+/// The number of the rule on chains that aren't there.
+const NO_CHAIN: u32 = 10;
+
 /// The answer to a request to verify a call.
 pub fn verified(judged: &Judged) -> Answer {
     let outcome = &judged.outcome;
@@ -323,7 +326,10 @@ pub fn verified(judged: &Judged) -> Answer {
             Some(format!("rule 18, the ticket passed with call {winner}"))
         }
         Outcome::Refused { rule, field, part, .. } => {
-            Some(format!("rule {rule} at {field}.{part}"))
+            let certificates = judged.certificates.filter(|_| *rule == NO_CHAIN);
+            let certificates = certificates.map(|words| format!(", certificates {words}"));
+            let certificates = certificates.unwrap_or_default();
+            Some(format!("rule {rule} at {field}.{part}{certificates}"))
         }
         Outcome::Valid | Outcome::Unjudged => None,
     };
@@ -339,6 +345,7 @@ pub fn verified(judged: &Judged) -> Answer {
 #[cfg(test)]
 mod tests {
     use super::*;
+    use crate::fetching::Certificates;
 
     #[test]
     fn a_verification_request_becomes_an_invite() {
@@ -456,7 +463,20 @@ mod tests {
             ),
             (Outcome::Unjudged, r#"{"verificationResponse":{"verstat":"No-TN-Validation"}}"#),
         ] {
-            assert_eq!(body(&verified(&Judged { call: 1, outcome })), wanted);
+            let judged = Judged { call: 1, outcome, certificates: None };
+            assert_eq!(body(&verified(&judged)), wanted);
         }
+    }
+
+    #[test]
+    fn of_certificates_that_arent_there_it_is_said_why() {
+        let wanted = |rule, text: &str| {
+            let outcome = Outcome::Refused { rule, code: 436, field: 1, part: 0 };
+            let certificates = Some(Certificates::Failed("tls"));
+            let answer = verified(&Judged { call: 1, outcome, certificates });
+            assert!(body(&answer).contains(&format!("\"reasondesc\":\"{text}\"")), "{answer:?}");
+        };
+        wanted(10, "rule 10 at 1.0, certificates failed tls");
+        wanted(11, "rule 11 at 1.0");
     }
 }

@@ -73,6 +73,7 @@ impl Standing {
         if missing > 0 {
             notes.push(format!("chains: {missing} listed files are missing"));
         }
+        notes.extend(service.judge.fetching.iter().flat_map(|fetching| fetching.notes()));
         if let Some(blocks) = &service.blocks {
             let blocks = blocks.load();
             notes.extend(

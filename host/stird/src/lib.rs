@@ -3,7 +3,8 @@
 //!
 //! [`settings`] has what is ordered, [`start`] the way from there to the end. [`server`] has
 //! connections, [`routes`] what is answered, [`judge`] what comes of a call, [`tickets`] which
-//! calls passed, and [`files`] what calls are judged by and signed for.
+//! calls passed, and [`files`] what calls are judged by and signed for. [`fetching`] has
+//! certificates that are fetched, and [`codes`] those codes of them that count.
 #![forbid(unsafe_code)]
 #![deny(clippy::print_stderr, clippy::print_stdout)]
 #![warn(missing_docs)]
@@ -12,6 +13,8 @@ compile_error!("a fault in one task must end one connection, and not the service
 
 pub mod answers;
 pub mod atis;
+pub mod codes;
+pub mod fetching;
 pub mod files;
 pub mod health;
 pub mod judge;
@@ -23,5 +26,6 @@ pub mod routes;
 pub mod server;
 pub mod settings;
 pub mod start;
+pub mod tending;
 pub mod tickets;
 pub mod tokens;

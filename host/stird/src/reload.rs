@@ -1,6 +1,6 @@
 //! Files that change: they are looked at from time to time, aside from what answers, and taken if
 //! they can be read; else what was read before stays.
-use crate::files::{self, look::Look, signing::Blocks, FileFault, Sources};
+use crate::files::{self, look::Look, signing::Blocks, FileFault, HostFiles, MayAsk, Sources};
 use crate::logs::Log;
 use crate::routes::Service;
 use crate::server::Acceptor;
@@ -19,9 +19,22 @@ pub struct Reload {
     every: Duration,
 }
 
+/// The files that are looked at, with what was read of them at the start.
+pub struct Watched {
+    /// What calls are judged by and signed for.
+    pub sources: Sources,
+    /// The file of tokens, and how it looked before it was read.
+    pub tokens: Option<(Look, PathBuf)>,
+    /// Whom certificates may be fetched from.
+    pub hosts: Option<(HostFiles, MayAsk)>,
+    /// What speaks TLS.
+    pub acceptor: Option<Arc<Acceptor>>,
+}
+
 struct Shared {
     sources: Sources,
     tokens: Option<PathBuf>,
+    hosts: Option<HostFiles>,
     service: Arc<Service>,
     acceptor: Option<Arc<Acceptor>>,
     last: Mutex<Last>,
@@ -34,26 +47,21 @@ struct Last {
     blocks: Option<FileFault>,
     tokens: Option<String>,
     tls: Option<String>,
+    may_ask: Option<MayAsk>,
     /// How their file looked when they were read.
     token_file: Option<Look>,
 }
 
 impl Reload {
-    /// Of this service, which has read them once; they are looked at so often. Of the file of
-    /// tokens it is said how it looked before it was read.
-    pub fn new(
-        sources: Sources,
-        tokens: Option<(Look, PathBuf)>,
-        service: Arc<Service>,
-        acceptor: Option<Arc<Acceptor>>,
-        log: Log,
-        every: Duration,
-    ) -> Reload {
+    /// Of this service, which has read them once; they are looked at so often.
+    pub fn new(watched: Watched, service: Arc<Service>, log: Log, every: Duration) -> Reload {
+        let Watched { sources, tokens, hosts, acceptor } = watched;
         let (token_file, tokens) = tokens.unzip();
-        let last = Last { token_file, ..Last::default() }.into();
+        let (hosts, may_ask) = hosts.unzip();
+        let last = Last { token_file, may_ask, ..Last::default() }.into();
         let patience = every / 4;
-        let shared = Arc::new(Shared { sources, tokens, service, acceptor, last, patience });
-        Reload { shared, log, every }
+        let shared = Shared { sources, tokens, hosts, service, acceptor, last, patience };
+        Reload { shared: Arc::new(shared), log, every }
     }
 
     /// Looks at them from time to time, and at once for each signal.
@@ -86,13 +94,42 @@ impl Shared {
         let last = &mut *self.last.lock().held();
         self.blocks(is_told, last);
         self.tokens(is_told, last);
+        self.may_ask(is_told, last);
         if is_told {
             self.acceptor(last);
         }
         faults.extend(last.blocks.as_ref().map(FileFault::to_string));
         faults.extend(last.tokens.clone());
         faults.extend(last.tls.clone());
+        faults.extend(last.may_ask.iter().flat_map(MayAsk::faults).map(FileFault::to_string));
         faults
+    }
+
+    /// Whom certificates may be fetched from.
+    fn may_ask(&self, is_told: bool, last: &mut Last) {
+        let (Some(files), Some(before)) = (&self.hosts, &last.may_ask) else { return };
+        let judge = &self.service.judge;
+        let Some(fetching) = judge.fetching.as_ref().filter(|_| is_told || before.is_stale())
+        else {
+            return;
+        };
+        match MayAsk::read(files, Some(before)) {
+            Ok((now, fetcher)) => {
+                let old = before.faults();
+                for fault in now.faults().into_iter().filter(|fault| !old.contains(fault)) {
+                    tracing::warn!("{fault}; it stays what it was");
+                }
+                judge.metrics.reload(now.faults().is_empty());
+                if !now.is_as(before) {
+                    fetching.cache.fetch_by(fetcher);
+                }
+                last.may_ask = Some(now);
+            }
+            Err(fault) => {
+                tracing::warn!("{fault}: what was read before stays");
+                judge.metrics.reload(false);
+            }
+        }
     }
 
     fn world(&self, is_told: bool) -> Vec<String> {

@@ -1,6 +1,8 @@
 //! The paths, and what is answered there.
 use crate::answers::{name_of, Answer, Answers};
 use crate::atis;
+use crate::codes::Codes;
+use crate::fetching::Page;
 use crate::files::signing::{self, Blocks, Unsigned};
 use crate::health::Standing;
 use crate::judge::{Judge, Judged, Outcome};
@@ -12,6 +14,7 @@ use hyper::{Method, StatusCode};
 use serde::Serialize;
 use std::sync::Arc;
 use std::time::Instant;
+use tokio::task::spawn_blocking;
 
 /// The endpoints, and what is behind them.
 pub struct Service {
@@ -38,6 +41,8 @@ pub struct Request {
     pub method: Method,
     /// Its path, without a query.
     pub path: String,
+    /// The query after it.
+    pub query: Option<String>,
     /// Its body.
     pub body: Bytes,
     /// The moment of the call, by `X-Moment`.
@@ -69,6 +74,8 @@ pub enum Door {
     Livez,
     /// Whether calls are judged, and if not, why.
     Readyz,
+    /// Which certificates were fetched.
+    Certificates,
 }
 
 impl Door {
@@ -90,6 +97,7 @@ impl Door {
             "/healthz" => Some(Door::Healthz),
             "/livez" => Some(Door::Livez),
             "/readyz" => Some(Door::Readyz),
+            "/certificates" => Some(Door::Certificates),
             _ => None,
         }
     }
@@ -121,6 +129,8 @@ impl Door {
 #[derive(Serialize)]
 struct Told {
     call: u64,
+    #[serde(skip_serializing_if = "Option::is_none")]
+    certificates: Option<String>,
     code: u32,
     outcome: &'static str,
     #[serde(skip_serializing_if = "Option::is_none")]
@@ -141,6 +151,7 @@ fn told(judged: &Judged) -> Answer {
     };
     let told = Told {
         call: judged.call,
+        certificates: judged.certificates.map(|certificates| certificates.to_string()),
         code: outcome.code(),
         outcome: outcome.name(),
         place,
@@ -164,8 +175,7 @@ fn line(judged: &Judged) -> Answer {
 impl Service {
     /// The answer to a request.
     pub async fn answer(self: Arc<Service>, request: Request) -> Answer {
-        let door =
-            Door::at(&request.path).filter(|door| *door != Door::Signing || self.blocks.is_some());
+        let door = Door::at(&request.path).filter(|door| self.has(*door));
         let Some(door) = door else { return Answer::status(StatusCode::NOT_FOUND) };
         if !door.allows(&request.method) {
             let refused = Answer::status(StatusCode::METHOD_NOT_ALLOWED);
@@ -181,10 +191,42 @@ impl Service {
             },
             Door::Livez => Answer::text(StatusCode::OK, "ok\n"),
             Door::Readyz => self.standing.answer(&self),
+            Door::Certificates => self.certificates(request).await,
             Door::Verify | Door::Line | Door::Verification | Door::Signing => {
                 self.call(door, request).await
             }
         }
+    }
+
+    /// Whether this service has a door.
+    fn has(&self, door: Door) -> bool {
+        match door {
+            Door::Signing => self.blocks.is_some(),
+            Door::Certificates => self.judge.fetching.is_some(),
+            _ => true,
+        }
+    }
+
+    /// A page of the certificates that were fetched, for those for whom would be signed.
+    async fn certificates(self: Arc<Service>, request: Request) -> Answer {
+        let token = request.authorization.as_deref();
+        if let Err(denied) = self.tokens.load().admits(token, request.peer) {
+            self.judge.metrics.bad_requests.inc();
+            return Answer::status(match denied {
+                Denied::NoToken => StatusCode::UNAUTHORIZED,
+                Denied::Unknown => StatusCode::FORBIDDEN,
+            });
+        }
+        let Some(page) = Page::of(request.query.as_deref().unwrap_or_default()) else {
+            self.judge.metrics.bad_requests.inc();
+            return Answer::status(StatusCode::BAD_REQUEST);
+        };
+        let listed = spawn_blocking(move || {
+            let world = self.judge.world.load_full();
+            self.judge.fetching.as_ref().map(|fetching| fetching.list(&page, &world))
+        });
+        let listed = listed.await.ok().flatten();
+        listed.unwrap_or_else(|| Answer::status(StatusCode::INTERNAL_SERVER_ERROR))
     }
 
     /// The answer to a request with a call; the same as before, if it comes again with its key.
@@ -279,7 +321,14 @@ impl Service {
         metrics.missing.set(world.missing() as i64);
         metrics.unreadable.set(world.unreadable_count() as i64);
         metrics.confirmed.set(world.confirmed() as i64);
-        metrics.next_end.set(world.ends().map_or(0, |second| second as i64));
+        let fetched = self.judge.fetching.as_ref().and_then(|fetching| {
+            fetching.measure();
+            fetching.cache.ends()
+        });
+        let ends = world.ends().into_iter().chain(fetched).min();
+        metrics.next_end.set(ends.map_or(0, |second| second as i64));
+        let codes = self.judge.codes.as_ref().map_or(0, Codes::count);
+        metrics.fetches.codes.set(codes as i64);
         metrics.lost_lines.set(crate::logs::lost() as i64);
         let answer = Answer::text(StatusCode::OK, metrics.text());
         Answer { kind: "text/plain; version=0.0.4", ..answer }
@@ -289,6 +338,7 @@ impl Service {
 #[cfg(test)]
 mod tests {
     use super::*;
+    use crate::fetching::Certificates;
     use serde_json::json;
 
     fn body(answer: &Answer) -> &str {
@@ -317,10 +367,14 @@ mod tests {
                     "verstat": "TN-Validation-Passed" }),
             ),
         ] {
-            assert_eq!(body(&told(&Judged { call: 7, outcome })), format!("{wanted}\n"));
+            let judged = Judged { call: 7, outcome, certificates: None };
+            assert_eq!(body(&told(&judged)), format!("{wanted}\n"));
         }
-        let judged = Judged { call: 7, outcome: refused };
+        let certificates = Some(Certificates::Failed("dns"));
+        let judged = Judged { call: 7, outcome: refused, certificates };
         assert_eq!(body(&line(&judged)), "403 TN-Validation-Failed Stale Date");
+        let wanted = r#"{"call":7,"certificates":"failed dns","code":403,"outcome":"refused","#;
+        assert!(body(&told(&judged)).starts_with(wanted), "{}", body(&told(&judged)));
     }
 
     #[test]
@@ -334,6 +388,7 @@ mod tests {
             ("/healthz", "GET, HEAD"),
             ("/livez", "GET, HEAD"),
             ("/readyz", "GET, HEAD"),
+            ("/certificates", "GET, HEAD"),
         ] {
             let door = Door::at(path).expect(path);
             assert_eq!(door.methods(), methods, "{path}");

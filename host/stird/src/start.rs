@@ -1,14 +1,17 @@
 //! The service from its start to its end.
 use crate::answers::Answers;
-use crate::files::{self, look::Look, signing::Blocks, Sources};
+use crate::codes::{self, adopt_all};
+use crate::fetching::Fetching;
+use crate::files::{self, look::Look, signing::Blocks, MayAsk, Sources};
 use crate::health::Standing;
 use crate::judge::Judge;
 use crate::logs::Log;
 use crate::metrics::Metrics;
-use crate::reload::{tell_of_blocks, Reload};
+use crate::reload::{tell_of_blocks, Reload, Watched};
 use crate::routes::Service;
 use crate::server::{Acceptor, Doors, Hands, Places, Server, Times, AT_ONCE};
 use crate::settings::Settings;
+use crate::tending::tend;
 use crate::tickets::{Clock, Latest, Memory, Redis, Sqlite, SystemClock, Tickets};
 use crate::tokens::Tokens;
 use anyhow::{bail, Context, Result};
@@ -19,7 +22,7 @@ use std::sync::Arc;
 use std::time::Duration;
 use stir_trust::Verifier;
 use tokio::signal::unix::{signal, SignalKind};
-use tokio::sync::watch;
+use tokio::sync::{mpsc, watch};
 
 /// How many descriptors there are beside those of connections: files, tickets, the runtime.
 const OTHERS: u64 = 128;
@@ -39,7 +42,7 @@ pub async fn run(settings: Settings, log: Log) -> Result<()> {
     let sources = settings.sources();
     // Looked at before it is read, so that a change in between isn't missed.
     let tokens = settings.signing_tokens.clone().map(|path| (Look::at(&path), path));
-    let service = Arc::new(service(&settings, &sources, &metrics, &clock)?);
+    let Made { service, may_ask, requests } = service(&settings, &sources, &metrics, &clock)?;
     service.judge.tickets.look().await;
     let doors = Doors::open(&settings.listen, settings.socket_mode, acceptor.as_ref())?;
     tell_start(&service, &doors);
@@ -51,8 +54,16 @@ pub async fn run(settings: Settings, log: Log) -> Result<()> {
         service: Arc::clone(&service),
         ending,
     });
-    let reload = Reload::new(sources, tokens, Arc::clone(&service), acceptor, log, settings.reload);
-    let aside = [tokio::spawn(reload.run(hangs_up)), tokio::spawn(keep_watchdog())];
+    let hosts = settings.fetch.map(|fetch| fetch.files).zip(may_ask);
+    let watched = Watched { sources, tokens, hosts, acceptor };
+    let reload = Reload::new(watched, Arc::clone(&service), log, settings.reload);
+    let mut aside = vec![
+        tokio::spawn(reload.run(hangs_up)),
+        tokio::spawn(keep_watchdog()),
+        tokio::spawn(tend(Arc::clone(&service))),
+    ];
+    let adopting = requests.map(|requests| adopt_all(Arc::clone(&service), requests));
+    aside.extend(adopting.map(tokio::spawn));
     let serving = {
         let server = Arc::clone(&server);
         tokio::spawn(async move { doors.serve(&server).await })
@@ -76,9 +87,19 @@ pub async fn run(settings: Settings, log: Log) -> Result<()> {
         task.abort();
         let _ = task.await;
     }
+    if let Some(fetching) = &service.judge.fetching {
+        fetching.save_last().await;
+    }
     // The store of the tickets is closed with the last of those who hold it.
     drop((server, service));
     Ok(())
+}
+
+/// What answers, whom certificates may be fetched from, and where codes are asked for.
+struct Made {
+    service: Arc<Service>,
+    may_ask: Option<MayAsk>,
+    requests: Option<mpsc::Receiver<codes::Request>>,
 }
 
 /// What answers, by the files that are there.
@@ -87,7 +108,7 @@ fn service(
     sources: &Sources,
     metrics: &Arc<Metrics>,
     clock: &Arc<dyn Clock>,
-) -> Result<Service> {
+) -> Result<Made> {
     let verifier = Verifier::new()?;
     let world = files::read(sources, &verifier, None)?;
     world.news().iter().for_each(|line| tracing::warn!("{line}"));
@@ -97,8 +118,12 @@ fn service(
     };
     let tokens = Tokens::read(settings.signing_tokens.as_deref())?;
     let tickets = tickets(settings, clock)?;
+    let (may_ask, fetching) = fetching(settings, metrics)?.unzip();
+    let codes = (sources.codes == files::Codes::Trusted)
+        .then(|| codes::Codes::new(settings.connections.div_ceil(4)));
+    let (codes, requests) = codes.unzip();
     metrics.last_reload.set(clock.now() as i64);
-    Ok(Service {
+    let service = Arc::new(Service {
         judge: Judge {
             world: ArcSwap::from_pointee(world),
             verifier,
@@ -107,6 +132,8 @@ fn service(
             latest: settings.ordered_moments.then(Latest::default),
             metrics: Arc::clone(metrics),
             split: settings.split,
+            fetching,
+            codes,
         },
         blocks,
         tokens: ArcSwap::from_pointee(tokens),
@@ -114,7 +141,16 @@ fn service(
         standing: Standing::new(settings.reload.as_secs()),
         clock: Arc::clone(clock),
         asked_moments: settings.asked_moments,
-    })
+    });
+    Ok(Made { service, may_ask, requests })
+}
+
+/// What fetches certificates, and by which files, if they are fetched.
+fn fetching(settings: &Settings, metrics: &Arc<Metrics>) -> Result<Option<(MayAsk, Fetching)>> {
+    let Some(fetch) = &settings.fetch else { return Ok(None) };
+    let (may_ask, fetcher) = MayAsk::read(&fetch.files, None)?;
+    let fetching = Fetching::start(&fetch.order, fetcher, metrics)?;
+    Ok(Some((may_ask, fetching)))
 }
 
 /// Where tickets are kept.

@@ -8,7 +8,7 @@ mod support;
 
 use std::time::{Duration, Instant};
 use stir_trust::Verifier;
-use stird::files::{read, World};
+use stird::files::{read, Anchors, Codes, World};
 use support::{x5u, Authority, Certificate, Folder, VALID};
 
 const CHAINS: usize = 20_000;
@@ -54,10 +54,12 @@ fn twenty_thousand_chains_under_256_anchors_start_in_5_s_and_one_is_changed_in_2
     let map: String = (0..CHAINS).map(|n| format!("{} {}\n", x5u(n), name(n).display())).collect();
     let sources = stird::files::Sources {
         rules: stir::Settings::default(),
-        chains: folder.put("chains.txt", map),
-        anchors: folder
-            .put("anchors.der", roots.iter().flat_map(Certificate::der).collect::<Vec<_>>()),
-        table: folder.put("table.txt", "709J 12000000000 10000\n"),
+        chains: Some(folder.put("chains.txt", map)),
+        anchors: Anchors::Der(
+            folder.put("anchors.der", roots.iter().flat_map(Certificate::der).collect::<Vec<_>>()),
+        ),
+        table: Some(folder.put("table.txt", "709J 12000000000 10000\n")),
+        codes: Codes::Listed,
         signing: None,
     };
     std::thread::sleep(Duration::from_millis(100));
@@ -105,8 +107,9 @@ fn twenty_thousand_chains_under_256_anchors_start_in_5_s_and_one_is_changed_in_2
 
 /// What the library alone takes to open chains, under all anchors and under the one of the chain.
 fn opened(sources: &stird::files::Sources, roots: &[Certificate]) {
-    let table = std::fs::read(&sources.table).expect("a table");
-    let folder = sources.chains.parent().expect("a folder");
+    let table = sources.table.as_ref().expect("a table");
+    let table = std::fs::read(table).expect("it is read");
+    let folder = sources.chains.as_ref().and_then(|map| map.parent()).expect("a folder");
     let under_first = |n: usize| folder.join(format!("{}.der", n % (CHAINS / ANCHORS) * ANCHORS));
     let chains: Vec<Vec<u8>> =
         (0..2000).map(|n| std::fs::read(under_first(n)).expect("a chain")).collect();

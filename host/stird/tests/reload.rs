@@ -9,7 +9,7 @@ use std::sync::atomic::{AtomicBool, Ordering};
 use std::time::{Duration, Instant};
 use stir_trust::Verifier;
 use stird::files::look::Kind;
-use stird::files::{read, FileFault, Sources, Why, World};
+use stird::files::{read, Anchors, FileFault, Sources, Why, World};
 use support::{as_another_user, fifo, x5u, Dice, Files};
 
 fn verifier() -> Verifier {
@@ -115,9 +115,9 @@ fn a_start_never_waits_for_what_is_no_file() {
         let other = files.folder.path("other");
         let mut sources = files.sources();
         match name {
-            "chains" => sources.chains = other.clone(),
-            "anchors" => sources.anchors = other.clone(),
-            _ => sources.table = other.clone(),
+            "chains" => sources.chains = Some(other.clone()),
+            "anchors" => sources.anchors = Anchors::Der(other.clone()),
+            _ => sources.table = Some(other.clone()),
         }
         let told = |wanted: Why| {
             let fault = within(5, || read(&sources, &verifier(), None).err()).expect("refused");

@@ -11,7 +11,7 @@ use stir_trust::KeyFault;
 use stird::files::look::Kind;
 use stird::files::signing::{identity, Blocks, Call, Unsigned};
 use stird::files::signing_line::BlockFault;
-use stird::files::{FileFault, Sources, Why};
+use stird::files::{Anchors, Codes, FileFault, Sources, Why};
 use support::{as_another_user, fifo, Authority, Certificate, Folder, NOW, VALID};
 
 const ORIGID: &str = "123e4567-e89b-12d3-a456-426655440000";
@@ -52,9 +52,10 @@ impl Signing {
     fn sources(&self) -> Sources {
         Sources {
             rules: stir::Settings::default(),
-            chains: "no-map".into(),
-            anchors: "no-anchors".into(),
-            table: self.folder.path("table.txt"),
+            chains: Some("no-map".into()),
+            anchors: Anchors::Der("no-anchors".into()),
+            table: Some(self.folder.path("table.txt")),
+            codes: Codes::Listed,
             signing: Some(self.folder.path("blocks.txt")),
         }
     }

@@ -5,6 +5,8 @@ use std::fmt::{self, Display, Formatter};
 use std::io;
 use std::path::{Path, PathBuf};
 use stir_trust::chain_map::LineFault;
+use stir_trust::fetch::HostsFault;
+use stir_trust::roots::RootsFault;
 use thiserror::Error;
 
 /// A file that isn't taken, with the line at fault, counted from 1, if it is one.
@@ -61,6 +63,18 @@ pub enum Why {
     /// A line of the signing table.
     #[error("{0}")]
     Block(#[from] BlockFault),
+    /// Trust anchors in PEM.
+    #[error("{0}")]
+    Roots(#[from] RootsFault),
+    /// A line of the hosts that may be asked.
+    #[error("{0}")]
+    Hosts(#[from] HostsFault),
+    /// The authorities of those hosts.
+    #[error("the authorities are no certificates in PEM")]
+    Authorities,
+    /// OpenSSL failed.
+    #[error("OpenSSL failed: {0}")]
+    OpenSsl(String),
 }
 
 impl Display for FileFault {

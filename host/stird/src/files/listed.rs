@@ -3,6 +3,7 @@ use super::bytes;
 use super::fault::Why;
 use super::look::Look;
 use std::path::Path;
+use std::sync::atomic::{AtomicBool, Ordering};
 use std::sync::{Arc, OnceLock};
 use stir::{Chain, Error, Part, Question};
 use stir_trust::Verifier;
@@ -11,7 +12,10 @@ use stir_trust::Verifier;
 /// 11 still sees that it is too long.
 const MOST_CHAIN: usize = 49_152;
 
-/// A chain of the chain map.
+/// The most certificates of a chain (docs/RULES.md, rule 11).
+const MOST_CERTIFICATES: u32 = 6;
+
+/// A chain of the chain map, or one that was fetched.
 pub struct Listed {
     /// As it was opened.
     opened: Chain,
@@ -20,6 +24,10 @@ pub struct Listed {
     /// The last second at which all its certificates are valid, in Unix time; nothing if it breaks
     /// a rule at any second.
     ends: Option<u64>,
+    /// The codes of its certificates, once they are asked for.
+    codes: OnceLock<Vec<Box<[u8]>>>,
+    /// Whether it was tried in vain to prove it with its codes.
+    is_unproved: AtomicBool,
 }
 
 struct Confirmed {
@@ -32,7 +40,45 @@ impl Listed {
     pub(super) fn open(world: &stir::World, der: &[u8]) -> Result<Listed, Error> {
         let opened = world.chain(der)?;
         let ends = ends(&opened)?;
-        Ok(Listed { opened, confirmed: OnceLock::new(), ends })
+        let (confirmed, codes) = (OnceLock::new(), OnceLock::new());
+        Ok(Listed { opened, confirmed, ends, codes, is_unproved: AtomicBool::new(false) })
+    }
+
+    /// The service provider codes of all its certificates.
+    ///
+    /// # Errors
+    ///
+    /// Want of memory.
+    pub fn codes(&self) -> Result<&[Box<[u8]>], Error> {
+        if let Some(codes) = self.codes.get() {
+            return Ok(codes);
+        }
+        let mut codes = Vec::new();
+        for number in 1..=MOST_CERTIFICATES {
+            let lines = self.opened.part(number, Part::Codes)?.unwrap_or_default();
+            let lines = lines.split(|byte| *byte == b'\n').filter(|code| !code.is_empty());
+            codes.extend(lines.map(Box::from));
+        }
+        Ok(self.codes.get_or_init(|| codes))
+    }
+
+    /// A part of one of its certificates; the leaf is number 1.
+    ///
+    /// # Errors
+    ///
+    /// Want of memory.
+    pub fn part(&self, number: u32, part: Part) -> Result<Option<Vec<u8>>, Error> {
+        self.opened.part(number, part)
+    }
+
+    /// Whether it was tried in vain to prove it with its codes, and is so under its world.
+    pub fn is_unproved(&self) -> bool {
+        self.is_unproved.load(Ordering::Relaxed)
+    }
+
+    /// It was tried in vain.
+    pub fn leave_unproved(&self) {
+        self.is_unproved.store(true, Ordering::Relaxed);
     }
 
     /// The chain with its questions confirmed by this verifier. Once it has confirmed all of it, it
@@ -204,6 +250,11 @@ impl ChainFile {
     /// Its chain, if it is there.
     pub(super) fn chain(&self) -> Option<&Arc<Listed>> {
         self.held.as_ref().map(|held| &held.chain)
+    }
+
+    /// The bytes of that chain.
+    pub(super) fn der(&self) -> Option<&Arc<[u8]>> {
+        self.held.as_ref().map(|held| &held.der)
     }
 
     /// Why it can't be read.

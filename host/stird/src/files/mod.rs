@@ -1,7 +1,8 @@
-//! What calls are judged by and signed for, read from files and read again if one changes.
+//! What calls are judged by and signed for, and whom certificates may be fetched from, read from
+//! files and read again if one changes.
 //!
 //! Each file is taken by itself. One that is refused or can't be read stays what it was before, and
-//! is named once; all others are taken. At the start the three files that stand alone have to be
+//! is named once; all others are taken. At the start the files that stand alone have to be
 //! taken, and a chain that can't be read counts as one that is missing. A change is noticed by a
 //! file's size, times, inode and device; a file that is changed while it is read is read again, and
 //! one that is written in its place is waited for until it rests. Nothing but a file of bytes is
@@ -12,6 +13,8 @@
 
 mod bytes;
 mod fault;
+mod ground;
+mod hosts;
 mod listed;
 pub mod look;
 mod reading;
@@ -23,6 +26,8 @@ mod single;
 mod world;
 
 pub use fault::{FileFault, Why};
+pub use ground::{Ground, Proof};
+pub use hosts::{HostFiles, MayAsk};
 pub use listed::Listed;
 pub use reading::read;
 pub use world::World;
@@ -34,13 +39,14 @@ use std::path::{Path, PathBuf};
 /// verify`.
 ///
 /// ```
-/// use stird::files::Sources;
+/// use stird::files::{Anchors, Codes, Sources};
 ///
 /// let sources = Sources {
 ///     rules: stir::Settings::default(),
-///     chains: "chains.txt".into(),
-///     anchors: "anchors.der".into(),
-///     table: "table.txt".into(),
+///     chains: Some("chains.txt".into()),
+///     anchors: Anchors::Der("anchors.der".into()),
+///     table: Some("table.txt".into()),
+///     codes: Codes::Listed,
 ///     signing: None,
 /// };
 /// ```
@@ -48,14 +54,43 @@ use std::path::{Path, PathBuf};
 pub struct Sources {
     /// How calls are judged.
     pub rules: stir::Settings,
-    /// The chain map.
-    pub chains: PathBuf,
+    /// The chain map; none has no lines.
+    pub chains: Option<PathBuf>,
     /// The trust anchors.
-    pub anchors: PathBuf,
-    /// The code table.
-    pub table: PathBuf,
+    pub anchors: Anchors,
+    /// The code table; none has no lines.
+    pub table: Option<PathBuf>,
+    /// Which codes stand for numbers.
+    pub codes: Codes,
     /// The signing table, if there is one.
     pub signing: Option<PathBuf>,
+}
+
+/// The file of the trust anchors.
+#[derive(Clone, Debug, PartialEq, Eq)]
+pub enum Anchors {
+    /// In DER, one after another. If one is none, the file is refused.
+    Der(PathBuf),
+    /// In PEM. What is no trust anchor of the profile is named and left out.
+    Pem(PathBuf),
+}
+
+impl Anchors {
+    /// Its name.
+    pub fn path(&self) -> &Path {
+        match self {
+            Anchors::Der(path) | Anchors::Pem(path) => path,
+        }
+    }
+}
+
+/// Which service provider codes stand for numbers.
+#[derive(Clone, Copy, Debug, PartialEq, Eq)]
+pub enum Codes {
+    /// Those that the code table names, for what it says.
+    Listed,
+    /// These, and each other code of a chain that breaks no rule on chains, for every number.
+    Trusted,
 }
 
 /// The bytes of a file that is taken by itself, at most so many.

@@ -1,18 +1,21 @@
 //! A reading of the files: what changed is read, and all else is taken from the one before.
 use super::bytes::wait_for_rest;
-use super::fault::FileFault;
+use super::fault::{FileFault, Why};
+use super::ground::{names_of, Ground};
 use super::listed::ChainFile;
 use super::look::Look;
 use super::single::Single;
-use super::world::{Parts, World};
-use super::Sources;
+use super::world::{Parts, Trusted, World};
+use super::{Anchors, Codes, Sources};
 use rayon::prelude::*;
 use std::collections::HashMap;
 use std::path::Path;
 use std::sync::Arc;
 use std::time::{Duration, Instant};
 use stir::{Error, Input};
+use stir_trust::cache::Bounds;
 use stir_trust::chain_map::ChainMap;
+use stir_trust::roots::{Roots, RootsFault};
 use stir_trust::Verifier;
 
 /// How long certificates are confirmed when the files are read. What isn't confirmed by then is
@@ -27,17 +30,18 @@ const PATIENCE: Duration = Duration::from_secs(1);
 ///
 /// # Errors
 ///
-/// Without a world from before: one of the three files can't be read or is refused. With or without
-/// one: there is no memory, or the settings are refused. Then nothing is taken.
+/// Without a world from before: one of the files that stand alone can't be read or is refused. With
+/// or without one: there is no memory, or the settings are refused. Then nothing is taken.
 ///
 /// ```
-/// use stird::files::{read, Sources};
+/// use stird::files::{read, Anchors, Codes, Sources};
 ///
 /// let missing = Sources {
 ///     rules: stir::Settings::default(),
-///     chains: "no-such-map".into(),
-///     anchors: "anchors.der".into(),
-///     table: "table.txt".into(),
+///     chains: Some("no-such-map".into()),
+///     anchors: Anchors::Der("anchors.der".into()),
+///     table: None,
+///     codes: Codes::Listed,
 ///     signing: None,
 /// };
 /// let fault = read(&missing, &stir_trust::Verifier::new()?, None).err().expect("it is missing");
@@ -52,37 +56,46 @@ pub fn read(
     // The map is looked at first: whoever changes it last finds all that it names.
     let was = before.map(World::parts);
     let (map, listed) = read_map(sources, was)?;
-    let anchors = single(&sources.anchors, was.map(|was| &was.anchors))?;
-    let table = single(&sources.table, was.map(|was| &was.table))?;
-    let Opened { anchors, table, by, is_same } = open(sources, anchors, table, was)?;
-    let sources = sources.clone();
-    let mut parts = Parts { sources, map, anchors, table, by, listed, files: Vec::new() };
+    let anchors = single(Some(sources.anchors.path()), was.map(|was| &was.anchors))?;
+    let table = single(sources.table.as_deref(), was.map(|was| &was.table))?;
+    let Opened { anchors, table, trusted, ground, is_same } =
+        open(sources, anchors, table, listed.names().len(), was)?;
+    let names = match (sources.codes, was.filter(|_| is_same)) {
+        (_, Some(was)) => Arc::clone(&was.names),
+        (Codes::Trusted, None) => names_of(&table.bytes).into(),
+        (Codes::Listed, None) => Arc::default(),
+    };
+    let (sources, files) = (sources.clone(), Vec::new());
+    let mut parts = Parts { sources, map, anchors, table, trusted, ground, names, listed, files };
     let changes = read_chains(&mut parts, is_same, verifier, before);
     Ok(World::new(parts, before, &changes))
 }
 
 /// A file that stands alone, after it rests.
-fn single(path: &Path, before: Option<&Single>) -> Result<Single, FileFault> {
-    if let Some(before) = before {
+pub(super) fn single(path: Option<&Path>, before: Option<&Single>) -> Result<Single, FileFault> {
+    if let (Some(path), Some(before)) = (path, before) {
         wait_for_rest(&[(path, before.look())]);
     }
     Single::read(path, before)
 }
 
 fn read_map(sources: &Sources, was: Option<&Parts>) -> Result<(Single, Arc<ChainMap>), FileFault> {
-    let path = &sources.chains;
-    let map = single(path, was.map(|was| &was.map))?;
+    let map = single(sources.chains.as_deref(), was.map(|was| &was.map))?;
     let same = was.filter(|was| Arc::ptr_eq(&was.map.bytes, &map.bytes));
     if let Some(was) = same {
         return Ok((map, Arc::clone(&was.listed)));
     }
-    match (ChainMap::read(&map.bytes), was) {
+    let fault = |(line, why): (usize, _)| FileFault {
+        file: sources.chains.clone(),
+        line: Some(line),
+        why: Why::Map(why),
+    };
+    match (ChainMap::read(&map.bytes).map_err(fault), was) {
         (Ok(listed), _) => Ok((map, Arc::new(listed))),
-        (Err((line, why)), Some(was)) => {
-            let map = map.refused(FileFault::of_line(path, line, why), Some(&was.map))?;
-            Ok((map, Arc::clone(&was.listed)))
+        (Err(fault), Some(was)) => {
+            Ok((map.refused(fault, Some(&was.map))?, Arc::clone(&was.listed)))
         }
-        (Err((line, why)), None) => Err(FileFault::of_line(path, line, why)),
+        (Err(fault), None) => Err(fault),
     }
 }
 
@@ -90,7 +103,8 @@ fn read_map(sources: &Sources, was: Option<&Parts>) -> Result<(Single, Arc<Chain
 struct Opened {
     anchors: Single,
     table: Single,
-    by: stir::World,
+    trusted: Trusted,
+    ground: Arc<Ground>,
     is_same: bool,
 }
 
@@ -100,6 +114,7 @@ fn open(
     sources: &Sources,
     mut anchors: Single,
     mut table: Single,
+    files: usize,
     was: Option<&Parts>,
 ) -> Result<Opened, FileFault> {
     // At most three times: each refusal puts one of the two back.
@@ -110,19 +125,51 @@ fn open(
                 && Arc::ptr_eq(&was.table.bytes, &table.bytes)
         });
         if let Some(was) = same {
-            return Ok(Opened { anchors, table, by: was.by.clone(), is_same: true });
+            let (trusted, ground) = (was.trusted.clone(), Arc::clone(&was.ground));
+            return Ok(Opened { anchors, table, trusted, ground, is_same: true });
         }
-        match stir::World::open(&sources.rules, &anchors.bytes, &table.bytes) {
-            Ok(by) => return Ok(Opened { anchors, table, by, is_same: false }),
-            Err(error @ Error::BadInput(Input::Anchors)) => {
-                let fault = FileFault::of(&sources.anchors, error);
+        let opened = trusted(sources, &anchors, was).and_then(|trusted| {
+            let by = stir::World::open(&sources.rules, &trusted.anchors, &table.bytes)?;
+            Ok((trusted, by))
+        });
+        match opened {
+            Ok((trusted, by)) => {
+                let most = Bounds::default().entries + files;
+                let ground = Arc::new(Ground::new(by, most));
+                return Ok(Opened { anchors, table, trusted, ground, is_same: false });
+            }
+            Err(
+                why @ (Why::Library(Error::BadInput(Input::Anchors))
+                | Why::Roots(RootsFault::Pem | RootsFault::Many(_))),
+            ) => {
+                let fault = FileFault::of(sources.anchors.path(), why);
                 anchors = anchors.refused(fault, was.map(|was| &was.anchors))?;
             }
-            Err(error @ Error::BadInput(Input::Table)) => {
-                let fault = FileFault::of(&sources.table, error);
+            Err(why @ Why::Library(Error::BadInput(Input::Table))) => {
+                let fault = FileFault { file: sources.table.clone(), line: None, why };
                 table = table.refused(fault, was.map(|was| &was.table))?;
             }
-            Err(error) => return Err(FileFault { file: None, line: None, why: error.into() }),
+            Err(why) => return Err(FileFault { file: None, line: None, why }),
+        }
+    }
+}
+
+/// The trust anchors that a file has.
+fn trusted(sources: &Sources, anchors: &Single, was: Option<&Parts>) -> Result<Trusted, Why> {
+    let same = was.filter(|was| {
+        was.sources.rules == sources.rules && Arc::ptr_eq(&was.anchors.bytes, &anchors.bytes)
+    });
+    if let Some(was) = same {
+        return Ok(was.trusted.clone());
+    }
+    match &sources.anchors {
+        Anchors::Der(_) => {
+            Ok(Trusted { anchors: Arc::clone(&anchors.bytes), ..Trusted::default() })
+        }
+        Anchors::Pem(_) => {
+            let roots = Roots::read(&sources.rules, &anchors.bytes)?;
+            let left_out = roots.left_out.iter().map(ToString::to_string).collect();
+            Ok(Trusted { anchors: roots.anchors.into(), left_out })
         }
     }
 }
@@ -158,7 +205,7 @@ fn read_chains(
         }
     }
     wait_for_rest(&rest);
-    let by = &parts.by;
+    let by = parts.ground.by();
     let read: Vec<(Change, Arc<ChainFile>)> = stale
         .into_par_iter()
         .filter_map(|(number, is_stale)| {

@@ -25,13 +25,14 @@ const MOST_WARNINGS: usize = 16;
 ///
 /// ```
 /// use stird::files::signing::{Blocks, Call, Unsigned};
-/// use stird::files::Sources;
+/// use stird::files::{Anchors, Codes, Sources};
 ///
 /// let sources = Sources {
 ///     rules: stir::Settings::default(),
-///     chains: "chains.txt".into(),
-///     anchors: "anchors.der".into(),
-///     table: "table.txt".into(),
+///     chains: None,
+///     anchors: Anchors::Der("anchors.der".into()),
+///     table: Some("table.txt".into()),
+///     codes: Codes::Listed,
 ///     signing: None,
 /// };
 /// let blocks = Blocks::read(&sources, None)?;
@@ -87,11 +88,16 @@ impl Blocks {
             move |why| FileFault { file: Some(file), line: None, why }
         };
         let text = self.files.read(path, MOST_TABLE).map_err(whole(path))?.bytes;
-        let table = self.files.read(&sources.table, MOST_TABLE);
-        let table = table.map_err(whole(&sources.table))?.bytes;
+        let table = match &sources.table {
+            Some(table) => self.files.read(table, MOST_TABLE).map_err(whole(table))?.bytes,
+            None => Vec::new(),
+        };
         // No chain of a key is judged, so no trust anchor is needed.
-        let world = stir::World::open(&sources.rules, b"", &table)
-            .map_err(|error| FileFault::of(&sources.table, error))?;
+        let world = stir::World::open(&sources.rules, b"", &table).map_err(|error| FileFault {
+            file: sources.table.clone(),
+            line: None,
+            why: error.into(),
+        })?;
         let mut signers = HashMap::new();
         let lines = split(&text).enumerate();
         for (at, line) in lines.filter(|(_, line)| !line.is_empty() && !line.starts_with(b";")) {

@@ -1,15 +1,17 @@
 //! What calls are judged by, as it was read.
 use super::fault::FileFault;
+use super::ground::Ground;
 use super::listed::{ChainFile, Listed};
 use super::reading::Change;
 use super::single::Single;
 use super::Sources;
-use std::collections::HashSet;
+use std::collections::{BTreeSet, HashSet};
 use std::path::{Path, PathBuf};
 use std::sync::atomic::{AtomicUsize, Ordering};
 use std::sync::{Arc, Mutex, OnceLock};
 use std::time::{Duration, Instant};
 use stir::Error;
+use stir_trust::cache::Bounds;
 use stir_trust::chain_map::ChainMap;
 use stir_trust::locks::Held;
 use stir_trust::Verifier;
@@ -21,13 +23,14 @@ const MOST_NAMED: usize = 16;
 ///
 /// ```
 /// # std::env::set_current_dir(concat!(env!("CARGO_MANIFEST_DIR"), "/../..")).unwrap();
-/// use stird::files::{read, Sources};
+/// use stird::files::{read, Anchors, Codes, Sources};
 ///
 /// let sources = Sources {
 ///     rules: stir::Settings::default(),
-///     chains: "examples/files/chains.txt".into(),
-///     anchors: "examples/files/anchors.der".into(),
-///     table: "examples/files/table.txt".into(),
+///     chains: Some("examples/files/chains.txt".into()),
+///     anchors: Anchors::Der("examples/files/anchors.der".into()),
+///     table: Some("examples/files/table.txt".into()),
+///     codes: Codes::Listed,
 ///     signing: None,
 /// };
 /// let verifier = stir_trust::Verifier::new()?;
@@ -71,11 +74,23 @@ pub(super) struct Parts {
     pub map: Single,
     pub anchors: Single,
     pub table: Single,
-    /// The settings, the trust anchors and the code table.
-    pub by: stir::World,
+    pub trusted: Trusted,
+    /// The world of the settings, the trust anchors and the code table, and the chains that calls
+    /// brought to it.
+    pub ground: Arc<Ground>,
+    /// The codes that the table names, if others are trusted too.
+    pub names: Arc<HashSet<Box<[u8]>>>,
     pub listed: Arc<ChainMap>,
     /// The files of the map, by their numbers.
     pub files: Vec<Arc<ChainFile>>,
+}
+
+/// The trust anchors as the library takes them, and what is said of certificates beside them in
+/// their file.
+#[derive(Clone, Default)]
+pub(super) struct Trusted {
+    pub anchors: Arc<[u8]>,
+    pub left_out: Arc<[String]>,
 }
 
 /// What there is of what.
@@ -125,11 +140,11 @@ impl World {
     /// Looks at the files; not at the chains if the map changed, since all of them are looked at
     /// when it is read.
     fn look(&self) -> Option<Found> {
-        let Parts { sources, map, anchors, table, listed, files, .. } = &self.parts;
-        if map.is_stale(&sources.chains) {
+        let Parts { map, anchors, table, listed, files, .. } = &self.parts;
+        if map.is_stale() {
             return None;
         }
-        let others = anchors.is_stale(&sources.anchors) || table.is_stale(&sources.table);
+        let others = anchors.is_stale() || table.is_stale();
         let files = listed.names().iter().zip(files).enumerate();
         let stale = files.filter(|(_, (name, file))| file.is_stale(name));
         let chains: Vec<usize> = stale.map(|(number, _)| number).collect();
@@ -138,12 +153,61 @@ impl World {
 
     /// The world of the library: settings, trust anchors and code table.
     pub fn by(&self) -> &stir::World {
-        &self.parts.by
+        self.parts.ground.by()
+    }
+
+    /// The same with the chains that calls brought to it.
+    pub fn ground(&self) -> &Arc<Ground> {
+        &self.parts.ground
     }
 
     /// The chain of an x5u, if it is listed and there.
     pub fn listed(&self, x5u: &[u8]) -> Option<&Listed> {
-        self.parts.files.get(self.parts.listed.file(x5u)?)?.chain().map(AsRef::as_ref)
+        self.file(x5u)?.chain().map(AsRef::as_ref)
+    }
+
+    /// The same, to be kept, with its bytes.
+    pub fn listed_whole(&self, x5u: &[u8]) -> Option<(Arc<Listed>, Arc<[u8]>)> {
+        let file = self.file(x5u)?;
+        Some((Arc::clone(file.chain()?), Arc::clone(file.der()?)))
+    }
+
+    /// Whether the chain map has this x5u, be its file there or not.
+    pub fn lists(&self, x5u: &[u8]) -> bool {
+        self.parts.listed.file(x5u).is_some()
+    }
+
+    fn file(&self, x5u: &[u8]) -> Option<&ChainFile> {
+        self.parts.files.get(self.parts.listed.file(x5u)?).map(AsRef::as_ref)
+    }
+
+    /// Whether the code table names this code. It is known if codes are trusted that it doesn't.
+    pub fn names(&self, code: &[u8]) -> bool {
+        self.parts.names.contains(code)
+    }
+
+    /// How many codes it names.
+    pub fn names_count(&self) -> usize {
+        self.parts.names.len()
+    }
+
+    /// The same world without chains, in which these codes stand for every number too.
+    ///
+    /// # Errors
+    ///
+    /// The table has no room for them, or want of memory.
+    pub fn extended(&self, codes: &BTreeSet<Box<[u8]>>) -> Result<Ground, Error> {
+        let Parts { sources, table, trusted, files, .. } = &self.parts;
+        let mut lines = table.bytes.to_vec();
+        if lines.last().is_some_and(|last| *last != b'\n') {
+            lines.push(b'\n');
+        }
+        for code in codes {
+            lines.extend_from_slice(code);
+            lines.extend_from_slice(b" *\n");
+        }
+        let by = stir::World::open(&sources.rules, &trusted.anchors, &lines)?;
+        Ok(Ground::new(by, Bounds::default().entries + files.len()))
     }
 
     /// A call that came at this moment, in Unix seconds.
@@ -152,7 +216,7 @@ impl World {
     ///
     /// Want of memory.
     pub fn call(&self, moment: u64, message: &[u8]) -> Result<stir::Call, Error> {
-        self.parts.by.call(moment, message)
+        self.by().call(moment, message)
     }
 
     /// How many x5us have a chain.
@@ -253,6 +317,7 @@ fn news(parts: &Parts, totals: &Totals, before: Option<&World>, changes: &[Chang
             |fault: &&FileFault| !before.is_some_and(|before| before.faults().contains(fault));
         news.extend(fault.filter(is_new).map(|fault| format!("{fault}; it stays what it was")));
     }
+    news.extend(left_out(parts, before));
     let told = changes.iter().filter_map(|change| of_chain(parts, change));
     let mut more = 0;
     for line in told {
@@ -269,9 +334,19 @@ fn news(parts: &Parts, totals: &Totals, before: Option<&World>, changes: &[Chang
     let all_are = |totals: &Totals, files: usize| files > 0 && totals.missing == files;
     let all_were = before.is_some_and(|was| all_are(&was.totals, was.parts.files.len()));
     if all_are(totals, files) && !all_were {
-        news.push(format!("all {files} files of {} are missing", parts.sources.chains.display()));
+        let map = parts.sources.chains.as_deref().unwrap_or(Path::new("the chain map"));
+        news.push(format!("all {files} files of {} are missing", map.display()));
     }
     news
+}
+
+/// What is new of certificates that are no trust anchors.
+fn left_out<'a>(parts: &'a Parts, before: Option<&World>) -> impl Iterator<Item = String> + 'a {
+    let Trusted { left_out, .. } = &parts.trusted;
+    let is_old = before.is_some_and(|before| before.parts.trusted.left_out == *left_out);
+    let path = parts.sources.anchors.path().display();
+    let lines = left_out.iter().take(if is_old { 0 } else { MOST_NAMED });
+    lines.map(move |line| format!("{path}: {line}"))
 }
 
 /// What is new of the file of a chain.

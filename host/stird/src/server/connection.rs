@@ -123,6 +123,7 @@ async fn answer_of(
         |name: &str| (head.headers.get(name)).map(|value| Bytes::copy_from_slice(value.as_bytes()));
     let request = Request {
         path: path.to_string(),
+        query: head.uri.query().map(String::from),
         body,
         moment,
         key: field("idempotency-key").or_else(|| field("x-requestid")),

@@ -5,14 +5,16 @@ mod words;
 pub use file::ConfigError;
 pub use words::{Form, Listen};
 
-use crate::files::Sources;
+use crate::fetching;
+use crate::files::{Anchors, Codes, HostFiles, Sources};
 use clap::parser::ValueSource;
 use clap::{CommandFactory, FromArgMatches};
 use std::ffi::OsString;
 use std::path::PathBuf;
 use std::time::Duration;
 use stir::Settings as Rules;
-use words::{Choice, Moments, Words};
+use stir_trust::fetch::Reach;
+use words::{Choice, Moments, TrustedCodes, Words};
 
 /// The version of the project.
 pub const VERSION: &str = include_str!("../../../../VERSION").trim_ascii();
@@ -27,11 +29,15 @@ pub struct Settings {
     /// TLS over TCP, if it is to be spoken.
     pub tls: Option<Tls>,
     /// The chain map.
-    pub chains: PathBuf,
+    pub chains: Option<PathBuf>,
     /// The trust anchors.
-    pub anchors: PathBuf,
+    pub anchors: Anchors,
     /// The code table.
-    pub table: PathBuf,
+    pub table: Option<PathBuf>,
+    /// Which codes stand for numbers.
+    pub codes: Codes,
+    /// How certificates are fetched, if they are.
+    pub fetch: Option<Fetch>,
     /// How old calls may be, and how numbers are written.
     pub rules: Rules,
     /// Whether the moment of a call is what the caller says.
@@ -70,6 +76,15 @@ pub struct Settings {
     pub log_file: Option<PathBuf>,
 }
 
+/// How certificates are fetched.
+#[derive(Clone, Debug)]
+pub struct Fetch {
+    /// From whom.
+    pub files: HostFiles,
+    /// How they are waited for and kept.
+    pub order: fetching::Order,
+}
+
 /// The files of TLS.
 #[derive(Clone, Debug)]
 pub struct Tls {
@@ -93,9 +108,9 @@ pub enum SettingsError {
     /// The file of settings can't be taken.
     #[error("{0}")]
     File(#[from] ConfigError),
-    /// An option is missing that has to be there.
-    #[error("--{0} is missing")]
-    Missing(&'static str),
+    /// There are no trust anchors.
+    #[error("--anchors is missing, or --roots")]
+    NoAnchors,
 }
 
 /// What these words order, and the file of settings that they name.
@@ -140,12 +155,23 @@ impl Settings {
             chains: self.chains.clone(),
             anchors: self.anchors.clone(),
             table: self.table.clone(),
+            codes: self.codes,
             signing: self.signing.clone(),
         }
     }
 
     fn of(words: Words) -> Result<Settings, SettingsError> {
-        let missing = SettingsError::Missing;
+        let fetch = fetch(&words);
+        let anchors = match (words.anchors, words.roots) {
+            (Some(path), _) => Anchors::Der(path),
+            (None, Some(path)) => Anchors::Pem(path),
+            (None, None) => return Err(SettingsError::NoAnchors),
+        };
+        // Without a table no code would stand for any number.
+        let codes = match (words.codes, &words.table) {
+            (Some(TrustedCodes::Listed), _) | (None, Some(_)) => Codes::Listed,
+            (Some(TrustedCodes::Trusted), _) | (None, None) => Codes::Trusted,
+        };
         Ok(Settings {
             listen: words.listen,
             socket_mode: words.socket_mode,
@@ -154,9 +180,11 @@ impl Settings {
                 key,
                 clients: words.tls_clients,
             }),
-            chains: words.chains.ok_or(missing("chains"))?,
-            anchors: words.anchors.ok_or(missing("anchors"))?,
-            table: words.table.ok_or(missing("table"))?,
+            chains: words.chains,
+            anchors,
+            table: words.table,
+            codes,
+            fetch,
             rules: Rules {
                 past: words.past,
                 future: words.future,
@@ -184,6 +212,24 @@ impl Settings {
     }
 }
 
+/// How certificates are fetched, if hosts are named.
+fn fetch(words: &Words) -> Option<Fetch> {
+    let files = HostFiles {
+        hosts: words.fetch_hosts.clone()?,
+        authorities: words.fetch_authorities.clone(),
+        reach: match words.fetch_private {
+            Choice::Yes => Reach::All,
+            Choice::No => Reach::Public,
+        },
+    };
+    let order = fetching::Order {
+        folder: words.fetch.clone(),
+        limit: words.fetch_wait,
+        waits: words.connections.div_ceil(4),
+    };
+    Some(Fetch { files, order })
+}
+
 #[cfg(test)]
 mod tests {
     use super::*;
@@ -205,8 +251,15 @@ mod tests {
     }
 
     #[test]
-    fn three_files_are_enough_and_the_door_is_the_loopback() {
+    fn trust_anchors_are_enough_and_the_door_is_the_loopback() {
+        let settings = of("--roots a").unwrap();
+        assert_eq!(settings.anchors, Anchors::Pem("a".into()));
+        assert_eq!((settings.chains, settings.table), (None, None));
+        assert_eq!((settings.codes, settings.fetch.is_none()), (Codes::Trusted, true));
+        assert_eq!(of("--roots a --codes listed").unwrap().codes, Codes::Listed);
+        assert_eq!(of("--roots a --table c").unwrap().codes, Codes::Listed);
         let settings = of("--chains a --anchors b --table c").unwrap();
+        assert_eq!(settings.anchors, Anchors::Der("b".into()));
         assert_eq!(settings.listen, [Listen::Tcp("127.0.0.1:8080".into())]);
         assert_eq!(
             (settings.rules.past, settings.rules.future, settings.sync, settings.asked_moments),
@@ -229,11 +282,32 @@ mod tests {
     }
 
     #[test]
+    fn certificates_are_fetched_if_hosts_are_named() {
+        let settings = of("--roots a --fetch-hosts h --connections 10").unwrap();
+        assert_eq!(settings.codes, Codes::Trusted);
+        let Fetch { files, order } = settings.fetch.expect("they are fetched");
+        assert_eq!((files.reach, order.folder, order.waits), (Reach::Public, None, 3));
+        assert_eq!(order.limit, Duration::from_millis(1200));
+        let words = "--roots a --fetch-hosts h --fetch f --fetch-authorities x --fetch-wait 0 \
+            --fetch-private yes --codes trusted";
+        let settings = of(words).unwrap();
+        let Fetch { files, order } = settings.fetch.expect("they are fetched");
+        assert_eq!((files.reach, files.authorities), (Reach::All, Some("x".into())));
+        assert_eq!((order.folder, order.limit), (Some("f".into()), Duration::ZERO));
+        assert_eq!(settings.codes, Codes::Trusted);
+    }
+
+    #[test]
     fn words_that_cant_be_taken_are_named() {
         let three = "--chains a --anchors b --table c";
         for (words, told) in [
-            ("", "--chains is missing"),
-            ("--chains a --anchors b", "--table is missing"),
+            ("", "--anchors is missing, or --roots"),
+            ("--chains a --table b", "--anchors is missing, or --roots"),
+            (&format!("{three} --roots r"), "--roots"),
+            (&format!("{three} --fetch f"), "--fetch-hosts"),
+            (&format!("{three} --fetch-authorities f"), "--fetch-hosts"),
+            (&format!("{three} --fetch-hosts h --fetch-wait 10001"), "--fetch-wait"),
+            (&format!("{three} --codes all"), "--codes"),
             (&format!("{three} --past 86401"), "--past"),
             (&format!("{three} --past -1"), "'-1'"),
             (&format!("{three} --request 0"), "--request"),

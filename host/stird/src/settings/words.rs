@@ -6,7 +6,7 @@ use std::time::Duration;
 
 /// A STIR/SHAKEN verification and signing service.
 ///
-/// It judges calls over HTTP by the chains, the trust anchors and the code table of three files,
+/// It judges calls over HTTP by trust anchors, chains that are listed or fetched, and a code table,
 /// and signs calls if it has a table of keys.
 #[derive(Parser)]
 #[command(name = "stird", disable_help_subcommand = true)]
@@ -39,13 +39,43 @@ pub(super) struct Words {
     #[arg(long, value_name = "FILE")]
     pub chains: Option<PathBuf>,
 
-    /// The trust anchors (DER)
-    #[arg(long, value_name = "FILE")]
+    /// The trust anchors (DER); they or --roots are wanted
+    #[arg(long, value_name = "FILE", conflicts_with = "roots")]
     pub anchors: Option<PathBuf>,
+
+    /// The trust anchors (PEM); those that aren't of the profile are named and left out
+    #[arg(long, value_name = "FILE")]
+    pub roots: Option<PathBuf>,
 
     /// The code table
     #[arg(long, value_name = "FILE")]
     pub table: Option<PathBuf>,
+
+    /// Which codes stand for numbers: those of the table; or also, for every number, each other
+    /// code of a chain that breaks no rule on chains, which is so without a table
+    #[arg(long, value_name = "WHICH")]
+    pub codes: Option<TrustedCodes>,
+
+    /// Fetch the certificates of x5us that the chain map hasn't from the hosts of this file
+    #[arg(long, value_name = "FILE")]
+    pub fetch_hosts: Option<PathBuf>,
+
+    /// Keep what was fetched over restarts in this folder
+    #[arg(long, value_name = "FOLDER", requires = "fetch_hosts")]
+    pub fetch: Option<PathBuf>,
+
+    /// How long a call waits for its certificates at most; 0 never waits
+    #[arg(long, value_name = "MILLISECONDS", default_value = "1200",
+        value_parser = milliseconds(10_000))]
+    pub fetch_wait: Duration,
+
+    /// The authorities of the hosts' certificates (PEM); the system's if it isn't given
+    #[arg(long, value_name = "FILE", requires = "fetch_hosts")]
+    pub fetch_authorities: Option<PathBuf>,
+
+    /// Fetch from private addresses too
+    #[arg(long, value_name = "WHETHER", default_value = "no")]
+    pub fetch_private: Choice,
 
     /// How old a PASSporT may be
     #[arg(long, value_name = "SECONDS", default_value = "60",
@@ -168,6 +198,13 @@ pub(super) enum Choice {
     No,
 }
 
+/// Which codes stand for numbers.
+#[derive(Clone, Copy, ValueEnum)]
+pub(super) enum TrustedCodes {
+    Listed,
+    Trusted,
+}
+
 /// Whose moment is that of a call.
 #[derive(Clone, Copy, ValueEnum)]
 pub(super) enum Moments {
@@ -194,6 +231,10 @@ fn mode(word: &str) -> Result<u32, String> {
 
 fn count(least: u64, most: u64) -> impl TypedValueParser<Value = usize> {
     value_parser!(u64).range(least..=most).map(|count| count as usize)
+}
+
+fn milliseconds(most: u64) -> impl TypedValueParser<Value = Duration> {
+    value_parser!(u64).range(0..=most).map(Duration::from_millis)
 }
 
 fn seconds(most: u64) -> impl TypedValueParser<Value = Duration> {

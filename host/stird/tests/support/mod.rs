@@ -13,7 +13,7 @@ use openssl::x509::extension::{
 use openssl::x509::{X509Builder, X509Extension, X509Name, X509};
 use std::path::{Path, PathBuf};
 use std::sync::atomic::{AtomicU32, Ordering};
-use stird::files::Sources;
+use stird::files::{Anchors, Codes, Sources};
 
 /// 2026-01-01, 00:00:00 UTC; and when certificates are valid unless a test says otherwise.
 pub const NOW: i64 = 1_767_225_600;
@@ -186,9 +186,10 @@ impl Files {
     pub fn sources(&self) -> Sources {
         Sources {
             rules: stir::Settings::default(),
-            chains: self.folder.path("chains.txt"),
-            anchors: self.folder.path("anchors.der"),
-            table: self.folder.path("table.txt"),
+            chains: Some(self.folder.path("chains.txt")),
+            anchors: Anchors::Der(self.folder.path("anchors.der")),
+            table: Some(self.folder.path("table.txt")),
+            codes: Codes::Listed,
             signing: None,
         }
     }

@@ -1,4 +1,8 @@
 //! What is counted, for Prometheus.
+mod fetches;
+
+pub use fetches::{Fetches, Waited};
+
 use crate::judge::Outcome;
 use prometheus::{
     Counter, CounterVec, Encoder, Error, Histogram, HistogramOpts, IntCounter, IntCounterVec,
@@ -75,6 +79,8 @@ pub struct Metrics {
     pub last_reload: IntGauge,
     /// The earliest end of a certificate, in Unix time.
     pub next_end: IntGauge,
+    /// What is counted of certificates that are fetched.
+    pub fetches: Fetches,
 }
 
 /// The metrics of a registry, as they are made.
@@ -203,8 +209,9 @@ impl Metrics {
             )?,
             next_end: maker.gauge(
                 "stir_certificate_next_end_timestamp_seconds",
-                "The earliest end of a listed certificate, in Unix time; 0 if there is none.",
+                "The earliest end of a listed or kept certificate, in Unix time; 0 if none is.",
             )?,
+            fetches: Fetches::new(&maker)?,
             registry: maker.0,
         })
     }

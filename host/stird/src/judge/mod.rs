@@ -1,13 +1,17 @@
 //! A call judged: it is given its chains, its questions are asked of OpenSSL, what comes of it is
 //! taken from the proved library, and its ticket claimed.
-use crate::files::World;
+mod reach;
+
+use crate::codes::Codes;
+use crate::fetching::{Certificates, Fetching};
+use crate::files::{Listed, World};
 use crate::metrics::{Metrics, Part};
 use crate::tickets::{Claim, Latest, Passed, Tickets};
 use arc_swap::ArcSwap;
 use std::sync::atomic::{AtomicU64, Ordering};
 use std::sync::Arc;
 use std::time::Instant;
-use stir::{Error, Passes, Refused, Verdict};
+use stir::{Call, Error, Passes, Refused, Verdict};
 use stir_trust::{split, Unanswered, Verifier};
 
 /// What came of a call.
@@ -44,6 +48,8 @@ pub struct Judged {
     pub call: u64,
     /// What came of it.
     pub outcome: Outcome,
+    /// How its certificates came, if they are fetched and it asked for some.
+    pub certificates: Option<Certificates>,
 }
 
 impl Outcome {
@@ -123,6 +129,10 @@ pub struct Judge {
     pub metrics: Arc<Metrics>,
     /// Whether lists in P-Asserted-Identity are split.
     pub split: bool,
+    /// What fetches certificates, if they are fetched.
+    pub fetching: Option<Fetching>,
+    /// Which codes count beside those of the table, if others are trusted.
+    pub codes: Option<Codes>,
 }
 
 /// The next number of a call. At the greatest that there is it stands still.
@@ -149,18 +159,22 @@ const MESSAGE: u32 = 1;
 impl Judge {
     /// What comes of an INVITE that came at this moment.
     pub async fn judge(&self, message: &[u8], moment: u64) -> Judged {
-        let verdict = self.verdict(message, moment);
+        let reached = match (&self.fetching, &self.codes) {
+            (None, None) => self.verdict(message, moment).map(|verdict| (verdict, None)),
+            _ => self.reached(message, moment).await,
+        };
         let call = next(&self.numbers);
-        let outcome = match verdict {
-            Ok(Verdict::Refused(Refused { rule, code, field, part })) => {
+        let certificates = reached.as_ref().ok().and_then(|(_, certificates)| *certificates);
+        let outcome = match reached {
+            Ok((Verdict::Refused(Refused { rule, code, field, part }), _)) => {
                 Outcome::Refused { rule, code, field, part }
             }
-            Ok(Verdict::Passes(Passes { last, .. }))
+            Ok((Verdict::Passes(Passes { last, .. }), _))
                 if self.latest.as_ref().is_some_and(|it| it.leaves_behind(moment, last)) =>
             {
                 Outcome::Unjudged
             }
-            Ok(Verdict::Passes(Passes { ticket, last })) => {
+            Ok((Verdict::Passes(Passes { ticket, last }), _)) => {
                 let timer = self.metrics.claims.start_timer();
                 let claim = self.tickets.claim(ticket, Passed { last, number: call }, moment);
                 let claim = claim.await;
@@ -174,7 +188,7 @@ impl Judge {
             Err(_) => Outcome::Unjudged,
         };
         self.metrics.count(&outcome);
-        Judged { call, outcome }
+        Judged { call, outcome, certificates }
     }
 
     /// What the rules say of a message, or of the same with its lists split.
@@ -199,18 +213,28 @@ impl Judge {
         let mut call = world.call(moment, message)?;
         for index in 0..call.passports() {
             if let Some(listed) = world.listed(&call.x5u(index)?) {
-                let mut unanswered = None;
-                let chain = listed.chain(|question| match self.verifier.answer(question) {
-                    Ok(good) => good,
-                    Err(error) => {
-                        unanswered = Some(error);
-                        false
-                    }
-                })?;
-                unanswered.map_or(Ok(()), Err)?;
-                call.set_chain(index, &chain)?;
+                self.hand_in(&mut call, index, listed)?;
             }
         }
+        self.settled(&mut call, start)
+    }
+
+    /// Hands in the chain of a PASSporT, with what is good of its signatures.
+    fn hand_in(&self, call: &mut Call, index: usize, listed: &Listed) -> Result<(), Unsaid> {
+        let mut unanswered = None;
+        let chain = listed.chain(|question| match self.verifier.answer(question) {
+            Ok(good) => good,
+            Err(error) => {
+                unanswered = Some(error);
+                false
+            }
+        })?;
+        unanswered.map_or(Ok(()), Err)?;
+        Ok(call.set_chain(index, &chain)?)
+    }
+
+    /// What comes of a call that has its chains. The work on it began at this moment.
+    fn settled(&self, call: &mut Call, start: Instant) -> Result<Verdict, Unsaid> {
         let asked = call.questions()?;
         let confirming = Instant::now();
         self.metrics.spend(Part::Ask, confirming - start);

@@ -1,0 +1,193 @@
+//! How codes are adopted: aside from what answers, for all calls that wait at once, and with a
+//! pause in between that bounds what it takes.
+use super::{unnamed, Adopter, Code, Codes, Extended, Request, Used, MOST};
+use crate::files::{Proof, World};
+use crate::routes::Service;
+use std::collections::{BTreeSet, HashMap};
+use std::sync::Arc;
+use std::time::{Duration, Instant};
+use stir::{Error, Input};
+use stir_trust::Verifier;
+use tokio::sync::mpsc;
+use tokio::task::spawn_blocking;
+
+/// How many requests are taken at once, and how long the pause between two times is at least, and
+/// beside the time that the last one took.
+const AT_ONCE: usize = 256;
+const PAUSE: Duration = Duration::from_millis(50);
+const TIMES: u32 = 5;
+
+/// How many codes are named one by one.
+const MOST_NAMED: usize = 16;
+
+/// A chain whose codes are to be adopted.
+struct Candidate {
+    x5u: Box<[u8]>,
+    der: Arc<[u8]>,
+    codes: Vec<Code>,
+    /// As it was opened for the calls that ask; none for one that takes another's place.
+    asked: Vec<Used>,
+}
+
+/// Adopts codes as they are asked for, as long as the service runs.
+pub async fn adopt_all(service: Arc<Service>, mut requests: mpsc::Receiver<Request>) {
+    while let Some(first) = requests.recv().await {
+        let mut batch = vec![first];
+        while batch.len() < AT_ONCE {
+            let Ok(more) = requests.try_recv() else { break };
+            batch.push(more);
+        }
+        let begun = Instant::now();
+        let (chains, waiting): (Vec<_>, Vec<_>) =
+            batch.into_iter().map(|request| (request.chains, request.tried)).unzip();
+        let aside = Arc::clone(&service);
+        let done = spawn_blocking(move || adopt(&aside, chains.into_iter().flatten().collect()));
+        match done.await {
+            Ok(Ok(())) => {}
+            Ok(Err(error)) => tracing::warn!("codes can't be adopted now: {error}"),
+            Err(error) => tracing::error!("codes couldn't be adopted: {error}"),
+        }
+        for one in waiting {
+            // Whoever asked may be gone.
+            let _ = one.send(());
+        }
+        tokio::time::sleep((begun.elapsed() * TIMES).max(PAUSE)).await;
+    }
+}
+
+/// Adopts the codes of these chains, and forgets those of chains that aren't kept any more.
+fn adopt(service: &Service, chains: Vec<Used>) -> Result<(), Error> {
+    let Some(codes) = &service.judge.codes else { return Ok(()) };
+    let world = service.judge.world.load_full();
+    codes.extend(&world, chains, &service.judge.verifier, |x5u| {
+        if world.lists(x5u) {
+            return world.listed_whole(x5u).map(|(_, der)| der);
+        }
+        let x5u = std::str::from_utf8(x5u).ok()?;
+        Some(Arc::clone(&service.judge.fetching.as_ref()?.cache.kept(x5u)?.der))
+    })
+}
+
+impl Codes {
+    /// Puts the codes of these chains to those that count, if the chains break no rule with them.
+    /// `now` tells the bytes that an x5u has now.
+    fn extend(
+        &self,
+        world: &World,
+        chains: Vec<Used>,
+        verifier: &Verifier,
+        now: impl Fn(&[u8]) -> Option<Arc<[u8]>>,
+    ) -> Result<(), Error> {
+        let before = self.of(world);
+        let (mut adopters, mut candidates) = (HashMap::new(), HashMap::new());
+        for (x5u, adopter) in before.iter().flat_map(|before| &before.adopters) {
+            if adopter.der.strong_count() > 0 {
+                adopters.insert(x5u.clone(), adopter.clone());
+            } else if let Some(der) = now(x5u) {
+                let chain = world.ground().chain(x5u, &der)?;
+                put(&mut candidates, world, Used { x5u: x5u.to_vec(), der, chain }, false)?;
+            }
+        }
+        for chain in chains {
+            put(&mut candidates, world, chain, true)?;
+        }
+        let mut candidates: Vec<Candidate> = candidates.into_values().collect();
+        let kept: BTreeSet<Code> = adopters.values().flat_map(|it| it.codes.clone()).collect();
+        with_room(&mut candidates, &kept, MOST.saturating_sub(world.names_count()));
+        loop {
+            let new = candidates.iter().flat_map(|candidate| candidate.codes.iter().cloned());
+            let codes: BTreeSet<Code> = kept.iter().cloned().chain(new).collect();
+            let same = before.as_ref().filter(|before| before.codes == codes);
+            let ground = match same {
+                Some(before) => Arc::clone(&before.ground),
+                None => match world.extended(&codes) {
+                    Err(Error::BadInput(Input::Table)) => return Ok(tell_no_room()),
+                    opened => Arc::new(opened?),
+                },
+            };
+            let count = candidates.len();
+            let mut proved = Vec::with_capacity(count);
+            for candidate in candidates {
+                match ground.proves(&candidate.x5u, &candidate.der, verifier)? {
+                    Proof::Good => proved.push(candidate),
+                    Proof::Bad => candidate.asked.iter().for_each(|it| it.chain.leave_unproved()),
+                    Proof::Unknown => {}
+                }
+            }
+            // Without the codes of those that fail it is tried again, until none does.
+            if proved.len() < count {
+                candidates = proved;
+                continue;
+            }
+            for Candidate { x5u, der, codes, .. } in proved {
+                adopters.insert(x5u, Adopter { der: Arc::downgrade(&der), codes });
+            }
+            tell(before.as_ref().map(|before| &before.codes), &codes);
+            let base = Arc::clone(world.ground());
+            let extended = Extended { base, ground, codes, adopters };
+            let is_empty = extended.codes.is_empty();
+            self.extended.store((!is_empty).then(|| Arc::new(extended)));
+            return Ok(());
+        }
+    }
+}
+
+/// Puts a chain to the candidates; of one x5u the last bytes hold.
+fn put(
+    candidates: &mut HashMap<Box<[u8]>, Candidate>,
+    world: &World,
+    chain: Used,
+    is_asked: bool,
+) -> Result<(), Error> {
+    let codes = unnamed(world, &chain.chain)?;
+    if codes.is_empty() {
+        return Ok(());
+    }
+    let x5u: Box<[u8]> = chain.x5u.as_slice().into();
+    let same = candidates.remove(&x5u).filter(|other| Arc::ptr_eq(&other.der, &chain.der));
+    let mut candidate = same.unwrap_or_else(|| {
+        let der = Arc::clone(&chain.der);
+        Candidate { x5u: x5u.clone(), der, codes, asked: Vec::new() }
+    });
+    if is_asked {
+        candidate.asked.push(chain);
+    }
+    candidates.insert(x5u, candidate);
+    Ok(())
+}
+
+/// Leaves out candidates whose codes have no room beside those that are kept.
+fn with_room(candidates: &mut Vec<Candidate>, kept: &BTreeSet<Code>, most: usize) {
+    let (mut all, count) = (kept.clone(), candidates.len());
+    candidates.retain(|candidate| {
+        let codes: BTreeSet<&Code> = candidate.codes.iter().collect();
+        let new = codes.into_iter().filter(|code| !all.contains(*code)).count();
+        let has_room = all.len() + new <= most;
+        if has_room {
+            all.extend(candidate.codes.iter().cloned());
+        }
+        has_room
+    });
+    if candidates.len() < count {
+        tell_no_room();
+    }
+}
+
+fn tell_no_room() {
+    tracing::warn!("the code table has no room for more codes, so calls by them break rule 17");
+}
+
+/// Says which codes are new.
+fn tell(before: Option<&BTreeSet<Code>>, codes: &BTreeSet<Code>) {
+    let new = codes.iter().filter(|code| !before.is_some_and(|before| before.contains(*code)));
+    let mut names: Vec<String> =
+        new.map(|code| String::from_utf8_lossy(code).into_owned()).collect();
+    let more = names.len().saturating_sub(MOST_NAMED);
+    names.truncate(MOST_NAMED);
+    if more > 0 {
+        names.push(format!("{more} more"));
+    }
+    if !names.is_empty() {
+        tracing::info!("codes of proved chains stand for every number now: {}", names.join(" "));
+    }
+}
