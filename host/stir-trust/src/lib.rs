@@ -27,6 +27,7 @@ pub mod issuers;
 mod key;
 pub mod locks;
 pub mod names;
+pub mod revocation;
 pub mod roots;
 pub mod split;
 

@@ -356,3 +356,40 @@ fn no_proxy_of_the_environment_is_asked() {
     assert!(said.status.success(), "{said:?}");
     assert!(String::from_utf8_lossy(&said.stdout).contains("1 passed"), "{said:?}");
 }
+
+#[tokio::test]
+async fn a_document_that_the_operator_names_has_the_same_bounds() {
+    let (authority, identity) = identities();
+    let server = Server::start(&identity, move |target| match target {
+        "/most" => good("", &[7; 1000]),
+        "/more" => good("", &[7; 1001]),
+        "/slow" => Does::Drips(b"HTTP/1.1 200 OK\r\n".repeat(100), Duration::from_millis(100)),
+        "/moved" => answer("302 Found", "Location: /most\r\n"),
+        _ => answer("302 Found", "Location: https://elsewhere.example/\r\n"),
+    })
+    .await;
+    let settings = |reach| Settings {
+        hosts: Hosts::default(),
+        limit: Duration::from_secs(2),
+        most: 1000,
+        reach,
+        ..server.settings(&authority)
+    };
+    let fetcher = Fetcher::new(settings(Reach::All), Table::here()).expect("a fetcher");
+    let begun = Instant::now();
+    for (target, wanted) in [
+        ("/most", Ok(vec![7; 1000])),
+        ("/moved", Ok(vec![7; 1000])),
+        ("/more", Err(Reason::Size)),
+        ("/slow", Err(Reason::Time)),
+        ("/elsewhere", Err(Reason::Elsewhere)),
+    ] {
+        assert_eq!(fetcher.document(&server.x5u(target)).await, wanted, "{target}");
+    }
+    assert!(begun.elapsed() < LONG, "{:?}", begun.elapsed());
+    // An x5u is asked of listed hosts alone all the same.
+    assert_eq!(fetcher.fetch(&server.x5u("/most")).await, Err(Reason::Listed));
+    let fetcher = Fetcher::new(settings(Reach::Public), Table::here()).expect("a fetcher");
+    let private = fetcher.document(&server.x5u("/most")).await;
+    assert_eq!(private, Err(Reason::Private(server::here())));
+}

@@ -164,6 +164,16 @@ fn blocks_of(text: &[u8]) -> Result<Option<Vec<Block>>, FormFault> {
     }
 }
 
+/// The content of the first block with this label in a text of PEM; nothing if it has none.
+pub(crate) fn block_of(text: &[u8], label: &[u8]) -> Result<Option<Vec<u8>>, FormFault> {
+    let [begin, end] =
+        [&b"-----BEGIN "[..], b"-----END "].map(|edge| [edge, label, b"-----"].concat());
+    let Some(at) = place_of(text, &begin) else { return Ok(None) };
+    let inside = text.get(at + begin.len()..).unwrap_or_default();
+    let length = place_of(inside, &end).ok_or(FormFault::Pem)?;
+    decoded(inside.get(..length).unwrap_or_default()).map(Some)
+}
+
 fn place_of(text: &[u8], what: &[u8]) -> Option<usize> {
     text.windows(what.len()).position(|part| part == what)
 }

@@ -26,6 +26,7 @@
 //! # Ok::<(), Box<dyn std::error::Error>>(())
 //! ```
 mod address;
+mod document;
 mod form;
 mod hosts;
 mod one;
@@ -34,6 +35,8 @@ mod reason;
 mod redirects;
 
 pub use address::{is_public, Reach, Resolver, SystemResolver};
+pub use document::{document, DocumentFault};
+pub(crate) use form::block_of;
 pub use form::{certificates_of, chain_of, ends_of, FormFault};
 pub use hosts::{Hosts, HostsFault};
 pub use reason::{Limit, Reason};
@@ -43,6 +46,7 @@ use openssl::error::ErrorStack;
 use openssl::ssl::{SslConnector, SslMethod, SslVersion};
 use openssl::x509::store::X509StoreBuilder;
 use openssl::x509::X509;
+use place::Place;
 use std::fmt::{self, Debug, Formatter};
 use std::sync::Arc;
 use std::time::Duration;
@@ -205,13 +209,39 @@ impl Fetcher {
     /// # Ok::<(), Box<dyn std::error::Error>>(())
     /// ```
     pub async fn fetch(&self, x5u: &str) -> Result<Fetched, Reason> {
-        let until = Instant::now() + self.settings.limit;
-        let body = tokio::time::timeout_at(until, redirects::followed(self, x5u, until))
-            .await
-            .map_err(|_| Reason::Time)??;
+        let body = self.body(Place::of(x5u, &self.settings.hosts)?).await?;
         let chain = chain_of(&body.bytes)?;
         let ends = ends_of(&chain)?;
         Ok(Fetched { chain, keep: body.keep, ends })
+    }
+
+    /// What stands at this URI of http or https, which the operator names: at any host and port,
+    /// whatever hosts are listed. All else that a fetch keeps to holds: addresses, limit, bytes and
+    /// redirects. It is for what is signed, such as a revocation list.
+    ///
+    /// # Errors
+    ///
+    /// The reason why there is nothing.
+    ///
+    /// ```
+    /// # use std::sync::Arc;
+    /// # use stir_trust::fetch::{Fetcher, Hosts, Reason, Settings, SystemResolver};
+    /// # let runtime = tokio::runtime::Builder::new_current_thread().enable_all().build()?;
+    /// let fetcher = Fetcher::new(Settings::new(Hosts::default()), Arc::new(SystemResolver))?;
+    /// let nothing = runtime.block_on(fetcher.document("http://127.0.0.1:1/a.crl"));
+    /// assert!(matches!(nothing, Err(Reason::Private(_))));
+    /// # Ok::<(), Box<dyn std::error::Error>>(())
+    /// ```
+    pub async fn document(&self, uri: &str) -> Result<Vec<u8>, Reason> {
+        Ok(self.body(Place::named(uri)?).await?.bytes)
+    }
+
+    /// The body to which a place leads, within the limit.
+    async fn body(&self, place: Place) -> Result<one::Body, Reason> {
+        let until = Instant::now() + self.settings.limit;
+        tokio::time::timeout_at(until, redirects::followed(self, place, until))
+            .await
+            .map_err(|_| Reason::Time)?
     }
 
     /// The host that this x5u names, with its port if it isn't 443, if it may be asked.
@@ -230,6 +260,6 @@ impl Fetcher {
     /// # Ok::<(), Box<dyn std::error::Error>>(())
     /// ```
     pub fn host_of(&self, x5u: &str) -> Result<String, Reason> {
-        Ok(place::Place::of(x5u, &self.settings.hosts)?.authority())
+        Ok(Place::of(x5u, &self.settings.hosts)?.authority())
     }
 }

@@ -10,6 +10,7 @@ use openssl::x509::X509VerifyResult;
 use std::io;
 use std::net::IpAddr;
 use std::pin::Pin;
+use tokio::io::{AsyncRead, AsyncWrite};
 use tokio::net::TcpStream;
 use tokio::task::JoinHandle;
 use tokio::time::Instant;
@@ -41,8 +42,11 @@ pub(super) async fn asked(
     most: usize,
     until: Instant,
 ) -> Result<Answer, Reason> {
-    let stream =
-        secured(connector, place, connected(addresses, place.port(), until).await?).await?;
+    let stream = connected(addresses, place.port(), until).await?;
+    let stream: Box<dyn Stream> = match place.is_secured() {
+        true => Box::new(secured(connector, place, stream).await?),
+        false => Box::new(stream),
+    };
     let request = Request::get(place.target())
         .header(header::HOST, place.authority())
         .header(header::ACCEPT_ENCODING, "identity")
@@ -56,6 +60,11 @@ pub(super) async fn asked(
     let _driven = Driven(tokio::spawn(async move { drop(connection.await) }));
     taken(sender.send_request(request).await.map_err(|error| of(&error))?, most).await
 }
+
+/// A connection over TLS or without it.
+trait Stream: AsyncRead + AsyncWrite + Send + Unpin {}
+
+impl<T: AsyncRead + AsyncWrite + Send + Unpin> Stream for T {}
 
 /// A connection that is closed when it isn't needed any more, whatever it waits for.
 struct Driven(JoinHandle<()>);

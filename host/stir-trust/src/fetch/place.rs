@@ -1,4 +1,5 @@
-//! What an https URI names: a host, a port, and what is asked for there (RFC 9110, section 4.2.2).
+//! What a URI of http or https names: a host, a port, and what is asked for there (RFC 9110,
+//! section 4.2).
 use super::hosts::Hosts;
 use super::reason::Reason;
 use std::net::IpAddr;
@@ -14,48 +15,65 @@ pub(super) enum Host {
     Address(IpAddr),
 }
 
-/// An https URI whose host may be asked.
+/// Who named a place.
+#[derive(Clone, Copy, Debug, PartialEq, Eq)]
+enum Whose {
+    /// A stranger: by https, at a host that is listed.
+    Stranger,
+    /// The operator: by http too, at any host.
+    Operator,
+}
+
+/// A URI whose host may be asked.
 #[derive(Clone, Debug)]
 pub(super) struct Place {
     url: Url,
     host: Host,
     port: u16,
+    whose: Whose,
 }
 
 impl Place {
-    /// What this URI names, if its host is listed.
+    /// What this https URI of a stranger names, if its host is listed.
     pub(super) fn of(uri: &str, hosts: &Hosts) -> Result<Place, Reason> {
+        Place::read(uri, hosts, Whose::Stranger)
+    }
+
+    /// What this URI of http or https names, which the operator gives.
+    pub(super) fn named(uri: &str) -> Result<Place, Reason> {
+        Place::read(uri, &Hosts::default(), Whose::Operator)
+    }
+
+    fn read(uri: &str, hosts: &Hosts, whose: Whose) -> Result<Place, Reason> {
         // The parser takes blanks, `\` and much else that no URI has (RFC 3986, section 2).
         let is_text = uri.bytes().all(|byte| byte.is_ascii_graphic() && byte != b'\\');
         if !is_text || uri.len() > LONGEST {
             return Err(Reason::Uri);
         }
-        let (scheme, rest) = uri.split_at_checked(8).ok_or(Reason::Uri)?;
+        let (scheme, rest) = uri.split_once("://").ok_or(Reason::Uri)?;
         // Nor is a user without a name told by it, and more than two slashes are as two to it.
         let authority = rest.split(['/', '?', '#']).next().unwrap_or_default();
         let is_plain = !authority.is_empty() && !authority.contains('@');
-        if !scheme.eq_ignore_ascii_case("https://") || !is_plain {
+        if !whose.takes(&scheme.to_ascii_lowercase()) || !is_plain {
             return Err(Reason::Uri);
         }
-        Place::of_url(Url::parse(uri).map_err(|_| Reason::Uri)?, hosts)
+        Place::of_url(Url::parse(uri).map_err(|_| Reason::Uri)?, hosts, whose)
     }
 
-    /// Where a redirect from here leads (RFC 9110, section 10.2.2): to the same host and port, or
-    /// to nothing.
+    /// Where a redirect from here leads (RFC 9110, section 10.2.2): to the same host and port by
+    /// the same scheme, or to nothing.
     pub(super) fn redirected(&self, location: &str, hosts: &Hosts) -> Result<Place, Reason> {
         let is_text = location.bytes().all(|byte| byte.is_ascii_graphic() && byte != b'\\');
         let url =
             self.url.join(location).ok().filter(|url| is_text && url.as_str().len() <= LONGEST);
-        let place = Place::of_url(url.ok_or(Reason::Elsewhere)?, hosts);
-        match place {
-            Ok(place) if (&place.host, place.port) == (&self.host, self.port) => Ok(place),
-            _ => Err(Reason::Elsewhere),
-        }
+        let place = Place::of_url(url.ok_or(Reason::Elsewhere)?, hosts, self.whose);
+        let end = |place: &Place| (place.host.clone(), place.port, place.is_secured());
+        place.ok().filter(|place| end(place) == end(self)).ok_or(Reason::Elsewhere)
     }
 
-    fn of_url(url: Url, hosts: &Hosts) -> Result<Place, Reason> {
+    fn of_url(url: Url, hosts: &Hosts, whose: Whose) -> Result<Place, Reason> {
         let has_user = !url.username().is_empty() || url.password().is_some();
-        if url.scheme() != "https" || has_user {
+        if !whose.takes(url.scheme()) || has_user {
             return Err(Reason::Uri);
         }
         let host = match url.host().ok_or(Reason::Uri)? {
@@ -66,10 +84,15 @@ impl Place {
             url::Host::Ipv6(address) => Host::Address(address.into()),
         };
         let port = url.port_or_known_default().ok_or(Reason::Uri)?;
-        if !hosts.has(&host, port) {
+        if whose == Whose::Stranger && !hosts.has(&host, port) {
             return Err(Reason::Listed);
         }
-        Ok(Place { url, host, port })
+        Ok(Place { url, host, port, whose })
+    }
+
+    /// Whether it is asked over TLS.
+    pub(super) fn is_secured(&self) -> bool {
+        self.url.scheme() == "https"
     }
 
     pub(super) fn host(&self) -> &Host {
@@ -94,7 +117,7 @@ impl Place {
             Host::Address(IpAddr::V6(address)) => format!("[{address}]"),
             _ => self.name(),
         };
-        if self.port == 443 {
+        if self.port == if self.is_secured() { 443 } else { 80 } {
             name
         } else {
             format!("{name}:{}", self.port)
@@ -110,9 +133,40 @@ impl Place {
     }
 }
 
+impl Whose {
+    /// Whether a URI of this scheme may be asked for.
+    fn takes(self, scheme: &str) -> bool {
+        scheme == "https" || self == Whose::Operator && scheme == "http"
+    }
+}
+
 #[cfg(test)]
 mod tests {
     use super::*;
+
+    #[test]
+    fn what_the_operator_names_may_be_anywhere_and_by_http() {
+        for (uri, authority, is_secured) in [
+            ("http://crl.example/a.crl", "crl.example", false),
+            ("HTTP://crl.example:80/a", "crl.example", false),
+            ("http://crl.example:443/a", "crl.example:443", false),
+            ("https://crl.example:80/a", "crl.example:80", true),
+            ("https://192.0.2.1:9/a", "192.0.2.1:9", true),
+        ] {
+            let place = Place::named(uri).expect(uri);
+            let found = (place.authority(), place.is_secured());
+            assert_eq!(found, (authority.into(), is_secured), "{uri}");
+        }
+        for uri in ["ldap://crl.example/a", "http://user@crl.example/a", "file:///a", "http:/a/b"] {
+            assert_eq!(Place::named(uri).err(), Some(Reason::Uri), "{uri}");
+        }
+        let place = Place::named("http://crl.example:443/a").expect("a place");
+        assert!(place.redirected("/b", &Hosts::default()).is_ok());
+        for location in ["https://crl.example/b", "http://crl.example/b", "ftp://crl.example/"] {
+            let found = place.redirected(location, &Hosts::default()).err();
+            assert_eq!(found, Some(Reason::Elsewhere), "{location}");
+        }
+    }
 
     fn hosts() -> Hosts {
         Hosts::read(b"*\n*:26001\n127.0.0.1\n[::1]\n!bad.example\n").expect("hosts")

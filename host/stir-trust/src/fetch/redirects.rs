@@ -9,9 +9,12 @@ use tokio::time::Instant;
 /// The most redirects of a fetch.
 pub const MOST_REDIRECTS: usize = 3;
 
-/// The body to which an x5u leads.
-pub(super) async fn followed(fetcher: &Fetcher, x5u: &str, until: Instant) -> Result<Body, Reason> {
-    let mut place = Place::of(x5u, &fetcher.settings.hosts)?;
+/// The body to which a place leads.
+pub(super) async fn followed(
+    fetcher: &Fetcher,
+    mut place: Place,
+    until: Instant,
+) -> Result<Body, Reason> {
     for _ in 0..=MOST_REDIRECTS {
         let addresses = checked(fetcher, &place).await?;
         let (connector, most) = (&fetcher.connector, fetcher.settings.most);
