@@ -43,6 +43,11 @@ impl Answers {
         Ok(Answers(good))
     }
 
+    /// The questions whose signatures are good.
+    pub fn all(&self) -> impl Iterator<Item = &Question> {
+        self.0.iter()
+    }
+
     /// Whether this signature is good.
     pub fn confirms(&self, question: &Question) -> bool {
         self.0.contains(question)

@@ -3,6 +3,7 @@
 
 use crate::files::{self, whole, Unread};
 use crate::provider::Provider;
+use crate::revocation::Revocation;
 use crate::Fault;
 use std::collections::HashMap;
 use std::io::{self, Write};
@@ -10,6 +11,7 @@ use std::path::{Path, PathBuf};
 use std::sync::{Arc, OnceLock, PoisonError, RwLock};
 use stir::{Chain, Part, World};
 use stir_trust::chain_map::{ChainMap, MOST_BYTES};
+use stir_trust::revocation::Revoked;
 
 /// The most bytes of a chain; of a longer one so many and one more are handed to the library.
 const LONGEST_CHAIN: u64 = 49_152;
@@ -31,11 +33,15 @@ pub(crate) enum Found {
     Unread,
 }
 
-/// A chain, and the service provider codes of its leaf.
+/// A chain with its good signatures confirmed, and the service provider codes of its leaf.
 #[derive(Debug)]
 pub(crate) struct Known {
     pub chain: Chain,
     pub codes: String,
+    /// Which of its questions are confirmed.
+    pub good: Vec<bool>,
+    /// Its certificates that are revoked, at whatever second.
+    pub revoked: Vec<Revoked>,
 }
 
 type Slot = Arc<OnceLock<Result<Found, stir::Error>>>;
@@ -82,6 +88,11 @@ impl Map {
         Ok(Map { lines, files })
     }
 
+    /// The files that it names.
+    pub fn files(&self) -> &[PathBuf] {
+        &self.files
+    }
+
     /// The file of an x5u.
     fn file(&self, x5u: &[u8]) -> Option<&Path> {
         self.files.get(self.lines.file(x5u)?).map(AsRef::as_ref)
@@ -109,10 +120,15 @@ impl Chains {
 
     /// What is known of the chain of an x5u. It is read and judged if nobody needed it lately;
     /// whoever needs it at the same time waits for that.
-    pub fn get(&self, x5u: &[u8], provider: &Provider) -> Result<Found, Fault> {
+    pub fn get(
+        &self,
+        x5u: &[u8],
+        provider: &Provider,
+        revocation: &Revocation,
+    ) -> Result<Found, Fault> {
         let Some(file) = self.map.file(x5u) else { return Ok(Found::Missing) };
         let slot = self.slot(x5u);
-        Ok(slot.get_or_init(|| judged(&self.world, file, provider)).clone()?)
+        Ok(slot.get_or_init(|| judged(&self.world, file, provider, revocation)).clone()?)
     }
 
     fn slot(&self, x5u: &[u8]) -> Slot {
@@ -134,7 +150,12 @@ impl Chains {
 
 /// The chain of a file, with those of its signatures confirmed that are good: asked for from the
 /// leaf's on, up to the first that isn't.
-fn judged(world: &World, file: &Path, provider: &Provider) -> Result<Found, stir::Error> {
+fn judged(
+    world: &World,
+    file: &Path,
+    provider: &Provider,
+    revocation: &Revocation,
+) -> Result<Found, stir::Error> {
     let bytes = match files::prefix(file, LONGEST_CHAIN + 1) {
         Ok(bytes) => bytes,
         Err(Unread::Missing) => return Ok(Found::Missing),
@@ -147,5 +168,6 @@ fn judged(world: &World, file: &Path, provider: &Provider) -> Result<Found, stir
     let chain = if good.is_empty() { chain } else { chain.confirmed(&good)? };
     let codes = chain.part(1, Part::Codes)?.unwrap_or_default();
     let codes = String::from_utf8_lossy(&codes).trim_end().replace('\n', " ");
-    Ok(Found::Known(Arc::new(Known { chain, codes })))
+    let revoked = revocation.of(&chain, file)?;
+    Ok(Found::Known(Arc::new(Known { chain, codes, good, revoked })))
 }

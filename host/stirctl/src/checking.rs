@@ -5,7 +5,6 @@ use crate::files::push_hex;
 use crate::input::Source;
 use crate::judge::Judge;
 use crate::outputs::Outputs;
-use crate::provider::Provider;
 use crate::sink::Sink;
 use crate::words::By;
 use crate::Fault;
@@ -20,6 +19,10 @@ pub(crate) struct Check {
     program: String,
     folder: PathBuf,
 }
+
+/// Why a run can't be checked: an answers file holds for the whole log.
+const BETWEEN: &str = "it can't be checked: a certificate was revoked between two calls that \
+                       name it; cut the log there";
 
 /// The names of the files in the folder.
 const LOG: &str = "log";
@@ -67,10 +70,13 @@ impl Check {
         self.write("anchors", |to| to.write_all(&judge.files.anchors))?;
         self.write("table", |to| to.write_all(&judge.files.table))?;
         self.write("chains", |to| judge.chains.write(to))?;
-        let answers = match (&judge.provider, &by.answers) {
-            (_, Some(name)) => PathBuf::from(name),
-            (provider, None) => {
-                self.write("answers", |to| write_answers(provider, to))?;
+        if judge.revocation.is_between() {
+            return Err(Fault::Differs(BETWEEN.into()));
+        }
+        let answers = match &by.answers {
+            Some(name) if by.revoked.crl.is_empty() => PathBuf::from(name),
+            _ => {
+                self.write("answers", |to| write_answers(judge, to))?;
                 self.at("answers")
             }
         };
@@ -136,10 +142,11 @@ fn failed(error: io::Error) -> Fault {
     Fault::write("a temporary file", &error)
 }
 
-/// Writes an answers file of all that was confirmed.
-fn write_answers(provider: &Provider, to: &mut dyn Write) -> io::Result<()> {
+/// Writes an answers file of all that was confirmed, but for certificates that were revoked.
+fn write_answers(judge: &Judge, to: &mut dyn Write) -> io::Result<()> {
     let mut line = Vec::new();
-    for question in provider.confirmed() {
+    let confirmed = judge.provider.confirmed();
+    for question in confirmed.iter().filter(|question| !judge.revocation.spoilt(question)) {
         line.clear();
         line.extend_from_slice(b"confirm");
         for part in [question.key(), question.digest(), question.signature()] {

@@ -4,6 +4,7 @@
 use crate::judging::judge;
 use crate::state::BEGINS;
 use crate::verdict::Verdict;
+use crate::words::trust::RevokedBy;
 use crate::words::{self, By, Day, To};
 use crate::{say, Ended, Fault};
 use rustix::fs::{flock, FlockOperation};
@@ -148,12 +149,14 @@ fn words_for(words: &Day, log: &Path, state: &Path, report: &Path) -> words::Jud
 /// What the calls of the log of this name are judged by.
 fn by_for(by: &By, name: &str) -> By {
     let named = |file: &Option<String>| file.as_ref().map(|file| file.replace(NAME, name));
+    let all = |files: &[String]| files.iter().map(|file| file.replace(NAME, name)).collect();
     By {
         roots: named(&by.roots),
         anchors: named(&by.anchors),
         chains: by.chains.replace(NAME, name),
         table: by.table.replace(NAME, name),
         answers: named(&by.answers),
+        revoked: RevokedBy { crl: all(&by.revoked.crl), crl_signer: all(&by.revoked.crl_signer) },
         ..by.clone()
     }
 }

@@ -3,6 +3,7 @@
 use crate::chains::{Chains, Found, Known};
 use crate::log::Piece;
 use crate::provider::Provider;
+use crate::revocation::Revocation;
 use crate::Fault;
 use rayon::prelude::*;
 use serde::de::{IgnoredAny, MapAccess, SeqAccess, Visitor};
@@ -20,6 +21,7 @@ pub(crate) struct Judge {
     pub world: World,
     pub chains: Chains,
     pub provider: Provider,
+    pub revocation: Revocation,
     pub files: Files,
     /// Whether it is told who called whom and who signed.
     pub tells: bool,
@@ -230,9 +232,11 @@ impl Judge {
         let mut found = Vec::with_capacity(call.passports());
         for index in 0..call.passports() {
             let x5u = call.x5u(index)?;
-            let chain = self.chains.get(&x5u, &self.provider)?;
+            let chain = self.chains.get(&x5u, &self.provider, &self.revocation)?;
             if let Found::Known(known) = &chain {
-                call.set_chain(index, &known.chain)?;
+                let Known { chain, good, revoked, .. } = &**known;
+                let then = self.revocation.at(moment, chain, good, revoked)?;
+                call.set_chain(index, then.as_ref().unwrap_or(chain))?;
             }
             found.push((x5u, chain));
         }

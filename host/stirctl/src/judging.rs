@@ -9,6 +9,7 @@ use crate::judge::{Files, Judge};
 use crate::log::End;
 use crate::outputs::Outputs;
 use crate::provider::Provider;
+use crate::revocation::Revocation;
 use crate::run::{Day, Run};
 use crate::sink::{Sink, STDOUT};
 use crate::state::State;
@@ -83,6 +84,7 @@ fn judged(words: &words::Judge, outputs: &mut Outputs) -> Result<bool, Fault> {
         outputs.put_in_report(&day.state(window).text())?;
     }
     ended?;
+    judge.revocation.say_ended(day.moment);
     if let Some(check) = check {
         check.holds(&words.by, words.state.as_deref(), &judge, day.are_valid, outputs)?;
     }
@@ -109,9 +111,11 @@ pub(crate) fn judge_by(by: &By, keeps_answers: bool) -> Result<Judge, Fault> {
             Provider::Es256 { verifier, good: keeps_answers.then(Mutex::default) }
         }
     };
+    let revocation = Revocation::read(&by.revoked)?;
     let world = World::open(&settings, &anchors, &table)?;
     let chains = Chains::new(world.clone(), map);
-    Ok(Judge { world, chains, provider, files: Files { anchors, table }, tells: false })
+    let files = Files { anchors, table };
+    Ok(Judge { world, chains, provider, revocation, files, tells: false })
 }
 
 /// The threads that judge.

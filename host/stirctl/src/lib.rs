@@ -13,6 +13,7 @@ mod checking;
 mod code_table;
 mod completing;
 mod confirming;
+mod crl;
 mod days;
 mod explaining;
 mod fault;
@@ -27,6 +28,7 @@ mod outputs;
 mod picture;
 mod provider;
 mod reporting;
+mod revocation;
 mod run;
 mod showing;
 mod signing;
@@ -60,6 +62,7 @@ pub fn main(words: words::Words) -> u8 {
         words::Command::Show(words) => showing::show(&words),
         words::Command::Sign(words) => signing::sign(&words),
         words::Command::Completion => completing::completion(),
+        words::Command::Crl(words) => crl::crl(&words),
     };
     ended.unwrap_or_else(|fault| {
         say(&fault.to_string());

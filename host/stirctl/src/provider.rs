@@ -29,13 +29,14 @@ impl Provider {
         }
     }
 
-    /// What was found good, if that is wanted.
+    /// What was found good, if that is wanted; or all that the answers file says is.
     pub fn confirmed(&self) -> Vec<Question> {
         match self {
             Provider::Es256 { good: Some(good), .. } => {
                 good.lock().unwrap_or_else(PoisonError::into_inner).iter().copied().collect()
             }
-            Provider::Es256 { good: None, .. } | Provider::Answers(_) => Vec::new(),
+            Provider::Es256 { good: None, .. } => Vec::new(),
+            Provider::Answers(answers) => answers.all().copied().collect(),
         }
     }
 }

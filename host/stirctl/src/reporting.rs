@@ -9,6 +9,7 @@ use crate::judging::{outputs, pool, title};
 use crate::log::End;
 use crate::outputs::Outputs;
 use crate::provider::Provider;
+use crate::revocation::Revocation;
 use crate::run::Run;
 use crate::sink::{Sink, STDOUT};
 use crate::state::BEGINS;
@@ -161,7 +162,8 @@ fn judge(words: &Report) -> Result<Judge, Fault> {
     let map = words.chains.as_deref().map_or(Ok(Map::default()), Map::read)?;
     let chains = Chains::new(world.clone(), map);
     let provider = Provider::Answers(Answers::default());
-    Ok(Judge { world, chains, provider, files: Files::default(), tells: true })
+    let (files, revocation) = (Files::default(), Revocation::default());
+    Ok(Judge { world, chains, provider, revocation, files, tells: true })
 }
 
 /// Writes the report of which a text is the JSON.

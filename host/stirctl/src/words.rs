@@ -2,11 +2,13 @@
 
 pub mod certificates;
 mod fetch;
+pub mod trust;
 
 pub use fetch::Fetch;
 
 use clap::{Args, Parser, Subcommand};
 use stir::Settings;
+use trust::RevokedBy;
 
 /// Judges telephone calls by STIR/SHAKEN, and tells of them: logs and captures of INVITEs, over the
 /// proved library of stir, with signatures by OpenSSL.
@@ -30,6 +32,7 @@ pub enum Command {
     Confirm(Confirm),
     Fetch(Fetch),
     Log(Log),
+    Crl(trust::Crl),
     Chain(certificates::Chain),
     Show(certificates::Show),
     Sign(certificates::Sign),
@@ -153,6 +156,12 @@ pub struct Log {
 pub struct Confirm {
     #[command(flatten)]
     pub pool: Pool,
+    #[command(flatten)]
+    pub revoked: RevokedBy,
+    /// The chain map, or a folder with the map chains.txt: which certificates a question may be
+    /// about. With --crl no question about one that is revoked, at whatever second, is confirmed
+    #[arg(long, value_name = "FILE", requires = "crl", required = false)]
+    pub chains: Option<String>,
     /// Files of questions; the standard input if none is named
     #[arg(value_name = "FILE", default_value = "-")]
     pub files: Vec<String>,
@@ -177,6 +186,8 @@ pub struct By {
     /// An answers file that says which signatures are good, in the place of OpenSSL
     #[arg(long, value_name = "FILE")]
     pub answers: Option<String>,
+    #[command(flatten)]
+    pub revoked: RevokedBy,
     #[command(flatten)]
     pub rules: Rules,
 }
@@ -238,7 +249,7 @@ impl Rules {
     }
 }
 
-fn number(text: &str, least: u64, most: u64) -> Result<u64, String> {
+pub(crate) fn number(text: &str, least: u64, most: u64) -> Result<u64, String> {
     let number = crate::files::number(text.as_bytes(), most).filter(|number| *number >= least);
     number.ok_or_else(|| format!("a number from {least} to {most} is wanted"))
 }
