@@ -1,4 +1,5 @@
-"""Runs `stirctl fetch` against a hostile https server: what it takes, what it refuses, what it keeps and when it asks again."""
+"""Runs `stirctl fetch` against a hostile https server: what it takes, what it refuses, what it keeps and when it asks again; and `stirctl judge` and
+`explain` where they fetch what their calls need."""
 import fcntl
 import json
 import os
@@ -6,12 +7,15 @@ import pty
 import re
 import select
 import subprocess
+import sys
 import time
 
 import fetching
 import issued
 import pytest
-from fetching import SECONDS, TRUSTED
+from fetching import SECONDS, TESTS, TRUSTED
+
+sys.path.append(str(TESTS / 'service'))
 
 # What the server sends; and the certificates that the file of its chain must have.
 TAKEN = {'file.carrier': ['carrier'], 'file.carrier.der': ['carrier'], 'both': ['carrier', 'middle'], 'file.message.PEM': ['carrier', 'middle'],
@@ -229,3 +233,163 @@ def test_a_terminal_sees_how_far_it_is_and_whole_lines(fetch):
     lines = re.sub(r'\x1b\[[0-9;?]*[A-Za-z]', '\r', said.decode()).replace('\n', '\r').split('\r')
     assert f'stirctl: u: {NO_URI}; there is no file of it' in lines, said
     assert any(re.match(r'\[.{30}\] \d+%', line) for line in lines), said
+
+
+# What `judge` and `explain` are told of the server.
+BY_FETCH = ['--fetch-hosts=hosts', '--fetch-authorities=authorities', '--fetch-private=yes']
+UNLISTED_SAID = 'stirctl: https://certificates.example.org/none.pem: its host isn\'t listed; its calls break rule 10\n'
+
+
+class Judged:
+    """A world whose certificates the server has, and runs of `stirctl` that judge its calls."""
+
+    def __init__(self, ctl, room, server, chains=6):
+        world = pytest.importorskip('world', reason='missing: the Python package cryptography')
+        self.ctl, self.room, self.server = ctl, room, server
+
+        class Served(world.World):
+            def x5u(self, n):
+                return f'https://localhost:{server.server_port}/chain.{n}'
+        self.world, self.start = Served(server.chains, chains), world.START
+
+    def at(self, path):
+        return f'https://localhost:{self.server.server_port}/{path}'
+
+    def call(self, number, x5u, kind='good'):
+        """A call whose PASSporT names this x5u."""
+        moment = self.start + number
+        orig = self.world.number(0, number % 10000)
+        field = self.world.identity(0, orig, '13105550100', moment - 61 * (kind == 'old'), number, x5u=x5u)
+        return moment, self.world.invite(orig, '13105550100', number, field)
+
+    def run(self, command, calls, *words, chains=False, **settings):
+        """The status, the output, and what is said."""
+        by = ['--anchors=world/anchors.der', '--table=world/table.txt', *(['--chains=world/chains.txt'] if chains else BY_FETCH)]
+        done = subprocess.run([self.ctl, command, *by, *words, '-'], input=self.world.log(calls), stdout=subprocess.PIPE, stderr=subprocess.PIPE,
+                              cwd=self.room, timeout=300, env=os.environ | settings)
+        return done.returncode, done.stdout, done.stderr.decode()
+
+
+@pytest.fixture
+def judged(ctl, tmp_path):
+    with fetching.served(tmp_path) as server:
+        yield Judged(ctl, tmp_path, server)
+
+
+def test_a_log_is_judged_by_what_is_fetched_as_by_a_chain_map(judged, program):
+    calls = list(judged.world.calls(2400))
+    last = calls[-1][0]
+    calls += [(last, judged.world.diverted(judged.world.number(0, 1), [judged.world.number(1, 1), judged.world.number(2, 1), '13105550100'], last, 1)[0])]
+    by_map = judged.run('judge', calls, chains=True)
+    assert by_map[0] == 1 and by_map[2] == '' and by_map[1].count(b' valid ') > 1500
+    checked = ['--checked-by', str(program)] if program.exists() else []
+    fetched = judged.run('judge', calls, '--fetch=kept', '--chains-out=map.txt', '--report=-', '--jobs=3', *checked)
+    assert fetched == (*by_map[:2], UNLISTED_SAID)
+    once = {f'/chain.{n}': 1 for n in range(6)}
+    assert judged.server.asked == once, 'each is asked for once'
+    # What was fetched is named, and serves years later.
+    lines = [line.split() for line in (judged.room / 'map.txt').read_text().splitlines()]
+    assert [x5u for x5u, _ in lines] == sorted(judged.world.x5u(n) for n in range(6))
+    named = ['--anchors=world/anchors.der', '--table=world/table.txt', '--chains=map.txt']
+    for program_and_words in ([judged.ctl, 'judge', *named, '-'], [judged.ctl, 'judge', *named, '--fetch-hosts=hosts', '-']):
+        done = subprocess.run(program_and_words, input=judged.world.log(calls), stdout=subprocess.PIPE, stderr=subprocess.PIPE, cwd=judged.room)
+        assert done.stdout == by_map[1]
+    assert judged.run('judge', calls, '--fetch=kept')[:2] == by_map[:2]
+    assert judged.server.asked == once, 'what is in the folder and not due is not asked for'
+
+
+def test_calls_are_explained_by_what_is_fetched(judged):
+    calls = list(judged.world.calls(40))
+    status, lines, said = judged.run('explain', calls, '--call=3')
+    assert len(judged.server.asked) == 1 and said == ''
+    assert [line.split()[0] for line in lines.splitlines()] == [b'3'] * len(lines.splitlines())
+    judged.server.asked.clear()
+    by_map = judged.run('explain', calls, chains=True)
+    assert judged.run('explain', calls, '--fetch=kept')[:2] == by_map[:2] and status in (0, 1)
+    assert set(judged.server.asked.values()) == {1}
+
+
+def test_a_call_that_breaks_one_of_the_first_nine_rules_has_nothing_fetched(judged):
+    calls = [judged.call(1, judged.at('chain.0'), 'old'), (judged.start + 1, judged.world.call(0, judged.start + 1, 2, 'unsigned')),
+             (judged.start + 2, b'no INVITE')]
+    status, report, said = judged.run('judge', calls, '--fetch=kept')
+    assert (status, report, said) == (1, b'1 refused 403 9 1.0\n2 refused 428 2 0.0\n3 refused 400 1 0.9\n', '')
+    assert judged.server.asked == {}
+
+
+def test_the_chain_map_wins_and_is_not_asked_for(judged):
+    (judged.room / 'own.txt').write_text(f'{judged.at("chain.0")} world/chain-1.der\n{judged.at("chain.1")} world/none.der\n')
+    calls = [judged.call(number, judged.at(f'chain.{number - 1}')) for number in (1, 2, 3)]
+    status, report, said = judged.run('judge', calls, '--chains=own.txt', '--fetch=kept', '--chains-out=map.txt')
+    assert (status, said) == (1, '')
+    assert [line.split()[:4] for line in report.splitlines()] == [[b'1', b'refused', b'438', b'16'], [b'2', b'refused', b'436', b'10'],
+                                                                  [b'3', b'refused', b'438', b'16']]
+    assert judged.server.asked == {'/chain.2': 1}
+    assert [line.split()[0] for line in (judged.room / 'map.txt').read_text().splitlines()] == [judged.at(f'chain.{n}') for n in range(3)]
+
+
+def test_what_fails_is_asked_for_and_named_once(judged):
+    gone, late = (judged.call(1, judged.at(path)) for path in ('gone', 'html'))
+    calls = [gone] * 2100 + [late] * 10 + [gone]
+    status, report, said = judged.run('judge', calls, '--fetch=kept')
+    assert (status, report.count(b'refused 436 10 1.0'), len(calls)) == (1, 2111, 2111)
+    assert sorted(said.splitlines()) == [f'stirctl: {judged.at("gone")}: the server\'s answer is 404; its calls break rule 10',
+                                         f'stirctl: {judged.at("html")}: {NONE}; its calls break rule 10']
+    assert judged.server.asked == {'/gone': 1, '/html': 1}
+
+
+def test_what_fails_later_is_judged_by_the_file_that_stays(judged):
+    """The first answer is good, and later ones aren't."""
+    calls = [judged.call(1, judged.at('flaky'))]
+    first = judged.run('judge', calls, '--fetch=kept')
+    state = judged.room / 'kept/fetched.json'
+    known = json.loads(state.read_text())
+    known[judged.at('flaky')]['due'] = 1
+    state.write_text(json.dumps(known))
+    again = judged.run('judge', calls, '--fetch=kept')
+    assert again[:2] == first[:2] and b' 436 ' not in first[1]
+    assert again[2] == f'stirctl: {judged.at("flaky")}: the server\'s answer is 503; the file of {today()} stays\n'
+
+
+def test_without_a_folder_what_was_fetched_goes_with_the_run(judged):
+    (judged.room / 'temporary').mkdir()
+    calls = [judged.call(1, judged.at('chain.0'))]
+    assert judged.run('judge', calls, TMPDIR=str(judged.room / 'temporary')) == (0, b'1 valid - - -\n', '')
+    assert list((judged.room / 'temporary').iterdir()) == []
+
+
+def test_no_more_is_fetched_than_a_chain_map_has_lines(judged):
+    (judged.room / 'full.txt').write_text(''.join(f'https://other.example/{n} none\n' for n in range(49_999)))
+    calls = [judged.call(number, judged.at(f'chain.{n}')) for number, n in ((1, 0), (2, 1), (3, 2), (4, 0))]
+    status, report, said = judged.run('judge', calls, '--chains=full.txt', '--fetch=kept', '--chains-out=map.txt')
+    assert (status, [line.split()[1:4] for line in report.splitlines()]) == (1, [[b'valid', b'-', b'-'], [b'refused', b'436', b'10'],
+                                                                               [b'refused', b'436', b'10'], [b'valid', b'-', b'-']])
+    assert said == 'stirctl: a chain map has no room for more x5us; those after them break rule 10\n'
+    assert judged.server.asked == {'/chain.0': 1} and len((judged.room / 'map.txt').read_text().splitlines()) == 50_000
+
+
+def test_a_thousand_x5us_of_other_hosts_are_named_and_no_more(judged):
+    calls = [judged.call(number, f'https://other.example/{number}') for number in range(1, 1004)]
+    status, report, said = judged.run('judge', calls, '--fetch=kept')
+    assert (status, report.count(b' 436 10 ')) == (1, 1003)
+    named = [f'stirctl: https://other.example/{number}: {UNLISTED}; its calls break rule 10' for number in range(1, 1001)]
+    assert said.splitlines() == [*named, 'stirctl: more x5us can\'t be fetched, and aren\'t named; their calls break rule 10']
+
+
+def test_words_that_do_not_go_together_are_refused(judged):
+    (judged.room / 'bad').write_text('https://cert.example.org\n')
+    calls = [judged.call(1, judged.at('chain.0'))]
+
+    def run(*words):
+        by = ['--anchors=world/anchors.der', '--table=world/table.txt']
+        done = subprocess.run([judged.ctl, 'judge', *by, *words, '-'], input=judged.world.log(calls), stdout=subprocess.PIPE, stderr=subprocess.PIPE,
+                              cwd=judged.room, timeout=120)
+        return done.returncode, done.stdout.decode(), done.stderr.decode()
+    for words in ([], ['--chains=world/chains.txt', '--fetch=kept'], ['--chains=world/chains.txt', '--fetch-private=yes'],
+                  ['--chains=world/chains.txt', '--fetch-authorities=authorities'], ['--fetch-hosts=hosts', '--fetch-private=perhaps'],
+                  ['--fetch-hosts=hosts', '--chains-out=map.txt'], ['--fetch-hosts=hosts', '--fetch=a b'],
+                  ['--fetch-hosts=hosts', '--fetch=kept', '--report=map', '--chains-out=map']):
+        assert run(*words)[:2] == (2, ''), words
+    assert run('--fetch-hosts=bad') == (5, 'refused bad 1\n', '')
+    assert run('--fetch-hosts=hosts', '--fetch=hosts') == (4, '', 'stirctl: hosts: File exists (os error 17)\n')
+    assert judged.server.asked == {}

@@ -10,7 +10,7 @@ use std::io::{self, Write};
 use std::path::{Path, PathBuf};
 use std::sync::{Arc, OnceLock, PoisonError, RwLock};
 use stir::{Chain, Part, World};
-use stir_trust::chain_map::{ChainMap, MOST_BYTES};
+use stir_trust::chain_map::{ChainMap, MOST_BYTES, MOST_LINES};
 use stir_trust::revocation::Revoked;
 
 /// The most bytes of a chain; of a longer one so many and one more are handed to the library.
@@ -46,10 +46,11 @@ pub(crate) struct Known {
 
 type Slot = Arc<OnceLock<Result<Found, stir::Error>>>;
 
-/// The chains of a map.
+/// The chains of a map, and those that were fetched.
 pub(crate) struct Chains {
     world: World,
     map: Map,
+    fetched: RwLock<HashMap<Vec<u8>, PathBuf>>,
     kept: RwLock<Generations>,
 }
 
@@ -98,24 +99,57 @@ impl Map {
         self.files.get(self.lines.file(x5u)?).map(AsRef::as_ref)
     }
 
-    /// Writes its lines.
-    fn write(&self, to: &mut dyn Write) -> io::Result<()> {
-        self.lines.all().try_for_each(|(x5u, file)| {
-            to.write_all(x5u)?;
-            writeln!(to, " {}", self.files.get(file).map_or(Path::new(""), AsRef::as_ref).display())
-        })
+    /// All x5us with their files.
+    fn all(&self) -> impl Iterator<Item = (&[u8], &Path)> {
+        self.lines.all().filter_map(|(x5u, number)| Some((x5u, self.files.get(number)?.as_path())))
     }
 }
 
 impl Chains {
     /// The chains of a map, each to be judged under this world.
     pub fn new(world: World, map: Map) -> Chains {
-        Chains { world, map, kept: RwLock::default() }
+        Chains { world, map, fetched: RwLock::default(), kept: RwLock::default() }
     }
 
-    /// Writes the chain map.
+    /// Adds the files of what was fetched.
+    pub fn add(&self, fetched: impl Iterator<Item = (Vec<u8>, PathBuf)>) {
+        self.fetched.write().unwrap_or_else(PoisonError::into_inner).extend(fetched);
+    }
+
+    /// Whether the map has this x5u.
+    pub fn lists(&self, x5u: &[u8]) -> bool {
+        self.map.file(x5u).is_some()
+    }
+
+    /// Whether the map has this x5u, or it was fetched.
+    pub fn has(&self, x5u: &[u8]) -> bool {
+        self.file(x5u).is_some()
+    }
+
+    /// The file of an x5u.
+    fn file(&self, x5u: &[u8]) -> Option<PathBuf> {
+        if let Some(file) = self.map.file(x5u) {
+            return Some(file.to_owned());
+        }
+        self.fetched.read().unwrap_or_else(PoisonError::into_inner).get(x5u).cloned()
+    }
+
+    /// How many lines and bytes a chain map still has room for beside those of this one.
+    pub fn room(&self) -> (usize, usize) {
+        let bytes: usize = self.map.all().map(|(x5u, file)| length(x5u, file)).sum();
+        (MOST_LINES.saturating_sub(self.map.all().count()), MOST_BYTES.saturating_sub(bytes))
+    }
+
+    /// Writes the chain map by which the calls are judged, by rising x5us.
     pub fn write(&self, to: &mut dyn Write) -> io::Result<()> {
-        self.map.write(to)
+        let fetched = self.fetched.read().unwrap_or_else(PoisonError::into_inner);
+        let others = fetched.iter().map(|(x5u, file)| (x5u.as_slice(), file.as_path()));
+        let mut lines: Vec<(&[u8], &Path)> = self.map.all().chain(others).collect();
+        lines.sort_unstable();
+        lines.iter().try_for_each(|(x5u, file)| {
+            to.write_all(x5u)?;
+            writeln!(to, " {}", file.display())
+        })
     }
 
     /// What is known of the chain of an x5u. It is read and judged if nobody needed it lately;
@@ -126,9 +160,9 @@ impl Chains {
         provider: &Provider,
         revocation: &Revocation,
     ) -> Result<Found, Fault> {
-        let Some(file) = self.map.file(x5u) else { return Ok(Found::Missing) };
+        let Some(file) = self.file(x5u) else { return Ok(Found::Missing) };
         let slot = self.slot(x5u);
-        Ok(slot.get_or_init(|| judged(&self.world, file, provider, revocation)).clone()?)
+        Ok(slot.get_or_init(|| judged(&self.world, &file, provider, revocation)).clone()?)
     }
 
     fn slot(&self, x5u: &[u8]) -> Slot {
@@ -146,6 +180,11 @@ impl Chains {
         let slot = old.remove(x5u).unwrap_or_default();
         young.entry(x5u.to_vec()).or_insert(slot).clone()
     }
+}
+
+/// The bytes of a line of a chain map.
+pub(crate) fn length(x5u: &[u8], file: &Path) -> usize {
+    x5u.len() + file.as_os_str().len() + 2
 }
 
 /// The chain of a file, with those of its signatures confirmed that are good: asked for from the

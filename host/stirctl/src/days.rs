@@ -140,6 +140,7 @@ fn words_for(words: &Day, log: &Path, state: &Path, report: &Path) -> words::Jud
         pool: words.pool.clone(),
         state: Some(text(state)),
         checked_by: words.checked_by.clone(),
+        chains_out: None,
         initial: false,
         as_is: false,
         inputs: vec![text(log)],
@@ -153,7 +154,8 @@ fn by_for(by: &By, name: &str) -> By {
     By {
         roots: named(&by.roots),
         anchors: named(&by.anchors),
-        chains: by.chains.replace(NAME, name),
+        chains: named(&by.chains),
+        from: by.from.clone(),
         table: by.table.replace(NAME, name),
         answers: named(&by.answers),
         revoked: RevokedBy { crl: all(&by.revoked.crl), crl_signer: all(&by.revoked.crl_signer) },

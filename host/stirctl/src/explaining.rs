@@ -1,6 +1,7 @@
 //! The command `explain`.
 
 use crate::input::Input;
+use crate::judge::Came;
 use crate::judging::judge_by;
 use crate::log::{End, Log};
 use crate::sink::{Sink, STDOUT};
@@ -29,11 +30,12 @@ fn explained(words: &Explain, out: &mut Sink) -> Result<bool, Fault> {
     let Input { name, source, bar, .. } = Input::open(&words.input)?;
     let (mut log, mut are_valid) = (Log::after(source, 0, 0), true);
     while let Some(piece) = log.piece() {
-        for (number, moment, message) in piece.calls() {
+        let is_wanted =
+            |(number, ..): &Came<'_>| words.call.is_none_or(|call| u64::from(call) == *number);
+        let calls: Vec<Came<'_>> = piece.calls().filter(is_wanted).collect();
+        judge.fetch_for(&calls)?;
+        for (number, moment, message) in calls {
             let number = number.try_into().unwrap_or(u32::MAX);
-            if words.call.is_some_and(|call| call != number) {
-                continue;
-            }
             let (lines, is_valid) = judge.explain(number, moment, message)?;
             out.put(|out| out.write_all(lines.as_bytes()))?;
             are_valid &= is_valid;

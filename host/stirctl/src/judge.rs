@@ -1,9 +1,11 @@
 //! Calls judged by themselves, any number at once: by rules 1 to 17 and 19.
 
 use crate::chains::{Chains, Found, Known};
+use crate::fetched::Fetching;
 use crate::log::Piece;
 use crate::provider::Provider;
 use crate::revocation::Revocation;
+use crate::verdict::CHAIN;
 use crate::Fault;
 use rayon::prelude::*;
 use serde::de::{IgnoredAny, MapAccess, SeqAccess, Visitor};
@@ -22,6 +24,8 @@ pub(crate) struct Judge {
     pub chains: Chains,
     pub provider: Provider,
     pub revocation: Revocation,
+    /// What fetches certificates that the chain map hasn't got, if something does.
+    pub fetching: Option<Fetching>,
     pub files: Files,
     /// Whether it is told who called whom and who signed.
     pub tells: bool,
@@ -34,6 +38,9 @@ pub(crate) struct Files {
     pub table: Vec<u8>,
 }
 
+/// A call's number, moment and message.
+pub(crate) type Came<'a> = (u64, u64, &'a [u8]);
+
 /// What comes of a call by itself.
 #[derive(Clone, Copy, Debug, PartialEq, Eq)]
 pub(crate) enum Outcome {
@@ -42,6 +49,13 @@ pub(crate) enum Outcome {
     Refused(Refused),
     /// The file of this field's chain couldn't be read.
     Unread(u32),
+}
+
+impl Outcome {
+    /// Whether the certificates of an x5u aren't there (rule 10).
+    fn lacks_a_chain(&self) -> bool {
+        matches!(self, Outcome::Refused(refused) if refused.rule == CHAIN)
+    }
 }
 
 /// A call that was judged by itself.
@@ -188,10 +202,49 @@ struct Read {
 
 impl Judge {
     /// Judges the calls of a piece, on all threads of this pool; the answers stand in their order.
+    /// Calls whose certificates are fetched then are judged again.
     pub fn piece(&self, piece: &Piece) -> Vec<Result<Judged, Fault>> {
-        let calls: Vec<_> = piece.calls().collect();
-        let calls = calls.par_iter().with_min_len(FEWEST);
-        calls.map(|(number, moment, message)| self.call(*number, *moment, message)).collect()
+        let calls: Vec<Came<'_>> = piece.calls().collect();
+        let judged = |call: &Came<'_>| self.call(call.0, call.1, call.2);
+        let mut answers: Vec<_> = calls.par_iter().with_min_len(FEWEST).map(judged).collect();
+        if self.fetching.is_none() {
+            return answers;
+        }
+        let (mut places, mut lacking) = (Vec::new(), Vec::new());
+        for (place, (call, answer)) in calls.iter().zip(&answers).enumerate() {
+            if matches!(answer, Ok(judged) if judged.outcome.lacks_a_chain()) {
+                places.push(place);
+                lacking.push(*call);
+            }
+        }
+        let again: Vec<_> = match self.fetch_for(&lacking) {
+            Ok(true) => lacking.par_iter().with_min_len(FEWEST).map(judged).collect(),
+            Ok(false) => Vec::new(),
+            Err(fault) => vec![Err(fault)],
+        };
+        for (place, answer) in places.into_iter().zip(again) {
+            if let Some(before) = answers.get_mut(place) {
+                *before = answer;
+            }
+        }
+        answers
+    }
+
+    /// Fetches the certificates of these calls that the chain map hasn't got, those of an x5u once a
+    /// run; of calls alone that break none of rules 1 to 9. Whether some are there then.
+    pub fn fetch_for(&self, calls: &[Came<'_>]) -> Result<bool, Fault> {
+        let Some(fetching) = &self.fetching else { return Ok(false) };
+        let unlisted = |(_, moment, message): &Came<'_>| -> Result<Vec<Vec<u8>>, Fault> {
+            let mut call = self.world.call(*moment, message)?;
+            let x5us = (0..call.passports()).map(|index| Ok(call.x5u(index)?));
+            let x5us = x5us.collect::<Result<Vec<_>, Fault>>()?;
+            Ok(x5us.into_iter().filter(|x5u| !self.chains.lists(x5u)).collect())
+        };
+        let unlisted: Result<Vec<_>, Fault> =
+            calls.par_iter().with_min_len(FEWEST).map(unlisted).collect();
+        let x5us = unlisted?.concat();
+        fetching.fetch(&x5us, &self.chains)?;
+        Ok(x5us.iter().any(|x5u| self.chains.has(x5u)))
     }
 
     /// Judges a call.

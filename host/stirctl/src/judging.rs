@@ -4,6 +4,7 @@ use crate::answers::Answers;
 use crate::capture::How;
 use crate::chains::{Chains, Map};
 use crate::checking::Check;
+use crate::fetched::Fetching;
 use crate::input::each_log;
 use crate::judge::{Files, Judge};
 use crate::log::End;
@@ -23,7 +24,7 @@ use stir_trust::Verifier;
 
 /// Judges the calls of the inputs, and writes what came of them. The status is 0 if each is valid.
 pub(crate) fn judge(words: &words::Judge) -> Ended {
-    let mut outputs = outputs(&words.to)?;
+    let mut outputs = outputs(&words.to, words.chains_out.as_ref())?;
     let ended = judged(words, &mut outputs).and_then(|are_valid| {
         std::mem::take(&mut outputs).commit(&title(&words.inputs))?;
         Ok(u8::from(!are_valid))
@@ -34,12 +35,13 @@ pub(crate) fn judge(words: &words::Judge) -> Ended {
     })
 }
 
-/// The outputs that the words name.
-pub(crate) fn outputs(to: &To) -> Result<Outputs, Fault> {
+/// The outputs that the words name, and a chain map beside them.
+pub(crate) fn outputs(to: &To, chains: Option<&String>) -> Result<Outputs, Fault> {
     let To { report, json, csv, words, summary, svg } = to;
     let named = [report, json, csv, words, summary, svg];
     let named: Vec<&String> = named.into_iter().flatten().collect();
-    if named.iter().collect::<HashSet<_>>().len() < named.len() {
+    let names: HashSet<&&String> = named.iter().chain(&chains).collect();
+    if names.len() < named.len() + usize::from(chains.is_some()) {
         return Err(Fault::Words("two outputs can't have one name".into()));
     }
     let open = |name: &Option<String>| name.as_deref().map(Sink::open).transpose();
@@ -50,6 +52,7 @@ pub(crate) fn outputs(to: &To) -> Result<Outputs, Fault> {
         words: open(words)?,
         counts: open(summary)?,
         picture: open(svg)?,
+        chains: chains.map(|name| Sink::open(name)).transpose()?,
         ..Outputs::default()
     })
 }
@@ -88,6 +91,9 @@ fn judged(words: &words::Judge, outputs: &mut Outputs) -> Result<bool, Fault> {
     if let Some(check) = check {
         check.holds(&words.by, words.state.as_deref(), &judge, day.are_valid, outputs)?;
     }
+    if let Some(chains) = &mut outputs.chains {
+        chains.put(|to| judge.chains.write(to))?;
+    }
     Ok(day.are_valid)
 }
 
@@ -96,7 +102,7 @@ fn judged(words: &words::Judge, outputs: &mut Outputs) -> Result<bool, Fault> {
 pub(crate) fn judge_by(by: &By, keeps_answers: bool) -> Result<Judge, Fault> {
     let settings = by.rules.settings();
     World::open(&settings, b"", b"").map_err(|error| Fault::Words(error.to_string()))?;
-    let map = Map::read(&by.chains)?;
+    let map = by.chains.as_deref().map_or(Ok(Map::default()), Map::read)?;
     let anchors = match (&by.anchors, &by.roots) {
         (Some(name), _) => world::anchors(&settings, name)?,
         (None, Some(name)) => world::roots(&settings, name)?,
@@ -114,8 +120,9 @@ pub(crate) fn judge_by(by: &By, keeps_answers: bool) -> Result<Judge, Fault> {
     let revocation = Revocation::read(&by.revoked)?;
     let world = World::open(&settings, &anchors, &table)?;
     let chains = Chains::new(world.clone(), map);
+    let fetching = Fetching::of(&by.from, &chains)?;
     let files = Files { anchors, table };
-    Ok(Judge { world, chains, provider, revocation, files, tells: false })
+    Ok(Judge { world, chains, provider, revocation, fetching, files, tells: false })
 }
 
 /// The threads that judge.

@@ -17,6 +17,7 @@ mod crl;
 mod days;
 mod explaining;
 mod fault;
+mod fetched;
 mod fetching;
 mod files;
 mod input;

@@ -72,6 +72,8 @@ pub(crate) struct Outputs {
     pub words: Option<Sink>,
     pub counts: Option<Sink>,
     pub picture: Option<Sink>,
+    /// The chain map by which the calls were judged.
+    pub chains: Option<Sink>,
     pub summary: Summary,
     /// Room for a line of JSON.
     pub line: Vec<u8>,
@@ -132,8 +134,8 @@ impl Outputs {
     /// Ends a run whose log is whole: counts and picture are written, and all files get their
     /// names.
     pub fn commit(self, title: &str) -> Result<(), Fault> {
-        let Outputs { report, json, csv, words, counts, picture, summary, .. } = self;
-        for sink in report.into_iter().chain(json).chain(words) {
+        let Outputs { report, json, csv, words, counts, picture, chains, summary, .. } = self;
+        for sink in report.into_iter().chain(json).chain(words).chain(chains) {
             sink.commit()?;
         }
         if let Some(csv) = csv {

@@ -31,7 +31,7 @@ pub(crate) fn report(words: &Report) -> Ended {
     }
     let text = whole(&words.of, MOST_BYTES)?;
     let (verdicts, fault) = verdicts(&text);
-    let mut outputs = outputs(&told(&words.to))?;
+    let mut outputs = outputs(&told(&words.to), None)?;
     let last = joined(words, &verdicts, &mut outputs)?;
     match fault {
         // Of a log whose report isn't whole no file is made.
@@ -163,7 +163,7 @@ fn judge(words: &Report) -> Result<Judge, Fault> {
     let chains = Chains::new(world.clone(), map);
     let provider = Provider::Answers(Answers::default());
     let (files, revocation) = (Files::default(), Revocation::default());
-    Ok(Judge { world, chains, provider, revocation, files, tells: true })
+    Ok(Judge { world, chains, provider, revocation, fetching: None, files, tells: true })
 }
 
 /// Writes the report of which a text is the JSON.

@@ -18,7 +18,7 @@ pub(crate) enum Verdict {
 
 /// The rule on replay, and that on chains which are there.
 const REPLAY: u32 = 18;
-const CHAIN: u32 = 10;
+pub(crate) const CHAIN: u32 = 10;
 
 impl Verdict {
     /// Writes the line of the call of this number.

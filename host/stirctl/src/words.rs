@@ -4,7 +4,7 @@ pub mod certificates;
 mod fetch;
 pub mod trust;
 
-pub use fetch::Fetch;
+pub use fetch::{Fetch, FetchFrom, YesNo};
 
 use clap::{Args, Parser, Subcommand};
 use stir::Settings;
@@ -25,8 +25,8 @@ pub struct Words {
 
 #[derive(Debug, Subcommand)]
 pub enum Command {
-    Judge(Judge),
-    Day(Day),
+    Judge(Box<Judge>),
+    Day(Box<Day>),
     Explain(Explain),
     Report(Report),
     Confirm(Confirm),
@@ -57,6 +57,10 @@ pub struct Judge {
     /// its report has other bytes, the status is 7 and nothing is written under the names of files
     #[arg(long, value_name = "PROGRAM")]
     pub checked_by: Option<String>,
+    /// The chain map by which the calls were judged: that of --chains, and the files of what was
+    /// fetched
+    #[arg(long, value_name = "FILE", requires = "fetch")]
+    pub chains_out: Option<String>,
     /// Leaves out INVITEs of captures that stand inside a dialog: their To has a tag (RFC 3261,
     /// section 14)
     #[arg(long)]
@@ -178,8 +182,10 @@ pub struct By {
     pub anchors: Option<String>,
     /// The chain map, which says what file has the certificates of what x5u; or a folder with the
     /// map chains.txt
-    #[arg(long, value_name = "FILE")]
-    pub chains: String,
+    #[arg(long, value_name = "FILE", required_unless_present = "fetch_hosts")]
+    pub chains: Option<String>,
+    #[command(flatten)]
+    pub from: FetchFrom,
     /// The code table: which numbers a service provider code covers
     #[arg(long, value_name = "FILE")]
     pub table: String,

@@ -17,7 +17,7 @@ pub struct RevokedBy {
 
 /// Fetches a revocation list and writes it in the place of the one before it, if its signer signed
 /// it and its number isn't less. The status is 1 if the list that was taken has ended.
-#[derive(Clone, Debug, Args)]
+#[derive(Debug, Args)]
 pub struct Crl {
     /// The certificate of whoever signs the list, in PEM
     #[arg(long, value_name = "FILE")]
