@@ -231,8 +231,7 @@ ROUND = 256
 
 
 def worker_case(workers, program):
-    """Calls of two tickets by turns, over six rounds, of which several workers read four at once, judged by this number of workers: one of each ticket is
-    valid, in the first round."""
+    """Calls of two tickets by turns, over six rounds, judged by this number of workers: one of each ticket is valid, in the first round."""
     file = Rows()
     file.named('NAMED IN verify.rows')
     tickets = [number % 2 for number in range(5 * ROUND + 10)]

@@ -8,17 +8,17 @@ use Rattle.drill.specs.declared.command.DrillCommand.{DrillCommand}
 use Rattle.log_rounds.proofs.BatchesLaws.{behind_none, judged_more, stopped}
 use Rattle.log_rounds.proofs.RoundLaws.{outcomes_both}
 use Rattle.log_rounds.specs.AllValid.{all_valid}
-use Rattle.log_rounds.specs.Batches.{JudgedRounds, OneRound, first_number}
-use Rattle.log_rounds.specs.Judge.{JudgeConfig, JudgeState, RoundJudged}
+use Rattle.log_rounds.specs.Batches.{OneRound, first_number}
+use Rattle.log_rounds.specs.Judge.{JudgeConfig, RoundJudged}
 use Rattle.log_rounds.specs.Rounds.{Round, outcomes_in}
-use Rattle.log_rounds.specs.Verifier.{AnswersBy, JudgeBasis, basis_of, config_of, state_by, state_of}
+use Rattle.log_rounds.specs.Verifier.{AnswersBy, JudgeBasis, basis_of, config_of, state_of}
 use Rattle.log_run.specs.Batch.{Batch, BatchAnswerView, batch_of}
 use Rattle.log_run.specs.declared.stop.AnswerError.{AnswerError}
 use Rattle.log_run.specs.declared.stop.AnswerError.TheVariants.{Memory}
 use Rattle.replay_law.specs.Law.{MoreRounds}
 use Rattle.stir_outside.specs.Files.{Counts, Files}
 use Rattle.verify_service.specs.Report.{report}
-use Rattle.verify_service.specs.Service.{ServiceView, texts_in}
+use Rattle.verify_service.specs.Service.{texts_in}
 use Rattle.verify_service.specs.declared.outcome.Outcome.{Outcome}
 
 abbrev pub BothLaw : Type 0
@@ -71,22 +71,6 @@ counting_stopped first one a b c told xs calls stop memory stays most s = record
   silent = s.silent;
   stopped = stopped first.verifier one.verifier a b c told s.said calls stop memory stays most s.judged;
 }
-
--- the same of a state that the verifier came to
-record CountedTo (first : DrillCommand) (before : Counts) (told : Option Files) (state : JudgeState) (counts : Counted) (batches : List Batch) : Type 0 where
-  said : List Batch
-  silent : AreSilent batches said
-  so : JudgedRounds (AnswersBy (basis_of first.verifier) told) (config_of (basis_of first.verifier)) first.verifier.service.chains (state_of first.verifier before) state said
-  counted : counts ≡ with_all first.counts (outcomes_in so.rounds)
-
--- a command whose service is the same one
-pub behind_kept : (first one now : DrillCommand) (a b : Counts) (told : Option Files) (xs : List Batch) → now.verifier.service ≡ one.verifier.service → basis_of now.verifier ≡ basis_of one.verifier
-    → now.counts ≡ one.counts → now.total ≡ one.total → DrillBehind first one a b told xs → DrillBehind first now a b told xs
-behind_kept first one now a b told xs service same counts total s =
-    let known : CountedTo first a told (state_by one.verifier.service b) one.counts xs = record { said = s.said; silent = s.silent; so = s.judged.so; counted = s.counted } in
-    let kept : CountedTo first a told (state_by now.verifier.service b) one.counts xs =
-    subst (λ (x : ServiceView). CountedTo first a told (state_by x b) one.counts xs) (sym service) known in
-    record { said = kept.said; silent = kept.silent; judged = record { so = kept.so; same = same ∙ s.judged.same }; counted = counts ∙ kept.counted; total = total ∙ s.total }
 
 -- no round yet
 pub counted_none : (command : DrillCommand) (a : Counts) (told : Option Files) → DrillBehind command command a a told []

@@ -75,14 +75,6 @@ impl<'a> LogCommand for DrillCommand<'a> {
         256
     }
 
-    fn stretch(&self) -> u32 {
-        self.verifier.rounds_at_once()
-    }
-
-    fn look_ahead<R: Threads + Sync>(&mut self, rt: &R, _alloc: Global, calls: &[Call]) {
-        self.verifier.screen_ahead(rt, calls);
-    }
-
     fn answer<R: Threads + Sync, S: Shelf>(
         &mut self,
         rt: &R,

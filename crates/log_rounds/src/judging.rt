@@ -19,28 +19,7 @@ use stir_outside::{Shelf, files_law};
 use verify_rules::words_law;
 use verify_service::{Carried, State};
 
-/// How many rounds are read at once by several workers.
-const STRETCH: u32 = 4;
-
 impl<'a> LogVerifier<'a> {
-    /// How many rounds are read at once: one for one worker, so that a log that comes slowly is answered as it comes.
-    pub fn rounds_at_once(&self) -> u32
-        ensures some { 0 < result }
-        ensures few { result ≤ 4 }
-    {
-        if self.workers == 1 { 1 } else { STRETCH }
-    }
-
-    /// Screens calls of the next rounds together, if there are several workers. Nothing that is promised depends on it.
-    pub fn screen_ahead<R: Threads + Sync>(&mut self, rt: &R, calls: &[Call])
-        ensures service { self.new.service ≡ self.old.service }
-        ensures same { basis_of self.new ≡ basis_of self.old }
-    {
-        if self.workers > 1 {
-            self.service.look_ahead(rt, self.workers as usize, calls);
-        }
-    }
-
     /// Judges the calls of a round, of which there are 1 to 256. Their numbers rise and their moments don't fall, from those of the last
     /// call before them on. `AllocError` is the only error.
     pub fn judge<R: Threads + Sync, S: Shelf>(
@@ -119,14 +98,6 @@ impl<'a> LogCommand for LogVerifier<'a> {
 
     fn most(&self) -> u32 {
         256
-    }
-
-    fn stretch(&self) -> u32 {
-        self.rounds_at_once()
-    }
-
-    fn look_ahead<R: Threads + Sync>(&mut self, rt: &R, _alloc: Global, calls: &[Call]) {
-        self.screen_ahead(rt, calls);
     }
 
     fn answer<R: Threads + Sync, S: Shelf>(

@@ -1,8 +1,8 @@
 //! A log judged round by round: a verification service over an answers file, as a command over batches of 256 calls.
 //!
 //! - A [`LogVerifier`] is the service, the answers and how many workers there are. It implements `LogCommand` of `log_run`.
-//! - [`judge_log`] cuts a log into rounds of 256 calls, has the verifier judge each round, and writes a line for each of its calls before the next
-//!   round is judged. Its answer is the status: 0 if all calls are valid, 1 if some aren't, and 3 to 6 if something stopped it.
+//! - [`judge_log`] reads the calls of a log in rounds of 256, has the verifier judge each round, and writes a line for each call before the next
+//!   round is read. Its answer is the status: 0 if all calls are valid, 1 if some aren't, and 3 to 6 if something stopped it.
 //! - [`judge_log_on`] is the same from the state of an earlier run on, and writes the state that a [`HandingVerifier`] hands on: `verify --state`.
 //!
 //! ```rust
@@ -10,8 +10,7 @@
 //! let status = judge_log(&rt, alloc, &mut verifier, &mut shelf, &mut input, &mut sink);
 //! ```
 //!
-//! One worker's rounds are read one by one. For several workers four rounds are read at once and their calls screened together, since threads are then
-//! started less often; memory is taken for as many. The loop itself is `log_run`'s and a round `verify_service`'s; the named files are read before, by
+//! Memory is taken for one round at a time. The loop itself is `log_run`'s and a round `verify_service`'s; the named files are read before, by
 //! `stir_files`. Single calls, without replay, are `single_calls`'.
 //!
 //! Proved: what was written is the report of the rounds, each outcome may be given to its call, and by the premise that no two signed texts have one

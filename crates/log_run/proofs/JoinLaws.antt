@@ -1,4 +1,4 @@
--- Batches join those before them, whatever state the command came from.
+-- A batch joins those before it, whatever state the command came from.
 use Rattle.std.proofs.Common.{◌≡◌, ℕ, ◌≤◌, ◌++◌, Option, subst}
 use Rattle.log_run.specs.Streams.{Streams}
 use Rattle.stir_outside.specs.Files.{Counts, Files}
@@ -6,7 +6,7 @@ use Rattle.log_run.specs.Commands.{Behind, From, Stopping}
 use Rattle.log_run.specs.Running.{At, RunEnd, RunsOn, RunsOut}
 use Rattle.log_run.proofs.RunLaws.{on_both, out_behind}
 
--- more batches, with that of which nothing else is said
+-- one batch more, with that of which nothing else is said
 abbrev pub OnFrom : {X : Type 0} → Behind X → ℕ → X → X → Counts → Counts → Option Files → At → At → Streams → Streams → Type 0
 OnFrom {X} behind most one other c d files b e t u = From behind one c files (λ first before batches. RunsOn most (λ more. behind first before other d files (batches ++ more)) b e t u)
 

@@ -2,9 +2,7 @@ pub mod ReadLaws
 pub mod BatchLaws
 pub mod StaysLaws
 pub mod RunLaws
-pub mod PartLaws
-pub mod StretchLaws
-pub mod StretchRan
+pub mod OneBatch
 pub mod JoinLaws
 pub mod EndLaws
 pub mod WordsLaws

@@ -1,4 +1,4 @@
--- Calls that are read after one another, and those that are read at once.
+-- Calls that are read after one another, and those of a batch.
 use Rattle.std.proofs.Common.{◌≡◌, ℕ, ◌+◌, ◌<◌, ◌≤◌, List, [], ◌∷◌, ◌++◌, length, Option, Some, None, Result, Ok, Err, refl, ap, ◌∙◌, sym, subst, arith, append-nil, append_assoc, inl, inr}
 use Rattle.std.specs.Io.KnownBytes.{Consumes}
 use Rattle.std.proofs.KnownBytes.{Consumes-nil, Consumes-trans}
@@ -66,7 +66,7 @@ read_one a b left now call r e = record {
 pub read_more : (a b c : Passed) (left mid now : Option (List ℕ)) (xs ys : List Entry) (call : Entry) → ReadCalls a left mid b xs → ReadsEntry b mid now call → c ≡ after b call → ys ≡ xs ++ call ∷ [] → ReadCalls a left now c ys
 read_more a b c left mid now xs ys call r one e grown = subst (ReadCalls a left now c) (sym grown) (read_both a b c left mid now xs (call ∷ []) r (read_one b c mid now call one e))
 
--- ---- calls that are read at once
+-- ---- a batch
 
 pub read_full : (most : ℕ) (a b : Passed) (left now : Option (List ℕ)) (calls : List Entry) → ReadCalls a left now b calls → length calls ≡ most → ReadFull most a left now b calls
 read_full most a b left now calls r e = record { read = r; full = e }
@@ -75,13 +75,18 @@ pub read_last : (most : ℕ) (a b : Passed) (left mid now : Option (List ℕ)) (
     → ReadLast most a left now calls result
 read_last most a b left mid now calls result r few behind = record { mid = b; mid_left = mid; read = r; few = few; behind = behind }
 
--- the calls, as many as may be or fewer
+-- the calls of a batch, full or not
 pub calls_read : (most : ℕ) (before now : Passed) (left left_now : Option (List ℕ)) (calls : List Entry) (next : Next) → ReadBatch {E = AllocError} most before left left_now now calls (Ok next) → CallsRead before left calls
 calls_read most before now left left_now calls More r = record { mid = now; mid_left = left_now; read = r.read }
 calls_read most before now left left_now calls Whole r = record { mid = r.mid; mid_left = r.mid_left; read = r.read }
 calls_read most before now left left_now calls (Fault fault) r = record { mid = r.mid; mid_left = r.mid_left; read = r.read }
 
--- after as many as may be
+pub few_read : (most : ℕ) (before now : Passed) (left left_now : Option (List ℕ)) (calls : List Entry) (next : Next) → ReadBatch {E = AllocError} most before left left_now now calls (Ok next) → length calls ≤ most
+few_read most before now left left_now calls More r = omega (arith, r.full)
+few_read most before now left left_now calls Whole r = omega (arith, r.few)
+few_read most before now left left_now calls (Fault fault) r = omega (arith, r.few)
+
+-- after a full batch
 pub more_read : (most : ℕ) (before now : Passed) (left left_now : Option (List ℕ)) (calls : List Entry) → ReadFull most before left left_now now calls → now.count ≡ before.count + most
 more_read most before now left left_now calls r = ap (λ (p : Passed). p.count) r.read.moves ∙ counted before calls ∙ ap (λ n. before.count + n) r.full
 
@@ -91,17 +96,22 @@ pub read_follow : (most : ℕ) (Stands : Passed → Type 0) (before now : Passed
 read_follow most Stands before now left left_now calls next stands room r =
     record { passed = before; stands = stands; follow = (calls_read most before now left left_now calls next r).read.follow; room = room }
 
--- and after as many as may be it is at the place after them
+-- and after a full batch it is at the place after it
 pub stands_read : (most : ℕ) (Stands Stands_now : Passed → Type 0) (before now : Passed) (left left_now : Option (List ℕ)) (calls : List Entry) → Stands before → StandsOn Stands Stands_now calls
     → ReadFull most before left left_now now calls → Stands_now now
 stands_read most Stands Stands_now before now left left_now calls stands on r = subst Stands_now (sym r.read.moves) (on before stands r.read.follow)
 
--- as many as may be were read if it goes on
+-- a full batch is one after which it goes on
 pub is_more : (most : ℕ) (before now : Passed) (left left_now : Option (List ℕ)) (calls : List Entry) (next : Next) → ReadBatch {E = AllocError} most before left left_now now calls (Ok next)
     → ◌≡◌ {A = Result Next RunError} (Ok next) (Ok More) → ReadFull most before left left_now now calls
 is_more most before now left left_now calls More r e = r
 is_more most before now left left_now calls Whole r e = absurd cc
 is_more most before now left left_now calls (Fault fault) r e = absurd cc
+
+-- under another name of how many calls a batch has
+pub read_as : (one other : ℕ) (before now : Passed) (left left_now : Option (List ℕ)) (calls : List Entry) (next : Next) → one ≡ other → ReadBatch {E = AllocError} one before left left_now now calls (Ok next)
+    → ReadBatch {E = AllocError} other before left left_now now calls (Ok next)
+read_as one other before now left left_now calls next same r = subst (λ (m : ℕ). ReadBatch {E = AllocError} m before left left_now now calls (Ok next)) same r
 
 -- ---- a fault of the log is at its place
 

@@ -36,28 +36,10 @@ abbrev pub Adds : {X : Type 0} → Behind X → X → X → Counts → Counts �
 Adds {X} behind one other counts counts_now files calls answer = (first : X) (before : Counts) (batches : List Batch) → behind first before one counts files batches
     → behind first before other counts_now files (batches ++ batch_of calls answer ∷ [])
 
--- these batches more were answered
-abbrev pub AddsAll : {X : Type 0} → Behind X → X → X → Counts → Counts → Option Files → List Batch → Type 0
-AddsAll {X} behind one other counts counts_now files more = (first : X) (before : Counts) (batches : List Batch) → behind first before one counts files batches
-    → behind first before other counts_now files (batches ++ more)
-
 -- the run stopped there
 abbrev pub Stops : {X : Type 0} → Behind X → Stopping X → X → X → Counts → Counts → Option Files → List Entry → AnswerError → Type 0
 Stops {X} behind stopped one other counts counts_now files calls stop = (first : X) (before : Counts) (batches : List Batch) → behind first before one counts files batches
     → stopped first before other counts_now files batches calls stop
-
--- these batches more were answered, and then the run stopped there
-abbrev pub StopsAfter : {X : Type 0} → Behind X → Stopping X → X → X → Counts → Counts → Option Files → List Batch → List Entry → AnswerError → Type 0
-StopsAfter {X} behind stopped one other counts counts_now files more calls stop = (first : X) (before : Counts) (batches : List Batch) → behind first before one counts files batches
-    → stopped first before other counts_now files (batches ++ more) calls stop
-
--- what is said of the batches before is said with this state of the command too
-abbrev pub KeepsBehind : {X : Type 0} → Behind X → X → X → Type 0
-KeepsBehind {X} behind one other = (first : X) (before counts : Counts) (files : Option Files) (batches : List Batch) → behind first before one counts files batches → behind first before other counts files batches
-
--- it is at the place where it was
-abbrev pub KeepsStanding : {X : Type 0} → (X → Counts → Option Files → Passed → Type 0) → X → X → Type 0
-KeepsStanding stands one other = (counts : Counts) (files : Option Files) (passed : Passed) → stands one counts files passed → stands other counts files passed
 
 -- the report was closed
 abbrev pub Closes : {X : Type 0} → Behind X → Closing X → X → X → List ℕ → Type 0

@@ -3,7 +3,6 @@ pub mod Commands
 pub mod Reading
 pub mod Streams
 pub mod Running
-pub mod Stretch
 pub mod Ending
 pub mod Words
 pub mod Speaks

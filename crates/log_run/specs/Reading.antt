@@ -1,4 +1,4 @@
--- The calls of a log as they are read, one after another, and where the reading stops.
+-- The calls of a log as they are read, one after another, and where the reading of a batch stops.
 use Rattle.std.specs.Prelude.{◌≡◌, ⊤, ℕ, ◌+◌, ◌≤◌, ◌<◌, ◌⊎◌, List, [], length, Option, Some, None, Result, Ok, Err}
 use Rattle.std.specs.Io.KnownBytes.{Consumes}
 use Rattle.call_log.specs.Entry.{Entry, most_entries}
@@ -50,9 +50,9 @@ abbrev pub FaultyAt : Passed → Option (List ℕ) → ℕ → Type 0
 FaultyAt passed None place = ⊤
 FaultyAt passed (Some rest) place = LogText passed rest [] rest × IsFaulty passed place rest
 
--- ---- calls that are read at once
+-- ---- a batch
 
--- as many calls were read as may be
+-- as many calls were read as a batch has
 pub record ReadFull (most : ℕ) (before : Passed) (left left_now : Option (List ℕ)) (now : Passed) (calls : List Entry) : Type 0 where
   pub read : ReadCalls before left left_now now calls
   pub full : length calls ≡ most

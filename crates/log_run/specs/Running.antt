@@ -69,7 +69,7 @@ pub record RunsOut (most : ℕ) (Known : List Batch → Type 0) (Stopped : List 
   pub ends : EndedBy (Known batches) (Stopped batches) mid now (texts_in batches) outside outside_now ended
   pub stay : StreamsStay outside outside_now
 
--- the batches that were read at once, from any batches on that may have been answered before
+-- one batch, from any batches on that may have been answered before
 abbrev pub RanBatch : ℕ → (List Batch → Type 0) → (List Batch → List Entry → AnswerError → Type 0) → List Batch → At → At → Streams → Streams → Result Next RunError → Type 0
 RanBatch most Known Stopped first before now outside outside_now (Ok More) = RunsOn most (λ more. Known (first ++ more)) before now outside outside_now
 RanBatch most Known Stopped first before now outside outside_now (Ok Whole) = RunsOut most (λ more. Known (first ++ more)) (λ more. Stopped (first ++ more)) before now outside outside_now (Ok None)

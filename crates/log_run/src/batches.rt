@@ -1,12 +1,11 @@
-//! The batches of a log. Several are read at once, and then each is answered and written of before the next.
-ghost use Rattle.std.specs.Prelude.{◌≡◌, ◌++◌, ◌≤◌, ◌<◌, [], length, Ok, IfOk};
+//! The batches of a log: each is read, answered and written of before the next.
+ghost use Rattle.std.specs.Prelude.{◌≡◌, ◌+◌, ◌≤◌, ◌<◌, [], length, Ok, IfOk};
 ghost use Rattle.call_log.specs.Supply.{EndsRight, supply_of};
-ghost use Rattle.log_run.specs.Commands.{Adds, AddsAll, Follow, From, StandsOn, Stops, StopsAfter};
+ghost use Rattle.log_run.specs.Commands.{Adds, Follow, From, StandsOn, Stops};
 ghost use Rattle.log_run.specs.Running.{AnsweredBatch, RanBatch, RunsOut, at_of};
 ghost use Rattle.log_run.specs.declared.ends.Next.TheVariants.{More};
 ghost use Rattle.log_run.specs.Reading.{ReadsOn};
 ghost use Rattle.log_run.specs.Streams.{streams_of};
-ghost use Rattle.log_run.specs.Stretch.{AnsweredAll};
 ghost use Rattle.stir_outside.specs.Stays.{ShelfStays};
 
 use crate::command::LogCommand;
@@ -49,58 +48,7 @@ fn answer_batch<R: Threads + Sync, C: LogCommand, S: Shelf, O: Sink>(
     }
 }
 
-/// The calls of the next batch, and those after them.
-fn next_batch(left: &[Call], most: usize) -> (&[Call], &[Call])
-    requires some { 0 < most }
-    requires left { 0 < length left.now }
-    ensures parts { left.now ≡ result.0.now ++ result.1.now }
-    ensures some { 0 < length result.0.now }
-    ensures few { length result.0.now ≤ most }
-    ensures full { 0 < length result.1.now → length result.0.now ≡ most }
-    ensures fewer { length result.1.now < length left.now }
-{
-    if left.len() < most {
-        left.split_at(left.len())
-    } else {
-        left.split_at(most)
-    }
-}
-
-/// Lets the command look at calls that were read at once. Then answers them batch by batch, and writes the lines of each batch before the next is
-/// answered.
-fn answer_all<R: Threads + Sync, C: LogCommand, S: Shelf, O: Sink>(
-    rt: &R,
-    alloc: Global,
-    command: &mut C,
-    shelf: &mut S,
-    calls: &[Call],
-    sink: &mut O,
-    all_good: &mut bool,
-) -> Result<(), RunError>
-    requires follow { Follow (C.stands command.old (S.counts shelf.old) (S.files shelf.old)) calls.now }
-    ensures answered { AnsweredAll (C.most command.old) (AddsAll C.behind command.old command.new (S.counts shelf.old) (S.counts shelf.new) (S.files shelf.old))
-        (StopsAfter C.behind C.stopped command.old command.new (S.counts shelf.old) (S.counts shelf.new) (S.files shelf.old))
-        calls.now all_good.old all_good.new (O.written sink.old) (O.written sink.new) (O.faults sink.old) (O.faults sink.new) result }
-    ensures stands { IfOk result (λ done. StandsOn (C.stands command.old (S.counts shelf.old) (S.files shelf.old)) (C.stands command.new (S.counts shelf.new) (S.files shelf.new)) calls.now) }
-    ensures writes { O.faults sink.old ≤ O.faults sink.new }
-    ensures same_most { C.most command.new ≡ C.most command.old }
-    ensures shelf { ShelfStays S.Shelf shelf.old shelf.new }
-{
-    let most = command.most() as usize;
-    command.look_ahead(rt, alloc, calls);
-    let mut left = calls;
-    'slices: while !left.is_empty() {
-        let (batch, rest) = next_batch(left, most);
-        match answer_batch(rt, alloc, command, shelf, batch, sink, all_good) {
-            Ok(()) => {}
-            Err(halt) => return Err(halt),
-        }
-        left = rest;
-    }
-    Ok(())
-}
-
-/// Reads the calls of the next batches at once, answers each batch and writes its lines. An empty last batch is none.
+/// Reads the next batch, answers it and writes its lines. An empty last batch is none.
 fn run_batch<R: Threads + Sync, C: LogCommand, S: Shelf, I: Source, O: Sink>(
     rt: &R,
     alloc: Global,
@@ -121,7 +69,7 @@ fn run_batch<R: Threads + Sync, C: LogCommand, S: Shelf, I: Source, O: Sink>(
         (streams_of I.Source O.Sink input.new sink.new) result) }
     ensures reads_on { result ≡ Ok More → ReadsOn reader.new }
     ensures stands { result ≡ Ok More → C.stands command.new (S.counts shelf.new) (S.files shelf.new) reader.new.passed }
-    ensures more { result ≡ Ok More → reader.old.passed.count < reader.new.passed.count }
+    ensures more { result ≡ Ok More → reader.new.passed.count ≡ reader.old.passed.count + C.most command.old }
     ensures some { 0 < C.most command.old }
     ensures same_most { C.most command.new ≡ C.most command.old }
     ensures ends { EndsRight (supply_of I.Source reader.old.ended input.old) → EndsRight (supply_of I.Source reader.new.ended input.new) }
@@ -129,16 +77,14 @@ fn run_batch<R: Threads + Sync, C: LogCommand, S: Shelf, I: Source, O: Sink>(
 {
     let mut calls = Vec::new(alloc);
     let most = command.most();
-    let stretch = command.stretch();
-    let size = most * stretch;
-    let next = match read_batch(size, reader, input, &mut calls) {
+    let next = match read_batch(most, reader, input, &mut calls) {
         Ok(next) => next,
         Err(_) => return Err(RunError::Memory),
     };
     if calls.is_empty() {
         return Ok(next);
     }
-    match answer_all(rt, alloc, command, shelf, &calls, sink, all_good) {
+    match answer_batch(rt, alloc, command, shelf, &calls, sink, all_good) {
         Ok(()) => Ok(next),
         Err(halt) => Err(halt),
     }

@@ -1,5 +1,5 @@
 //! What answers a batch of calls.
-ghost use Rattle.std.specs.Prelude.{◌≡◌, ℕ, ◌*◌, ◌^◌, ◌<◌, ◌≤◌, length, IfOk, IfErr};
+ghost use Rattle.std.specs.Prelude.{◌≡◌, ℕ, ◌<◌, ◌≤◌, length, IfOk, IfErr};
 
 use crate::answer::BatchAnswer;
 use crate::stop::AnswerError;
@@ -8,7 +8,7 @@ use std::alloc::{AllocError, Global};
 use std::thread::Threads;
 use stir_outside::Shelf;
 
-/// A command over the calls of a log, which are handed to it in batches. Before that it may look at the calls of several batches at once.
+/// A command over the calls of a log, which are handed to it in batches.
 ///
 /// `behind` says which batches may have been answered from one state on up to another, `stopped` where the run may then stop, and `closed` by what
 /// text the report may then be closed. `stands` says after which places of the log a batch may come, with these counts and files of the shelf.
@@ -16,7 +16,7 @@ pub trait LogCommand {
     ghost use Rattle.call_log.specs.Entry.{Entry};
     ghost use Rattle.call_log.specs.Log.{Passed};
     ghost use Rattle.log_run.specs.Batch.{Batch};
-    ghost use Rattle.log_run.specs.Commands.{Adds, Closes, Follow, IsShort, KeepsBehind, KeepsStanding, StandsOn, Stops};
+    ghost use Rattle.log_run.specs.Commands.{Adds, Closes, Follow, IsShort, StandsOn, Stops};
     ghost use Rattle.log_run.specs.declared.stop.AnswerError.{AnswerError};
     ghost use Rattle.stir_outside.specs.Files.{Counts, Files};
     ghost use Rattle.stir_outside.specs.Stays.{ShelfStays};
@@ -37,18 +37,6 @@ pub trait LogCommand {
     fn most(&self) -> u32
         ensures exact { result ≡ most self.now }
         ensures some { 0 < result };
-
-    /// How many batches are read at once. The command may look at the calls of all of them before the first is answered.
-    fn stretch(&self) -> u32
-        ensures some { 0 < result }
-        ensures room { most self.now * result < 2 ^ 32 };
-
-    /// Looks at the calls that come next, before they are answered batch by batch. Nothing that is said of the batches before changes.
-    fn look_ahead<R: Threads + Sync>(&mut self, rt: &R, alloc: Global, calls: &[Call])
-        requires shared { IsSync R.row }
-        ensures behind { KeepsBehind behind self.old self.new }
-        ensures stands { KeepsStanding stands self.old self.new }
-        ensures same_most { most self.new ≡ most self.old };
 
     /// Answers a batch of calls.
     fn answer<R: Threads + Sync, S: Shelf>(

@@ -1,11 +1,11 @@
-//! How a run goes on after the calls that were read at once, and what stops it.
+//! How a run goes on after a batch, and what stops it.
 use crate::stop::AnswerError;
 use call_log::LogFault;
 
-/// What comes after the calls that were read at once.
+/// What comes after a batch of calls.
 #[derive(Clone, Copy)]
 pub(crate) enum Next {
-    /// More of the log, or its end: as many calls were read as may be.
+    /// More of the log, or its end: the batch is full.
     More,
     /// The end of the log.
     Whole,
@@ -18,7 +18,7 @@ pub(crate) enum Next {
 pub enum RunError {
     /// A write failed.
     Sink,
-    /// Memory ran out for the calls that were read.
+    /// Memory ran out for the calls of a batch.
     Memory,
     /// The calls weren't answered.
     Stopped(AnswerError),

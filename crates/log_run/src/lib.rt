@@ -1,20 +1,15 @@
-//! The one loop over a log. It reads the calls of several batches at once, and the command looks at them. Then each batch is answered, and its lines
-//! are written before the next is answered.
+//! The one loop over a log: its calls are read in batches, and a batch is answered and its lines written before the next is read.
 //!
 //! # The way through
 //!
 //! ```text
-//! LogReader   --the calls of some batches-->   LogCommand::look_ahead (what needs only the calls, for all of them together)
-//!    |                                            | batch by batch
-//!    |                                            v
-//!    |                                         LogCommand::answer   --BatchAnswer: its lines, and whether all is well-->   the sink
+//! LogReader   --a batch of calls-->   LogCommand::answer   --BatchAnswer: its lines, and whether all is well-->   the sink
 //!    | until the log ends, or a fault stops it
 //!    v
 //! LogCommand::closing (the text after the last batch), the line of a fault, the status
 //! ```
 //!
-//! - [`LogCommand`] is what a command implements: how many calls a batch has, how many batches are read at once, what looks at their calls, what answers
-//!   them, and the text that closes the report.
+//! - [`LogCommand`] is what a command implements: how many calls a batch has, what answers them, and the text that closes the report.
 //! - [`run_log`] goes on from where the reader is: it may begin at any number and moment, and may have bytes ahead.
 //! - An [`AnswerError`] stops a run at a file of certificates or for memory. [`RunError`] says how a run ended before the log did.
 //!
@@ -23,7 +18,7 @@
 //! let status = run_log(&rt, alloc, &mut command, &mut reader, &mut shelf, &mut input, &mut sink);
 //! ```
 //!
-//! Memory is taken for the batches that are read at once. A fault of the log, or a read that fails, ends the run after the calls before it were answered.
+//! Memory is taken for one batch at a time. A fault of the log, or a read that fails, ends the run after the calls before it were answered.
 //!
 //! # What it isn't
 //!

@@ -1,4 +1,4 @@
-//! Calls as they are read from a log at once.
+//! The calls of a batch, as they are read from a log.
 ghost use Rattle.std.specs.Prelude.{◌≡◌, ◌+◌, ◌≤◌, ◌<◌, [], Ok, Err, None, IfOk};
 ghost use Rattle.call_log.specs.Entry.{most_entries};
 ghost use Rattle.call_log.specs.Reads.{Moves, left_to};
@@ -26,7 +26,7 @@ fn next_call<I: Source>(reader: &mut LogReader, input: &mut I) -> Result<Option<
     reader.next(input)
 }
 
-/// Reads up to this many of the next calls into a list that is empty, and says what comes after them. `AllocError` is the only error.
+/// Reads the calls of the next batch into a list that is empty, and says what comes after them. `AllocError` is the only error.
 #[tactic(auto, using(crate::proofs::ReadLaws::read_none, crate::proofs::ReadLaws::read_more, crate::proofs::ReadLaws::read_full, crate::proofs::ReadLaws::read_last))]
 pub(crate) fn read_batch<I: Source>(
     most: u32,

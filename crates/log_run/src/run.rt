@@ -18,9 +18,8 @@ use std::alloc::Global;
 use std::thread::Threads;
 use stir_outside::{Shelf, Sink, Source, Status, end_with, memory_line, write_whole};
 
-/// Reads the calls of several batches of a log at once, answers them batch by batch, and writes the lines of each before the next is answered. Then it
-/// writes the text that closes the report, and a line if the log is outside its grammar or can't be read further. The reader may begin at any number
-/// and moment, and may have bytes ahead.
+/// Answers the calls of a log batch by batch, and writes the lines of each before the next is read. Then it writes the text that closes the report,
+/// and a line if the log is outside its grammar or can't be read further. The reader may begin at any number and moment, and may have bytes ahead.
 pub fn run_log<R: Threads + Sync, C: LogCommand, S: Shelf, I: Source, O: Sink>(
     rt: &R,
     alloc: Global,

@@ -115,16 +115,6 @@ impl<'a> LogCommand for Explainer<'a> {
         1
     }
 
-    fn stretch(&self) -> u32 {
-        1
-    }
-
-    fn look_ahead<R: Threads + Sync>(&mut self, rt: &R, alloc: Global, calls: &[Call]) {
-        let _ = rt;
-        let _ = alloc;
-        let _ = calls;
-    }
-
     fn answer<R: Threads + Sync, S: Shelf>(
         &mut self,
         rt: &R,

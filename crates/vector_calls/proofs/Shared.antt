@@ -2,7 +2,6 @@
 -- lent can do nothing.
 use denote.Param.Send.{IsSync, sendable}
 use denote.Param.SendFields.{as_row_sync, declared_sync}
-use Rattle.call_log.specs.contracts.call.Call as logged
 use Rattle.std.proofs.Crossing.{crosses}
 use Rattle.std.proofs.MapsCrossing as maps
 use Rattle.std.proofs.MapsCrossing.{HashMap-sync}
@@ -70,12 +69,9 @@ table_sync = search (maps.crosses, crosses, sendable) depth 60 fits 50000
 world_sync : IsSync (world.the_field).row
 world_sync = search (map_sync, anchors_sync, table_sync, sendable) depth 60 fits 50000
 
-logged_sync : IsSync logged.the_row
-logged_sync = search (crosses, sendable) depth 60 fits 50000
-
 -- a service keeps the calls of a round for their places
 service_by : IsSync call.the_row → IsSync cache.the_row → IsSync service.the_row
-service_by c k = search (past_sync, world_sync, logged_sync, among_threads) depth 60 fits 50000
+service_by c k = search (past_sync, world_sync, among_threads) depth 60 fits 50000
 
 pub service_sync : IsSync screened.the_row → IsSync cache.the_row → IsSync service.the_row
 service_sync s k = service_by (call_sync s) k

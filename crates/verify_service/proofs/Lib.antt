@@ -53,7 +53,6 @@ mod HandingLaws
 mod SeatingLaws
 mod PreparedLaws
 mod PrepareLaws
-mod AheadLaws
 mod ContentLaws
 mod RunTimeLaws
 mod RunLaws

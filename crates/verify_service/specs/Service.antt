@@ -15,13 +15,11 @@ use Rattle.state_text.specs.declared.kept.Kept.{Kept as Passing}
 use Rattle.stir_outside.specs.Files.{Files as ShelfFiles}
 use Rattle.verify_rules.specs.World.{World}
 use Rattle.verify_rules.specs.declared.settings.Settings.{Settings}
-use Rattle.verify_service.specs.Judging.{EachJudged, EachPair}
+use Rattle.verify_service.specs.Judging.{EachJudged}
 use Rattle.verify_service.specs.Needed.{named, round_texts}
 use Rattle.verify_service.specs.RightChains.{AreRightHeld}
-use Rattle.verify_service.specs.Screening.{IsReady}
 use Rattle.cert_store.specs.declared.world.World.{World as Materials}
 use Rattle.verify_service.specs.declared.outcome.Outcome.{Outcome}
-use Rattle.verify_service.specs.declared.screening.ReadyCall.{ReadyCall}
 use Rattle.x509_profile.specs.View.{CertView}
 
 pub record ServiceView : Type 0 where
@@ -44,13 +42,11 @@ pub record ServiceView : Type 0 where
 abbrev pub EachKept : ℕ → PastView → Type 0
 EachKept number past = (ticket : List ℕ) (kept : Passing) → found past ticket ≡ Some kept → IsKept number kept
 
--- what holds of every service: it may hold 4,096 chains, its last call came by the end of the year 9999, and what it keeps is of the calls so far;
--- and each call that is ahead was screened by its settings
-pub record IsSound (capacity number moment : ℕ) (past : PastView) (settings : Settings) (calls : List Entry) (ahead : List ReadyCall) : Type 0 where
+-- what holds of every service: it may hold 4,096 chains, its last call came by the end of the year 9999, and what it keeps is of the calls so far
+pub record IsSound (capacity number moment : ℕ) (past : PastView) : Type 0 where
   pub capacity_is : capacity ≡ 4096
   pub moment_within : moment ≤ 253402300799
   pub each_kept : EachKept number past
-  pub ahead_are : EachPair (IsReady settings) calls ahead
 
 -- the world of a service with the files of a shelf and what a provider says
 abbrev pub world_of : ServiceView → ShelfFiles → Says → World

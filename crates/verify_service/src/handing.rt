@@ -37,8 +37,6 @@ impl Service {
             moment: state.moment(),
             begun: false,
             places: Vec::new(alloc),
-            ahead_calls: Vec::new(alloc),
-            ahead: Vec::new(alloc),
         })
     }
 

@@ -14,7 +14,6 @@
 //!
 //! - [`Service::new`] takes the settings and the [`World`] (chain map, anchors, code table). [`Service::round`] is `prepare` and then `carry`.
 //! - A [`Worker`] is a provider of signatures and a gate. Their providers say the same. If there are several, each judges its calls in a thread of its own.
-//! - [`Service::look_ahead`] screens the calls of rounds that come later, of several at once; `prepare` takes over what was screened.
 //! - [`Service::judge`] judges a call of a prepared round, for a caller with threads of its own.
 //!
 //! ```rust
@@ -44,7 +43,6 @@
 //! Sections `rounds` and `workers` of `crates/vectors/stdin`; whole logs in `tests/cli/verify.rows`.
 #![tactic(auto)]
 
-mod ahead;
 mod carried;
 mod carrying;
 mod claiming;

@@ -20,15 +20,16 @@ use crate::classing::class_calls;
 use crate::laws::{stored_law, texts_law};
 use crate::outcome::Outcome;
 use crate::prepared::Prepared;
-use crate::preparing::ready_chains;
+use crate::preparing::{ready_calls, ready_chains};
 use crate::ready::Round;
-use crate::screening::ReadyCall;
+use crate::screening::{ReadyCall, screening_threads};
 use crate::seating::desk_for;
 use crate::service::Service;
 use crate::worker::Worker;
 use call_log::Call;
 use cert_store::{Cache, World, cache_law, use_law};
 use std::alloc::{AllocError, Global};
+use std::mem;
 use std::thread::Threads;
 use stir_outside::{Gate, Provider, Shelf};
 use verify_rules::{Settings, screened_law};
@@ -131,6 +132,26 @@ impl Service {
         self.past.purge(first.moment());
         self.number = last.number();
         self.moment = last.moment();
+    }
+
+    /// The calls of a round, screened in the threads of so many workers. They take over the places of the last round that was closed. `AllocError` is the
+    /// only error.
+    fn screened<R: Threads + Sync>(
+        &mut self,
+        rt: &R,
+        alloc: Global,
+        workers: usize,
+        calls: &[Call],
+    ) -> Result<Vec<ReadyCall>, AllocError>
+        requires some { 0 < workers }
+        requires few { workers ≤ 8 }
+        ensures ready { IfOk result (λ ready. EachPair (IsReady self.old.settings) calls.now ready.items) }
+        ensures same { self.new ≡ self.old }
+    {
+        let places = mem::replace(&mut self.places, Vec::new(alloc));
+        let threads = screening_threads(workers);
+        let ready = ready_calls(rt, alloc, &self.settings, calls, threads, places)?;
+        Ok(ready)
     }
 }
 

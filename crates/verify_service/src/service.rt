@@ -1,6 +1,6 @@
 //! The service.
 ghost use Rattle.replay_desk.specs.Pairs.{In};
-ghost use Rattle.std.specs.Prelude.{◌≡◌, ◌≤◌, ◌↔◌, ℕ, vec_len, IfOk, IsTrue};
+ghost use Rattle.std.specs.Prelude.{◌≡◌, ◌↔◌, ℕ, IfOk, IsTrue};
 ghost use Rattle.verify_service.specs.Service.{Follow, IsNew, all_follow, follows_on};
 
 use crate::carried::Carried;
@@ -16,9 +16,6 @@ use verify_rules::Settings;
 
 /// The most calls of a round.
 const MOST_CALLS: usize = 256;
-
-/// The most calls of closed rounds whose places are kept.
-const MOST_PLACES: usize = 1024;
 
 /// The most chains that are held.
 pub(crate) const MOST_CHAINS: usize = 4096;
@@ -37,12 +34,8 @@ pub struct Service {
     pub(crate) moment: u64,
     /// Whether a round was prepared since the state was taken.
     pub(crate) begun: bool,
-    /// The calls of rounds that were closed. The next calls that are screened take over their places.
+    /// The calls of a round that was closed. The next round takes over their places.
     pub(crate) places: Vec<ReadyCall>,
-    /// The calls that were screened before their round came, in the order of the log.
-    pub(crate) ahead_calls: Vec<Call>,
-    /// The same, screened.
-    pub(crate) ahead: Vec<ReadyCall>,
 }
 
 impl Model for Service {
@@ -62,7 +55,7 @@ impl Model for Service {
       begun = s.begun;
     } };
 
-    ghost invariant = { λ s. IsSound s.cache.capacity s.number s.moment s.past s.settings s.ahead_calls.items s.ahead.items };
+    ghost invariant = { λ s. IsSound s.cache.capacity s.number s.moment s.past };
 }
 
 impl Service {
@@ -81,8 +74,6 @@ impl Service {
             moment: 0,
             begun: false,
             places: Vec::new(alloc),
-            ahead_calls: Vec::new(alloc),
-            ahead: Vec::new(alloc),
         })
     }
 
@@ -105,15 +96,15 @@ impl Service {
 }
 
 impl Service {
-    /// Closes a round that was carried out, as [`Carried::close`] does. The next calls that are screened take over the places of its calls, so that what
-    /// these hold is given back by all threads that screen calls, and not by the one that closes. At most 1,024 places are kept.
+    /// Closes a round that was carried out, as [`Carried::close`] does. The next round takes over the places of its calls, so that what these hold is given
+    /// back by all threads that screen calls, and not by the one that closes.
     pub fn close(&mut self, carried: Carried) -> Vec<Outcome>
         ensures outcomes { result.items ≡ carried.outcomes }
         ensures named { (p : ℕ × ℕ) → In p carried.seat.losses → In p carried.seat.wins }
         ensures same { self.new ≡ self.old }
     {
         let (outcomes, places) = carried.take_apart();
-        keep_places(&mut self.places, places);
+        self.places = places;
         outcomes
     }
 
@@ -122,16 +113,6 @@ impl Service {
         ensures { self.now.held.capacity ≡ 4096 }
     {
         let _cache = &self.cache;
-    }
-}
-
-/// Keeps the places of a closed round beside those that are kept, if there are at most 1,024 then. If memory runs out, they aren't kept.
-fn keep_places(kept: &mut Vec<ReadyCall>, places: Vec<ReadyCall>)
-    ensures few { vec_len kept.old ≤ 1024 → vec_len kept.new ≤ 1024 }
-{
-    let mut places = places;
-    if places.len() <= MOST_PLACES.saturating_sub(kept.len()) {
-        let _ = kept.append(&mut places);
     }
 }
 

@@ -1,4 +1,4 @@
--- The batches that were read at once join those before them.
+-- A batch joins those before it.
 use Rattle.std.proofs.Common.{Ok, refl, ◌∙◌, ap}
 use Rattle.log_run.proofs.JoinLaws.{on_joined, out_joined}
 use Rattle.log_run.proofs.RunLaws.{on_none}

@@ -24,6 +24,6 @@ invariant-batches g l = record {
   shelf : ShelfStays g.S.Shelf l.fn.shelf l.shelf;
 }
 
--- full batches have some of the calls that a log may have
+-- each full batch has some of the calls that a log may have
 abbrev pub decreases-batches : goal.decreases-batches
 decreases-batches g l = most_entries - l.reader.passed.count

@@ -16,5 +16,4 @@ invariant_of-self-2 c =
       capacity_is = c.self.invariant.capacity_is;
       moment_within = subst (λ n. n ≤ 253402300799) (sym moment) (moments_within c.args.self.now.number c.args.self.now.moment c.args.calls.now c.requires.follow.each within);
       each_kept = purged_kept c.self.inside.number c.number-self-inside.result _ c.self.inside.past c.purge.new.self (omega (arith, number, before, more)) c.self.invariant.each_kept c.purge.ensures.calls;
-      ahead_are = c.self.invariant.ahead_are;
     }

@@ -26,7 +26,6 @@ invariant_of-self g c =
       moment_within = c.self.invariant.moment_within;
       each_kept = added_kept c.self.inside.number c.self.inside.past c.carry_round.new.past c.prepared.inside.round.calls.items c.carry_round.result.outcomes c.self.invariant.each_kept
           (are_kept c.args.self.now.settings c.self.inside.number c.prepared.inside.round.calls.items screened) c.carry_round.ensures.added;
-      ahead_are = c.self.invariant.ahead_are;
     }
 
 pub carry_round-requires-clause-ready : goal.carry_round-requires-clause-ready

@@ -27,7 +27,6 @@ invariant_of-self-in_err-prepared g c = record {
   capacity_is = c.prepare_round.ensures.capacity ∙ c.self.invariant.capacity_is;
   moment_within = c.self.invariant.moment_within;
   each_kept = same_kept c.self.inside.number c.self.inside.number c.self.inside.past c.reserve.new.self (omega arith) c.self.invariant.each_kept c.reserve.ensures.same;
-  ahead_are = c.self.invariant.ahead_are;
 }
 
 pub invariant_of-self-2 : goal.invariant_of-self-2
@@ -35,7 +34,6 @@ invariant_of-self-2 g c = record {
   capacity_is = c.prepare_round.ensures.capacity ∙ c.self.invariant.capacity_is;
   moment_within = c.self.invariant.moment_within;
   each_kept = same_kept c.self.inside.number c.self.inside.number c.self.inside.past c.reserve.new.self (omega arith) c.self.invariant.each_kept c.reserve.ensures.same;
-  ahead_are = c.self.invariant.ahead_are;
 }
 
 pub returns-clause-purged : goal.returns-clause-purged

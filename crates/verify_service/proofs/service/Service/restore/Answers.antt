@@ -8,5 +8,4 @@ invariant_of-result c = record {
   capacity_is = search rules;
   moment_within = subst (λ n. n ≤ 253402300799) (sym c.moment.ensures) c.past_of.ensures.rules.moment;
   each_kept = subst (λ n. EachKept n c.in_ok-past.past) (sym c.call.ensures) c.in_ok-past.ensures.kept;
-  ahead_are = search rules;
 }

@@ -9,7 +9,6 @@ invariant_of-self c = record {
   capacity_is = c.self.invariant.capacity_is;
   moment_within = c.self.invariant.moment_within;
   each_kept = purged_kept c.self.inside.number c.self.inside.number c.self.inside.moment c.self.inside.past c.purge.new.self (omega arith) c.self.invariant.each_kept c.purge.ensures.calls;
-  ahead_are = c.self.invariant.ahead_are;
 }
 
 pub invariant_of-self-2 : goal.invariant_of-self-2
@@ -17,7 +16,6 @@ invariant_of-self-2 c = record {
   capacity_is = c.self.invariant.capacity_is;
   moment_within = c.self.invariant.moment_within;
   each_kept = purged_kept c.self.inside.number c.self.inside.number c.self.inside.moment c.self.inside.past c.purge.new.self (omega arith) c.self.invariant.each_kept c.purge.ensures.calls;
-  ahead_are = c.self.invariant.ahead_are;
 }
 
 pub unreachable-requires : goal.unreachable-requires
