@@ -63,13 +63,16 @@ impl std::fmt::Display for Certificates {
     }
 }
 
+/// What comes of an x5u that is asked for.
+type Brought = Result<Arc<Entry>, Miss>;
+
 /// What came of the x5us that a call asked for; at most nine.
 #[derive(Debug, Default)]
-pub struct Came(Vec<(Vec<u8>, Result<Arc<Entry>, Miss>)>);
+pub struct Came(Vec<(Vec<u8>, Brought)>);
 
 impl Came {
     /// What came of this one, if it was asked for.
-    pub fn of(&self, x5u: &[u8]) -> Option<&Result<Arc<Entry>, Miss>> {
+    pub fn of(&self, x5u: &[u8]) -> Option<&Brought> {
         self.0.iter().find(|(name, _)| name == x5u).map(|(_, came)| came)
     }
 }
@@ -108,7 +111,7 @@ impl Fetching {
     }
 
     /// The chain of an x5u of which a fetch is begun if none is on its way; nobody is waited for.
-    async fn begun(&self, x5u: &[u8]) -> Result<Arc<Entry>, Miss> {
+    async fn begun(&self, x5u: &[u8]) -> Brought {
         let brought = self.waited(x5u, Duration::ZERO).await;
         // These are no fetches, so that nobody else tells of them.
         if let Err(Miss::Failed(reason @ (Reason::Uri | Reason::Listed | Reason::Limited(_)))) =
@@ -120,7 +123,7 @@ impl Fetching {
         brought
     }
 
-    async fn waited(&self, x5u: &[u8], limit: Duration) -> Result<Arc<Entry>, Miss> {
+    async fn waited(&self, x5u: &[u8], limit: Duration) -> Brought {
         match std::str::from_utf8(x5u) {
             Ok(x5u) => self.cache.wait(x5u, limit).await,
             Err(_) => Err(Miss::Failed(Reason::Uri)),
@@ -128,6 +131,6 @@ impl Fetching {
     }
 }
 
-fn is_late(brought: &Result<Arc<Entry>, Miss>) -> bool {
+fn is_late(brought: &Brought) -> bool {
     matches!(brought, Err(Miss::Late))
 }
