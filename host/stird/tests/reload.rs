@@ -7,9 +7,11 @@ use std::os::unix::fs::PermissionsExt;
 use std::path::Path;
 use std::sync::atomic::{AtomicBool, Ordering};
 use std::time::{Duration, Instant};
+use stir_trust::fetch::{HostsFault, Reach};
+use stir_trust::roots::RootsFault;
 use stir_trust::Verifier;
 use stird::files::look::Kind;
-use stird::files::{read, Anchors, FileFault, Sources, Why, World};
+use stird::files::{read, Anchors, Codes, FileFault, HostFiles, MayAsk, Sources, Why, World};
 use support::{as_another_user, fifo, x5u, Dice, Files};
 
 fn verifier() -> Verifier {
@@ -190,7 +192,7 @@ fn a_chain_that_cant_be_read_any_more_stays_what_it_was_and_all_else_is_taken() 
     assert!((0..3).all(|number| is_confirmed(&world, number)));
     // Also over another world: its bytes are held.
     let other = support::Certificate::authority("other", None);
-    let anchors = [std::fs::read(&sources.anchors).expect("anchors"), other.der()].concat();
+    let anchors = [std::fs::read(sources.anchors.path()).expect("anchors"), other.der()].concat();
     files.folder.put("anchors.der", anchors);
     let world = settled(&sources, world);
     assert_eq!((world.chains(), world.unreadable_count()), (3, 1));
@@ -222,13 +224,13 @@ fn a_file_without_permission_is_told_and_taken_once_it_has_it() {
     let world = again(&sources, world);
     let told = world.faults();
     assert_eq!(told.len(), 1);
-    assert_eq!(told[0].file, Some(sources.table.clone()));
+    assert_eq!(told[0].file, sources.table);
     assert!(world.is_stale(), "it is tried again");
     mode("table.txt", 0o644);
     assert!(settled(&sources, world).faults().is_empty());
     mode("anchors.der", 0);
     let fault = read(&sources, &verifier(), None).err().expect("it can't be read");
-    assert_eq!(fault.file, Some(sources.anchors));
+    assert_eq!(fault.file.as_deref(), Some(sources.anchors.path()));
 }
 
 #[test]
@@ -289,6 +291,101 @@ fn two_files_refused_at_once_are_both_named_and_put_back() {
     let world = again(&sources, world);
     assert_eq!((world.faults().len(), world.chains()), (3, 1));
     assert!(is_confirmed(&world, 0));
+}
+
+#[test]
+fn without_a_map_and_a_table_there_are_no_chains_and_no_codes() {
+    let files = Files::new(1);
+    let sources = Sources { chains: None, table: None, ..files.sources() };
+    let world = settled(&sources, start(&sources));
+    assert_eq!((world.chains(), world.missing(), world.names_count()), (0, 0, 0));
+    assert!(!world.lists(x5u(0).as_bytes()) && world.faults().is_empty());
+    assert!(!world.is_stale());
+}
+
+#[test]
+fn the_names_of_codes_are_known_if_others_are_trusted() {
+    let files = Files::new(1);
+    for (codes, count) in [(Codes::Listed, 0), (Codes::Trusted, 1)] {
+        let sources = Sources { codes, ..files.sources() };
+        let world = start(&sources);
+        assert_eq!((world.names_count(), world.names(b"709J")), (count, count == 1));
+    }
+    let sources = Sources { codes: Codes::Trusted, ..files.sources() };
+    let world = settled(&sources, start(&sources));
+    let ground = std::sync::Arc::clone(world.ground());
+    files.renew(0);
+    let world = settled(&sources, world);
+    assert!(std::sync::Arc::ptr_eq(world.ground(), &ground), "a chain is none of the world");
+    files.folder.put("table.txt", "42 *\n709J 12000000000 10000");
+    let world = settled(&sources, world);
+    assert!(!std::sync::Arc::ptr_eq(world.ground(), &ground));
+    assert!(world.names(b"42") && world.names(b"709J") && world.names_count() == 2);
+    let more = ["43".as_bytes().into()].into();
+    assert!(world.extended(&more).is_ok(), "the last line has no end, and gets one");
+}
+
+#[test]
+fn roots_in_pem_are_taken_and_what_is_left_out_is_told_once() {
+    let files = Files::new(1);
+    let pem = |der: &[u8]| {
+        let certificate = openssl::x509::X509::from_der(der).expect("a certificate");
+        certificate.to_pem().expect("PEM")
+    };
+    let root = std::fs::read(files.folder.path("anchors.der")).expect("a root");
+    let leaf = files.middle.leaf("leaf", support::VALID, &support::Authority::Code("42"));
+    let roots = files.folder.put("roots.pem", [pem(&root), pem(&leaf.der())].concat());
+    let sources = Sources { anchors: Anchors::Pem(roots.clone()), ..files.sources() };
+    let world = start(&sources);
+    let told = format!(
+        "{}: certificate 2, CN=leaf, is no trust anchor of the profile, and is left out",
+        roots.display()
+    );
+    assert_eq!((world.news(), is_confirmed(&world, 0)), (&[told][..], true));
+    let world = settled(&sources, world);
+    files.renew(0);
+    let world = again(&sources, world);
+    assert!(world.news().is_empty(), "it was told before: {:?}", world.news());
+    let before = at(&world, 0);
+    files.folder.put("roots.pem", "no roots");
+    let world = settled(&sources, again(&sources, world));
+    let faults = world.faults();
+    assert_eq!((faults.len(), &faults[0].why), (1, &Why::Roots(RootsFault::Pem)));
+    assert_eq!(at(&world, 0), before, "it stays what it was");
+    let fault = read(&sources, &verifier(), None).err().expect("there is none from before");
+    assert_eq!(fault.to_string(), format!("{}: no certificates in PEM", roots.display()));
+}
+
+#[test]
+fn hosts_and_authorities_that_are_refused_stay_what_they_were() {
+    let files = Files::new(1);
+    let root = std::fs::read(files.folder.path("anchors.der")).expect("a root");
+    let root = openssl::x509::X509::from_der(&root).and_then(|root| root.to_pem()).expect("PEM");
+    let wanted = HostFiles {
+        hosts: files.folder.put("hosts.txt", "a.example\n"),
+        authorities: Some(files.folder.put("authorities.pem", &root)),
+        reach: Reach::Public,
+    };
+    let (mut now, fetcher) = MayAsk::read(&wanted, None).expect("it is read");
+    assert!(fetcher.host_of("https://a.example/").is_ok());
+    let mut read_again = |host: &str| {
+        let (next, fetcher) = MayAsk::read(&wanted, Some(&now)).expect("there is one from before");
+        let faults: Vec<Why> = next.faults().into_iter().map(|fault| fault.why.clone()).collect();
+        let is_same = next.is_as(&now);
+        now = next;
+        (faults, is_same, fetcher.host_of(&format!("https://{host}/")).is_ok())
+    };
+    files.folder.put("hosts.txt", "b.example\nhttps://c.example\n");
+    let fault = Why::Hosts(HostsFault { line: 2 });
+    assert_eq!(read_again("a.example"), (vec![fault], true, true));
+    files.folder.put("hosts.txt", "b.example\n");
+    files.folder.put("authorities.pem", "none");
+    assert_eq!(read_again("b.example"), (vec![Why::Authorities], false, true));
+    files.folder.put("authorities.pem", [&root[..], &root].concat());
+    assert_eq!(read_again("a.example"), (vec![], false, false));
+    files.folder.put("hosts.txt", "https://c.example\n");
+    let fault = MayAsk::read(&wanted, None).err().expect("there is none from before");
+    assert!(fault.to_string().contains("hosts.txt: line 1 is no `HOST`"), "{fault}");
 }
 
 /// Gives a file the time of another.
@@ -361,7 +458,8 @@ fn a_file_written_in_two_halves_is_never_taken_by_half() {
         let done = AtomicBool::new(false);
         world = std::thread::scope(|threads| {
             threads.spawn(|| {
-                let mut file = std::fs::File::create(&sources.chains).expect("it is opened");
+                let mut file =
+                    std::fs::File::create(files.folder.path("chains.txt")).expect("it is opened");
                 file.write_all(first).expect("half of it");
                 std::thread::sleep(Duration::from_millis(120));
                 file.write_all(second).expect("the other half");

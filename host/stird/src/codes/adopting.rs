@@ -1,7 +1,7 @@
 //! How codes are adopted: aside from what answers, for all calls that wait at once, and with a
 //! pause in between that bounds what it takes.
 use super::{unnamed, Adopter, Code, Codes, Extended, Request, Used, MOST};
-use crate::files::{Proof, World};
+use crate::files::{Ground, Proof, World};
 use crate::routes::Service;
 use std::collections::{BTreeSet, HashMap};
 use std::sync::Arc;
@@ -79,6 +79,7 @@ impl Codes {
         now: impl Fn(&[u8]) -> Option<Arc<[u8]>>,
     ) -> Result<(), Error> {
         let before = self.of(world);
+        let before = before.as_deref();
         let (mut adopters, mut candidates) = (HashMap::new(), HashMap::new());
         for (x5u, adopter) in before.iter().flat_map(|before| &before.adopters) {
             if adopter.der.strong_count() > 0 {
@@ -94,40 +95,62 @@ impl Codes {
         let mut candidates: Vec<Candidate> = candidates.into_values().collect();
         let kept: BTreeSet<Code> = adopters.values().flat_map(|it| it.codes.clone()).collect();
         with_room(&mut candidates, &kept, MOST.saturating_sub(world.names_count()));
-        loop {
-            let new = candidates.iter().flat_map(|candidate| candidate.codes.iter().cloned());
-            let codes: BTreeSet<Code> = kept.iter().cloned().chain(new).collect();
-            let same = before.as_ref().filter(|before| before.codes == codes);
-            let ground = match same {
-                Some(before) => Arc::clone(&before.ground),
-                None => match world.extended(&codes) {
-                    Err(Error::BadInput(Input::Table)) => return Ok(tell_no_room()),
-                    opened => Arc::new(opened?),
-                },
-            };
-            let count = candidates.len();
-            let mut proved = Vec::with_capacity(count);
-            for candidate in candidates {
-                match ground.proves(&candidate.x5u, &candidate.der, verifier)? {
-                    Proof::Good => proved.push(candidate),
-                    Proof::Bad => candidate.asked.iter().for_each(|it| it.chain.leave_unproved()),
-                    Proof::Unknown => {}
+        let proved = proved(world, before, &kept, candidates, verifier)?;
+        let Some(Proved { ground, codes, candidates }) = proved else { return Ok(()) };
+        for Candidate { x5u, der, codes, .. } in candidates {
+            adopters.insert(x5u, Adopter { der: Arc::downgrade(&der), codes });
+        }
+        tell(before.map(|before| &before.codes), &codes);
+        let base = Arc::clone(world.ground());
+        let extended = Extended { base, ground, codes, adopters };
+        let is_empty = extended.codes.is_empty();
+        self.extended.store((!is_empty).then(|| Arc::new(extended)));
+        Ok(())
+    }
+}
+
+/// Candidates that break no rule on chains, and the world in which they don't.
+struct Proved {
+    ground: Arc<Ground>,
+    codes: BTreeSet<Code>,
+    candidates: Vec<Candidate>,
+}
+
+/// Those of these candidates that break no rule on chains in a world in which their codes count
+/// beside those that are kept, and no others; nothing if the table has no room for them.
+fn proved(
+    world: &World,
+    before: Option<&Extended>,
+    kept: &BTreeSet<Code>,
+    mut candidates: Vec<Candidate>,
+    verifier: &Verifier,
+) -> Result<Option<Proved>, Error> {
+    loop {
+        let new = candidates.iter().flat_map(|candidate| candidate.codes.iter().cloned());
+        let codes: BTreeSet<Code> = kept.iter().cloned().chain(new).collect();
+        let ground = match before.filter(|before| before.codes == codes) {
+            Some(before) => Arc::clone(&before.ground),
+            None => match world.extended(&codes) {
+                Err(Error::BadInput(Input::Table)) => {
+                    tell_no_room();
+                    return Ok(None);
                 }
+                opened => Arc::new(opened?),
+            },
+        };
+        let count = candidates.len();
+        let mut good = Vec::with_capacity(count);
+        for candidate in candidates {
+            match ground.proves(&candidate.x5u, &candidate.der, verifier)? {
+                Proof::Good => good.push(candidate),
+                Proof::Bad => candidate.asked.iter().for_each(|it| it.chain.leave_unproved()),
+                Proof::Unknown => {}
             }
-            // Without the codes of those that fail it is tried again, until none does.
-            if proved.len() < count {
-                candidates = proved;
-                continue;
-            }
-            for Candidate { x5u, der, codes, .. } in proved {
-                adopters.insert(x5u, Adopter { der: Arc::downgrade(&der), codes });
-            }
-            tell(before.as_ref().map(|before| &before.codes), &codes);
-            let base = Arc::clone(world.ground());
-            let extended = Extended { base, ground, codes, adopters };
-            let is_empty = extended.codes.is_empty();
-            self.extended.store((!is_empty).then(|| Arc::new(extended)));
-            return Ok(());
+        }
+        candidates = good;
+        // Without the codes of those that fail it is tried again, until none does.
+        if candidates.len() == count {
+            return Ok(Some(Proved { ground, codes, candidates }));
         }
     }
 }
