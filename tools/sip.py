@@ -1,4 +1,4 @@
-"""SIP messages, as far as the tools look into them (RFC 3261), and the numbers and Identity fields in them."""
+"""SIP messages, as far as `stir-log` looks into them (RFC 3261), and the x5u of an Identity field (RFC 8224)."""
 import re
 
 # The short names of header fields (RFC 3261, section 20; RFC 8224, section 4).
@@ -88,53 +88,6 @@ def in_dialog(found):
     """Whether To has a tag (RFC 3261, section 12.2)."""
     value = QUOTED.sub('', first(found, 'to'))
     return re.search(r';\s*tag\s*=', value.rpartition('>')[2], re.I) is not None
-
-
-def uri_of(value):
-    """The URI of an address (RFC 3261, section 20.10)."""
-    bare = QUOTED.sub(lambda it: ' ' * len(it[0]), value)
-    start = bare.find('<')
-    return value[start + 1:].partition('>')[0] if start >= 0 else re.split(r'[;,\s]', value, maxsplit=1)[0]
-
-
-class Numbering:
-    """How numbers without `+` are read: by the country's digits and the length of a national number."""
-
-    def __init__(self, country, national):
-        self.country, self.national = country, national
-
-    def number(self, text):
-        """The number that a text is (docs/FORMATS.md, "Number text"), or the empty text."""
-        text = re.sub(r'[-(). ]', '', text)
-        digits = text.removeprefix('+')
-        if not re.fullmatch(r'[0-9*#]{1,15}', digits):
-            return ''
-        local = digits == text and re.fullmatch(r'[0-9]+', digits) and len(digits) == self.national
-        return self.country + digits if local else digits
-
-    def of_uri(self, uri):
-        """The number of a URI, or the empty text."""
-        scheme, _, rest = uri.partition(':')
-        if scheme.lower() == 'tel':
-            return self.number(rest.partition(';')[0])
-        if scheme.lower() in ('sip', 'sips') and '@' in rest:
-            return self.number(re.split('[;:]', rest.partition('@')[0], maxsplit=1)[0])
-        return ''
-
-    def caller(self, found):
-        """The calling number: that of the first P-Asserted-Identity that gives one, or else of From."""
-        for value in found.get('p-asserted-identity', []) + [first(found, 'from')]:
-            if number := self.of_uri(uri_of(value)):
-                return number
-        return ''
-
-    def called(self, found):
-        return self.of_uri(uri_of(first(found, 'to')))
-
-
-def ppt_of(value):
-    """The ppt of an Identity field's value; the empty text where it has none."""
-    return next((quoted or bare for name, quoted, _, bare in PARAMETER.findall(value) if name.lower() == 'ppt'), '')
 
 
 def x5u_of(value):

@@ -1,4 +1,4 @@
-"""An answers file as a verifier of signatures: what was confirmed beforehand, as by tools/stir-confirm."""
+"""An answers file as a verifier of signatures: what was confirmed beforehand, as by `stirctl confirm`."""
 import hashlib
 import os
 import re

@@ -1,4 +1,4 @@
-"""Certificates made by openssl, for the cases of stir-chain and `stirctl fetch`: a root, an intermediate below it, and a carrier's below that,
+"""Certificates made by openssl, for the cases of `stirctl fetch`: a root, an intermediate below it, and a carrier's below that,
 whose authority list has one code; and files of them in each form."""
 import functools
 import pathlib

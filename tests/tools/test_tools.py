@@ -17,13 +17,12 @@ import terminals
 import tool_cases
 from tool_cases import FILES, TOOLS, tool
 
-LIBRARY = 'python3-cryptography'
 HAS_LIBRARY = importlib.util.find_spec('cryptography') is not None
 
 
 def needs(*names):
-    """Skips a test if one of these programs, or the Python package cryptography, is missing."""
-    missing = [name for name in names if not (HAS_LIBRARY if name == LIBRARY else shutil.which(name))]
+    """Skips a test if one of these programs is missing."""
+    missing = [name for name in names if not shutil.which(name)]
     return pytest.mark.skipif(bool(missing), reason=f'missing: {", ".join(missing)}')
 
 
@@ -65,6 +64,5 @@ def test_package(each):
     each(debian.results())
 
 
-@needs(LIBRARY)
 def test_terminals(each):
     each(terminals.results(TOOLS, FILES))

@@ -155,7 +155,6 @@ fn by_for(by: &By, name: &str) -> By {
         roots: named(&by.roots),
         anchors: named(&by.anchors),
         chains: named(&by.chains),
-        from: by.from.clone(),
         table: by.table.replace(NAME, name),
         answers: named(&by.answers),
         revoked: RevokedBy { crl: all(&by.revoked.crl), crl_signer: all(&by.revoked.crl_signer) },
