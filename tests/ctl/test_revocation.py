@@ -134,7 +134,7 @@ def test_lists_and_answers_go_together(run, world, stir):
     ('of a stranger', trusted.crl([], by='Stranger'), "it was issued by CN=Stranger,O=STI, which is none of its signers"),
     ('of nobody', b'<html>', 'it is no revocation list in PEM or DER'),
     ('none', None, 'missing list.crl'),
-])
+], ids=['forged', 'of a stranger', 'of nobody', 'none'])
 def test_a_list_that_is_not_good_judges_nothing(case, words, said, run, world):
     (world.folder / 'list.crl').unlink(missing_ok=True)
     if words is not None:
