@@ -19,6 +19,7 @@
 #![forbid(unsafe_code)]
 #![warn(missing_docs)]
 
+pub mod authorities;
 pub mod cache;
 pub mod chain_map;
 mod es256;

@@ -3,6 +3,7 @@
 use crate::certificates::{broken, in_order, is_outside, leaf_first, Certificate};
 use crate::code_table::table;
 use crate::input::{name_of, whole};
+use crate::revocation::Revocation;
 use crate::sink::{Sink, STDOUT};
 use crate::words::certificates::Chain;
 use crate::{files, say, Ended, Fault};
@@ -21,6 +22,9 @@ const MOST_CERTIFICATES: usize = 6;
 
 /// Makes what the words say. The status is 1 if something was named that isn't as it should be.
 pub(crate) fn chain(words: &Chain) -> Ended {
+    if !words.revoked.crl.is_empty() && !words.anchors {
+        return Err(Fault::Words("--crl goes with --anchors: judging asks for the others".into()));
+    }
     let is_strange = match (&words.table, words.anchors, words.leaf) {
         (Some(own), ..) => table(own, words)?,
         (None, true, _) => anchors(words)?,
@@ -122,9 +126,17 @@ fn write_chain(name: &str, to: &Path, under: Option<&[Vec<u8>]>) -> Result<bool,
 /// Writes the trust anchors of the files, or all of their certificates.
 fn anchors(words: &Chain) -> Result<bool, Fault> {
     let settings = Settings::default();
+    let revocation = Revocation::read(&words.revoked)?;
     let (mut is_strange, mut kept, mut count) = (false, Vec::new(), 0);
     for word in &words.files {
         for (number, certificate) in (1..).zip(&in_order(word)?) {
+            if let Some(revoked) = revocation.since_of(&certificate.der)? {
+                is_strange = true;
+                let subject = text_of(certificate.read.subject_name());
+                let file = name_of(word);
+                say(&format!("{file}: certificate {number}, {subject}, {revoked}; it is left out"));
+                continue;
+            }
             let is_one = is_anchor(&settings, &certificate.der)?;
             if !is_one {
                 is_strange = true;

@@ -30,6 +30,7 @@ mod picture;
 mod provider;
 mod reporting;
 mod revocation;
+mod rooting;
 mod run;
 mod showing;
 mod signing;
@@ -64,6 +65,7 @@ pub fn main(words: words::Words) -> u8 {
         words::Command::Sign(words) => signing::sign(&words),
         words::Command::Completion => completing::completion(),
         words::Command::Crl(words) => crl::crl(&words),
+        words::Command::Roots(words) => rooting::roots(&words),
     };
     ended.unwrap_or_else(|fault| {
         say(&fault.to_string());

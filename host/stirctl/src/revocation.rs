@@ -7,7 +7,7 @@ use std::collections::HashSet;
 use std::path::Path;
 use std::sync::{Mutex, PoisonError};
 use stir::{Chain, Question};
-use stir_trust::revocation::{List, Lists, Revoked, Signers, Unknown, MOST_BYTES};
+use stir_trust::revocation::{moment, List, Lists, Revoked, Signers, Unknown, MOST_BYTES};
 
 /// The most bytes of a file of signers.
 const MOST_SIGNERS: u64 = 1 << 20;
@@ -103,6 +103,12 @@ impl Revocation {
         let good: Vec<bool> =
             questions.iter().zip(good).map(|(it, good)| *good && !is_spoilt(it)).collect();
         chain.confirmed(&good).map(Some)
+    }
+
+    /// Since when a certificate in DER is revoked, in words.
+    pub fn since_of(&self, der: &[u8]) -> Result<Option<String>, stir::Error> {
+        let since = self.lists.since_of(der).map_err(unknown)?;
+        Ok(since.map(|since| format!("is revoked since {}", moment(since))))
     }
 
     /// Whether a question wasn't confirmed in some call, since its certificate was revoked then.

@@ -33,6 +33,7 @@ pub enum Command {
     Fetch(Fetch),
     Log(Log),
     Crl(trust::Crl),
+    Roots(trust::Roots),
     Chain(certificates::Chain),
     Show(certificates::Show),
     Sign(certificates::Sign),

@@ -32,8 +32,9 @@ pub use fault::{ListFault, Older, SignersFault};
 pub use list::{List, MOST_AUTHORITIES, MOST_BYTES};
 pub use signers::Signers;
 
+use crate::authorities::issuer_and_serial;
 use chrono::NaiveDateTime;
-use stir::{Chain, Part, Question};
+use stir::{Chain, Part, Question, Settings, World};
 use thiserror::Error;
 
 /// The most certificates of a chain.
@@ -175,8 +176,42 @@ impl Lists {
     }
 }
 
+impl Lists {
+    /// The second since which a certificate in DER is revoked, whether the library takes it or it
+    /// is outside the profile.
+    ///
+    /// # Errors
+    ///
+    /// Want of memory.
+    ///
+    /// ```
+    #[doc = include_str!("hidden.md")]
+    /// let lists = Lists::default();
+    /// let certificate = openssl::x509::X509::from_pem(pem)?.to_der()?;
+    /// assert_eq!(lists.since_of(&certificate)?, None);
+    /// # Ok::<(), Box<dyn std::error::Error>>(())
+    /// ```
+    pub fn since_of(&self, der: &[u8]) -> Result<Option<u64>, Unknown> {
+        if self.is_empty() {
+            return Ok(None);
+        }
+        let world = World::open(&Settings::default(), b"", b"")?;
+        if let [revoked, ..] = self.revoked(&world.chain(der)?)?[..] {
+            return Ok(Some(revoked.since));
+        }
+        match issuer_and_serial(der) {
+            Some((issuer, serial)) => Ok(self.since(&issuer, &serial)?),
+            None => Ok(None),
+        }
+    }
+}
+
 /// A second in Unix time as a date and a time of day (RFC 3339).
-fn moment(second: u64) -> String {
+///
+/// ```
+/// assert_eq!(stir_trust::revocation::moment(1_780_272_000), "2026-06-01T00:00:00Z");
+/// ```
+pub fn moment(second: u64) -> String {
     let time = i64::try_from(second).ok().and_then(|it| NaiveDateTime::from_timestamp_opt(it, 0));
     time.map_or_else(|| format!("second {second}"), |time| time.format("%FT%TZ").to_string())
 }

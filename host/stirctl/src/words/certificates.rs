@@ -1,5 +1,6 @@
 //! The words of the commands on certificates and keys.
 
+use super::trust::RevokedBy;
 use clap::{ArgGroup, Args};
 
 /// Makes of certificates what `stir` and the other commands read: chains and their map; or, as an
@@ -21,9 +22,11 @@ pub struct Chain {
     #[arg(long, value_name = "ANCHORS", conflicts_with = "what")]
     pub under: Option<String>,
     /// Writes the trust anchors of the files, one after another in DER. What the library doesn't
-    /// take for one is named and left out
+    /// take for one is named and left out, and so is one that a list of --crl names
     #[arg(long)]
     pub anchors: bool,
+    #[command(flatten)]
+    pub revoked: RevokedBy,
     /// With --anchors: writes certificates that are no trust anchors too
     #[arg(long, requires = "anchors")]
     pub all: bool,
