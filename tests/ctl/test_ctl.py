@@ -70,7 +70,7 @@ def test_bash_completes_commands_and_their_options(run, tmp_path):
         return done.stdout.decode().split(), done.stderr
     assert completed('stirctl', 'sho') == (['show'], b'')
     assert completed('stirctl', 'chain', '--an') == (['--anchors'], b'')
-    assert completed('stirctl', 'judge', '--ch')[0][-1] == '--checked-by'
+    assert completed('stirctl', 'judge', '--che') == (['--checked-by'], b'')
 
 
 def test_reports(run, each):

@@ -230,8 +230,8 @@ impl Judge {
         answers
     }
 
-    /// Fetches the certificates of these calls that the chain map hasn't got, those of an x5u once a
-    /// run; of calls alone that break none of rules 1 to 9. Whether some are there then.
+    /// Fetches the certificates of these calls that the chain map hasn't got, those of an x5u once
+    /// a run; of calls alone that break none of rules 1 to 9. Whether some are there then.
     pub fn fetch_for(&self, calls: &[Came<'_>]) -> Result<bool, Fault> {
         let Some(fetching) = &self.fetching else { return Ok(false) };
         let unlisted = |(_, moment, message): &Came<'_>| -> Result<Vec<Vec<u8>>, Fault> {

@@ -4,9 +4,9 @@ use super::{jobs, number};
 use crate::asking::{JOBS, SECONDS};
 use clap::{Args, ValueEnum};
 
-/// Fetches the certificates of x5us by https, from listed hosts alone, into a folder, and writes the
-/// chain map of those that are there then. What isn't due stays; what fails stays as it was. The
-/// status is 1 if a fetch failed, or if an issuer's certificate is missing.
+/// Fetches the certificates of x5us by https, from listed hosts alone, into a folder, and writes
+/// the chain map of those that are there then. What isn't due stays; what fails stays as it was.
+/// The status is 1 if a fetch failed, or if an issuer's certificate is missing.
 #[derive(Debug, Args)]
 pub struct Fetch {
     /// The hosts that may be asked: lines `HOST`, `HOST:PORT`, `*.DOMAIN`, `*`, or these after `!`
