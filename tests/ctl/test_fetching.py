@@ -393,3 +393,82 @@ def test_words_that_do_not_go_together_are_refused(judged):
     assert run('--fetch-hosts=bad') == (5, 'refused bad 1\n', '')
     assert run('--fetch-hosts=hosts', '--fetch=hosts') == (4, '', 'stirctl: hosts: File exists (os error 17)\n')
     assert judged.server.asked == {}
+
+
+def star(codes):
+    return ''.join(f'{code} *\n' for code in codes)
+
+
+@pytest.fixture
+def trusted(judged):
+    """A world without a table, beside one chain under no anchor and one that is forged, each with a code of its own; and calls by all of them."""
+    import world
+    made, folder = judged.world, judged.server.chains
+    made.keys += [world.key('leaf 6'), world.key('leaf 7')]
+    stranger = made.certificate('leaf 6', 'stranger', world.code_list('0006')) + made.certificate('stranger', 'stranger', None, True)
+    middle = made.certificate('middle', 'root', None, True)
+    forged = bytearray(made.certificate('leaf 7', 'middle', world.code_list('0007')))
+    forged[-1] ^= 1
+    (folder / 'chain-6.der').write_bytes(stranger)
+    (folder / 'chain-7.der').write_bytes(bytes(forged) + middle)
+    calls = list(made.calls(300))
+    last = calls[-1][0]
+    judged.calls = [*calls, *((last, made.call(n, last, 400 + n)) for n in (6, 7))]
+    return judged
+
+
+def run_by(judged, command, *words):
+    """The same without a word on the table or the chains; the log is a file, since it is read twice."""
+    (judged.room / 'calls.log').write_bytes(judged.world.log(judged.calls))
+    done = subprocess.run([judged.ctl, command, '--anchors=world/anchors.der', *words, 'calls.log'], stdout=subprocess.PIPE, stderr=subprocess.PIPE,
+                          cwd=judged.room, timeout=300)
+    return done.returncode, done.stdout, done.stderr.decode()
+
+
+def test_with_anchors_and_hosts_alone_the_codes_of_chains_that_lead_to_an_anchor_are_trusted(trusted, program):
+    checked = ['--checked-by', str(program)] if program.exists() else []
+    status, report, said = run_by(trusted, 'judge', *BY_FETCH, '--fetch=kept', '--chains-out=map.txt', '--table-out=table.txt', '--report=-', *checked)
+    assert (status, said) == (1, UNLISTED_SAID)
+    # The codes of the six chains under the root, and of no other one.
+    assert (trusted.room / 'table.txt').read_text() == star(f'{n:04d}' for n in range(6))
+    named = ['--chains=map.txt', '--table=table.txt']
+    assert run_by(trusted, 'judge', *named) == (1, report, '')
+    assert report.count(b' valid ') > 200 and b' 437 17 ' not in report
+    assert [line.split()[1:4] for line in report.splitlines()[-2:]] == [[b'refused', b'437', b'12'], [b'refused', b'437', b'15']]
+    explained = run_by(trusted, 'explain', '--chains=map.txt', '--codes=trusted')
+    assert explained == run_by(trusted, 'explain', *named)
+    assert set(trusted.server.asked.values()) == {1}
+    # By an empty table nobody's code stands for a number.
+    refused = run_by(trusted, 'judge', '--chains=map.txt', '--codes=listed')[1]
+    assert refused.count(b' 437 17 ') > 200 and b' valid ' not in refused
+
+
+def test_codes_of_the_table_keep_their_numbers(trusted):
+    (trusted.room / 'own.txt').write_text('; ours\n0000 12000000000 10000')
+    words = ['--chains=map.txt', '--table=own.txt']
+    run_by(trusted, 'judge', *BY_FETCH, '--fetch=kept', '--chains-out=map.txt', '--report=-')
+    status, report, said = run_by(trusted, 'judge', *words, '--codes=trusted', '--table-out=table.txt', '--report=-')
+    table = '; ours\n0000 12000000000 10000\n' + star(f'{n:04d}' for n in range(1, 6))
+    assert (status, said, (trusted.room / 'table.txt').read_text()) == (1, '', table)
+    assert run_by(trusted, 'judge', '--chains=map.txt', '--table=table.txt') == (1, report, '')
+    assert b' 437 17 ' in report and report.count(b' valid ') > 200
+    # With a table nothing is trusted without the word.
+    assert run_by(trusted, 'judge', *words, '--table-out=table.txt', '--report=-')[1] != report
+    assert (trusted.room / 'table.txt').read_text() == '; ours\n0000 12000000000 10000'
+
+
+def test_a_table_has_room_for_so_many_codes(trusted):
+    (trusted.room / 'full.txt').write_text(star(f'f{n}' for n in range(19_999)))
+    words = ['--table=full.txt', '--codes=trusted', '--table-out=table.txt', '--report=-']
+    status, report, said = run_by(trusted, 'judge', '--chains=world/chains.txt', *words)
+    assert (status, said) == (1, 'stirctl: the code table has no room for more codes, so calls by them break rule 17\n')
+    assert (trusted.room / 'table.txt').read_text().splitlines()[19_998:] == ['f19998 *', '0000 *']
+
+
+def test_what_cannot_be_read_twice_is_refused_where_codes_are_trusted(trusted):
+    for command in ('judge', 'explain'):
+        done = subprocess.run([trusted.ctl, command, '--anchors=world/anchors.der', *BY_FETCH, '-'], input=b'', stdout=subprocess.PIPE,
+                              stderr=subprocess.PIPE, cwd=trusted.room)
+        said = b'stirctl: -: what can\'t be read twice needs the word --codes listed\n'
+        assert (done.returncode, done.stdout, done.stderr) == (2, b'', said)
+    assert trusted.server.asked == {}

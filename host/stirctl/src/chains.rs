@@ -165,6 +165,19 @@ impl Chains {
         Ok(slot.get_or_init(|| judged(&self.world, &file, provider, revocation)).clone()?)
     }
 
+    /// Whether the chain of an x5u would break none of rules 11, 12, 14 and 15 under this world.
+    pub fn proves(&self, world: &World, x5u: &[u8], provider: &Provider) -> Result<bool, Fault> {
+        let Some(file) = self.file(x5u) else { return Ok(false) };
+        let Ok(bytes) = files::prefix(&file, LONGEST_CHAIN + 1) else { return Ok(false) };
+        let questions = world.chain(&bytes)?.questions()?;
+        Ok(!questions.is_empty() && questions.iter().all(|it| provider.confirms(it)))
+    }
+
+    /// Has the chains judged under another world from now on.
+    pub fn open_under(&mut self, world: World) {
+        (self.world, self.kept) = (world, RwLock::default());
+    }
+
     fn slot(&self, x5u: &[u8]) -> Slot {
         let kept = self.kept.read().unwrap_or_else(PoisonError::into_inner);
         if let Some(slot) = kept.young.get(x5u) {

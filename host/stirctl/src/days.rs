@@ -141,6 +141,7 @@ fn words_for(words: &Day, log: &Path, state: &Path, report: &Path) -> words::Jud
         state: Some(text(state)),
         checked_by: words.checked_by.clone(),
         chains_out: None,
+        table_out: None,
         initial: false,
         as_is: false,
         inputs: vec![text(log)],
@@ -155,7 +156,7 @@ fn by_for(by: &By, name: &str) -> By {
         roots: named(&by.roots),
         anchors: named(&by.anchors),
         chains: named(&by.chains),
-        table: by.table.replace(NAME, name),
+        table: named(&by.table),
         answers: named(&by.answers),
         revoked: RevokedBy { crl: all(&by.revoked.crl), crl_signer: all(&by.revoked.crl_signer) },
         ..by.clone()

@@ -1,11 +1,12 @@
 //! The command `explain`.
 
+use crate::capture::How;
 use crate::input::Input;
 use crate::judge::Came;
-use crate::judging::judge_by;
+use crate::judging::{judge_by, pool};
 use crate::log::{End, Log};
 use crate::sink::{Sink, STDOUT};
-use crate::words::Explain;
+use crate::words::{Explain, Pool};
 use crate::{Ended, Fault};
 
 /// Writes which rules the calls meet. The status is 0 if each meets all.
@@ -26,7 +27,12 @@ pub(crate) fn explain(words: &Explain) -> Ended {
 }
 
 fn explained(words: &Explain, out: &mut Sink) -> Result<bool, Fault> {
-    let judge = judge_by(&words.by, false)?;
+    let mut judge = judge_by(&words.by, false)?;
+    if words.by.trusts() {
+        let how = How { initial: false, as_is: true, is_quiet: true };
+        let inputs = std::slice::from_ref(&words.input);
+        judge.trust(&words.by.rules.settings(), inputs, how, &pool(&Pool { jobs: None })?)?;
+    }
     let Input { name, source, bar, .. } = Input::open(&words.input)?;
     let (mut log, mut are_valid) = (Log::after(source, 0, 0), true);
     while let Some(piece) = log.piece() {

@@ -66,7 +66,7 @@ impl Fetching {
     /// Fetches those of these x5us that weren't asked for before in this run, and adds the files of
     /// those that are there then to the chains. What fails is named. If another thread fetches,
     /// this waits for it.
-    pub fn fetch(&self, x5us: &[Vec<u8>], chains: &Chains) -> Result<(), Fault> {
+    pub fn fetch(&self, x5us: &[&[u8]], chains: &Chains) -> Result<(), Fault> {
         let mut asked = self.asked.lock().unwrap_or_else(PoisonError::into_inner);
         let x5us = x5us.iter().filter_map(|x5u| std::str::from_utf8(x5u).ok());
         let new = x5us.filter(|x5u| self.is_new(&mut asked, x5u));

@@ -79,23 +79,26 @@ pub(crate) fn each_log(
             captures.add(&name, source)?;
         } else {
             let before = std::mem::replace(&mut captures, Captures::new(how)?);
-            of_captures(before, &mut call)?;
+            of_captures(before, how, &mut call)?;
             call(name, source)?;
         }
         bar.finish_and_clear();
     }
-    of_captures(captures, &mut call)
+    of_captures(captures, how, &mut call)
 }
 
 fn of_captures(
     captures: Captures,
+    how: How,
     call: &mut impl FnMut(String, Source) -> Result<(), Fault>,
 ) -> Result<(), Fault> {
     if captures.is_empty() {
         return Ok(());
     }
     let (log, name, said) = captures.log()?;
-    say(&said);
+    if !how.is_quiet {
+        say(&said);
+    }
     let bar = bar(log.metadata().map_or(0, |about| about.len()));
     let called = call(name, Box::new(bar.wrap_read(log)));
     bar.finish_and_clear();

@@ -233,18 +233,30 @@ impl Judge {
     /// Fetches the certificates of these calls that the chain map hasn't got, those of an x5u once
     /// a run; of calls alone that break none of rules 1 to 9. Whether some are there then.
     pub fn fetch_for(&self, calls: &[Came<'_>]) -> Result<bool, Fault> {
+        match &self.fetching {
+            Some(_) => self.fetch(&self.x5us(calls)?),
+            None => Ok(false),
+        }
+    }
+
+    /// Fetches the certificates of these x5us that the chain map hasn't got. Whether some are there
+    /// then.
+    pub fn fetch(&self, x5us: &[Vec<u8>]) -> Result<bool, Fault> {
         let Some(fetching) = &self.fetching else { return Ok(false) };
-        let unlisted = |(_, moment, message): &Came<'_>| -> Result<Vec<Vec<u8>>, Fault> {
+        let unlisted = x5us.iter().filter(|x5u| !self.chains.lists(x5u));
+        let unlisted: Vec<&[u8]> = unlisted.map(AsRef::as_ref).collect();
+        fetching.fetch(&unlisted, &self.chains)?;
+        Ok(unlisted.iter().any(|x5u| self.chains.has(x5u)))
+    }
+
+    /// The x5us of these calls, of those alone that break none of rules 1 to 9.
+    pub fn x5us(&self, calls: &[Came<'_>]) -> Result<Vec<Vec<u8>>, Fault> {
+        let x5us = |(_, moment, message): &Came<'_>| -> Result<Vec<Vec<u8>>, Fault> {
             let mut call = self.world.call(*moment, message)?;
-            let x5us = (0..call.passports()).map(|index| Ok(call.x5u(index)?));
-            let x5us = x5us.collect::<Result<Vec<_>, Fault>>()?;
-            Ok(x5us.into_iter().filter(|x5u| !self.chains.lists(x5u)).collect())
+            (0..call.passports()).map(|index| Ok(call.x5u(index)?)).collect()
         };
-        let unlisted: Result<Vec<_>, Fault> =
-            calls.par_iter().with_min_len(FEWEST).map(unlisted).collect();
-        let x5us = unlisted?.concat();
-        fetching.fetch(&x5us, &self.chains)?;
-        Ok(x5us.iter().any(|x5u| self.chains.has(x5u)))
+        let x5us: Result<Vec<_>, Fault> = calls.par_iter().with_min_len(FEWEST).map(x5us).collect();
+        Ok(x5us?.concat())
     }
 
     /// Judges a call.

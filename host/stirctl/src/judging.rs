@@ -24,7 +24,7 @@ use stir_trust::Verifier;
 
 /// Judges the calls of the inputs, and writes what came of them. The status is 0 if each is valid.
 pub(crate) fn judge(words: &words::Judge) -> Ended {
-    let mut outputs = outputs(&words.to, words.chains_out.as_ref())?;
+    let mut outputs = outputs(&words.to, words.chains_out.as_deref(), words.table_out.as_deref())?;
     let ended = judged(words, &mut outputs).and_then(|are_valid| {
         std::mem::take(&mut outputs).commit(&title(&words.inputs))?;
         Ok(u8::from(!are_valid))
@@ -35,13 +35,17 @@ pub(crate) fn judge(words: &words::Judge) -> Ended {
     })
 }
 
-/// The outputs that the words name, and a chain map beside them.
-pub(crate) fn outputs(to: &To, chains: Option<&String>) -> Result<Outputs, Fault> {
+/// The outputs that the words name, and a chain map and a code table beside them.
+pub(crate) fn outputs(
+    to: &To,
+    chains: Option<&str>,
+    table: Option<&str>,
+) -> Result<Outputs, Fault> {
     let To { report, json, csv, words, summary, svg } = to;
     let named = [report, json, csv, words, summary, svg];
-    let named: Vec<&String> = named.into_iter().flatten().collect();
-    let names: HashSet<&&String> = named.iter().chain(&chains).collect();
-    if names.len() < named.len() + usize::from(chains.is_some()) {
+    let named: Vec<&str> = named.into_iter().flatten().map(AsRef::as_ref).collect();
+    let all: Vec<&str> = named.iter().copied().chain(chains).chain(table).collect();
+    if all.iter().collect::<HashSet<_>>().len() < all.len() {
         return Err(Fault::Words("two outputs can't have one name".into()));
     }
     let open = |name: &Option<String>| name.as_deref().map(Sink::open).transpose();
@@ -52,7 +56,8 @@ pub(crate) fn outputs(to: &To, chains: Option<&String>) -> Result<Outputs, Fault
         words: open(words)?,
         counts: open(summary)?,
         picture: open(svg)?,
-        chains: chains.map(|name| Sink::open(name)).transpose()?,
+        chains: chains.map(Sink::open).transpose()?,
+        table: table.map(Sink::open).transpose()?,
         ..Outputs::default()
     })
 }
@@ -63,11 +68,15 @@ fn judged(words: &words::Judge, outputs: &mut Outputs) -> Result<bool, Fault> {
     outputs.copy = check.as_ref().map(Check::report).transpose()?;
     let mut judge = judge_by(&words.by, check.is_some())?;
     judge.tells = outputs.tells();
+    let pool = pool(&words.pool)?;
+    let how = How { initial: words.initial, as_is: words.as_is, is_quiet: false };
+    if words.by.trusts() {
+        judge.trust(&words.by.rules.settings(), &words.inputs, how, &pool)?;
+    }
     let window = words.by.rules.past;
     let state = words.state.as_deref().map(|name| State::read(name, window)).transpose()?;
     let mut day = Day::after(&state.clone().unwrap_or_default());
-    let run = Run { judge: &judge, pool: &pool(&words.pool)? };
-    let how = How { initial: words.initial, as_is: words.as_is };
+    let run = Run { judge: &judge, pool: &pool };
     let ended = each_log(&words.inputs, how, |name, source| {
         let source = match &check {
             Some(check) => check.seen(source)?,
@@ -94,6 +103,9 @@ fn judged(words: &words::Judge, outputs: &mut Outputs) -> Result<bool, Fault> {
     if let Some(chains) = &mut outputs.chains {
         chains.put(|to| judge.chains.write(to))?;
     }
+    if let Some(table) = &mut outputs.table {
+        table.put(|to| to.write_all(&judge.files.table))?;
+    }
     Ok(day.are_valid)
 }
 
@@ -108,7 +120,8 @@ pub(crate) fn judge_by(by: &By, keeps_answers: bool) -> Result<Judge, Fault> {
         (None, Some(name)) => world::roots(&settings, name)?,
         (None, None) => Vec::new(),
     };
-    let table = world::table(&settings, &by.table)?;
+    let table = by.table.as_deref().map(|name| world::table(&settings, name)).transpose()?;
+    let table = table.unwrap_or_default();
     let provider = match &by.answers {
         Some(name) => Provider::Answers(Answers::read(name)?),
         None => {

@@ -39,6 +39,7 @@ mod state;
 mod summary;
 mod telling;
 mod tickets;
+mod trusting;
 mod verdict;
 pub mod words;
 mod world;

@@ -10,7 +10,7 @@ use std::io::{copy, ErrorKind};
 /// Writes the call log of captures. Nothing is written if one of them can't be read.
 pub(crate) fn log(words: &Log) -> Ended {
     let mut out = Sink::open(STDOUT)?;
-    let how = How { initial: words.initial, as_is: words.as_is };
+    let how = How { initial: words.initial, as_is: words.as_is, is_quiet: false };
     each_log(&words.captures, how, |name, mut source| {
         copy(&mut source, &mut out).map(drop).map_err(|error| match error.kind() {
             ErrorKind::BrokenPipe | ErrorKind::StorageFull => Fault::write(STDOUT, &error),

@@ -74,6 +74,8 @@ pub(crate) struct Outputs {
     pub picture: Option<Sink>,
     /// The chain map by which the calls were judged.
     pub chains: Option<Sink>,
+    /// The code table, likewise.
+    pub table: Option<Sink>,
     pub summary: Summary,
     /// Room for a line of JSON.
     pub line: Vec<u8>,
@@ -134,8 +136,9 @@ impl Outputs {
     /// Ends a run whose log is whole: counts and picture are written, and all files get their
     /// names.
     pub fn commit(self, title: &str) -> Result<(), Fault> {
-        let Outputs { report, json, csv, words, counts, picture, chains, summary, .. } = self;
-        for sink in report.into_iter().chain(json).chain(words).chain(chains) {
+        let Outputs { report, json, csv, words, counts, picture, chains, table, summary, .. } =
+            self;
+        for sink in [report, json, words, chains, table].into_iter().flatten() {
             sink.commit()?;
         }
         if let Some(csv) = csv {

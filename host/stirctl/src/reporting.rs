@@ -31,7 +31,7 @@ pub(crate) fn report(words: &Report) -> Ended {
     }
     let text = whole(&words.of, MOST_BYTES)?;
     let (verdicts, fault) = verdicts(&text);
-    let mut outputs = outputs(&told(&words.to), None)?;
+    let mut outputs = outputs(&told(&words.to), None, None)?;
     let last = joined(words, &verdicts, &mut outputs)?;
     match fault {
         // Of a log whose report isn't whole no file is made.

@@ -6,7 +6,7 @@ pub mod trust;
 
 pub use fetch::{Fetch, FetchFrom, YesNo};
 
-use clap::{Args, Parser, Subcommand};
+use clap::{Args, Parser, Subcommand, ValueEnum};
 use stir::Settings;
 use trust::RevokedBy;
 
@@ -62,6 +62,10 @@ pub struct Judge {
     /// fetched
     #[arg(long, value_name = "FILE", requires = "fetch")]
     pub chains_out: Option<String>,
+    /// The code table by which the calls were judged: that of --table, and the codes that were
+    /// trusted
+    #[arg(long, value_name = "FILE")]
+    pub table_out: Option<String>,
     /// Leaves out INVITEs of captures that stand inside a dialog: their To has a tag (RFC 3261,
     /// section 14)
     #[arg(long)]
@@ -189,7 +193,12 @@ pub struct By {
     pub from: FetchFrom,
     /// The code table: which numbers a service provider code covers
     #[arg(long, value_name = "FILE")]
-    pub table: String,
+    pub table: Option<String>,
+    /// Which codes stand for numbers: those of the table; or also, for every number, each other
+    /// code of a chain that breaks no rule on chains, which is so without a table. Then the inputs
+    /// are read twice
+    #[arg(long, value_name = "listed|trusted")]
+    pub codes: Option<Codes>,
     /// An answers file that says which signatures are good, in the place of OpenSSL
     #[arg(long, value_name = "FILE")]
     pub answers: Option<String>,
@@ -197,6 +206,13 @@ pub struct By {
     pub revoked: RevokedBy,
     #[command(flatten)]
     pub rules: Rules,
+}
+
+/// Which codes stand for numbers.
+#[derive(Clone, Copy, Debug, PartialEq, Eq, ValueEnum)]
+pub enum Codes {
+    Listed,
+    Trusted,
 }
 
 /// How numbers and times are looked at.
@@ -246,6 +262,13 @@ pub struct Pool {
     /// How many threads judge; as many as there are processors if it isn't given
     #[arg(long, value_name = "COUNT", value_parser = jobs)]
     pub jobs: Option<usize>,
+}
+
+impl By {
+    /// Whether codes that the table doesn't name stand for numbers.
+    pub fn trusts(&self) -> bool {
+        self.codes.map_or(self.table.is_none(), |codes| codes == Codes::Trusted)
+    }
 }
 
 impl Rules {

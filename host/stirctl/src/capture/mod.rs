@@ -31,6 +31,8 @@ pub(crate) struct How {
     /// P-Asserted-Identity fields with several values stay. Else they become one field a value,
     /// which means the same (RFC 3261, section 7.3.1).
     pub as_is: bool,
+    /// What is left out isn't told.
+    pub is_quiet: bool,
 }
 
 /// The INVITEs of captures.
