@@ -13,6 +13,7 @@ Each PART by its name, or all:
     heads        a fifth as many mutated HTTP connections
     starts       COUNT mutated files, each at a start
     reloads      COUNT mutated files, each put in place while it runs
+    fetch        a tenth as many x5us that nobody asked for before, and ten times killed while what was fetched is written
 
 What was drawn can be drawn again by the seed, which is printed. What was sent last when the service ended is written to a file that is named.
 """
@@ -36,6 +37,8 @@ sys.path.insert(0, str(pathlib.Path(__file__).resolve().parents[1] / "service"))
 import load  # noqa: E402
 import redises  # noqa: E402
 import signing  # noqa: E402
+import strangers  # noqa: E402
+import web  # noqa: E402
 from stird import Stird, wait_until  # noqa: E402
 from world import START, World, base64url  # noqa: E402
 
@@ -463,7 +466,48 @@ def told(came):
     return ", ".join(f"{words(what)}: {count}" for what, count in came.most_common())
 
 
-PARTS = {part.__name__: part for part in (kills, forget, late, crowd, requests, heads, starts, reloads)}
+# ---- certificates that are fetched
+
+def fetch(at):
+    server = web.Web(at.folder / "web")
+    world = web.Fetched(at.folder / "fetched", 4, server)
+    try:
+        with web.Fetching(at.stird, [*world.anchors(), *server.words(), "--connections", 64]) as service:
+            told = strangers.beside(service, world, at.folder, at.requests // 10, at.numbers)
+        return f"{told}; {killed_while_written(at, world, server)}"
+    finally:
+        server.stop()
+
+
+def killed_while_written(at, world, server):
+    """What is new is written five seconds after the start, and then it is killed."""
+    folder, written = at.folder / "chains", 0
+    words = [*world.anchors(), *server.words("--fetch-wait", 9000, "--fetch", folder)]
+    whole = (world.folder / "chain-0.der").read_bytes()
+    for turn in range(10):
+        with web.Fetching(at.stird, words) as service:
+            begun, number = time.monotonic(), 0
+            while time.monotonic() - begun < 4.8:
+                service.outcome(world.to(f"chain/0?{turn}-{number}", next(at.numbers), host=f"127.0.0.{number % web.HOSTS + 1}"))
+                number += 1
+                time.sleep(0.02)
+            time.sleep(at.draw.uniform(0, 0.3))
+            service.connection = None
+            service.process.kill()
+            service.process.wait()
+        state = json.loads((folder / "fetched.json").read_text()) if (folder / "fetched.json").exists() else {}
+        assert all((folder / line["file"]).read_bytes() == whole for line in state.values()), "a file isn't whole"
+        assert len(state) >= written, "what was there is gone"
+        written = len(state)
+    with web.Fetching(at.stird, words) as service:
+        assert service.metric("stir_cache_entries") == written
+        asked = server.count()
+        told = service.told_of(world.to(next(iter(state)), next(at.numbers)))
+        assert told == ("valid", 0, "held") and server.count() == asked, told
+    return f"{written} chains were written over ten kills"
+
+
+PARTS = {part.__name__: part for part in (kills, forget, late, crowd, requests, heads, starts, reloads, fetch)}
 
 
 class At:

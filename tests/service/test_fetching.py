@@ -4,7 +4,6 @@ Names with a public and a private address, and such as change between look-up an
 `a_host_with_a_private_address_isnt_asked` and `what_was_looked_up_is_what_is_asked` (host/stir-trust/tests/fetch.rs).
 """
 import calendar
-import collections
 import concurrent.futures
 import contextlib
 import json
@@ -16,14 +15,14 @@ import socket
 import time
 import urllib.parse
 
-import load
 import pytest
 import signing
+import strangers
 from cryptography import x509
 from cryptography.hazmat.primitives import serialization
 from stird import Stird, status_of, wait_until
 from test_doors import outer
-from web import HOSTS, Fetched, Fetching, Web, tls_certificate
+from web import Fetched, Fetching, Web, tls_certificate
 from world import START, World, code_list, range_list
 
 VALID = ("valid", 0)
@@ -280,36 +279,8 @@ def test_a_failure_is_remembered_for_ten_seconds(started, web, world):
 
 
 def test_of_new_urls_twenty_a_second_are_asked_and_held_chains_dont_wait(started, web, world, tmp_path):
-    """Calls by held chains are measured beside a crowd of others like them, and beside one of calls each of which has a new URL."""
     service = started(*world.anchors(), *web.words(), "--connections", 64)
-    told = beside_strangers(service, web, world, tmp_path, 1500)
-    print(told)
-
-
-def beside_strangers(service, web, world, folder, count):
-    """Sends so many calls each of which has a new URL, and says what came of them, and how long calls by held chains took meanwhile."""
-    client, now = load.light_client(folder), int(time.time())
-    for n in range(4):
-        assert wait_until(lambda: service.outcome(good(world, n)) == "valid")
-    strangers = [(now, world.to(f"chain/0?{number}", Numbers.next(), host=f"127.0.0.{number % HOSTS + 1}")) for number in range(count)]
-    crowds = {"like them": [(now, good(world, n % 4)) for n in range(count)], "strangers": strangers}
-    times, asked = {}, web.count()
-    for name, crowd in crowds.items():
-        files = [load.written(folder / part, calls) for part, calls in (("crowd", crowd), ("measured", [(now, good(world, n % 4)) for n in range(300)]))]
-        with concurrent.futures.ThreadPoolExecutor(1) as worker:
-            sent = worker.submit(load.send_light, service.port, files[0], 0, 8, client)
-            time.sleep(0.2)
-            answers, took, _ = load.send_light(service.port, files[1], 0, 2, client)
-            others, _, seconds = sent.result()
-        assert {json.loads(answer)["outcome"] for answer in answers} == {"valid"}
-        times[name] = 1000 * sorted(took)[len(took) * 99 // 100]
-    came = collections.Counter(json.loads(answer)["certificates"] for answer in others)
-    assert set(came) <= {"fetched", "late", "failed limited"} and came["failed limited"], came
-    new = web.count() - asked
-    assert 0 < new <= 20 * (seconds + 1), (new, seconds)
-    assert times["strangers"] < 5 * times["like them"] + 50, times
-    parts = ", ".join(f"{time:.1f} ms beside {name}" for name, time in times.items())
-    return f"of {count} URLs {new} were asked in {seconds:.1f} s ({dict(came)}); the 99th part of calls by held chains took {parts}"
+    print(strangers.beside(service, world, tmp_path, 1500, iter(Numbers.next, None)))
 
 
 # ---- what is kept

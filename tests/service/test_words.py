@@ -10,7 +10,7 @@ from world import START
 # Each option, and a value that it takes; that of a file of settings where it is written otherwise there.
 OPTIONS = {
     "past": "30", "future": "7", "country": '"44"', "national": "9", "moments": '"asked"', "tickets": "1000", "connections": "100", "connections-each": "50",
-    "request": "4", "idle": "9", "reload": "3", "split": '"no"', "sync": '"no"',
+    "request": "4", "idle": "9", "reload": "3", "split": '"no"', "sync": '"no"', "codes": '"trusted"', "fetch-wait": "100", "fetch-private": '"yes"',
 }
 
 
@@ -29,7 +29,7 @@ def file_of(folder, world, more):
 def test_help_names_every_option_and_ends_well(stird):
     done = told(stird, "--help")
     assert done.returncode == 0 and not done.stderr, done
-    for name in [*OPTIONS, "listen", "chains", "anchors", "table", "journal", "redis", "signing", "signing-tokens", "config", "socket-mode", "tls-certificate",
+    for name in [*OPTIONS, "listen", "chains", "anchors", "roots", "table", "fetch", "fetch-hosts", "fetch-authorities", "journal", "redis", "signing", "signing-tokens", "config", "socket-mode", "tls-certificate",
                  "tls-key", "tls-clients"]:
         assert f"--{name}".encode() in done.stdout, f"--{name} isn't named"
     assert told(stird, "-h").returncode == 0
@@ -106,7 +106,7 @@ def test_a_file_that_isnt_there_is_told(stird, tmp_path):
 
 
 @pytest.mark.parametrize("words", [
-    [], ["--chains", "a"], ["--banana"], ["banana"], ["--past"], ["--past", "1", "--past", "2"], ["--past", "86401"], ["--past", "-1"], ["--past", " 1"],
+    [], ["--chains", "a"], ["--roots", "r"], ["--fetch", "f"], ["--fetch-authorities", "a"], ["--fetch-wait", "10001"], ["--codes", "all"], ["--banana"], ["banana"], ["--past"], ["--past", "1", "--past", "2"], ["--past", "86401"], ["--past", "-1"], ["--past", " 1"],
     ["--sync", "maybe"], ["--country", "12345"], ["--country", ""], ["--listen", "8080"], ["--journal", "j", "--redis", "r"], ["--connections", "0"],
     ["--socket-mode", "999"], ["--tls-key", "k"], ["--tls-certificate", "c"],
 ])

@@ -12,10 +12,10 @@ use std::net::IpAddr;
 use std::path::{Path, PathBuf};
 use std::process::{Command, Stdio};
 use std::sync::atomic::{AtomicU64, AtomicUsize, Ordering};
-use std::sync::Arc;
+use std::sync::{Arc, Mutex};
 use std::time::{Duration, Instant, SystemTime};
-use stir_trust::cache::{Bounds, Cache, Clock, Entry, Folder, FolderFault, Miss};
-use stir_trust::fetch::{Fetcher, Limit, Reason, Resolver};
+use stir_trust::cache::{Bounds, Cache, Clock, Entry, Folder, FolderFault, Miss, Witness};
+use stir_trust::fetch::{Fetcher, Hosts, Limit, Reason, Resolver, Settings};
 
 const LONG: Duration = Duration::from_secs(20);
 
@@ -234,6 +234,86 @@ async fn what_is_asked_for_is_fetched_anew_ahead_and_a_failure_keeps_the_old_one
     until("it is fetched", || cache.counts().good == 2).await;
     assert_eq!(*cache.held(&x5u).expect("kept").der, *second);
     assert_eq!(server.targets().len(), 3);
+}
+
+/// A witness that keeps what it is told.
+#[derive(Default)]
+struct Notes(Mutex<Vec<(String, bool, Option<Reason>)>>);
+
+impl Witness for Notes {
+    fn landed(&self, x5u: &str, took: Option<Duration>, came: Result<(), &Reason>) {
+        let note = (x5u.to_owned(), took.is_some(), came.err().cloned());
+        self.0.lock().expect("notes").push(note);
+    }
+}
+
+#[test]
+fn flights_go_on_in_the_runtime_that_was_named_and_their_end_is_told_before_it_is_seen() {
+    let others = tokio::runtime::Runtime::new().expect("a runtime");
+    let (authority, identity) = identities();
+    let der = chain("a");
+    let server = others.block_on(Server::start(&identity, move |target| match target {
+        "/gone" => answer("404 Not Found", ""),
+        _ => good("", &der),
+    }));
+    let fetcher = server.fetcher(&authority, Table::here());
+    let cache = Cache::new(fetcher, Bounds::default(), Moved::new());
+    let notes = Arc::new(Notes::default());
+    cache.fetch_in(others.handle().clone(), notes.clone());
+    // One that asks and ends at once leaves the flight to those who come.
+    let own = || tokio::runtime::Builder::new_current_thread().enable_all().build().expect("one");
+    let late = own().block_on(cache.wait(&server.x5u("/a"), Duration::ZERO));
+    assert_eq!(late, Err(Miss::Late));
+    assert!(own().block_on(cache.wait(&server.x5u("/a"), LONG)).is_ok());
+    let gone = own().block_on(cache.wait(&server.x5u("/gone"), LONG));
+    assert_eq!(gone, Err(Miss::Failed(Reason::Status(404))));
+    let told = notes.0.lock().expect("notes");
+    let wanted = [("/a", None), ("/gone", Some(Reason::Status(404)))];
+    assert_eq!(*told, wanted.map(|(target, came)| (server.x5u(target), true, came)));
+    assert_eq!(server.targets(), ["/a", "/gone"]);
+}
+
+#[tokio::test]
+async fn another_fetcher_forgives_failures_and_drops_what_it_may_not_ask() {
+    let authority = Identity::root("Test authority", now() + 86_400);
+    let identity = authority.issue("cr", &["*.cr.example"], now() + 86_400);
+    let der = chain("a");
+    let server = Server::start(&identity, move |_| good("", &der)).await;
+    let x5u = |host: &str| format!("https://{host}.cr.example:{}/a", server.port);
+    let fetcher = |hosts: String, by: &Identity| {
+        let hosts = Hosts::read(hosts.as_bytes()).expect("hosts");
+        let settings = Settings { hosts, ..server.settings(by) };
+        Fetcher::new(settings, Arc::new(Everywhere)).expect("a fetcher")
+    };
+    let (all, stranger) = (format!("*:{}\n", server.port), Identity::root("x", now() + 86_400));
+    let cache = Cache::new(fetcher(all.clone(), &stranger), Bounds::default(), Moved::new());
+    let failed = cache.wait(&x5u("a"), LONG).await;
+    assert!(matches!(failed, Err(Miss::Failed(Reason::Tls(_)))), "{failed:?}");
+    cache.fetch_by(fetcher(all.clone(), &authority));
+    for host in ["a", "b"] {
+        assert!(cache.wait(&x5u(host), LONG).await.is_ok(), "{host}");
+    }
+    let list = |cache: &Cache| cache.list(None, 9).into_iter().map(|(x5u, _)| x5u).collect();
+    let both: Vec<String> = list(&cache);
+    assert_eq!((both, cache.counts().entries), (vec![x5u("a"), x5u("b")], 2));
+    cache.fetch_by(fetcher(format!("{all}!a.cr.example\n"), &authority));
+    let rest: Vec<String> = list(&cache);
+    assert_eq!((rest, cache.held(&x5u("a"))), (vec![x5u("b")], None));
+    assert_eq!(cache.wait(&x5u("a"), LONG).await, Err(Miss::Failed(Reason::Listed)));
+    assert!(cache.kept(&x5u("b")).is_some() && cache.ends().is_some());
+}
+
+#[tokio::test]
+async fn what_a_folder_has_of_hosts_that_arent_listed_isnt_kept() {
+    let own = Own::new("unlisted");
+    let (a, b) = ("https://a.example/", "https://b.example/");
+    let entry = entry(&chain("a"), now());
+    own.folder().save(&[(a, &entry), (b, &entry)]).expect("it is written");
+    let settings = Settings::new(Hosts::read(b"b.example\n").expect("hosts"));
+    let fetcher = Fetcher::new(settings, Arc::new(Everywhere)).expect("a fetcher");
+    let cache = Cache::open(fetcher, Bounds::default(), Moved::new(), own.folder());
+    let cache = cache.expect("a folder");
+    assert_eq!((cache.held(a), cache.held(b).is_some()), (None, true));
 }
 
 #[tokio::test]

@@ -23,8 +23,9 @@ pub async fn tend(service: Arc<Service>) {
             }
         }
         if number % TIMES == 0 {
-            judge.world.load_full().ground().sweep();
-            judge.codes.iter().for_each(crate::codes::Codes::sweep);
+            let world = judge.world.load_full();
+            world.ground().sweep();
+            judge.codes.iter().for_each(|codes| codes.sweep(&world));
         }
     }
 }

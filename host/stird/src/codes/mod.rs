@@ -99,13 +99,20 @@ impl Codes {
         self.extended.load().as_ref().map_or(0, |extended| extended.codes.len())
     }
 
-    /// What these chains of a call want; it is said whether it was judged with more codes.
+    /// What these chains of a call want, which was judged by such a world if one is said.
     ///
     /// # Errors
     ///
     /// Want of memory.
-    pub fn wants(&self, world: &World, used: &[Used], is_extended: bool) -> Result<Wants, Error> {
+    pub fn wants(
+        &self,
+        world: &World,
+        used: &[Used],
+        by: Option<&Arc<Ground>>,
+    ) -> Result<Wants, Error> {
         let extended = self.of(world);
+        let is_by = |it: &Extended| by.is_some_and(|by| Arc::ptr_eq(by, &it.ground));
+        let is_another = extended.as_ref().is_some_and(|extended| !is_by(extended));
         let counts = |code: &Code| extended.as_ref().is_some_and(|it| it.codes.contains(code));
         let (mut is_known, mut new) = (false, Vec::new());
         for one in used {
@@ -117,7 +124,7 @@ impl Codes {
         }
         Ok(match (new.is_empty(), is_known) {
             (false, _) => Wants::New(new),
-            (true, true) if !is_extended => Wants::Known,
+            (true, true) if is_another => Wants::Known,
             (true, _) => Wants::Nothing,
         })
     }
@@ -131,9 +138,10 @@ impl Codes {
         matches!(tokio::time::timeout(PATIENCE, ended).await, Ok(Ok(())))
     }
 
-    /// Forgets the codes of chains that aren't kept any more, aside.
-    pub fn sweep(&self) {
-        let Some(extended) = self.extended.load_full() else { return };
+    /// Forgets the codes of chains that aren't kept any more, aside; and all, if the world of the
+    /// files is another one.
+    pub fn sweep(&self, world: &World) {
+        let Some(extended) = self.of(world) else { return self.extended.store(None) };
         extended.ground.sweep();
         if extended.adopters.values().any(|adopter| adopter.der.strong_count() == 0) {
             let (tried, _) = oneshot::channel();

@@ -80,9 +80,7 @@ impl Came {
 impl Fetching {
     /// The chain of an x5u, if it is kept.
     pub fn held(&self, x5u: &[u8]) -> Option<Arc<Entry>> {
-        let entry = std::str::from_utf8(x5u).ok().and_then(|x5u| self.cache.held(x5u));
-        self.metrics.fetches.look(entry.is_some());
-        entry
+        std::str::from_utf8(x5u).ok().and_then(|x5u| self.cache.held(x5u))
     }
 
     /// The chains of these x5us, which weren't kept. Their fetches go on at the same time, and one

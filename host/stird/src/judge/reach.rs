@@ -3,7 +3,7 @@
 use super::{Judge, Unsaid, MESSAGE};
 use crate::codes::{Used, Wants};
 use crate::fetching::{Came, Certificates};
-use crate::files::World;
+use crate::files::{Ground, World};
 use std::sync::Arc;
 use std::time::Instant;
 use stir::{Call, Refused, Verdict};
@@ -48,8 +48,8 @@ struct Said {
     certificates: Option<Certificates>,
     /// The chains by which it was judged, if more codes may say otherwise.
     used: Vec<Used>,
-    /// Whether codes that aren't in the table counted.
-    is_extended: bool,
+    /// The world in which codes counted that aren't in the table, if it was judged by one.
+    extended: Option<Arc<Ground>>,
 }
 
 impl Judge {
@@ -110,7 +110,7 @@ impl Judge {
             verdict: self.settled(&mut call, start)?,
             certificates,
             used: Vec::new(),
-            is_extended: false,
+            extended: None,
         };
         if self.may_extend(&said.verdict) {
             for index in 0..passports {
@@ -148,8 +148,15 @@ impl Judge {
     async fn brought(&self, case: Case<'_>, sight: Sight) -> Result<(Sight, Came), Unsaid> {
         let mut missing: Vec<Vec<u8>> = Vec::new();
         for (x5u, place) in &sight.places {
-            if matches!(place, Place::Nowhere) && !missing.contains(x5u) {
-                missing.push(x5u.clone());
+            match place {
+                Place::Map(_) | Place::Came(_) => {}
+                Place::Held(_) => self.metrics.fetches.look(true),
+                Place::Nowhere => {
+                    self.metrics.fetches.look(false);
+                    if !missing.contains(x5u) {
+                        missing.push(x5u.clone());
+                    }
+                }
             }
         }
         let Some(fetching) = self.fetching.as_ref().filter(|_| !missing.is_empty()) else {
@@ -201,7 +208,7 @@ impl Judge {
         let certificates = places.iter().filter_map(|(_, place)| place.certificates());
         let certificates = certificates.reduce(Certificates::and);
         let used = if self.may_extend(&verdict) { chains } else { Vec::new() };
-        Ok(Said { verdict, certificates, used, is_extended: extended.is_some() })
+        Ok(Said { verdict, certificates, used, extended })
     }
 
     /// Whether codes that aren't in the table may say otherwise.
@@ -216,7 +223,7 @@ impl Judge {
         let Some(codes) = self.codes.as_ref().filter(|_| !said.used.is_empty()) else {
             return Ok(false);
         };
-        let wants = codes.wants(&self.world.load(), &said.used, said.is_extended)?;
+        let wants = codes.wants(&self.world.load(), &said.used, said.extended.as_ref())?;
         Ok(match wants {
             Wants::Nothing => false,
             Wants::Known => true,
