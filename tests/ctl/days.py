@@ -96,6 +96,21 @@ def in_words(room, ctl, program, made):
     yield 'days: no words', 2, ended(subprocess.Popen([ctl, 'day', 'logs'], cwd=room, stdout=subprocess.PIPE, stderr=subprocess.PIPE))[0]
 
 
+def gone_on(room, ctl, program):
+    """The files of a run that goes on after two logs of which the proved program has written the reports, as `stir-day` did, and a part of the third."""
+    to, state = room / 'gone-on', room / 'no-state'
+    to.mkdir()
+    state.write_bytes(b'')
+    for number in range(2):
+        report = to / f'{number:02}.report'
+        with open(room / 'logs' / f'{number:02}.log', 'rb') as log, open(report, 'wb') as sink:
+            subprocess.run([program, 'verify', *WORDS, f'--state={state}'], cwd=room, stdin=log, stdout=sink, check=False)
+        state = report
+    (to / '02.report.new').write_bytes(b'11 valid')
+    status = ended(start(room, ctl, 'gone-on'))[0]
+    return status, reports(room, 'gone-on'), sorted(path.name for path in to.iterdir() if path.suffix != '.report')
+
+
 def killed(room, ctl, moment):
     """The files of a run that was killed after so many seconds, and gone on with."""
     to = f'killed-{moment:.4f}'
@@ -124,6 +139,8 @@ def results(ctl, program):
         yield 'days: together they are the report of one', whole.stdout, b''.join(lines_of(report) for report in made.values())
         yield 'days: each report is read', [(0, CALLS // LOGS, '')] * LOGS, [told(room, ctl, number) for number in range(LOGS)]
         yield from in_words(room, ctl, program, made)
+        if program.exists():
+            yield 'days: goes on from reports of the proved program', (1, made, ['.first', '.lock']), gone_on(room, ctl, program)
         yield 'days: again, nothing is left to do', (1, b'', ''), ended(start(room, ctl, 'reports'))
         for number in range(KILLS):
             moment = took * (number + 0.5) / KILLS

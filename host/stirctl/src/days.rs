@@ -120,14 +120,21 @@ fn remove_left(to: &Path, reports: &[PathBuf]) -> Result<(), Fault> {
     for entry in fs::read_dir(to).map_err(|error| failed(to, &error))? {
         let path = entry.map_err(|error| failed(to, &error))?.path();
         let name = last_name(&path);
-        // `.NAME.report.PROCESS.new`, as it is written beside the report until it is whole.
-        let is_left = name.strip_suffix(".new").and_then(|it| it.strip_prefix('.'));
-        let of = is_left.and_then(|it| it.rsplit_once('.')).map(|(report, _)| report);
-        if of.is_some_and(|of| names.iter().any(|report| report == of)) {
+        if unfinished(&name).is_some_and(|of| names.iter().any(|report| report == of)) {
             fs::remove_file(&path).map_err(|error| failed(&path, &error))?;
         }
     }
     Ok(())
+}
+
+/// The report of which a file is the unfinished one: `.NAME.report.PROCESS.new` is written beside
+/// it until it is whole. The program `stir-day` of before wrote to `NAME.report.new`.
+fn unfinished(name: &str) -> Option<&str> {
+    let name = name.strip_suffix(".new")?;
+    match name.strip_prefix('.') {
+        Some(hidden) => hidden.rsplit_once('.').map(|(report, _)| report),
+        None => Some(name),
+    }
 }
 
 /// The words by which a log is judged after a state.
@@ -184,4 +191,23 @@ fn has_refused(report: &Path) -> Result<bool, Fault> {
 
 fn failed(path: &Path, error: &std::io::Error) -> Fault {
     Fault::write(&path.display().to_string(), error)
+}
+
+#[cfg(test)]
+mod tests {
+    use super::unfinished;
+
+    #[test]
+    fn unfinished_reports_are_known_by_their_names() {
+        for (name, report) in [
+            (".05.report.4711.new", Some("05.report")),
+            (".a.b.report.1.new", Some("a.b.report")),
+            ("05.report.new", Some("05.report")),
+            ("05.report", None),
+            (".lock", None),
+            (".new", Some("")),
+        ] {
+            assert_eq!(unfinished(name), report, "{name}");
+        }
+    }
 }

@@ -3,6 +3,7 @@
 mod outside;
 mod parts;
 mod told;
+mod words;
 
 pub(crate) use outside::{broken, is_outside, Broken};
 pub(crate) use told::Told;

@@ -5,13 +5,11 @@
 use super::parts::Parts;
 use super::{broken, is_outside, Broken, Certificate};
 use crate::files::number;
-use crate::summary::date;
 use crate::Fault;
 use asn1::{Asn1Read, IA5String, ObjectIdentifier, SequenceOf, Tlv, Utf8String};
 use openssl::asn1::{Asn1Time, Asn1TimeRef};
 use openssl::error::ErrorStack;
 use serde::Serialize;
-use std::fmt;
 use stir::{Part, World};
 use stir_trust::names::text_of;
 
@@ -213,63 +211,6 @@ fn claims(parts: &Parts<'_>) -> Option<Claims> {
         values: values.map(|value| value.as_str().to_owned()).collect(),
     });
     Some(Claims { wanted, permitted: permitted.collect() })
-}
-
-/// The same in words, a line for each thing that is told.
-impl fmt::Display for Told {
-    fn fmt(&self, to: &mut fmt::Formatter<'_>) -> fmt::Result {
-        writeln!(to, "{}: certificate {}", self.file, self.certificate)?;
-        let mut line = |name: &str, value: &str| writeln!(to, "    {name:<12}{value}");
-        line("subject", &self.subject)?;
-        line("issuer", &self.issuer)?;
-        line("serial", &self.serial)?;
-        line("valid", &format!("{} to {}", day(self.not_before), day(self.not_after)))?;
-        for text in self.profile.iter().flat_map(Profile::lines) {
-            line(text.0, &text.1)?;
-        }
-        self.policies.iter().try_for_each(|policy| line("policy", policy))?;
-        self.outside.iter().try_for_each(|broken| line("outside", &broken.to_string()))
-    }
-}
-
-/// A moment for a person.
-fn day(moment: Option<i64>) -> String {
-    match moment.map(|moment| (moment, u64::try_from(moment))) {
-        None => "a time that can't be read".into(),
-        Some((_, Ok(moment))) => {
-            let (day, time) = date(moment);
-            format!("{day} {time} UTC")
-        }
-        Some((moment, Err(_))) => format!("{} seconds before 1970", moment.unsigned_abs()),
-    }
-}
-
-impl Profile {
-    /// The names and the values of the lines that are told of it.
-    fn lines(&self) -> Vec<(&'static str, String)> {
-        let mut lines = Vec::new();
-        let length = self.path_length.map_or(String::new(), |it| format!(", path length {it}"));
-        lines.push(("authority", if self.ca { format!("yes{length}") } else { "no".into() }));
-        lines.extend(self.usage.iter().map(|usage| ("usage", usage.join(", "))));
-        lines.push(("key", self.key.clone()));
-        if !self.has_list {
-            lines.push(("list", "none".into()));
-        }
-        lines.extend(self.codes.iter().map(|code| ("code", code.clone())));
-        let range = |it: &Range| ("range", format!("{} numbers from {} on", it.count, it.start));
-        lines.extend(self.ranges.iter().map(range));
-        lines.extend(self.numbers.iter().map(|number| ("number", number.clone())));
-        lines.extend(self.revocation.iter().map(|at| ("revocation", at.clone())));
-        if let Some(Claims { wanted, permitted }) = &self.claims {
-            let there = |name: &String| ("claim", format!("{name} has to be there"));
-            lines.extend(wanted.iter().map(there));
-            lines.extend(permitted.iter().map(|Permitted { claim, values }| {
-                let values: Vec<String> = values.iter().map(|it| format!("{it:?}")).collect();
-                ("claim", format!("{claim} may be {}", values.join(", ")))
-            }));
-        }
-        lines
-    }
 }
 
 #[cfg(test)]
