@@ -176,7 +176,8 @@ def test_another_program_that_writes_is_waited_for_and_not_for_ever(seconds, sta
     wanted = fetch([kept], *TRUSTED)
     with open(fetch.room / 'chains/.lock', 'wb') as held:
         fcntl.flock(held, fcntl.LOCK_EX)
-        running = subprocess.Popen(fetch.words(*TRUSTED, '--all'), cwd=fetch.room, stdin=subprocess.PIPE, stdout=subprocess.PIPE, stderr=subprocess.PIPE)
+        running = subprocess.Popen(fetch.words(*TRUSTED, '--all'), cwd=fetch.room, stdin=subprocess.PIPE, stdout=subprocess.PIPE,
+                                   stderr=subprocess.PIPE)
         running.stdin.write(f'{kept}\n'.encode())
         running.stdin.close()
         with_lock = time.monotonic()
@@ -202,7 +203,8 @@ def test_words_and_lines_that_are_not_taken_are_told(fetch):
                                  (['--hosts=none'], b'', (5, b'', 'stirctl: missing none\n')),
                                  (['--hosts=hosts'], b'; ours\n\nhttps://a b\n', (5, b'', 'stirctl: refused input 3\n')),
                                  (['--hosts=hosts', 'text'], b'', (5, b'', 'stirctl: refused text 1\n')),
-                                 (['--hosts=hosts', '--authorities=text'], b'', (5, b'', 'stirctl: text: the authorities are no certificates in PEM\n')),
+                                 (['--hosts=hosts', '--authorities=text'], b'',
+                                  (5, b'', 'stirctl: text: the authorities are no certificates in PEM\n')),
                                  (['--hosts=hosts', '--under=text'], b'', (5, b'', f'stirctl: text: {NONE}\n')),
                                  (['--hosts=hosts', '--to=a b'], b'', (2, b'', 'stirctl: a b: a chain map takes no such name of a folder\n')),
                                  (['--hosts=hosts', '--to=' + 'n' * 121], b'',
@@ -211,8 +213,9 @@ def test_words_and_lines_that_are_not_taken_are_told(fetch):
                                  (['--hosts=hosts'], many, (2, b'', 'stirctl: 50001 x5us, and a chain map has at most 50000\n')),
                                  (['--hosts=hosts'], b'', (0, b'', ''))):
         assert run(*words, given=given) == wanted, words
-    for words in ([], ['--hosts=hosts', '--seconds=0'], ['--hosts=hosts', '--seconds=3601'], ['--hosts=hosts', '--jobs=0'], ['--hosts=hosts', '--jobs=257']):
-        assert run(*words)[:2] == (2, b''), words
+    assert run()[:2] == (2, b'')
+    for word in ('--seconds=0', '--seconds=3601', '--jobs=0', '--jobs=257'):
+        assert run('--hosts=hosts', word)[:2] == (2, b''), word
 
 
 def test_a_terminal_sees_how_far_it_is_and_whole_lines(fetch):
@@ -279,7 +282,8 @@ def judged(ctl, tmp_path):
 def test_a_log_is_judged_by_what_is_fetched_as_by_a_chain_map(judged, program):
     calls = list(judged.world.calls(2400))
     last = calls[-1][0]
-    calls += [(last, judged.world.diverted(judged.world.number(0, 1), [judged.world.number(1, 1), judged.world.number(2, 1), '13105550100'], last, 1)[0])]
+    caller, *hops = (judged.world.number(n, 1) for n in range(3))
+    calls += [(last, judged.world.diverted(caller, [*hops, '13105550100'], last, 1)[0])]
     by_map = judged.run('judge', calls, chains=True)
     assert by_map[0] == 1 and by_map[2] == '' and by_map[1].count(b' valid ') > 1500
     checked = ['--checked-by', str(program)] if program.exists() else []
@@ -427,7 +431,8 @@ def run_by(judged, command, *words):
 
 def test_with_anchors_and_hosts_alone_the_codes_of_chains_that_lead_to_an_anchor_are_trusted(trusted, program):
     checked = ['--checked-by', str(program)] if program.exists() else []
-    status, report, said = run_by(trusted, 'judge', *BY_FETCH, '--fetch=kept', '--chains-out=map.txt', '--table-out=table.txt', '--report=-', *checked)
+    written = ['--chains-out=map.txt', '--table-out=table.txt', '--report=-']
+    status, report, said = run_by(trusted, 'judge', *BY_FETCH, '--fetch=kept', *written, *checked)
     assert (status, said) == (1, UNLISTED_SAID)
     # The codes of the six chains under the root, and of no other one.
     assert (trusted.room / 'table.txt').read_text() == star(f'{n:04d}' for n in range(6))

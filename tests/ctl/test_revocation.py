@@ -101,6 +101,16 @@ def test_explain_says_the_rule_and_the_certificate(run, world):
     assert (status, said) == (0, '') and b'3 15 ok' in lines.splitlines()
 
 
+def test_a_revoked_certificate_is_named_once_where_codes_are_trusted(run, world, stir):
+    data, signer, broken = LISTS['two authorities with one serial number']
+    world.write('list.crl', data)
+    by = [*(word for word in world.by() if not word.startswith('--table=')), '--crl=list.crl', f'--crl-signer={signer}.pem']
+    status, output, said = run('judge', *by, '--report=-', '--checked-by', stir, 'calls.log')
+    assert (status, output) == (1, report(broken)), said
+    named = [f'stirctl: {world.folder}/{who}.der: certificate {at} is revoked since 2026-01-01T00:00:00Z' for who, at in broken.items()]
+    assert sorted(said.splitlines()) == sorted(named)
+
+
 def test_a_certificate_is_revoked_from_its_second_on(run, world, stir):
     since = trusted.second('2026-01-01T00:00:30')
     data = trusted.crl([ENTRY(1001, '2026-01-01T00:00:30', A)])

@@ -165,12 +165,13 @@ impl Chains {
         Ok(slot.get_or_init(|| judged(&self.world, &file, provider, revocation)).clone()?)
     }
 
-    /// Whether the chain of an x5u would break none of rules 11, 12, 14 and 15 under this world.
-    pub fn proves(&self, world: &World, x5u: &[u8], provider: &Provider) -> Result<bool, Fault> {
-        let Some(file) = self.file(x5u) else { return Ok(false) };
-        let Ok(bytes) = files::prefix(&file, LONGEST_CHAIN + 1) else { return Ok(false) };
-        let questions = world.chain(&bytes)?.questions()?;
-        Ok(!questions.is_empty() && questions.iter().all(|it| provider.confirms(it)))
+    /// The chain of an x5u, opened under this world, if its file can be read. It isn't kept.
+    pub fn opened(&self, world: &World, x5u: &[u8]) -> Result<Option<Chain>, Fault> {
+        let Some(file) = self.file(x5u) else { return Ok(None) };
+        match files::prefix(&file, LONGEST_CHAIN + 1) {
+            Ok(bytes) => Ok(Some(world.chain(&bytes)?)),
+            Err(Unread::Missing | Unread::Failed) => Ok(None),
+        }
     }
 
     /// Has the chains judged under another world from now on.

@@ -7,7 +7,6 @@
 //! does. So no code counts that the proved library hasn't seen under a trust anchor.
 
 use crate::capture::How;
-use crate::chains::Found;
 use crate::files::{lines, says_nothing};
 use crate::input::each_log;
 use crate::judge::{Came, Judge};
@@ -128,9 +127,9 @@ impl Judge {
     /// `;`, which a line of it can't.
     fn candidate(&self, x5u: &[u8], named: &HashSet<&[u8]>) -> Result<Candidate, Fault> {
         let mut codes = BTreeSet::new();
-        if let Found::Known(known) = self.chains.get(x5u, &self.provider, &self.revocation)? {
+        if let Some(chain) = self.chains.opened(&self.world, x5u)? {
             for number in 1..=MOST_CERTIFICATES {
-                let lines = known.chain.part(number, Part::Codes)?.unwrap_or_default();
+                let lines = chain.part(number, Part::Codes)?.unwrap_or_default();
                 let lines = lines.split(|byte| *byte == b'\n');
                 let new = lines.filter(|code| !says_nothing(code) && !named.contains(code));
                 codes.extend(new.map(<[u8]>::to_vec));
@@ -141,14 +140,20 @@ impl Judge {
 
     /// Those that break no rule on chains under this world.
     fn proved(&self, world: &World, all: Vec<Candidate>) -> Result<Vec<Candidate>, Fault> {
-        let proved = all.into_par_iter().filter_map(|candidate| {
-            match self.chains.proves(world, &candidate.x5u, &self.provider) {
+        let proved =
+            all.into_par_iter().filter_map(|candidate| match self.is_proved(world, &candidate) {
                 Ok(true) => Some(Ok(candidate)),
                 Ok(false) => None,
                 Err(fault) => Some(Err(fault)),
-            }
-        });
+            });
         proved.collect()
+    }
+
+    /// Whether a chain breaks none of rules 11, 12, 14 and 15 under this world.
+    fn is_proved(&self, world: &World, candidate: &Candidate) -> Result<bool, Fault> {
+        let Some(chain) = self.chains.opened(world, &candidate.x5u)? else { return Ok(false) };
+        let questions = chain.questions()?;
+        Ok(!questions.is_empty() && questions.iter().all(|it| self.provider.confirms(it)))
     }
 
     /// The lines of the table, and those of these chains' codes.
