@@ -5,7 +5,8 @@ tools/refusals makes; and README.md trusts the crates of the kit that tools/trus
     pages.py    counts the long sentences of these pages, and names them
 
 A command stands in a block that begins with ```sh, after `$ `, with what it writes below it on the standard output and standard error. A line that ends
-with a backslash goes on in the next. The commands of a block run in one shell, and the blocks of a page in one folder.
+with a backslash goes on in the next. The commands of a block run in one shell, and the blocks of a page in one folder. From the first block on that needs
+stirctl, a page is tried only if that and the Python package cryptography are there.
 """
 import os
 import pathlib
@@ -24,8 +25,12 @@ CRATES = TOP / 'crates'
 CTL = TOP / 'host/out/release/stirctl'
 PATH = f'{CTL.parent}{os.pathsep}{os.environ["PATH"]}'
 
-# The pages whose commands are run, and whether these need the Python package cryptography and stirctl.
-SHOWN = {'README.md': False, 'docs/COMMANDS.md': False, 'docs/DAY.md': True}
+# The pages whose commands are run, each with what makes the files of a carrier with which it begins.
+CARRIER = 'examples/carrier/day --in . > said 2>&1; cp root.pem roots.pem'
+SHOWN = {'README.md': None, 'docs/COMMANDS.md': None, 'docs/DAY.md': None, 'docs/OPERATING.md': CARRIER}
+
+# The commands for which stirctl and the Python package cryptography are needed.
+NEEDS_MORE = re.compile(r'\bstirctl\b|examples/carrier/day')
 
 # Commands that aren't run here: the gate itself, and the proofs that it makes.
 NOT_RUN = ('rt ci', '.ci/run', './stir --prove')
@@ -81,15 +86,24 @@ def tree(program, room):
         shutil.copytree(TOP / name, room / name, dirs_exist_ok=True)
 
 
+def tried(page, has_more):
+    """The blocks of a page whose commands are run: all, or those before the first that needs more."""
+    for first, lines in blocks((TOP / page).read_text()):
+        if not has_more and any(map(NEEDS_MORE.search, lines)):
+            print(f'tools: the commands of {page} are not tried from line {first} on')
+            return
+        yield first, lines
+
+
 def shown(program, has_library):
     """Each block of commands: its name, what is wanted, and what came."""
-    for page, needs_more in SHOWN.items():
-        if needs_more and not (has_library and shutil.which('stirctl', path=PATH)):
-            print(f'tools: the commands of {page} are not tried')
-            continue
+    has_more = has_library and shutil.which('stirctl', path=PATH) is not None
+    for page, before in SHOWN.items():
         with tempfile.TemporaryDirectory() as folder:
             tree(program, pathlib.Path(folder))
-            for first, lines in blocks((TOP / page).read_text()):
+            if before and has_more:
+                written([before], folder)
+            for first, lines in tried(page, has_more):
                 given = [(command, output) for command, output in commands(lines) if command not in NOT_RUN]
                 yield f'{page}:{first}', [output for _, output in given], written([command for command, _ in given], folder)
 
