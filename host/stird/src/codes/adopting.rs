@@ -214,3 +214,30 @@ fn tell(before: Option<&BTreeSet<Code>>, codes: &BTreeSet<Code>) {
         tracing::info!("codes of proved chains stand for every number now: {}", names.join(" "));
     }
 }
+
+#[cfg(test)]
+mod tests {
+    use super::*;
+
+    #[test]
+    fn codes_have_room_up_to_that_of_a_table() {
+        let candidates = || -> Vec<Candidate> {
+            let lists: [&[&[u8]]; 3] = [&[b"2", b"2"], &[b"3", b"4"], &[b"1"]];
+            let of = |codes: &&[&[u8]]| Candidate {
+                x5u: b"https://cr.example/".as_slice().into(),
+                der: Vec::new().into(),
+                codes: codes.iter().map(|code| (*code).into()).collect(),
+                asked: Vec::new(),
+            };
+            lists.iter().map(of).collect()
+        };
+        let kept: BTreeSet<Code> = [b"1".as_slice().into()].into();
+        for (most, left) in [(0, ""), (1, "1"), (2, "221"), (3, "221"), (4, "22341"), (5, "22341")]
+        {
+            let mut candidates = candidates();
+            with_room(&mut candidates, &kept, most);
+            let codes: Vec<u8> = candidates.iter().flat_map(|it| it.codes.concat()).collect();
+            assert_eq!(String::from_utf8_lossy(&codes), left, "{most}");
+        }
+    }
+}

@@ -158,3 +158,24 @@ fn unnamed(world: &World, chain: &Listed) -> Result<Vec<Code>, Error> {
     let unnamed = codes.filter(|code| !world.names(code) && !code.starts_with(b";"));
     Ok(unnamed.cloned().collect())
 }
+
+#[cfg(test)]
+mod tests {
+    use super::*;
+    use std::time::Instant;
+
+    #[tokio::test]
+    async fn a_call_waits_until_its_codes_were_tried_but_not_past_the_most_that_wait() {
+        let (codes, mut requests) = Codes::new(1);
+        let begun = Instant::now();
+        let (one, other) = tokio::join!(codes.adopt(Vec::new()), codes.adopt(Vec::new()));
+        assert!(!one && !other, "nobody tries");
+        assert!((PATIENCE..10 * PATIENCE).contains(&begun.elapsed()));
+        assert!(requests.try_recv().is_ok() && requests.try_recv().is_err(), "one waited");
+        let trying = async {
+            let request = requests.recv().await.expect("a request");
+            request.tried.send(()).expect("it is waited for");
+        };
+        assert!(tokio::join!(codes.adopt(Vec::new()), trying).0);
+    }
+}

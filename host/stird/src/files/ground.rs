@@ -124,6 +124,47 @@ pub(super) fn names_of(table: &[u8]) -> HashSet<Box<[u8]>> {
 mod tests {
     use super::*;
 
+    fn ground(most: usize) -> Ground {
+        let by = stir::World::open(&stir::Settings::default(), b"", b"");
+        Ground::new(by.expect("a world"), most)
+    }
+
+    fn opened(ground: &Ground, x5u: &str, der: &Arc<[u8]>) -> Arc<Listed> {
+        ground.chain(x5u.as_bytes(), der).expect("memory")
+    }
+
+    #[test]
+    fn a_chain_is_opened_once_and_anew_if_it_was_fetched_anew() {
+        let ground = ground(9);
+        let der: Arc<[u8]> = b"no chain"[..].into();
+        let first = opened(&ground, "a", &der);
+        assert!(Arc::ptr_eq(&first, &opened(&ground, "a", &der)));
+        let anew: Arc<[u8]> = der[..].into();
+        assert!(!Arc::ptr_eq(&first, &opened(&ground, "a", &anew)));
+        assert_eq!(ground.count(), 1);
+        let verifier = Verifier::new().expect("OpenSSL");
+        assert_eq!(ground.proves(b"a", &anew, &verifier), Ok(Proof::Bad));
+    }
+
+    #[test]
+    fn at_its_bound_chains_go_whose_bytes_nobody_keeps() {
+        let ground = ground(3);
+        let mut ders: Vec<Arc<[u8]>> = (0..4).map(|number| vec![number].into()).collect();
+        for (number, der) in ders.iter().enumerate() {
+            opened(&ground, &number.to_string(), der);
+            assert_eq!(ground.count(), (number + 1).min(3));
+        }
+        let is_kept =
+            |der: &Arc<[u8]>| Arc::ptr_eq(&opened(&ground, "3", der), &opened(&ground, "3", der));
+        assert!(!is_kept(&ders[3]), "there is no room for it");
+        drop(ders.remove(0));
+        assert!(is_kept(&ders[2]), "it takes the place of the first");
+        assert_eq!(ground.count(), 3);
+        ders.truncate(1);
+        ground.sweep();
+        assert_eq!(ground.count(), 1);
+    }
+
     #[test]
     fn a_table_names_the_first_word_of_its_lines() {
         let table = b"; 11 *\n709J 12155551000 100\r\n709J *67\n\n42 *\n*3 12155550000";
