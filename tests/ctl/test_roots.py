@@ -12,44 +12,11 @@ import trusted  # noqa: E402
 from cryptography import x509  # noqa: E402
 from cryptography.hazmat.primitives import hashes, serialization  # noqa: E402
 from cryptography.hazmat.primitives.asymmetric import ec, rsa  # noqa: E402
-from trusted import certificate, der, pem  # noqa: E402
-
-NOW = int(time.time())
-SHA384 = hashes.SHA384()
-
-
-class Made(trusted.Trusted):
-    """Besides: the roots C on P-384 and R by RSA, each with an authority on P-256 and a carrier below it; and the signer of the list."""
-
-    def __init__(self, folder):
-        super().__init__(folder)
-        key = trusted.world.key
-        self.c, self.r, self.list = trusted.curve384('Root C'), rsa.generate_private_key(65537, 2048), key('List')
-        self.roots |= {'Root C': certificate('Root C', 'Root C', self.c, self.c, 1, digest=SHA384), 'Root R': certificate('Root R', 'Root R', self.r, self.r, 1)}
-        self.authorities |= {'C': certificate('C', 'Root C', key('C'), self.c, 2, digest=SHA384, length=0),
-                             'R': certificate('R', 'Root R', key('R'), self.r, 2, length=0)}
-        for number, who in enumerate('CR', 5):
-            self.keys[who] = key(f'carrier {who}')
-            leaf = certificate(f'Carrier {who}', who, self.keys[who], key(who), 1000 + number, issues=False, code=f'55{number}X')
-            self.write(f'{who}.der', der(leaf))
-            self.write(f'{who}-whole.der', der(leaf) + der(self.authorities[who]))
-            self.write(f'{who}.pem', pem(leaf) + pem(self.authorities[who]) + pem(self.roots[f'Root {who}']))
-        self.write('chains.txt', ''.join(f'{self.x5u(who)} {folder}/{who}.der\n{self.x5u(who)}?whole {folder}/{who}-whole.der\n' for who in 'CR').encode())
-        self.write('table.txt', b'555X *\n556X *\n')
-        self.write('signer.pem', pem(certificate('List', 'List', self.list, self.list, 9)))
-        self.log(self.call('C', number=1), self.call('R', number=2), self.call('C', number=3, x5u=f'{self.x5u("C")}?whole'))
-
-    def body(self, *roots, **others):
-        body = {'version': '1.0', 'sequence': 7, 'exp': NOW + 86400, 'trustList': [pem(self.roots[who]).decode() for who in roots or ('Root A', 'Root B')]}
-        return {name: value for name, value in (body | others).items() if value is not None}
-
-    def anchors(self, *roots):
-        return b''.join(der(self.roots[who]) for who in roots)
-
+from trusted import NOW, SHA384, certificate, der, pem  # noqa: E402
 
 @pytest.fixture(scope='module')
 def world(tmp_path_factory):
-    return Made(tmp_path_factory.mktemp('roots'))
+    return trusted.Abroad(tmp_path_factory.mktemp('roots'))
 
 
 @pytest.fixture(scope='session')

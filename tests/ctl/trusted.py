@@ -7,16 +7,19 @@ import hashlib
 import json
 import pathlib
 import sys
+import time
 
 from cryptography import x509
 from cryptography.hazmat.primitives import hashes, serialization
-from cryptography.hazmat.primitives.asymmetric import ec
+from cryptography.hazmat.primitives.asymmetric import ec, rsa
 from cryptography.x509.name import _ASN1Type as Kind
 
 sys.path.insert(0, str(pathlib.Path(__file__).resolve().parent.parent / 'service'))
 import world  # noqa: E402
 
 START = world.START
+NOW = int(time.time())
+SHA384 = hashes.SHA384()
 CODES = {'one': '709J', 'two': '042B', 'three': '555C', 'four': '777D'}
 CALLED = '13105550100'
 
@@ -75,14 +78,13 @@ def entry(serial, since='2026-01-01', authority=None, reason=None):
 
 def crl(entries, *, by='Agency', key=None, number=7, begins='2026-01-01', ends='2036-01-01', indirect=True):
     """A revocation list in DER; one for several authorities, if it isn't direct."""
-    builder = x509.CertificateRevocationListBuilder().issuer_name(name(by)).last_update(day(begins)).next_update(day(ends))
+    # One after another they would be copied each time.
+    builder = x509.CertificateRevocationListBuilder(revoked_certificates=list(entries)).issuer_name(name(by)).last_update(day(begins)).next_update(day(ends))
     builder = builder.add_extension(x509.CRLNumber(number), False)
     if indirect:
         builder = builder.add_extension(x509.IssuingDistributionPoint(
             full_name=None, relative_name=None, only_contains_user_certs=False, only_contains_ca_certs=False, only_some_reasons=None,
             indirect_crl=True, only_contains_attribute_certs=False), True)
-    for one in entries:
-        builder = builder.add_revoked_certificate(one)
     return der(builder.sign(key or world.key(by), hashes.SHA256()))
 
 
@@ -138,3 +140,31 @@ def jws(body, key, header=None):
     signature = key.sign(text.encode(), ec.ECDSA(hashes.SHA256()))
     return f'{text}.{base64url(world.raw(signature))}'.encode()
 
+
+class Abroad(Trusted):
+    """Besides: the roots C on P-384 and R by RSA, each with an authority on P-256 and a carrier below it; and the signer of the list."""
+
+    def __init__(self, folder):
+        super().__init__(folder)
+        key = world.key
+        self.c, self.r, self.list = curve384('Root C'), rsa.generate_private_key(65537, 2048), key('List')
+        self.roots |= {'Root C': certificate('Root C', 'Root C', self.c, self.c, 1, digest=SHA384), 'Root R': certificate('Root R', 'Root R', self.r, self.r, 1)}
+        self.authorities |= {'C': certificate('C', 'Root C', key('C'), self.c, 2, digest=SHA384, length=0),
+                             'R': certificate('R', 'Root R', key('R'), self.r, 2, length=0)}
+        for number, who in enumerate('CR', 5):
+            self.keys[who] = key(f'carrier {who}')
+            leaf = certificate(f'Carrier {who}', who, self.keys[who], key(who), 1000 + number, issues=False, code=f'55{number}X')
+            self.write(f'{who}.der', der(leaf))
+            self.write(f'{who}-whole.der', der(leaf) + der(self.authorities[who]))
+            self.write(f'{who}.pem', pem(leaf) + pem(self.authorities[who]) + pem(self.roots[f'Root {who}']))
+        self.write('chains.txt', ''.join(f'{self.x5u(who)} {folder}/{who}.der\n{self.x5u(who)}?whole {folder}/{who}-whole.der\n' for who in 'CR').encode())
+        self.write('table.txt', b'555X *\n556X *\n')
+        self.write('signer.pem', pem(certificate('List', 'List', self.list, self.list, 9)))
+        self.log(self.call('C', number=1), self.call('R', number=2), self.call('C', number=3, x5u=f'{self.x5u("C")}?whole'))
+
+    def body(self, *roots, **others):
+        body = {'version': '1.0', 'sequence': 7, 'exp': NOW + 86400, 'trustList': [pem(self.roots[who]).decode() for who in roots or ('Root A', 'Root B')]}
+        return {name: value for name, value in (body | others).items() if value is not None}
+
+    def anchors(self, *roots):
+        return b''.join(der(self.roots[who]) for who in roots)

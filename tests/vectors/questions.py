@@ -4,7 +4,7 @@
     questions.py answers  prints the lines of `stdout`
 
 The lines name the certificates that `stdin` defines in front of them, built by certificates.py. Of a chain that openssl made,
-tests/tools/files/shuffled.der below root.der, it is openssl that says keys, digests and signatures; it has to be on the path.
+tests/ctl/files/shuffled.der below root.der, it is openssl that says keys, digests and signatures; it has to be on the path.
 """
 
 import pathlib

@@ -329,7 +329,8 @@ pub fn verified(judged: &Judged) -> Answer {
             let certificates = judged.certificates.filter(|_| *rule == NO_CHAIN);
             let certificates = certificates.map(|words| format!(", certificates {words}"));
             let certificates = certificates.unwrap_or_default();
-            Some(format!("rule {rule} at {field}.{part}{certificates}"))
+            let spoilt = judged.spoilt.map(|spoilt| format!(", {spoilt}")).unwrap_or_default();
+            Some(format!("rule {rule} at {field}.{part}{certificates}{spoilt}"))
         }
         Outcome::Valid | Outcome::Unjudged => None,
     };
@@ -463,7 +464,7 @@ mod tests {
             ),
             (Outcome::Unjudged, r#"{"verificationResponse":{"verstat":"No-TN-Validation"}}"#),
         ] {
-            let judged = Judged { call: 1, outcome, certificates: None };
+            let judged = Judged { call: 1, outcome, certificates: None, spoilt: None };
             assert_eq!(body(&verified(&judged)), wanted);
         }
     }
@@ -473,7 +474,7 @@ mod tests {
         let wanted = |rule, text: &str| {
             let outcome = Outcome::Refused { rule, code: 436, field: 1, part: 0 };
             let certificates = Some(Certificates::Failed("tls"));
-            let answer = verified(&Judged { call: 1, outcome, certificates });
+            let answer = verified(&Judged { call: 1, outcome, certificates, spoilt: None });
             assert!(body(&answer).contains(&format!("\"reasondesc\":\"{text}\"")), "{answer:?}");
         };
         wanted(10, "rule 10 at 1.0, certificates failed tls");

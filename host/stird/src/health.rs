@@ -7,6 +7,7 @@ use serde::Serialize;
 use std::sync::atomic::{AtomicBool, AtomicU64, Ordering::Relaxed};
 use std::sync::Mutex;
 use stir_trust::locks::Held;
+use stir_trust::revocation::moment;
 
 /// After how many seconds without a look at the files they count as not looked at any more, beside
 /// ten times that between two looks.
@@ -72,6 +73,14 @@ impl Standing {
         let mut notes = self.faults.lock().held().clone();
         if missing > 0 {
             notes.push(format!("chains: {missing} listed files are missing"));
+        }
+        if let Some(revocation) = &service.judge.revocation {
+            let revocation = revocation.load();
+            let told = if revocation.is_hard() { &mut why } else { &mut notes };
+            for (file, since) in revocation.ended(service.clock.now()) {
+                let (file, since) = (file.display(), moment(since));
+                told.push(format!("{file}: the next list should be there since {since}"));
+            }
         }
         notes.extend(service.judge.fetching.iter().flat_map(|fetching| fetching.notes()));
         if let Some(blocks) = &service.blocks {

@@ -1,6 +1,8 @@
 //! Files that change: they are looked at from time to time, aside from what answers, and taken if
 //! they can be read; else what was read before stays.
-use crate::files::{self, look::Look, signing::Blocks, FileFault, HostFiles, MayAsk, Sources};
+use crate::files::{
+    self, look::Look, signing::Blocks, FileFault, HostFiles, ListFiles, MayAsk, Revocation, Sources,
+};
 use crate::logs::Log;
 use crate::routes::Service;
 use crate::server::Acceptor;
@@ -27,6 +29,8 @@ pub struct Watched {
     pub tokens: Option<(Look, PathBuf)>,
     /// Whom certificates may be fetched from.
     pub hosts: Option<(HostFiles, MayAsk)>,
+    /// Which certificates are revoked.
+    pub lists: Option<ListFiles>,
     /// What speaks TLS.
     pub acceptor: Option<Arc<Acceptor>>,
 }
@@ -35,6 +39,7 @@ struct Shared {
     sources: Sources,
     tokens: Option<PathBuf>,
     hosts: Option<HostFiles>,
+    lists: Option<ListFiles>,
     service: Arc<Service>,
     acceptor: Option<Arc<Acceptor>>,
     last: Mutex<Last>,
@@ -55,12 +60,12 @@ struct Last {
 impl Reload {
     /// Of this service, which has read them once; they are looked at so often.
     pub fn new(watched: Watched, service: Arc<Service>, log: Log, every: Duration) -> Reload {
-        let Watched { sources, tokens, hosts, acceptor } = watched;
+        let Watched { sources, tokens, hosts, lists, acceptor } = watched;
         let (token_file, tokens) = tokens.unzip();
         let (hosts, may_ask) = hosts.unzip();
         let last = Last { token_file, may_ask, ..Last::default() }.into();
         let patience = every / 4;
-        let shared = Shared { sources, tokens, hosts, service, acceptor, last, patience };
+        let shared = Shared { sources, tokens, hosts, lists, service, acceptor, last, patience };
         Reload { shared: Arc::new(shared), log, every }
     }
 
@@ -95,6 +100,7 @@ impl Shared {
         self.blocks(is_told, last);
         self.tokens(is_told, last);
         self.may_ask(is_told, last);
+        faults.extend(self.revocation(is_told));
         if is_told {
             self.acceptor(last);
         }
@@ -128,6 +134,34 @@ impl Shared {
             Err(fault) => {
                 tracing::warn!("{fault}: what was read before stays");
                 judge.metrics.reload(false);
+            }
+        }
+    }
+
+    /// Which certificates are revoked; and what is at fault.
+    fn revocation(&self, is_told: bool) -> Vec<String> {
+        let judge = &self.service.judge;
+        let (Some(files), Some(held)) = (&self.lists, &judge.revocation) else { return Vec::new() };
+        let before = held.load_full();
+        let text = |faults: Vec<&FileFault>| faults.iter().map(ToString::to_string).collect();
+        if !is_told && !before.is_stale() {
+            return text(before.faults());
+        }
+        match Revocation::read(files, Some(&before)) {
+            Ok(now) => {
+                let old = before.faults();
+                for fault in now.faults().into_iter().filter(|fault| !old.contains(fault)) {
+                    tracing::warn!("{fault}; it stays what it was");
+                }
+                judge.metrics.reload(now.faults().is_empty());
+                let faults = text(now.faults());
+                held.store(Arc::new(now));
+                faults
+            }
+            Err(fault) => {
+                tracing::warn!("{fault}: what was read before stays");
+                judge.metrics.reload(false);
+                vec![fault.to_string()]
             }
         }
     }

@@ -136,6 +136,8 @@ struct Told {
     #[serde(skip_serializing_if = "Option::is_none")]
     place: Option<String>,
     reason: &'static str,
+    #[serde(skip_serializing_if = "Option::is_none")]
+    revocation: Option<String>,
     rule: u32,
     verstat: &'static str,
     #[serde(skip_serializing_if = "Option::is_none")]
@@ -156,6 +158,7 @@ fn told(judged: &Judged) -> Answer {
         outcome: outcome.name(),
         place,
         reason: outcome.reason(),
+        revocation: judged.spoilt.map(|spoilt| spoilt.to_string()),
         rule: outcome.rule(),
         verstat: outcome.verstat(),
         winner,
@@ -327,6 +330,9 @@ impl Service {
         });
         let ends = world.ends().into_iter().chain(fetched).min();
         metrics.next_end.set(ends.map_or(0, |second| second as i64));
+        if let Some(revocation) = &self.judge.revocation {
+            metrics.revocation.measure(&revocation.load(), self.clock.now());
+        }
         let codes = self.judge.codes.as_ref().map_or(0, Codes::count);
         metrics.fetches.codes.set(codes as i64);
         metrics.lost_lines.set(crate::logs::lost() as i64);
@@ -367,11 +373,11 @@ mod tests {
                     "verstat": "TN-Validation-Passed" }),
             ),
         ] {
-            let judged = Judged { call: 7, outcome, certificates: None };
+            let judged = Judged { call: 7, outcome, certificates: None, spoilt: None };
             assert_eq!(body(&told(&judged)), format!("{wanted}\n"));
         }
         let certificates = Some(Certificates::Failed("dns"));
-        let judged = Judged { call: 7, outcome: refused, certificates };
+        let judged = Judged { call: 7, outcome: refused, certificates, spoilt: None };
         assert_eq!(body(&line(&judged)), "403 TN-Validation-Failed Stale Date");
         let wanted = r#"{"call":7,"certificates":"failed dns","code":403,"outcome":"refused","#;
         assert!(body(&told(&judged)).starts_with(wanted), "{}", body(&told(&judged)));

@@ -2,7 +2,7 @@
 use crate::answers::Answers;
 use crate::codes::{self, adopt_all};
 use crate::fetching::Fetching;
-use crate::files::{self, look::Look, signing::Blocks, MayAsk, Sources};
+use crate::files::{self, look::Look, signing::Blocks, MayAsk, Revocation, Sources};
 use crate::health::Standing;
 use crate::judge::Judge;
 use crate::logs::Log;
@@ -55,7 +55,8 @@ pub async fn run(settings: Settings, log: Log) -> Result<()> {
         ending,
     });
     let hosts = settings.fetch.map(|fetch| fetch.files).zip(may_ask);
-    let watched = Watched { sources, tokens, hosts, acceptor };
+    let lists = settings.revocation;
+    let watched = Watched { sources, tokens, hosts, lists, acceptor };
     let reload = Reload::new(watched, Arc::clone(&service), log, settings.reload);
     let mut aside = vec![
         tokio::spawn(reload.run(hangs_up)),
@@ -119,6 +120,8 @@ fn service(
     let tokens = Tokens::read(settings.signing_tokens.as_deref())?;
     let tickets = tickets(settings, clock)?;
     let (may_ask, fetching) = fetching(settings, metrics)?.unzip();
+    let revocation = settings.revocation.as_ref();
+    let revocation = revocation.map(|files| Revocation::read(files, None)).transpose()?;
     let codes = (sources.codes == files::Codes::Trusted)
         .then(|| codes::Codes::new(settings.connections.div_ceil(4)));
     let (codes, requests) = codes.unzip();
@@ -134,6 +137,7 @@ fn service(
             split: settings.split,
             fetching,
             codes,
+            revocation: revocation.map(ArcSwap::from_pointee),
         },
         blocks,
         tokens: ArcSwap::from_pointee(tokens),

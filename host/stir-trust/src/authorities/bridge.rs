@@ -82,7 +82,7 @@ const NO_SIGNATURE: &[u8] = &[0x30, 6, 2, 1, 1, 2, 1, 1];
 /// use stir_trust::authorities::{bridge, BridgeFault};
 ///
 /// // The authority has to be one that could be a trust anchor.
-/// # let leaf = include_bytes!("../../../../tests/tools/files/carrier.der");
+/// # let leaf = include_bytes!("../../../../tests/ctl/files/carrier.der");
 /// assert!(matches!(bridge(leaf, &[], 1_800_000_000), Err(BridgeFault::NoAuthority)));
 /// ```
 pub fn bridge(chain: &[u8], roots: &[X509], now: u64) -> Result<Bridge, BridgeFault> {

@@ -7,7 +7,7 @@ use thiserror::Error;
 ///
 /// ```
 /// use stir_trust::authorities::{AuthorityList, AuthoritiesFault, ListSigner};
-/// # let pem = include_bytes!("../../../../tests/tools/files/carrier.pem");
+/// # let pem = include_bytes!("../../../../tests/ctl/files/carrier.pem");
 ///
 /// let fault = AuthorityList::read(b"a.b", &ListSigner::from_pem(pem)?, 0).unwrap_err();
 /// assert_eq!(fault, AuthoritiesFault::Form);

@@ -22,7 +22,7 @@ pub const MOST_BYTES: usize = 8 << 20;
 /// Who signs a list of authorities: a key on P-256.
 ///
 /// ```
-/// # let pem = include_bytes!("../../../../tests/tools/files/carrier.pem");
+/// # let pem = include_bytes!("../../../../tests/ctl/files/carrier.pem");
 /// let signer = stir_trust::authorities::ListSigner::from_pem(pem)?;
 /// # Ok::<(), stir_trust::authorities::ListSignerFault>(())
 /// ```
@@ -123,7 +123,7 @@ impl AuthorityList {
     ///
     /// ```
     /// use stir_trust::authorities::{AuthoritiesFault, AuthorityList, ListSigner};
-    /// # let pem = include_bytes!("../../../../tests/tools/files/carrier.pem");
+    /// # let pem = include_bytes!("../../../../tests/ctl/files/carrier.pem");
     ///
     /// let unsigned = b"eyJhbGciOiJub25lIn0.e30.";
     /// let fault = AuthorityList::read(unsigned, &ListSigner::from_pem(pem)?, 0).err();

@@ -34,6 +34,7 @@ pub use signers::Signers;
 
 use crate::authorities::issuer_and_serial;
 use chrono::NaiveDateTime;
+use std::sync::Arc;
 use stir::{Chain, Part, Question, Settings, World};
 use thiserror::Error;
 
@@ -97,8 +98,8 @@ pub enum Unknown {
 /// ```
 /// assert!(stir_trust::revocation::Lists::default().is_empty());
 /// ```
-#[derive(Default)]
-pub struct Lists(Vec<List>);
+#[derive(Clone, Debug, Default)]
+pub struct Lists(Vec<Arc<List>>);
 
 impl Lists {
     /// Takes one list more.
@@ -110,8 +111,21 @@ impl Lists {
     /// assert!(!lists.is_empty());
     /// # Ok::<(), Box<dyn std::error::Error>>(())
     /// ```
-    pub fn add(&mut self, list: List) {
-        self.0.push(list);
+    pub fn add(&mut self, list: impl Into<Arc<List>>) {
+        self.0.push(list.into());
+    }
+
+    /// The lists.
+    ///
+    /// ```
+    #[doc = include_str!("hidden.md")]
+    /// let mut lists = Lists::default();
+    /// lists.add(list);
+    /// assert_eq!(lists.iter().map(|list| list.len()).sum::<usize>(), 3);
+    /// # Ok::<(), Box<dyn std::error::Error>>(())
+    /// ```
+    pub fn iter(&self) -> impl Iterator<Item = &List> {
+        self.0.iter().map(AsRef::as_ref)
     }
 
     /// Whether there is none.

@@ -19,7 +19,7 @@ use std::cmp::Ordering;
 /// use stir_trust::revocation::Signers;
 ///
 /// assert!(Signers::from_pem(b"").is_err() && Signers::default() != Signers::from_pem(PEM)?);
-/// # const PEM: &[u8] = include_bytes!("../../../../tests/tools/files/carrier.pem");
+/// # const PEM: &[u8] = include_bytes!("../../../../tests/ctl/files/carrier.pem");
 /// # Ok::<(), stir_trust::revocation::SignersFault>(())
 /// ```
 #[derive(Clone, Debug, Default)]

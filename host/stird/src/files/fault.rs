@@ -6,6 +6,7 @@ use std::io;
 use std::path::{Path, PathBuf};
 use stir_trust::chain_map::LineFault;
 use stir_trust::fetch::HostsFault;
+use stir_trust::revocation::SignersFault;
 use stir_trust::roots::RootsFault;
 use thiserror::Error;
 
@@ -60,6 +61,12 @@ pub enum Why {
     /// What the proved library says of trust anchors, a code table, settings or a chain.
     #[error("{0}")]
     Library(#[from] stir::Error),
+    /// It has no signers of revocation lists.
+    #[error("{0}")]
+    Signers(#[from] SignersFault),
+    /// It is no revocation list that may take its place, and why.
+    #[error("{0}")]
+    List(String),
     /// A line of the signing table.
     #[error("{0}")]
     Block(#[from] BlockFault),

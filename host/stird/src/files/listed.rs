@@ -1,11 +1,14 @@
 //! A file of the chain map, and the chain in it.
 use super::bytes;
 use super::fault::Why;
+use super::lists::Revocation;
 use super::look::Look;
+use arc_swap::ArcSwapOption;
 use std::path::Path;
 use std::sync::atomic::{AtomicBool, Ordering};
 use std::sync::{Arc, OnceLock};
 use stir::{Chain, Error, Part, Question};
+use stir_trust::revocation::Revoked;
 use stir_trust::Verifier;
 
 /// The most bytes of a chain. Of a longer file one byte more is handed to the library, so that rule
@@ -28,6 +31,14 @@ pub struct Listed {
     codes: OnceLock<Vec<Box<[u8]>>>,
     /// Whether it was tried in vain to prove it with its codes.
     is_unproved: AtomicBool,
+    /// Its certificates that are revoked, by the lists of which that was asked last.
+    revoked: ArcSwapOption<RevokedBy>,
+}
+
+/// The certificates of a chain that are revoked by a reading of the lists.
+struct RevokedBy {
+    reading: u64,
+    revoked: Vec<Revoked>,
 }
 
 struct Confirmed {
@@ -40,8 +51,44 @@ impl Listed {
     pub(super) fn open(world: &stir::World, der: &[u8]) -> Result<Listed, Error> {
         let opened = world.chain(der)?;
         let ends = ends(&opened)?;
-        let (confirmed, codes) = (OnceLock::new(), OnceLock::new());
-        Ok(Listed { opened, confirmed, ends, codes, is_unproved: AtomicBool::new(false) })
+        Ok(Listed {
+            opened,
+            confirmed: OnceLock::new(),
+            ends,
+            codes: OnceLock::new(),
+            is_unproved: AtomicBool::new(false),
+            revoked: ArcSwapOption::empty(),
+        })
+    }
+
+    /// Its certificates that are revoked at this moment by these lists, of which it is asked once
+    /// a reading.
+    ///
+    /// # Errors
+    ///
+    /// Want of memory.
+    pub fn revoked(&self, by: &Revocation, moment: u64) -> Result<Vec<Revoked>, Error> {
+        let known = self.revoked.load_full().filter(|known| known.reading == by.reading());
+        let known = match known {
+            Some(known) => known,
+            None => {
+                let revoked = by.revoked(&self.opened)?;
+                let known = Arc::new(RevokedBy { reading: by.reading(), revoked });
+                self.revoked.store(Some(Arc::clone(&known)));
+                known
+            }
+        };
+        Ok(known.revoked.iter().filter(|it| it.since <= moment).copied().collect())
+    }
+
+    /// The chain with these of its questions confirmed, whatever was confirmed of it before.
+    ///
+    /// # Errors
+    ///
+    /// Want of memory.
+    pub fn chain_but(&self, confirms: impl FnMut(&Question) -> bool) -> Result<Chain, Error> {
+        let good: Vec<bool> = self.opened.questions()?.iter().map(confirms).collect();
+        self.opened.confirmed(&good)
     }
 
     /// The service provider codes of all its certificates.

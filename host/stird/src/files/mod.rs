@@ -16,6 +16,7 @@ mod fault;
 mod ground;
 mod hosts;
 mod listed;
+mod lists;
 pub mod look;
 mod reading;
 mod several;
@@ -29,6 +30,7 @@ pub use fault::{FileFault, Why};
 pub use ground::{Ground, Proof};
 pub use hosts::{HostFiles, MayAsk};
 pub use listed::Listed;
+pub use lists::{Ended, ListFiles, Revocation};
 pub use reading::read;
 pub use world::World;
 

@@ -1,13 +1,17 @@
 //! A call judged: it is given its chains, its questions are asked of OpenSSL, what comes of it is
 //! taken from the proved library, and its ticket claimed.
 mod reach;
+mod spoilt;
+
+pub use spoilt::{Revocations, Spoilt};
 
 use crate::codes::Codes;
 use crate::fetching::{Certificates, Fetching};
-use crate::files::{Listed, World};
+use crate::files::World;
 use crate::metrics::{Metrics, Part};
 use crate::tickets::{Claim, Latest, Passed, Tickets};
 use arc_swap::ArcSwap;
+use spoilt::AllSpoilt;
 use std::sync::atomic::{AtomicU64, Ordering};
 use std::sync::Arc;
 use std::time::Instant;
@@ -50,6 +54,8 @@ pub struct Judged {
     pub outcome: Outcome,
     /// How its certificates came, if they are fetched and it asked for some.
     pub certificates: Option<Certificates>,
+    /// Why a signature of a certificate wasn't taken for good, if the call was refused for that.
+    pub spoilt: Option<Spoilt>,
 }
 
 impl Outcome {
@@ -133,6 +139,22 @@ pub struct Judge {
     pub fetching: Option<Fetching>,
     /// Which codes count beside those of the table, if others are trusted.
     pub codes: Option<Codes>,
+    /// Which certificates are revoked, if that is looked at.
+    pub revocation: Option<Revocations>,
+}
+
+/// What is said of a call.
+struct Ruled {
+    verdict: Verdict,
+    /// Why it breaks the rule on signatures of certificates, if that is known.
+    spoilt: Option<Spoilt>,
+}
+
+impl Ruled {
+    /// A verdict without regard to certificates.
+    fn early(verdict: Verdict) -> Ruled {
+        Ruled { verdict, spoilt: None }
+    }
 }
 
 /// The next number of a call. At the greatest that there is it stands still.
@@ -160,12 +182,13 @@ impl Judge {
     /// What comes of an INVITE that came at this moment.
     pub async fn judge(&self, message: &[u8], moment: u64) -> Judged {
         let reached = match (&self.fetching, &self.codes) {
-            (None, None) => self.verdict(message, moment).map(|verdict| (verdict, None)),
+            (None, None) => self.verdict(message, moment).map(|ruled| (ruled, None)),
             _ => self.reached(message, moment).await,
         };
         let call = next(&self.numbers);
         let certificates = reached.as_ref().ok().and_then(|(_, certificates)| *certificates);
-        let outcome = match reached {
+        let spoilt = reached.as_ref().ok().and_then(|(ruled, _)| ruled.spoilt);
+        let outcome = match reached.map(|(ruled, certificates)| (ruled.verdict, certificates)) {
             Ok((Verdict::Refused(Refused { rule, code, field, part }), _)) => {
                 Outcome::Refused { rule, code, field, part }
             }
@@ -188,11 +211,14 @@ impl Judge {
             Err(_) => Outcome::Unjudged,
         };
         self.metrics.count(&outcome);
-        Judged { call, outcome, certificates }
+        if spoilt.is_some() {
+            self.metrics.revocation.calls.inc();
+        }
+        Judged { call, outcome, certificates, spoilt }
     }
 
     /// What the rules say of a message, or of the same with its lists split.
-    fn verdict(&self, message: &[u8], moment: u64) -> Result<Verdict, Unsaid> {
+    fn verdict(&self, message: &[u8], moment: u64) -> Result<Ruled, Unsaid> {
         let world = self.world.load();
         let Some(split) = self.split.then(|| split::lists(message)).flatten() else {
             return self.ruled(&world, message, moment);
@@ -200,7 +226,7 @@ impl Judge {
         // A place in a message that can't be read is one in what came.
         let early = world.call(moment, message)?.early();
         if matches!(early, Verdict::Refused(Refused { rule: MESSAGE, .. })) {
-            return Ok(early);
+            return Ok(Ruled::early(early));
         }
         self.metrics.split.inc();
         self.ruled(&world, &split, moment)
@@ -208,33 +234,25 @@ impl Judge {
 
     /// What the rules say: asked with each answer taken for good; and if an answer isn't, judged by
     /// those that are.
-    fn ruled(&self, world: &World, message: &[u8], moment: u64) -> Result<Verdict, Unsaid> {
+    fn ruled(&self, world: &World, message: &[u8], moment: u64) -> Result<Ruled, Unsaid> {
         let start = Instant::now();
-        let mut call = world.call(moment, message)?;
+        let (mut call, mut spoilt) = (world.call(moment, message)?, AllSpoilt::new());
         for index in 0..call.passports() {
             if let Some(listed) = world.listed(&call.x5u(index)?) {
-                self.hand_in(&mut call, index, listed)?;
+                self.hand_in(&mut call, index, listed, moment, &mut spoilt)?;
             }
         }
-        self.settled(&mut call, start)
+        self.settled(&mut call, start, &spoilt)
     }
 
-    /// Hands in the chain of a PASSporT, with what is good of its signatures.
-    fn hand_in(&self, call: &mut Call, index: usize, listed: &Listed) -> Result<(), Unsaid> {
-        let mut unanswered = None;
-        let chain = listed.chain(|question| match self.verifier.answer(question) {
-            Ok(good) => good,
-            Err(error) => {
-                unanswered = Some(error);
-                false
-            }
-        })?;
-        unanswered.map_or(Ok(()), Err)?;
-        Ok(call.set_chain(index, &chain)?)
-    }
-
-    /// What comes of a call that has its chains. The work on it began at this moment.
-    fn settled(&self, call: &mut Call, start: Instant) -> Result<Verdict, Unsaid> {
+    /// What comes of a call that has its chains, of which this is spoilt. The work on it began at
+    /// this moment.
+    fn settled(
+        &self,
+        call: &mut Call,
+        start: Instant,
+        spoilt: &AllSpoilt,
+    ) -> Result<Ruled, Unsaid> {
         let asked = call.questions()?;
         let confirming = Instant::now();
         self.metrics.spend(Part::Ask, confirming - start);
@@ -243,11 +261,12 @@ impl Judge {
         let judging = Instant::now();
         self.metrics.spend(Part::Confirm, judging - confirming);
         if good.iter().all(|good| *good) {
-            return Ok(asked.if_all);
+            let spoilt = spoilt::why(call, &asked.if_all, spoilt)?;
+            return Ok(Ruled { verdict: asked.if_all, spoilt });
         }
         let verdict = call.judge(&good)?;
         self.metrics.spend(Part::Judge, judging.elapsed());
-        Ok(verdict)
+        Ok(Ruled { verdict, spoilt: spoilt::why(call, &verdict, spoilt)? })
     }
 }
 

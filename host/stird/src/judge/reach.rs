@@ -1,6 +1,7 @@
 //! A call that may have to be reached for: by certificates that are fetched for it, or by codes
 //! that aren't in the table.
-use super::{Judge, Unsaid, MESSAGE};
+use super::spoilt::AllSpoilt;
+use super::{Judge, Ruled, Unsaid, MESSAGE};
 use crate::codes::{Used, Wants};
 use crate::fetching::{Came, Certificates};
 use crate::files::{Ground, World};
@@ -44,7 +45,7 @@ enum Place {
 
 /// What is said of a call.
 struct Said {
-    verdict: Verdict,
+    ruled: Ruled,
     certificates: Option<Certificates>,
     /// The chains by which it was judged, if more codes may say otherwise.
     used: Vec<Used>,
@@ -59,13 +60,13 @@ impl Judge {
         &self,
         message: &[u8],
         moment: u64,
-    ) -> Result<(Verdict, Option<Certificates>), Unsaid> {
+    ) -> Result<(Ruled, Option<Certificates>), Unsaid> {
         let split = self.split.then(|| split::lists(message)).flatten();
         if split.is_some() {
             // A place in a message that can't be read is one in what came.
             let early = self.world.load().call(moment, message)?.early();
             if matches!(early, Verdict::Refused(Refused { rule: MESSAGE, .. })) {
-                return Ok((early, None));
+                return Ok((Ruled::early(early), None));
             }
             self.metrics.split.inc();
         }
@@ -83,7 +84,7 @@ impl Judge {
             let sight = self.sight(case, &came)?;
             said = Said { certificates: said.certificates, ..self.by_sight(case, sight, true)? };
         }
-        Ok((said.verdict, said.certificates))
+        Ok((said.ruled, said.certificates))
     }
 
     /// What is said of a call all of whose x5us are in the map, as without fetching; or the call
@@ -91,12 +92,14 @@ impl Judge {
     fn by_map(&self, case: Case<'_>) -> Result<Result<Said, Sight>, Unsaid> {
         let start = Instant::now();
         let world = self.world.load();
-        let mut call = world.call(case.moment, case.message)?;
+        let (mut call, mut spoilt) = (world.call(case.moment, case.message)?, AllSpoilt::new());
         let mut certificates = (call.passports() > 0).then_some(Certificates::Held);
         for index in 0..call.passports() {
             let x5u = call.x5u(index)?;
             match world.listed(&x5u) {
-                Some(listed) => self.hand_in(&mut call, index, listed)?,
+                Some(listed) => {
+                    self.hand_in(&mut call, index, listed, case.moment, &mut spoilt)?;
+                }
                 None if world.lists(&x5u) || self.fetching.is_none() => certificates = None,
                 None => {
                     let world = Arc::clone(&world);
@@ -107,12 +110,12 @@ impl Judge {
         let certificates = certificates.filter(|_| self.fetching.is_some());
         let passports = call.passports();
         let mut said = Said {
-            verdict: self.settled(&mut call, start)?,
+            ruled: self.settled(&mut call, start, &spoilt)?,
             certificates,
             used: Vec::new(),
             extended: None,
         };
-        if self.may_extend(&said.verdict) {
+        if self.may_extend(&said.ruled.verdict) {
             for index in 0..passports {
                 let x5u = call.x5u(index)?;
                 said.used.extend(used(&world, x5u));
@@ -182,7 +185,7 @@ impl Judge {
             }
             None => world.ground(),
         };
-        let mut chains = Vec::with_capacity(places.len());
+        let (mut chains, mut spoilt) = (Vec::with_capacity(places.len()), AllSpoilt::new());
         for (index, (x5u, place)) in places.iter().enumerate() {
             let chain = match place {
                 Place::Map(Some(used)) if extended.is_none() => Some(used.clone()),
@@ -200,15 +203,15 @@ impl Judge {
                 },
             };
             if let Some(used) = chain {
-                self.hand_in(&mut call, index, &used.chain)?;
+                self.hand_in(&mut call, index, &used.chain, case.moment, &mut spoilt)?;
                 chains.push(used);
             }
         }
-        let verdict = self.settled(&mut call, start)?;
+        let ruled = self.settled(&mut call, start, &spoilt)?;
         let certificates = places.iter().filter_map(|(_, place)| place.certificates());
         let certificates = certificates.reduce(Certificates::and);
-        let used = if self.may_extend(&verdict) { chains } else { Vec::new() };
-        Ok(Said { verdict, certificates, used, extended })
+        let used = if self.may_extend(&ruled.verdict) { chains } else { Vec::new() };
+        Ok(Said { ruled, certificates, used, extended })
     }
 
     /// Whether codes that aren't in the table may say otherwise.

@@ -1,7 +1,9 @@
 //! What is counted, for Prometheus.
 mod fetches;
+mod revocation;
 
 pub use fetches::{Fetches, Waited};
+pub use revocation::Revocation;
 
 use crate::judge::Outcome;
 use prometheus::{
@@ -81,6 +83,8 @@ pub struct Metrics {
     pub next_end: IntGauge,
     /// What is counted of certificates that are fetched.
     pub fetches: Fetches,
+    /// What is counted of revocation lists.
+    pub revocation: Revocation,
 }
 
 /// The metrics of a registry, as they are made.
@@ -212,6 +216,7 @@ impl Metrics {
                 "The earliest end of a listed or kept certificate, in Unix time; 0 if none is.",
             )?,
             fetches: Fetches::new(&maker)?,
+            revocation: Revocation::new(&maker)?,
             registry: maker.0,
         })
     }

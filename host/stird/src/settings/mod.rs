@@ -6,7 +6,7 @@ pub use file::ConfigError;
 pub use words::{Form, Listen};
 
 use crate::fetching;
-use crate::files::{Anchors, Codes, HostFiles, Sources};
+use crate::files::{Anchors, Codes, Ended, HostFiles, ListFiles, Sources};
 use clap::parser::ValueSource;
 use clap::{CommandFactory, FromArgMatches};
 use std::ffi::OsString;
@@ -14,7 +14,7 @@ use std::path::PathBuf;
 use std::time::Duration;
 use stir::Settings as Rules;
 use stir_trust::fetch::Reach;
-use words::{Choice, Moments, TrustedCodes, Words};
+use words::{Choice, EndedList, Moments, TrustedCodes, Words};
 
 /// The version of the project.
 pub const VERSION: &str = include_str!("../../../../VERSION").trim_ascii();
@@ -38,6 +38,8 @@ pub struct Settings {
     pub codes: Codes,
     /// How certificates are fetched, if they are.
     pub fetch: Option<Fetch>,
+    /// Which certificates are revoked, if that is looked at.
+    pub revocation: Option<ListFiles>,
     /// How old calls may be, and how numbers are written.
     pub rules: Rules,
     /// Whether the moment of a call is what the caller says.
@@ -161,7 +163,7 @@ impl Settings {
     }
 
     fn of(words: Words) -> Result<Settings, SettingsError> {
-        let fetch = fetch(&words);
+        let (fetch, revocation) = (fetch(&words), revocation(&words));
         let anchors = match (words.anchors, words.roots) {
             (Some(path), _) => Anchors::Der(path),
             (None, Some(path)) => Anchors::Pem(path),
@@ -185,6 +187,7 @@ impl Settings {
             table: words.table,
             codes,
             fetch,
+            revocation,
             rules: Rules {
                 past: words.past,
                 future: words.future,
@@ -210,6 +213,16 @@ impl Settings {
             log_file: words.log_file,
         })
     }
+}
+
+/// Which certificates are revoked, if there are lists.
+fn revocation(words: &Words) -> Option<ListFiles> {
+    let ended = match words.crl_ended {
+        EndedList::Go => Ended::Go,
+        EndedList::Refuse => Ended::Refuse,
+    };
+    let (lists, signers) = (words.crl.clone(), words.crl_signer.clone());
+    (!lists.is_empty()).then_some(ListFiles { lists, signers, ended })
 }
 
 /// How certificates are fetched, if hosts are named.
@@ -318,6 +331,9 @@ mod tests {
             (&format!("{three} --listen nowhere"), "HOST:PORT"),
             (&format!("{three} --socket-mode 1777"), "octal"),
             (&format!("{three} --tls-certificate a"), "--tls-key"),
+            (&format!("{three} --crl a"), "--crl-signer"),
+            (&format!("{three} --crl-signer a"), "--crl"),
+            (&format!("{three} --crl a --crl-signer b --crl-ended stop"), "stop"),
             (&format!("{three} --signing-tokens a"), "--signing"),
             (&format!("{three} --nothing a"), "--nothing"),
             (&format!("{three} a"), "'a'"),

@@ -96,6 +96,20 @@ pub(super) struct Words {
         value_parser = value_parser!(u8).range(1..=14))]
     pub national: u8,
 
+    /// A revocation list (PEM or DER); may be given several times. A certificate that one names is
+    /// not good
+    #[arg(long, value_name = "FILE", requires = "crl_signer")]
+    pub crl: Vec<PathBuf>,
+
+    /// The certificate of whoever signs revocation lists (PEM); may be given several times
+    #[arg(long, value_name = "FILE", requires = "crl")]
+    pub crl_signer: Vec<PathBuf>,
+
+    /// What becomes of calls if the next list isn't there in time: they are judged by the one that
+    /// is, or no certificate is good
+    #[arg(long, value_name = "HOW", default_value = "go")]
+    pub crl_ended: EndedList,
+
     /// The moment of a call: the clock's, or what X-Moment or time say; or the same of calls that
     /// come in the order of one clock
     #[arg(long, value_name = "WHOSE", default_value = "clock")]
@@ -203,6 +217,13 @@ pub(super) enum Choice {
 pub(super) enum TrustedCodes {
     Listed,
     Trusted,
+}
+
+/// What becomes of calls if a revocation list has ended.
+#[derive(Clone, Copy, ValueEnum)]
+pub(super) enum EndedList {
+    Go,
+    Refuse,
 }
 
 /// Whose moment is that of a call.
