@@ -16,7 +16,7 @@ import columns
 from calls import answer, scalar, signed_part
 from certificates import WORLD
 
-FILES = pathlib.Path(__file__).resolve().parent.parent / "tools/files"
+FILES = pathlib.Path(__file__).resolve().parent.parent / "ctl/files"
 
 # What is tried, the certificates of a chain, the trust anchors, and the issuer under whose key each certificate is asked for, `-` for none.
 CASES = (
