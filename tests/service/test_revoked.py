@@ -7,6 +7,7 @@ import time
 import pytest
 from stird import Stird, wait_until
 from web import Fetched, Fetching, Web
+from world import code_list, range_list
 
 sys.path.append(str(pathlib.Path(__file__).resolve().parent.parent / "ctl"))
 import trusted  # noqa: E402
@@ -240,5 +241,26 @@ def test_a_fetched_certificate_is_refused_once_a_list_revokes_it(stird, tmp_path
             said = service.verify(fetched.call(0, moment, Numbers.next()))
             assert (said["rule"], said["place"], said["revocation"], said["certificates"]) == (15, "1.1", f"certificate 1 {SINCE}", "held")
             assert service.outcome(fetched.call(1, moment, Numbers.next())) == "valid"
+    finally:
+        web.stop()
+
+
+def test_a_revoked_chain_adopts_no_code(stird, tmp_path):
+    """Its numbers lie within a code of its issuer that no table names: as long as that doesn't count, rule 14 refuses its calls before rule 15."""
+    web = Web(tmp_path / "web")
+    try:
+        fetched = Fetched(tmp_path / "world", 2, web)
+        middle = fetched.certificate("middle", "root", code_list("42AB"), True)
+        for n in (0, 1):
+            web.chains[str(n)] = fetched.certificate(f"leaf {n}", "middle", range_list(fetched.number(n, 0), 10000)) + middle
+        agency, leaf, lists = trusted.world.key("Agency"), fetched.leaf(0), tmp_path / "list.crl"
+        (tmp_path / "agency.pem").write_bytes(trusted.pem(trusted.certificate("Agency", "Agency", agency, agency, 9)))
+        lists.write_bytes(crl([entry(leaf.serial_number, authority=leaf.issuer)]))
+        with Fetching(stird, [*fetched.roots(), *web.words("--fetch-wait", 9000), "--crl", lists, "--crl-signer", tmp_path / "agency.pem"]) as service:
+            assert service.told_of(fetched.call(0, int(time.time()), Numbers.next())) == ("refused", 14, "fetched")
+            assert service.metric("stir_adopted_codes") == 0
+            assert service.told_of(fetched.call(1, int(time.time()), Numbers.next())) == ("valid", 0, "fetched")
+            assert service.metric("stir_adopted_codes") == 1
+            assert service.told_of(fetched.call(0, int(time.time()), Numbers.next())) == ("refused", 15, "held")
     finally:
         web.stop()

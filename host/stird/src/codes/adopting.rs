@@ -1,7 +1,7 @@
 //! How codes are adopted: aside from what answers, for all calls that wait at once, and with a
 //! pause in between that bounds what it takes.
 use super::{unnamed, Adopter, Code, Codes, Extended, Request, Used, MOST};
-use crate::files::{Ground, Proof, World};
+use crate::files::{Ground, Listed, Proof, World};
 use crate::routes::Service;
 use std::collections::{BTreeSet, HashMap};
 use std::sync::Arc;
@@ -59,38 +59,63 @@ pub async fn adopt_all(service: Arc<Service>, mut requests: mpsc::Receiver<Reque
 fn adopt(service: &Service, chains: Vec<Used>) -> Result<(), Error> {
     let Some(codes) = &service.judge.codes else { return Ok(()) };
     let world = service.judge.world.load_full();
-    codes.extend(&world, chains, &service.judge.verifier, |x5u| {
+    let now = |x5u: &[u8]| {
         if world.lists(x5u) {
             return world.listed_whole(x5u).map(|(_, der)| der);
         }
         let x5u = std::str::from_utf8(x5u).ok()?;
         Some(Arc::clone(&service.judge.fetching.as_ref()?.cache.kept(x5u)?.der))
-    })
+    };
+    let (lists, moment) = (service.judge.revocation.as_ref(), service.clock.now());
+    let is_revoked = |chain: &Listed| match lists.map(|lists| lists.load()) {
+        Some(lists) => chain.revoked(&lists, moment).map(|revoked| !revoked.is_empty()),
+        None => Ok(false),
+    };
+    codes.extend(
+        &world,
+        chains,
+        &service.judge.verifier,
+        &Known { now: &now, is_revoked: &is_revoked },
+    )
+}
+
+/// Tells the bytes that an x5u has now.
+type Now<'a> = dyn Fn(&[u8]) -> Option<Arc<[u8]>> + 'a;
+
+/// What is known of chains beside the files.
+struct Known<'a> {
+    /// The bytes that an x5u has now.
+    now: &'a Now<'a>,
+    /// Whether a certificate of a chain is revoked.
+    is_revoked: &'a dyn Fn(&Listed) -> Result<bool, Error>,
 }
 
 impl Codes {
     /// Puts the codes of these chains to those that count, if the chains break no rule with them.
-    /// `now` tells the bytes that an x5u has now.
     fn extend(
         &self,
         world: &World,
         chains: Vec<Used>,
         verifier: &Verifier,
-        now: impl Fn(&[u8]) -> Option<Arc<[u8]>>,
+        known: &Known,
     ) -> Result<(), Error> {
         let before = self.of(world);
         let before = before.as_deref();
         let (mut adopters, mut candidates) = (HashMap::new(), HashMap::new());
+        let mut successors = Vec::new();
         for (x5u, adopter) in before.iter().flat_map(|before| &before.adopters) {
             if adopter.der.strong_count() > 0 {
                 adopters.insert(x5u.clone(), adopter.clone());
-            } else if let Some(der) = now(x5u) {
+            } else if let Some(der) = (known.now)(x5u) {
                 let chain = world.ground().chain(x5u, &der)?;
-                put(&mut candidates, world, Used { x5u: x5u.to_vec(), der, chain }, false)?;
+                successors.push(Used { x5u: x5u.to_vec(), der, chain });
             }
         }
-        for chain in chains {
-            put(&mut candidates, world, chain, true)?;
+        let all = successors.into_iter().map(|chain| (chain, false));
+        for (chain, is_asked) in all.chain(chains.into_iter().map(|chain| (chain, true))) {
+            if !(known.is_revoked)(&chain.chain)? {
+                put(&mut candidates, world, chain, is_asked)?;
+            }
         }
         let mut candidates: Vec<Candidate> = candidates.into_values().collect();
         let kept: BTreeSet<Code> = adopters.values().flat_map(|it| it.codes.clone()).collect();
