@@ -149,7 +149,8 @@ def test_a_list_that_is_not_good_judges_nothing(case, words, said, run, world):
     (world.folder / 'list.crl').unlink(missing_ok=True)
     if words is not None:
         world.write('list.crl', words)
-    for command in (['judge', *world.by(), '--report=report', 'calls.log'], ['explain', *world.by(), 'calls.log'], ['confirm', '--chains=chains.txt']):
+    for command in (['judge', *world.by(), '--report=report', 'calls.log'], ['explain', *world.by(), 'calls.log'],
+                    ['confirm', '--chains=chains.txt']):
         status, output, told = run(*command, '--crl=list.crl', '--crl-signer=agency.pem')
         # The lines of faults that `stir explain` has too stand in its report.
         told += output.decode() if command[0] == 'explain' and words is None else ''
@@ -159,7 +160,8 @@ def test_a_list_that_is_not_good_judges_nothing(case, words, said, run, world):
 
 def test_words_that_do_not_go_together_are_refused(run, world):
     for words in (['judge', *world.by(), '--crl=list.crl', 'calls.log'], ['judge', *world.by(), '--crl-signer=agency.pem', 'calls.log'],
-                  ['confirm', '--crl=list.crl', '--crl-signer=agency.pem'], ['confirm', '--chains=chains.txt'], ['crl', '--to=a', 'b'], ['crl', '--signer=a', 'b']):
+                  ['confirm', '--crl=list.crl', '--crl-signer=agency.pem'], ['confirm', '--chains=chains.txt'],
+                  ['crl', '--to=a', 'b'], ['crl', '--signer=a', 'b']):
         assert run(*words)[:2] == (2, b''), words
 
 
@@ -223,7 +225,8 @@ def test_what_is_not_a_list_of_its_signer_replaces_nothing(run, world, server, k
     before = kept.read_bytes()
     world.write('new.crl', trusted.crl([], number=8, key=trusted.world.key('one')))
     world.write('page.html', b'<html>')
-    for words, said in ((['--private', f'{server}/new.crl'], "it wasn't signed by"), (['--private', f'{server}/page.html'], 'it is no revocation list'),
+    for words, said in ((['--private', f'{server}/new.crl'], "it wasn't signed by"),
+                        (['--private', f'{server}/page.html'], 'it is no revocation list'),
                         (['--private', f'{server}/none'], "the server's answer is 404"), (['--private', f'{server}/long'], 'its answer is too long'),
                         (['--private', f'{server}/moved{server}/new.crl'], "it wasn't signed by"),
                         (['--private', f'{server}/moved//127.0.0.2/new.crl'], 'redirects to another host'),

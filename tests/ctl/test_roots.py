@@ -73,6 +73,7 @@ def spoilt(world):
     two = pem(world.roots['Root A']) + pem(world.roots['Root B'])
     last = b'ABCDEFGHIJKLMNOPQRSTUVWXYZabcdefghijklmnopqrstuvwxyz0123456789-_'
     strange = signature[:-1] + last[last.index(signature[-1:]) ^ 1:][:1]
+    mixed = pem(certificate('Root A', 'Root A', world.keys['Root A'], world.keys['Root B'], 1)).decode()
     return {
         'ended': (trusted.jws(body(exp=NOW - 1), key), f'it ended at second {NOW - 1}'),
         'no exp': (trusted.jws(body(exp=None), key), 'its payload has no'),
@@ -98,8 +99,7 @@ def spoilt(world):
         'two parts': (head + b'.' + payload, 'it is no JWS in its compact form'),
         'JSON': (json.dumps(body()).encode(), 'it is no JWS in its compact form'),
         'a root that isn\'t one': (trusted.jws(body(trustList=[pem(world.authorities['A']).decode()]), key), "authority 1 hasn't signed itself"),
-        'a root with another\'s signature': (trusted.jws(body(trustList=[pem(certificate('Root A', 'Root A', world.keys['Root A'], world.keys['Root B'], 1)).decode()]),
-                                                         key), "authority 1 hasn't signed itself"),
+        'a root with another\'s signature': (trusted.jws(body(trustList=[mixed]), key), "authority 1 hasn't signed itself"),
         'no PEM': (trusted.jws(body(trustList=[pem(world.roots['Root A']).decode(), 'x']), key), "authority 2 isn't one certificate in PEM"),
         'two in one': (trusted.jws(body(trustList=[two.decode()]), key), "authority 1 isn't one certificate in PEM"),
         'nobody': (trusted.jws(body(trustList=[]), key), 'there would be no anchor'),
@@ -138,7 +138,8 @@ def test_signers_and_words_that_do_not_serve_are_refused(run, world):
 def test_a_root_outside_the_profile_is_named_and_left_out(roots, world, run):
     status, output, said, sequence = roots(trusted.jws(world.body('Root A', 'Root C', 'Root B', 'Root R'), world.list))
     assert (status, output, sequence) == (1, world.anchors('Root A', 'Root B'), 7)
-    assert [line.split(',')[:2] for line in said.splitlines()] == [['stirctl: list.jws: root 2', ' CN=Root C'], ['stirctl: list.jws: root 4', ' CN=Root R']]
+    named = [line.split(',')[:2] for line in said.splitlines()]
+    assert named == [['stirctl: list.jws: root 2', ' CN=Root C'], ['stirctl: list.jws: root 4', ' CN=Root R']]
     assert said.count('is outside the profile: ') == said.count('; it is left out') == 2
     world.write('all.pem', b''.join(pem(world.roots[who]) for who in ('Root A', 'Root C')))
     assert run('roots', '--roots=all.pem')[:2] == (1, world.anchors('Root A'))
@@ -170,7 +171,8 @@ def test_a_call_under_a_root_on_p384_or_by_rsa_is_valid_by_a_bridge(roots, world
     made, authority = x509.load_der_x509_certificate(one[len(without):]), world.authorities['C']
     assert made.subject == made.issuer == authority.subject and made.public_key().public_numbers() == authority.public_key().public_numbers()
     assert [extension.value for extension in made.extensions] == [extension.value for extension in authority.extensions]
-    assert (made.serial_number, made.not_valid_before, made.not_valid_after) == (authority.serial_number, authority.not_valid_before, authority.not_valid_after)
+    for part in ('serial_number', 'not_valid_before', 'not_valid_after'):
+        assert getattr(made, part) == getattr(authority, part)
     with pytest.raises(Exception, match=''):
         made.public_key().verify(made.signature, made.tbs_certificate_bytes, ec.ECDSA(hashes.SHA256()))
     assert made.signature == bytes.fromhex('3006020101020101')
@@ -187,7 +189,7 @@ def test_files_of_a_bridge_may_have_any_form(roots, world):
 
 
 def test_a_bridge_that_leads_nowhere_is_named_and_left_out(roots, world):
-    """By OpenSSL: another root, one that isn't in the list, an authority that has ended, weak signatures and keys, no authority, and its key's curve."""
+    """By OpenSSL: another root, one that isn't in the list, an authority that has ended, weak signatures and keys, no authority, a key on P-384."""
     key, c = trusted.world.key, world.c
     weak = rsa.generate_private_key(65537, 1024)
     middle = certificate('Middle', 'Root C', trusted.curve384('Middle'), c, 3, digest=SHA384, length=0)
@@ -197,7 +199,8 @@ def test_a_bridge_that_leads_nowhere_is_named_and_left_out(roots, world):
         'a root that isn\'t listed': (pem(world.authorities['R']), 'leads to none of the roots that were left out'),
         'ended': (pem(certificate('C', 'Root C', key('C'), c, 2, digest=SHA384, ends='2026-01-01')), 'certificate has expired'),
         'not begun': (pem(certificate('C', 'Root C', key('C'), c, 2, digest=SHA384, begins='2034-01-01')), 'certificate is not yet valid'),
-        'forged': (pem(certificate('C', 'Root C', key('C'), trusted.curve384('other'), 2, digest=SHA384)), 'leads to none of the roots that were left out'),
+        'forged': (pem(certificate('C', 'Root C', key('C'), trusted.curve384('other'), 2, digest=SHA384)),
+                   'leads to none of the roots that were left out'),
         'by SHA-1': (pem(certificate('C', 'Root C', key('C'), c, 2, digest=hashes.SHA1())), 'has a signature or a key of less than 112 bits'),
         'a weak root': (pem(certificate('C', 'Weak', key('C'), weak, 2)), 'has a signature or a key of less than 112 bits'),
         'a key on P-384': (pem(middle), "none of its certificates is an authority's"),
@@ -212,7 +215,8 @@ def test_a_bridge_that_leads_nowhere_is_named_and_left_out(roots, world):
         status, output, said, sequence = roots(data, '--bridge=chain')
         if told is None:
             # An authority above it on P-384 is no matter.
-            assert status == 1 and output.startswith(world.anchors('Root A')) and len(output) > len(world.anchors('Root A')) and 'no bridge' not in said, said
+            assert status == 1 and output.startswith(world.anchors('Root A')) and 'no bridge' not in said, said
+            assert len(output) > len(world.anchors('Root A'))
             continue
         assert (status, output, sequence) == (1, world.anchors('Root A'), 7), (case, said)
         assert 'chain: no bridge: ' in said and told in said, (case, said)
@@ -228,9 +232,12 @@ def test_what_is_revoked_is_no_anchor(roots, world, run, stir):
     bridge = whole[len(world.anchors('Root A', 'Root B')):]
     for case, entries, wanted, told in (
             ('nothing', [], whole, ''),
-            ('a root', [entry(1, authority=names['Root B'])], world.anchors('Root A') + bridge, 'root 2, CN=Root B,O=STI, is revoked since 2026-01-01T00:00:00Z; it is left out'),
-            ('the authority of a bridge', [entry(2, authority=names['Root C'])], world.anchors('Root A', 'Root B'), 'C.pem: no bridge: CN=C,O=STI is revoked since'),
-            ('the root of a bridge', [entry(1, authority=names['Root C'])], world.anchors('Root A', 'Root B'), 'root 3, CN=Root C,O=STI, is revoked since'),
+            ('a root', [entry(1, authority=names['Root B'])], world.anchors('Root A') + bridge,
+             'root 2, CN=Root B,O=STI, is revoked since 2026-01-01T00:00:00Z; it is left out'),
+            ('the authority of a bridge', [entry(2, authority=names['Root C'])], world.anchors('Root A', 'Root B'),
+             'C.pem: no bridge: CN=C,O=STI is revoked since'),
+            ('the root of a bridge', [entry(1, authority=names['Root C'])], world.anchors('Root A', 'Root B'),
+             'root 3, CN=Root C,O=STI, is revoked since'),
             ('another certificate', [entry(3, authority=names['Root C'])], whole, '')):
         world.write('list.crl', trusted.crl(entries))
         status, output, said, _ = roots(data, *by)
@@ -239,7 +246,8 @@ def test_what_is_revoked_is_no_anchor(roots, world, run, stir):
     world.write('list.crl', trusted.crl([entry(1, authority=names['Root A'])]))
     for words in (['roots', '--roots=roots.pem'], ['chain', '--anchors', 'roots.pem'], ['chain', '--anchors', '--all', 'roots.pem']):
         status, output, said = run(*words, *by[1:])
-        assert (status, output) == (1, world.anchors('Root B')) and 'CN=Root A,O=STI, is revoked since 2026-01-01T00:00:00Z; it is left out' in said, words
+        assert (status, output) == (1, world.anchors('Root B')), words
+        assert 'CN=Root A,O=STI, is revoked since 2026-01-01T00:00:00Z; it is left out' in said, words
     world.write('list.crl', trusted.crl([entry(1, authority=names['Root A'])], key=trusted.world.key('one')))
     for words in (['roots', '--roots=roots.pem'], ['chain', '--anchors', 'roots.pem']):
         assert run(*words, *by[1:])[:2] == (5, b'')
@@ -248,16 +256,15 @@ def test_what_is_revoked_is_no_anchor(roots, world, run, stir):
 def test_anchors_and_state_are_written_whole(run, ctl, world):
     """Runs that are killed at any moment: there is the old file or the new one, and the sequence never falls."""
     state, anchors = world.write('killed.json', b'{"sequence":1}'), world.write('killed.der', b'old')
-    seen = set()
+    words, seen = ['roots', '--list=killed.jws', '--signer=signer.pem', '--state=killed.json', '--to=killed.der'], set()
     for sequence in range(2, 42):
         world.write('killed.jws', trusted.jws(world.body(sequence=sequence), world.list))
-        started = subprocess.Popen([ctl, 'roots', '--list=killed.jws', '--signer=signer.pem', '--state=killed.json', '--to=killed.der'], cwd=world.folder)
+        started = subprocess.Popen([ctl, *words], cwd=world.folder)
         time.sleep(0.001 * (sequence % 20))
         started.send_signal(signal.SIGKILL)
         seen.add(started.wait())
         assert anchors.read_bytes() in (b'old', world.anchors('Root A', 'Root B'))
         assert json.loads(state.read_text())['sequence'] <= sequence
-    words = ['roots', '--list=killed.jws', '--signer=signer.pem', '--state=killed.json', '--to=killed.der']
     assert run(*words) == (0, b'', '') and json.loads(state.read_text()) == {'sequence': 41} and -signal.SIGKILL in seen
     inode = anchors.stat().st_ino
     assert run(*words)[0] == 0 and anchors.stat().st_ino == inode, 'the same bytes are left as they are'

@@ -37,7 +37,8 @@ def test_systemd_reads_the_units(ctl, tmp_path):
     assert names == ['stir-crl.service', 'stir-crl.timer', 'stir-roots.service', 'stir-roots.timer']
     for name in names:
         (tmp_path / name).write_text((UNITS / name).read_text().replace('/usr/bin/stirctl', str(ctl)))
-    done = subprocess.run(['systemd-analyze', 'verify', '--man=no', *names], cwd=tmp_path, stdout=subprocess.PIPE, stderr=subprocess.STDOUT, text=True)
+    words = ['systemd-analyze', 'verify', '--man=no', *names]
+    done = subprocess.run(words, cwd=tmp_path, stdout=subprocess.PIPE, stderr=subprocess.STDOUT, text=True)
     assert (done.returncode, [line for line in done.stdout.splitlines() if 'stir-' in line]) == (0, []), done.stdout
 
 
@@ -45,7 +46,8 @@ def test_their_commands_keep_the_list_and_the_anchors(ctl, tmp_path):
     world = trusted.Abroad(tmp_path)
     page = (TOP / 'docs/TRUST.md').read_text()
     names = set(re.findall(r'^([A-Z_]+)=', page, re.M))
-    variables = {'CRL_URL': 'new.crl', 'CRL_SIGNER': 'agency.pem', 'ROOTS_URL': 'list.jws', 'ROOTS_SIGNER': 'signer.pem', 'BRIDGES': '--bridge=C.pem --bridge=R.pem'}
+    variables = {'CRL_URL': 'new.crl', 'CRL_SIGNER': 'agency.pem', 'ROOTS_URL': 'list.jws', 'ROOTS_SIGNER': 'signer.pem',
+                 'BRIDGES': '--bridge=C.pem --bridge=R.pem'}
     assert names == set(variables)
 
     def run(unit):

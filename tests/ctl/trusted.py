@@ -79,7 +79,8 @@ def entry(serial, since='2026-01-01', authority=None, reason=None):
 def crl(entries, *, by='Agency', key=None, number=7, begins='2026-01-01', ends='2036-01-01', indirect=True):
     """A revocation list in DER; one for several authorities, if it isn't direct."""
     # One after another they would be copied each time.
-    builder = x509.CertificateRevocationListBuilder(revoked_certificates=list(entries)).issuer_name(name(by)).last_update(day(begins)).next_update(day(ends))
+    builder = x509.CertificateRevocationListBuilder(revoked_certificates=list(entries)).issuer_name(name(by))
+    builder = builder.last_update(day(begins)).next_update(day(ends))
     builder = builder.add_extension(x509.CRLNumber(number), False)
     if indirect:
         builder = builder.add_extension(x509.IssuingDistributionPoint(
@@ -148,7 +149,8 @@ class Abroad(Trusted):
         super().__init__(folder)
         key = world.key
         self.c, self.r, self.list = curve384('Root C'), rsa.generate_private_key(65537, 2048), key('List')
-        self.roots |= {'Root C': certificate('Root C', 'Root C', self.c, self.c, 1, digest=SHA384), 'Root R': certificate('Root R', 'Root R', self.r, self.r, 1)}
+        self.roots |= {'Root C': certificate('Root C', 'Root C', self.c, self.c, 1, digest=SHA384),
+                       'Root R': certificate('Root R', 'Root R', self.r, self.r, 1)}
         self.authorities |= {'C': certificate('C', 'Root C', key('C'), self.c, 2, digest=SHA384, length=0),
                              'R': certificate('R', 'Root R', key('R'), self.r, 2, length=0)}
         for number, who in enumerate('CR', 5):
@@ -157,13 +159,15 @@ class Abroad(Trusted):
             self.write(f'{who}.der', der(leaf))
             self.write(f'{who}-whole.der', der(leaf) + der(self.authorities[who]))
             self.write(f'{who}.pem', pem(leaf) + pem(self.authorities[who]) + pem(self.roots[f'Root {who}']))
-        self.write('chains.txt', ''.join(f'{self.x5u(who)} {folder}/{who}.der\n{self.x5u(who)}?whole {folder}/{who}-whole.der\n' for who in 'CR').encode())
+        self.write('chains.txt', ''.join(
+            f'{self.x5u(who)} {folder}/{who}.der\n{self.x5u(who)}?whole {folder}/{who}-whole.der\n' for who in 'CR').encode())
         self.write('table.txt', b'555X *\n556X *\n')
         self.write('signer.pem', pem(certificate('List', 'List', self.list, self.list, 9)))
         self.log(self.call('C', number=1), self.call('R', number=2), self.call('C', number=3, x5u=f'{self.x5u("C")}?whole'))
 
     def body(self, *roots, **others):
-        body = {'version': '1.0', 'sequence': 7, 'exp': NOW + 86400, 'trustList': [pem(self.roots[who]).decode() for who in roots or ('Root A', 'Root B')]}
+        body = {'version': '1.0', 'sequence': 7, 'exp': NOW + 86400,
+                'trustList': [pem(self.roots[who]).decode() for who in roots or ('Root A', 'Root B')]}
         return {name: value for name, value in (body | others).items() if value is not None}
 
     def anchors(self, *roots):

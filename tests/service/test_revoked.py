@@ -1,4 +1,7 @@
-"""Revocation lists of the service: which calls they refuse, how they change, and what becomes of calls if one has ended. And a bridge to a root on P-384."""
+"""Revocation lists of the service: which calls they refuse, how they change, and what becomes of calls if one has ended.
+
+Besides, a bridge to a root on P-384.
+"""
 import pathlib
 import subprocess
 import sys
@@ -87,7 +90,8 @@ def test_a_certificate_that_was_good_is_refused_once_a_list_revokes_it(start, wo
             ([entry(1002, authority=trusted.name("C"))], {}),
             ([], {})):
         taken(service, lambda: put(world, crl(entries)))
-        assert {who: told(service, world, who) for who in trusted.CODES} == {who: revoked(broken[who]) if who in broken else VALID for who in trusted.CODES}, entries
+        wanted = {who: revoked(broken[who]) if who in broken else VALID for who in trusted.CODES}
+        assert {who: told(service, world, who) for who in trusted.CODES} == wanted, entries
     assert service.metric("stir_revoked_calls_total") == 6 and service.metric("stir_revoked_certificates") == 0
     assert service.metric('stir_calls_total{outcome="refused",rule="15"}') == 6
 
@@ -97,7 +101,8 @@ def test_each_answer_says_since_when(start, world):
     service = start("list.crl")
     moment, message = world.call("one", START, 1)
     assert service.verify(message, moment) == {
-        "call": 1, "code": 437, "outcome": "refused", "place": "1.1", "reason": "Unsupported Credential", "revocation": f"certificate 1 {SINCE}", "rule": 15,
+        "call": 1, "code": 437, "outcome": "refused", "place": "1.1", "reason": "Unsupported Credential",
+        "revocation": f"certificate 1 {SINCE}", "rule": 15,
         "verstat": "TN-Validation-Failed"}
     status, line = service.ask("POST", "/verify/line", message, {"X-Moment": str(moment)})
     assert (status, line) == (200, b"437 TN-Validation-Failed Unsupported Credential")
@@ -130,8 +135,10 @@ def test_several_lists_count_together(start, world):
 def test_a_list_that_is_refused_stays_what_it_was(start, world):
     put(world, crl([entry(1001, authority=A)]))
     service = start("list.crl")
-    for data, said in ((crl([], key=trusted.world.key("one"), number=8), "it wasn't signed by CN=Agency,O=STI"), (crl([], number=6), "its number is 6, and 7 was there before"),
-                       (crl([], by="Stranger"), "which is none of its signers"), (b"<html>", "it is no revocation list"), (None, "there is no such file")):
+    for data, said in ((crl([], key=trusted.world.key("one"), number=8), "it wasn't signed by CN=Agency,O=STI"),
+                       (crl([], number=6), "its number is 6, and 7 was there before"),
+                       (crl([], by="Stranger"), "which is none of its signers"), (b"<html>", "it is no revocation list"),
+                       (None, "there is no such file")):
         taken(service, lambda: put(world, data) if data else (world.folder / "list.crl").unlink())
         assert told(service, world, "one") == revoked(1), said
         ready, text = service.ready()
@@ -163,7 +170,8 @@ def test_calls_go_on_by_a_list_that_has_ended_or_are_refused_if_that_is_ordered(
     assert [told(service, world, who, after) for who in ("one", "two")] == [revoked(1), VALID]
     ready, text = service.ready()
     assert ready and "list.crl: the next list should be there since 2026-01-02T00:00:00Z" in text
-    assert (service.metric("stir_ended_revocation_lists"), service.metric("stir_revocation_list_next_end_timestamp_seconds")) == (1, trusted.second("2026-01-02"))
+    assert service.metric("stir_ended_revocation_lists") == 1
+    assert service.metric("stir_revocation_list_next_end_timestamp_seconds") == trusted.second("2026-01-02")
     taken(service, lambda: put(world, crl([entry(1001, authority=A)], number=8)))
     assert service.metric("stir_ended_revocation_lists") == 0 and "next list" not in service.ready()[1]
 
@@ -179,7 +187,8 @@ def test_calls_go_on_by_a_list_that_has_ended_or_are_refused_if_that_is_ordered(
 
 
 def test_it_does_not_start_with_a_list_that_is_not_good(start, world):
-    for data, said in ((None, "list.crl: there is no such file"), (b"<html>", "it is no revocation list"), (crl([], key=trusted.world.key("one")), "it wasn't signed by")):
+    for data, said in ((None, "list.crl: there is no such file"), (b"<html>", "it is no revocation list"),
+                       (crl([], key=trusted.world.key("one")), "it wasn't signed by")):
         if data:
             put(world, data)
         with pytest.raises(RuntimeError, match=said):
@@ -193,7 +202,10 @@ def test_it_does_not_start_with_a_list_that_is_not_good(start, world):
 
 def test_a_list_of_many_certificates_is_taken_and_calls_are_judged(start, world):
     """A list of 20,000 certificates of 20 authorities."""
-    entries = [entry(10_000_000 + number, authority=trusted.name(f"Other {number // 1000}") if number % 1000 == 0 else None) for number in range(20_000)]
+    entries = []
+    for number in range(20_000):
+        # The first of each thousand names the authority, and the others inherit it.
+        entries.append(entry(10_000_000 + number, authority=trusted.name(f"Other {number // 1000}") if number % 1000 == 0 else None))
     put(world, crl([*entries, entry(1001, authority=A)]))
     begun = time.monotonic()
     service = start("list.crl")
@@ -256,7 +268,8 @@ def test_a_revoked_chain_adopts_no_code(stird, tmp_path):
         agency, leaf, lists = trusted.world.key("Agency"), fetched.leaf(0), tmp_path / "list.crl"
         (tmp_path / "agency.pem").write_bytes(trusted.pem(trusted.certificate("Agency", "Agency", agency, agency, 9)))
         lists.write_bytes(crl([entry(leaf.serial_number, authority=leaf.issuer)]))
-        with Fetching(stird, [*fetched.roots(), *web.words("--fetch-wait", 9000), "--crl", lists, "--crl-signer", tmp_path / "agency.pem"]) as service:
+        words = [*fetched.roots(), *web.words("--fetch-wait", 9000), "--crl", lists, "--crl-signer", tmp_path / "agency.pem"]
+        with Fetching(stird, words) as service:
             assert service.told_of(fetched.call(0, int(time.time()), Numbers.next())) == ("refused", 14, "fetched")
             assert service.metric("stir_adopted_codes") == 0
             assert service.told_of(fetched.call(1, int(time.time()), Numbers.next())) == ("valid", 0, "fetched")
