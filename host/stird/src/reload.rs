@@ -93,7 +93,7 @@ impl Reload {
 }
 
 impl Shared {
-    /// Takes what changed, and what is at fault now.
+    /// Takes what changed, and what is at fault now. What is counted as taken is in force by then.
     fn look(&self, is_told: bool) -> Vec<String> {
         let mut faults = self.world(is_told);
         let last = &mut *self.last.lock().held();
@@ -125,10 +125,10 @@ impl Shared {
                 for fault in now.faults().into_iter().filter(|fault| !old.contains(fault)) {
                     tracing::warn!("{fault}; it stays what it was");
                 }
-                judge.metrics.reload(now.faults().is_empty());
                 if !now.is_as(before) {
                     fetching.cache.fetch_by(fetcher);
                 }
+                judge.metrics.reload(now.faults().is_empty());
                 last.may_ask = Some(now);
             }
             Err(fault) => {
@@ -153,9 +153,9 @@ impl Shared {
                 for fault in now.faults().into_iter().filter(|fault| !old.contains(fault)) {
                     tracing::warn!("{fault}; it stays what it was");
                 }
-                judge.metrics.reload(now.faults().is_empty());
                 let faults = text(now.faults());
                 held.store(Arc::new(now));
+                judge.metrics.reload(faults.is_empty());
                 faults
             }
             Err(fault) => {
@@ -173,8 +173,9 @@ impl Shared {
             match files::read(&self.sources, &judge.verifier, Some(&before)) {
                 Ok(new) => {
                     new.news().iter().for_each(|line| tracing::warn!("{line}"));
-                    judge.metrics.reload(new.faults().is_empty());
+                    let is_whole = new.faults().is_empty();
                     judge.world.store(Arc::new(new));
+                    judge.metrics.reload(is_whole);
                     judge.metrics.last_reload.set(self.service.clock.now() as i64);
                 }
                 Err(fault) => {
@@ -197,9 +198,7 @@ impl Shared {
         if !is_told && !before.is_stale() {
             return;
         }
-        let read = Blocks::read(&self.sources, Some(&before));
-        self.service.judge.metrics.reload(read.is_ok());
-        let fault = match read {
+        let fault = match Blocks::read(&self.sources, Some(&before)) {
             Ok(new) => {
                 blocks.store(Arc::new(new));
                 tell_of_blocks(&self.service);
@@ -207,6 +206,7 @@ impl Shared {
             }
             Err(fault) => Some(fault),
         };
+        self.service.judge.metrics.reload(fault.is_none());
         if let Some(fault) = fault.as_ref().filter(|fault| last.blocks.as_ref() != Some(fault)) {
             tracing::warn!("{fault}: what was read before stays");
         }
@@ -221,9 +221,9 @@ impl Shared {
         }
         last.token_file = now;
         let read = Tokens::read(Some(path));
-        self.service.judge.metrics.reload(read.is_ok());
-        let read = read.map(|tokens| self.service.tokens.store(Arc::new(tokens)));
-        last.tokens = told_fault(read);
+        let taken = read.map(|tokens| self.service.tokens.store(Arc::new(tokens)));
+        self.service.judge.metrics.reload(taken.is_ok());
+        last.tokens = told_fault(taken);
     }
 
     fn acceptor(&self, last: &mut Last) {
