@@ -249,7 +249,9 @@ def test_a_fetched_certificate_is_refused_once_a_list_revokes_it(stird, tmp_path
             assert [service.outcome(fetched.call(n, moment, Numbers.next())) for n in (0, 1)] == ["valid"] * 2
             new = tmp_path / "new"
             new.write_bytes(crl([entry(leaf.serial_number, authority=leaf.issuer)]))
-            taken(service, lambda: new.rename(lists))
+            # The files are as new as the service, which reads them once more: so the list itself is waited for.
+            new.rename(lists)
+            assert wait_until(lambda: service.metrics(r"stir_revoked_certificates ") == 1, 20), service.text()
             said = service.verify(fetched.call(0, moment, Numbers.next()))
             assert (said["rule"], said["place"], said["revocation"], said["certificates"]) == (15, "1.1", f"certificate 1 {SINCE}", "held")
             assert service.outcome(fetched.call(1, moment, Numbers.next())) == "valid"
