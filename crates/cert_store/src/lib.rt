@@ -23,7 +23,7 @@
 //!
 //! # What it isn't
 //!
-//! No file is fetched: the shelf has them (`tools/stir-fetch` gets them beforehand). No signature is verified: the provider answers. Which PASSporT
+//! No file is fetched: the shelf has them (`stirctl fetch` gets them beforehand). No signature is verified: the provider answers. Which PASSporT
 //! a chain has to vouch for is asked in `verify_rules`.
 //!
 //! # What is proved

@@ -1,7 +1,7 @@
 -- How a run ends, by each of its statuses.
 use Rattle.std.proofs.Common.{◌≡◌, ℕ, ◌≤◌, ◌⊎◌, inl, inr, Bool, true, false, List, [], ◌∷◌, ◌++◌, string_bytes, Option, Some, None, Ok, Err, refl, arith, sym, ◌∙◌, ap, subst, append-nil}
 use Rattle.std.specs.Io.KnownBytes.{Appends, IsAtEnd, prepend_known}
-use Rattle.std.proofs.KnownBytes.{Appends-trans, prepend_known-nil}
+use Rattle.std.proofs.KnownBytes.{Appends-trans}
 use Rattle.call_log.specs.Entry.{Entry}
 use Rattle.call_log.specs.Reads.{LogState, left_to}
 use Rattle.call_log.specs.Supply.{unless_ended}

@@ -1,5 +1,6 @@
 mod Keeping
 mod ListLaws
+mod PastLaws
 mod Words
 pub mod Shared
 pub mod Sums

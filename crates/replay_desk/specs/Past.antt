@@ -1,6 +1,6 @@
 -- The past: which call passed on which ticket, for as long as its PASSporT is fresh (this project's own rule). It is a finite map
 -- from tickets to calls, and `found` is what it has at a ticket.
-use Rattle.std.specs.Prelude.{ℕ, nat_lt, List, Option, Some, None, if◌then◌else◌}
+use Rattle.std.specs.Prelude.{ℕ, nat_le, nat_lt, List, Option, Some, None, if◌then◌else◌, filter}
 use Rattle.std.specs.Map.{lookup}
 use Rattle.std.specs.Str.{bytes_eq}
 use Rattle.state_text.specs.declared.kept.Kept.{Kept}
@@ -18,3 +18,7 @@ found past ticket = lookup (bytes_eq ticket) past.entries
 abbrev pub unless_below : ℕ → Option Kept → Option Kept
 unless_below moment None = None
 unless_below moment (Some kept) = if nat_lt kept.last moment then None else Some kept
+
+-- the calls whose last second isn't below the moment
+abbrev pub kept_from : ℕ → List (List ℕ × Kept) → List (List ℕ × Kept)
+kept_from moment entries = filter (λ e. nat_le moment e.1.last) entries

@@ -3,7 +3,8 @@ ghost use Rattle.std.specs.Prelude.{◌≡◌, ◌≢◌, ◌≤◌, ◌<◌, �
 ghost use Rattle.std.specs.List.{IsDistinct};
 ghost use Rattle.std.specs.Map.{keys_of, lookup};
 ghost use Rattle.std.specs.Str.{bytes_eq};
-ghost use Rattle.replay_desk.specs.Past.{found, unless_below};
+ghost use Rattle.std.specs.HashMap as hash;
+ghost use Rattle.replay_desk.specs.Past.{found, kept_from, unless_below};
 ghost use Rattle.state_text.specs.State.{Rises};
 
 use state_text::Kept;
@@ -18,8 +19,10 @@ use std::marker::Model;
 pub struct Past {
     /// The allocator, for the list of all calls.
     alloc: Global,
-    /// The calls by ticket.
+    /// The calls by ticket, and beside them calls that were dropped and aren't taken out yet.
     calls: HashMap<[u8; 32], Kept>,
+    /// A call was dropped if its last second is below this moment, a Unix time.
+    moment: u64,
     /// How many tickets can be added; the map may have room for more.
     spare: usize,
 }
@@ -27,11 +30,11 @@ pub struct Past {
 impl Model for Past {
     ghost use Rattle.std.specs.Prelude.{◌≤◌};
     ghost use Rattle.std.specs.HashMap as hash;
-    ghost use Rattle.replay_desk.specs.Past.{PastView};
+    ghost use Rattle.replay_desk.specs.Past.{PastView, kept_from};
 
     ghost Value = { PastView };
 
-    ghost view = { λ past. record { entries = past.calls.entries; spare = past.spare } };
+    ghost view = { λ past. record { entries = kept_from past.moment past.calls.entries; spare = past.spare } };
 
     ghost invariant = { λ past. past.spare ≤ hash.spare past.calls };
 }
@@ -44,6 +47,7 @@ impl Past {
         Past {
             alloc,
             calls: HashMap::new(alloc),
+            moment: 0,
             spare: 0,
         }
     }
@@ -55,15 +59,21 @@ impl Past {
         self.spare
     }
 
-    /// Makes room for so many tickets more. The only error is that memory runs out, and changes nothing.
+    /// Makes room for so many tickets more. If there isn't, it takes out the calls that were dropped, and makes room for as many as are left, so that
+    /// this is done seldom. The only error is that memory runs out, and changes nothing.
     pub fn reserve(&mut self, count: usize) -> Result<(), AllocError>
         ensures same { (ticket : List ℕ) → found self.new ticket ≡ found self.old ticket }
         ensures room { OnOk result (count ≤ self.new.spare) }
         ensures kept { self.old.spare ≤ self.new.spare }
         ensures refused { OnErr result (self.new ≡ self.old) }
     {
-        self.calls.reserve(count)?;
-        self.spare = self.spare.max(count);
+        if count <= self.spare {
+            return Ok(());
+        }
+        take_out(&mut self.calls, self.moment);
+        let room = count.max(self.calls.len());
+        self.calls.reserve(room)?;
+        self.spare = room;
         Ok(())
     }
 
@@ -75,6 +85,8 @@ impl Past {
         ensures others { (other : List ℕ) → other ≢ ticket → found self.new other ≡ found self.old other }
         ensures spare { self.old.spare ≤ self.new.spare + 1 }
     {
+        self.moment = lowered(&mut self.calls, self.moment, kept.last);
+        let _one_each = self.calls.len();
         let added = self.calls.insert(ticket, kept);
         drop(added);
         self.spare -= 1;
@@ -84,7 +96,8 @@ impl Past {
     pub fn find(&self, ticket: &[u8; 32]) -> Option<Kept>
         ensures { result ≡ found self.now ticket.now }
     {
-        self.calls.get(ticket).copied()
+        let _one_each = self.calls.len();
+        unless_below(self.moment, self.calls.get(ticket).copied())
     }
 
     /// Drops exactly the calls whose PASSporT is fresh no longer: those whose last second is below the moment, a Unix time. It
@@ -93,7 +106,8 @@ impl Past {
         ensures calls { (ticket : List ℕ) → found self.new ticket ≡ unless_below moment (found self.old ticket) }
         ensures spare { self.old.spare ≤ self.new.spare }
     {
-        self.calls.retain(|_, kept| kept.last >= moment);
+        let _one_each = self.calls.len();
+        self.moment = self.moment.max(moment);
     }
 
     /// All tickets with their calls, in rising order of tickets. The only error is that memory runs out.
@@ -101,21 +115,56 @@ impl Past {
         ensures same { IfOk result (λ list. (ticket : List ℕ) → lookup (bytes_eq ticket) list.items ≡ found self.now ticket) }
         ensures rises { IfOk result (λ list. Rises None list.items) }
     {
-        let list = self.entries()?;
+        let list = listed(self.alloc, &self.calls, self.moment)?;
         Ok(sorted(list))
     }
+}
 
-    /// All tickets with their calls, in no order.
-    fn entries(&self) -> Result<Vec<([u8; 32], Kept)>, AllocError>
-        ensures same { IfOk result (λ list. list.items ≡ self.now.entries) }
-        ensures unique { IfOk result (λ list. IsDistinct bytes_eq (keys_of list.items)) }
-    {
-        let mut list = Vec::new(self.alloc);
-        for (ticket, kept) in self.calls.iter() {
+/// A call, unless its last second is below the moment.
+fn unless_below(moment: u64, call: Option<Kept>) -> Option<Kept>
+    ensures { result ≡ unless_below moment call }
+{
+    let kept = call?;
+    if kept.last < moment { None } else { Some(kept) }
+}
+
+/// Takes out the calls whose last second is below the moment.
+fn take_out(calls: &mut HashMap<[u8; 32], Kept>, moment: u64)
+    ensures left { calls.new.entries ≡ kept_from moment calls.old.entries }
+    ensures spare { hash.spare calls.old ≤ hash.spare calls.new }
+{
+    calls.retain(|_, kept| kept.last >= moment);
+}
+
+/// A moment that isn't after this second, with the same calls from it on. That is the moment itself, or else the others are taken out.
+fn lowered(calls: &mut HashMap<[u8; 32], Kept>, moment: u64, last: u64) -> u64
+    ensures low { result ≤ last }
+    ensures same { kept_from result calls.new.entries ≡ kept_from moment calls.old.entries }
+    ensures spare { hash.spare calls.old ≤ hash.spare calls.new }
+{
+    if moment <= last {
+        return moment;
+    }
+    take_out(calls, moment);
+    last
+}
+
+/// The tickets with their calls from the moment on, in no order.
+fn listed(
+    alloc: Global,
+    calls: &HashMap<[u8; 32], Kept>,
+    moment: u64,
+) -> Result<Vec<([u8; 32], Kept)>, AllocError>
+    ensures same { IfOk result (λ list. list.items ≡ kept_from moment calls.now.entries) }
+    ensures unique { IfOk result (λ list. IsDistinct bytes_eq (keys_of list.items)) }
+{
+    let mut list = Vec::new(alloc);
+    for (ticket, kept) in calls.iter() {
+        if kept.last >= moment {
             list.push((*ticket, *kept))?;
         }
-        Ok(list)
     }
+    Ok(list)
 }
 
 /// Entries of different tickets, in rising order of these.

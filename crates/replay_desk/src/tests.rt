@@ -76,3 +76,23 @@ fn the_past_keeps_a_call_up_to_its_last_second(rt: HostRuntime) -> Result<(), Fa
     assert!(rt; a_second_later == None);
     Ok(())
 }
+
+/// A ticket that was dropped is added again, up to a second below the last purge: it is held up to that second, and the call before it no longer.
+#[test]
+fn what_was_dropped_can_be_added_again(rt: HostRuntime) -> Result<(), Fail> {
+    let ticket = [7u8; 32];
+    let again = Kept { call: 2, last: 90 };
+    let mut past = Past::new(rt.alloc());
+    past.reserve(2)?;
+    past.add(ticket, Kept { call: 1, last: 100 });
+    past.purge(101);
+    let dropped = past.list()?;
+    past.add(ticket, again);
+    let held = past.find(&ticket);
+    past.purge(91);
+    let gone = past.find(&ticket);
+    assert!(rt; dropped.is_empty());
+    assert!(rt; held == Some(again));
+    assert!(rt; gone == None);
+    Ok(())
+}

@@ -6,6 +6,7 @@ pub mod FieldDate
 pub mod FieldLine
 pub mod FieldNumber
 pub mod FieldValue
+pub mod Compact
 pub mod Form
 pub mod Group
 pub mod Head

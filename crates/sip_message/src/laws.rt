@@ -3,6 +3,8 @@ ghost use Rattle.std.specs.Prelude.{◌≡◌, ℕ, ◌↔◌, ◌++◌, ◌∷�
 ghost use Rattle.tn_values.specs.Local.{LocalView};
 ghost use Rattle.sip_message.specs.Accessors.{calling_number, date, identities, is_invite, target_number, to_number};
 ghost use Rattle.sip_message.specs.Added.{with_last};
+ghost use Rattle.sip_message.specs.Compact.{compact_rows, is_in_row};
+ghost use Rattle.sip_message.specs.FieldValue.{is_compact_form};
 ghost use Rattle.sip_message.specs.Head.{Head};
 ghost use Rattle.sip_message.specs.Message.{MessageView};
 ghost use Rattle.sip_message.specs.Names.{is_asserted, is_date, is_from, is_identity, is_to};
@@ -27,6 +29,11 @@ pub fn added_field_law()
         → to_number (with_last message name value) local ≡ to_number message local }
     ensures target { (message : MessageView) (name value : List ℕ) (local : LocalView)
         → target_number (with_last message name value) local ≡ target_number message local }
+{}
+
+/// Which letter is the compact form of which header field: row by row.
+pub fn compact_law()
+    ensures { (letter name : List ℕ) → is_compact_form letter name ≡ is_in_row letter name compact_rows }
 {}
 
 /// A message with another request URI is the same message but for it.

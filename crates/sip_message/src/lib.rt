@@ -59,7 +59,7 @@ pub use added::{is_addable, is_field_value, with_field};
 pub use address::uri_number;
 pub use alphabet::is_target;
 pub use fault::{FormFault, MessageFault};
-pub use laws::{added_field_law, head_law, target_law};
+pub use laws::{added_field_law, compact_law, head_law, target_law};
 pub use message::{MOST_BYTES, Message};
 pub use target::with_target;
 pub use text::MessageText;

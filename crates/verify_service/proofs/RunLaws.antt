@@ -5,7 +5,7 @@ use Rattle.std.specs.Option.{option_and_then}
 use Rattle.call_log.specs.Entry.{Entry}
 use Rattle.passport_json.specs.IssuedAt.{issued_at}
 use Rattle.passport_json.specs.Signed.{payload_in}
-use Rattle.replay_law.specs.Held.{Held, nothing}
+use Rattle.replay_law.specs.Held.{Held, nothing, purged}
 use Rattle.replay_law.specs.Law.{IsApart, IsFresh, LegalPassesOnce, PurgedAlone, ReplayNamesOne}
 use Rattle.replay_law.specs.Log.{StandsIn}
 use Rattle.replay_law.specs.Round.{Round as RowRound, RoundSettled, Rounds, purge_at}
@@ -16,12 +16,13 @@ use Rattle.passport_json.specs.Signing.{Ticket}
 use Rattle.verify_rules.specs.Signed.{IsKnownAgain, last_by}
 use Rattle.verify_rules.specs.World.{World}
 use Rattle.verify_rules.specs.declared.settings.Settings.{Settings}
+use Rattle.verify_service.specs.Handing.{kept_by}
 use Rattle.verify_service.specs.Judging.{call_in}
-use Rattle.verify_service.specs.Rows.{EachOwed, IsOwed, row_of, rows_of}
+use Rattle.verify_service.specs.Rows.{EachOwed, IsOwed, held, row_of, rows_of}
 use Rattle.verify_service.specs.Service.{first_moment_of}
 use Rattle.verify_service.specs.declared.outcome.Outcome.{Outcome}
 use Rattle.verify_service.specs.declared.outcome.Outcome.TheVariants.{Valid, Refused, Replay, Unread, Unasked}
-use Rattle.verify_service.specs.Runs.{AreApart, AreRounds, AreRuns, IsCallOf, IsIn, IsRound, JudgedIn, JudgedSaysFirst, LegalNamesOne, LegalPassOnce, Round, Run, RunsAreLegal, all_handed_in, all_rounds, answered, handed_in, last_in, row_round, row_rounds, row_runs, unanswered}
+use Rattle.verify_service.specs.Runs.{AreApart, AreRounds, AreRuns, IsCallOf, IsIn, IsRound, JudgedIn, JudgedSaysFirst, LegalNamesOne, LegalPassOnce, Round, Run, RunsAreLegal, StatesHandOn, all_handed_in, all_rounds, answered, handed_in, last_in, row_round, row_rounds, row_runs, unanswered}
 use Rattle.verify_service.proofs.RunTimeLaws.{runs_in_time, runs_numbered}
 
 -- ---- the rounds are settled in turn
@@ -41,6 +42,16 @@ hand_on : PurgedAlone → (window moment : ℕ) (past : Held) (runs : List Run) 
 hand_on law window moment past [] next same = same
 hand_on law window moment past (run ∷ runs) next (handed, is, more) =
     (is.left, handed, settled_rounds law run.settings run.world past run.rounds is.left is.rounds, is.handed, hand_on law window (last_in moment run.rounds) handed runs next more)
+
+-- ---- what a service hands on is what the next one keeps
+
+pub states_hand_on : StatesHandOn
+states_hand_on window moment past run service next state settings materials window_is rounds same is restored = record {
+  window_is = window_is;
+  left = held service.past;
+  rounds = rounds;
+  handed = λ ticket. subst (λ m. purged m (held service.past) ticket ≡ kept_by state.kept ticket) same (is.kept ticket) ∙ restored.past ticket;
+}
 
 -- ---- the call of a row
 

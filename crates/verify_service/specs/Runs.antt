@@ -6,14 +6,17 @@ use Rattle.replay_law.specs.Law.{EachNamesOne, PassOnce}
 use Rattle.replay_law.specs.Log.{RowsLegal}
 use Rattle.replay_law.specs.Round.{Round as RowRound, RoundSettled, purge_at, round_of}
 use Rattle.replay_law.specs.Runs.{Run as RowRun, rounds_in}
+use Rattle.cert_store.specs.declared.world.World.{World as Materials}
 use Rattle.passport_json.specs.Signing.{Ticket}
+use Rattle.state_text.specs.State.{StateView}
 use Rattle.verify_rules.specs.Signed.{IsSigned}
 use Rattle.verify_rules.specs.World.{First, World}
 use Rattle.verify_rules.specs.declared.refusal.Refusal.{Refusal}
 use Rattle.verify_rules.specs.declared.settings.Settings.{Settings}
+use Rattle.verify_service.specs.Handing.{IsRestored, IsStateOf}
 use Rattle.verify_service.specs.Judging.{EachJudged, IsJudged, call_in}
-use Rattle.verify_service.specs.Rows.{EachOwed, rows_of}
-use Rattle.verify_service.specs.Service.{EachFollows, IsPurged, first_moment_of, last_moment_of}
+use Rattle.verify_service.specs.Rows.{EachOwed, held, rows_of}
+use Rattle.verify_service.specs.Service.{EachFollows, IsPurged, ServiceView, first_moment_of, last_moment_of}
 use Rattle.verify_service.specs.declared.outcome.Outcome.{Outcome}
 use Rattle.verify_service.specs.declared.outcome.Outcome.TheVariants.{Valid, Refused, Replay, Unread, Unasked}
 
@@ -159,6 +162,12 @@ pub record SaysFirst (world : World) (settings : Settings) (call : Entry) (outco
 -- The calls of a round, as a service takes them, never fall in their moments and rise in their numbers.
 abbrev pub RoundsRise : Type 0
 RoundsRise = (number moment : ℕ) (calls : List Entry) → EachFollows number moment calls → NeverFall moment calls × Rise number calls
+
+-- If a service was left by the rounds of a run, and another goes on from its state, the run hands on what the other then keeps.
+abbrev pub StatesHandOn : Type 0
+StatesHandOn = (window moment : ℕ) (past : Held) (run : Run) (service next : ServiceView) (state : StateView) (settings : Settings) (materials : Materials)
+    → run.settings.past ≡ window → AreRounds run.settings run.world past run.rounds (held service.past) → service.moment ≡ last_in moment run.rounds
+    → IsStateOf service state → IsRestored settings materials state next → IsRun window moment past run (held next.past)
 
 -- Rounds of a service that is new, and of services that go on from its state, are legal together, if their moments don't fall and all their calls are
 -- apart. So purging and handing on let no PASSporT pass twice.

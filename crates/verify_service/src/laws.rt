@@ -28,7 +28,7 @@ ghost use Rattle.cert_store.specs.Using.{IsOnce, has, names};
 ghost use Rattle.verify_service.specs.Needed.{BeginsWith, all_named, named, needed, once, round_texts};
 ghost use Rattle.verify_service.specs.RightChains.{AreRightHeld, IsThere, IsThereUnless, held_count};
 ghost use Rattle.verify_service.specs.Contents.{Contents, chain_sizes};
-ghost use Rattle.verify_service.specs.Runs.{JudgedSaysFirst, LegalNamesOne, LegalPassOnce, RoundsRise, RunsAreLegal};
+ghost use Rattle.verify_service.specs.Runs.{JudgedSaysFirst, LegalNamesOne, LegalPassOnce, RoundsRise, RunsAreLegal, StatesHandOn};
 ghost use Rattle.verify_service.specs.Screening.{IsReady};
 ghost use Rattle.verify_service.specs.declared.screening.ReadyCall.{ReadyCall};
 
@@ -64,6 +64,7 @@ pub fn report_law()
 /// Moments never fall, and all settings have one `past`. No two different texts that were signed as last PASSporTs have one SHA-256.
 pub fn rounds_law()
     ensures rise { RoundsRise }
+    ensures handed { StatesHandOn }
     ensures legal { RunsAreLegal }
 
     // The same in other words: any other call that passes with the ticket of a valid one is a replay that names it, and a replay names exactly one call

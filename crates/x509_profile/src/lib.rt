@@ -20,7 +20,7 @@
 //! # What it isn't
 //!
 //! Nothing is verified: whether certificates are a path to a trust anchor is asked in `delegation`, and whether a signature is good of a provider
-//! (`cert_store`). PEM isn't read, but by `tools/stir-chain`. Other algorithms, critical extensions outside the profile and enhanced constraints
+//! (`cert_store`). PEM isn't read, but by `stirctl chain`. Other algorithms, critical extensions outside the profile and enhanced constraints
 //! on claims are refused.
 //!
 //! # What is proved

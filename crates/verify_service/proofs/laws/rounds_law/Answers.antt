@@ -1,10 +1,13 @@
 -- The rounds of services that go on from one another's states.
-use Rattle.verify_service.proofs.RunLaws.{judged_says_first, legal_names_one, legal_pass_once, runs_are_legal}
+use Rattle.verify_service.proofs.RunLaws.{judged_says_first, legal_names_one, legal_pass_once, runs_are_legal, states_hand_on}
 use Rattle.verify_service.proofs.RunTimeLaws.{rounds_rise}
 use Rattle.verify_service.proofs.laws.rounds_law.Goals as goal
 
 pub returns-clause-rise : goal.returns-clause-rise
 returns-clause-rise c = rounds_rise
+
+pub returns-clause-handed : goal.returns-clause-handed
+returns-clause-handed c = states_hand_on
 
 pub returns-clause-legal : goal.returns-clause-legal
 returns-clause-legal c = runs_are_legal c.legal_in_runs.ensures c.purged_alone.ensures
