@@ -34,8 +34,9 @@ PARTS = {
     'tools': (*SIDE_BY_SIDE, 'tests/tools'),
     'day': ('examples/carrier/day',),
     'service': ('tests/service/try',),
-    'proxy': ('python3', 'tests/service/proxy.py', STIRD),
+    'proxy': ('tests/service/proxies', STIRD),
     'cluster': ('tests/cluster/try',),
+    'packages': ('tests/packages/try',),
 }
 
 # Debian's own interpreter, which has Debian's packages; one from elsewhere on the path hasn't.

@@ -1,6 +1,7 @@
-"""What stands where in the package, made of this tree: the program, stirctl, the tools that a user needs, their pages, the completions, the examples
-and the documents."""
+"""What stands where in the packages, made of this tree: the programs, the libraries, the tools that a user needs, their pages and completions, the examples
+and the documents. packaging/debian says which package has what."""
 import ast
+import dataclasses
 import gzip
 import os
 import re
@@ -9,20 +10,38 @@ import sys
 
 import completion
 import manual
-from proved import CTL, PROGRAM, TOP
+from proved import BUILT, PROGRAM, TOP
 
 # Where the tools stand as in the repository, with `stir` and `examples` beside `tools`: each finds the others as it does there.
 SHARED = 'usr/share/stir'
 DOCUMENTS = 'usr/share/doc/stir'
-PAGES = 'usr/share/man/man1'
-COMPLETIONS = 'usr/share/bash-completion/completions'
+PAGES = 'usr/share/man'
+TRIPLET = 'x86_64-linux-gnu'
+LIBRARIES = f'usr/lib/{TRIPLET}'
+COMPLETIONS = {'bash': ('usr/share/bash-completion/completions', ''), 'zsh': ('usr/share/zsh/vendor-completions', '_')}
+
+# Where each part stands that is proved or rests on what is.
+PLACES = {'program': 'usr/lib/stir/stir', 'shared': f'{LIBRARIES}/libstir.so.1', 'static': f'{LIBRARIES}/libstir.a', 'stird': 'usr/bin/stird',
+          'stirctl': 'usr/bin/stirctl'}
 
 # What stands beside the tools in the repository and is read.
 TEXTS = ('README.md', 'CONTRIBUTING.md', 'docs')
 
+# What else the service has, if it is in the tree, and where it stands.
+OF_STIRD = {'packaging/stird.toml': 'etc/stird/stird.toml', 'packaging/chains.txt': 'etc/stird/chains.txt',
+            'packaging/monitoring': 'usr/share/stird/monitoring', 'host/stird/kamailio': 'usr/share/doc/stird/examples/kamailio'}
+UNITS = 'lib/systemd/system'
+
 # Debian's own interpreter, for which python3-cryptography is installed.
 ASKED = re.compile(rb'\A#!/usr/bin/env python3\n')
 INTERPRETER = b'#!/usr/bin/python3\n'
+
+
+@dataclasses.dataclass(frozen=True)
+class Release:
+    number: str
+    date: str
+    text: str = ''
 
 
 def tools():
@@ -45,7 +64,7 @@ def modules(names):
 
 def put(path, data, mode=0o644):
     path.parent.mkdir(parents=True, exist_ok=True)
-    path.write_bytes(data)
+    path.write_bytes(data.encode() if isinstance(data, str) else data)
     path.chmod(mode)
 
 
@@ -74,14 +93,15 @@ def help_of(tool):
     return subprocess.run([sys.executable, '-S', tool, '--help'], stdout=subprocess.PIPE, text=True, env=environment, check=True).stdout
 
 
-def page(tool, said, release, date):
+def page(tool, said, release):
     text = '' if said else ast.get_docstring(ast.parse(tool.read_text())).replace(f'tools/{tool.name}', tool.name)
-    return manual.page(tool.name, said or f'usage: {tool.name} WORD..', text, release, date)
+    return manual.page(tool.name, said or f'usage: {tool.name} WORD..', text, release.number, release.date)
 
 
-def add_tools(root, release, date):
+def add_tools(root, release):
     """The tools with what they need, a page of each that has none in man/, and their completion."""
     options = {}
+    completions = root / COMPLETIONS['bash'][0]
     for name in tools() + modules(tools()):
         copied(TOP / 'tools' / name, root / SHARED / 'tools' / name)
     for name in tools():
@@ -91,44 +111,96 @@ def add_tools(root, release, date):
         if said:
             options[name] = re.findall(r'^  (?:-h, )?(--[a-z0-9-]+)', said, re.M)
         if not (TOP / 'man' / f'{name}.1').exists():
-            put(root / PAGES / f'{name}.1.gz', packed(page(tool, said, release, date).encode()))
-    put(root / COMPLETIONS / 'stir', completion.bash(options).encode())
+            put(root / PAGES / 'man1' / f'{name}.1', page(tool, said, release))
+    put(completions / 'stir', completion.bash(options))
     for name in tools():
-        link(root / COMPLETIONS / name, 'stir')
+        link(completions / name, 'stir')
 
 
-def said_by_ctl(*words):
-    """What stirctl writes."""
-    return subprocess.run([CTL, *words], stdin=subprocess.DEVNULL, stdout=subprocess.PIPE, text=True, check=True).stdout
-
-
-def add_ctl(root, release, date):
-    """stirctl, with a page of what its commands say of their words, and its completion."""
-    put(root / 'usr/bin/stirctl', CTL.read_bytes(), 0o755)
-    said = said_by_ctl('--help')
-    commands = {name: said_by_ctl(name, '--help') for name in re.findall(r'^  ([a-z]+)  ', said, re.M) if name != 'help'}
-    put(root / PAGES / 'stirctl.1.gz', packed(manual.page_of_commands('stirctl', said, commands, release, date).encode()))
-    put(root / COMPLETIONS / 'stirctl', said_by_ctl('completion').encode())
+def synopsis():
+    """What `stir --help` writes: that of the repository without what needs the toolchain."""
+    text = re.search(r'^## Synopsis\n+```\n(.*?)```', (TOP / 'docs/COMMANDS.md').read_text(), re.M | re.S)[1]
+    lines = [line.removeprefix('./') for line in text.splitlines() if '--prove' not in line]
+    return '\n'.join([*lines, 'man stir shows the commands, and /usr/share/doc/stir/README.md what they are for', ''])
 
 
 def add_documents(root):
     """The pages, and the documents with the folders in which their links find each other."""
     for file in sorted((TOP / 'man').glob('*.1')):
-        put(root / PAGES / f'{file.name}.gz', packed(file.read_bytes()))
+        put(root / PAGES / 'man1' / file.name, file.read_bytes())
         copied(file, root / SHARED / 'man' / file.name)
     for name in TEXTS:
         copied(TOP / name, root / DOCUMENTS / name)
         link(root / SHARED / name, f'../doc/stir/{name}')
-    copied(TOP / 'packaging' / 'copyright', root / DOCUMENTS / 'copyright')
-    copied(TOP / 'packaging' / 'lintian-overrides', root / 'usr/share/lintian/overrides/stir')
 
 
-def stage(root, release, date):
-    """Puts into an empty folder what the package installs, except for what is said of this release."""
-    put(root / 'usr/bin/stir', PROGRAM.read_bytes(), 0o755)
+def add_program(root, release):
+    """The proved program, what starts it, the tools, the examples and the documents."""
+    put(root / PLACES['program'], PROGRAM.read_bytes(), 0o755)
+    put(root / 'usr/bin/stir', (TOP / 'packaging/stir').read_text().replace('@VERSION@', release.number), 0o755)
+    put(root / SHARED / 'synopsis', synopsis())
     copied(TOP / 'examples', root / SHARED / 'examples')
     add_documents(root)
-    add_tools(root, release, date)
-    add_ctl(root, release, date)
+    add_tools(root, release)
     link(root / SHARED / 'stir', '../../bin/stir')
     link(root / DOCUMENTS / 'examples', '../../stir/examples')
+
+
+def said_by(program, *words):
+    """What a program of the host writes."""
+    return subprocess.run([BUILT[program], *words], stdin=subprocess.DEVNULL, stdout=subprocess.PIPE, text=True, check=True).stdout
+
+
+def add_completions(root, program, *words):
+    """The completions of a program, which it writes itself, by the words before the shell's name."""
+    for shell, (folder, before) in COMPLETIONS.items():
+        put(root / folder / f'{before}{program}', said_by(program, *words, shell))
+
+
+def add_ctl(root, release):
+    """stirctl, with a page of what its commands say of their words, and its completions."""
+    put(root / PLACES['stirctl'], BUILT['stirctl'].read_bytes(), 0o755)
+    said = said_by('stirctl', '--help')
+    commands = {name: said_by('stirctl', name, '--help') for name in re.findall(r'^  ([a-z]+)  ', said, re.M) if name != 'help'}
+    put(root / PAGES / 'man1/stirctl.1', manual.page_of_commands('stirctl', said, commands, release.number, release.date))
+    add_completions(root, 'stirctl', 'completion')
+
+
+def add_service(root, release):
+    """stird, with pages of its words and of its settings, its completions, units, settings and what watches it."""
+    put(root / PLACES['stird'], BUILT['stird'].read_bytes(), 0o755)
+    said = said_by('stird', '--help')
+    put(root / PAGES / 'man8/stird.8', manual.page_of_service('stird', said, release.number, release.date))
+    put(root / PAGES / 'man5/stird.toml.5', manual.page_of_settings('stird', said, release.number, release.date))
+    add_completions(root, 'stird', '--completion')
+    for place in ('etc/stird', 'usr/share/stird'):
+        (root / place).mkdir(parents=True, exist_ok=True)
+    for name, place in OF_STIRD.items():
+        if (TOP / name).exists():
+            copied(TOP / name, root / place)
+    for file in sorted((TOP / 'packaging/systemd').iterdir()):
+        if file.suffix in ('.service', '.socket', '.timer'):
+            copied(file, root / UNITS / file.name)
+
+
+def add_libraries(root, release):
+    """The shared library and what it takes to build over it, and the Python package."""
+    for part in ('shared', 'static'):
+        put(root / PLACES[part], BUILT[part].read_bytes())
+    link(root / LIBRARIES / 'libstir.so', 'libstir.so.1')
+    copied(TOP / 'include/stir.h', root / 'usr/include/stir.h')
+    text = (TOP / 'packaging/stir.pc').read_text().replace('@VERSION@', release.number).replace('@TRIPLET@', TRIPLET)
+    put(root / LIBRARIES / 'pkgconfig/stir.pc', text)
+    python = root / 'usr/lib/python3/dist-packages/stir'
+    for file in sorted((TOP / 'python/stir').iterdir()):
+        if file.suffix == '.py' or file.name == 'py.typed':
+            copied(file, python / file.name)
+    link(python / 'libstir.so', f'../../../{TRIPLET}/libstir.so.1')
+
+
+def stage(root, release):
+    """Puts into an empty folder what the packages install, except for what is said of this release."""
+    add_program(root, release)
+    add_ctl(root, release)
+    add_service(root, release)
+    add_libraries(root, release)

@@ -1,4 +1,5 @@
-"""Whether the program in this tree is proved, and of which sources: the tree that git knows, the program, and the record that `tools/gate` leaves.
+"""Whether what was built in this tree is proved or rests on what is, and of which sources: the tree that git knows, the program, the archive of the
+library, what is made of that, and the record that `tools/gate` leaves.
 
 The record guards against mistakes, such as a file that was changed after the gate. It is no seal: who can write in this folder can write it.
 """
@@ -13,9 +14,14 @@ from outside import Fault
 TOP = pathlib.Path(__file__).resolve().parent.parent
 PROGRAM = TOP / 'crates' / 'stir' / 'out' / 'stir'
 
-# The operator's program, which isn't proved, and the folder of its sources, with what is made of them in `out`.
+# The archive of the proved library, and what `host/build` makes over it: the libraries that it is linked into, and the programs that call the shared one.
+ARCHIVE = TOP / 'crates' / 'stir_c' / 'out' / 'libstir_c.a'
 HOST = TOP / 'host'
-CTL = HOST / 'out' / 'release' / 'stirctl'
+BUILT = {'shared': HOST / 'out/lib/libstir.so.1', 'static': HOST / 'out/lib/libstir.a', 'stird': HOST / 'out/release/stird',
+         'stirctl': HOST / 'out/release/stirctl'}
+
+# The kit's own library, of which the archive needs parts.
+KIT = pathlib.Path(os.environ.get('RATTLE_C', pathlib.Path(os.environ.get('RATTLE', '/opt/rattle')) / 'c')) / 'liblibc_c.a'
 
 # Where what is made of the tree stands, which git ignores.
 OUT = TOP / 'out'
@@ -27,13 +33,18 @@ SHOWN = 3
 
 def git(*words):
     """What git says of this tree, without the last line's end."""
+    return git_bytes(*words).decode(errors='surrogateescape').removesuffix('\n')
+
+
+def git_bytes(*words):
+    """What git writes of this tree."""
     try:
         done = subprocess.run(['git', '-C', TOP, *words], stdin=subprocess.DEVNULL, stdout=subprocess.PIPE, stderr=subprocess.PIPE)
     except FileNotFoundError:
         raise Fault('git is missing, which knows what tree this is: apt install git')
     if done.returncode != 0:
         raise Fault(f'git {words[0]} fails in {TOP}: {done.stderr.decode(errors="replace").strip()}')
-    return done.stdout.decode(errors='surrogateescape').removesuffix('\n')
+    return done.stdout
 
 
 def tree():
@@ -64,13 +75,20 @@ def sources():
     yield from files_below(TOP / 'crates')
 
 
-def look_at_ctl():
-    """A fault if stirctl isn't there, or is older than a source of the host."""
-    if not os.access(CTL, os.X_OK):
-        raise Fault(f'{CTL.relative_to(TOP)} is missing: host/build makes it')
-    newer = next((file for file in files_below(HOST) if file.stat().st_mtime_ns > CTL.stat().st_mtime_ns), None)
-    if newer:
-        raise Fault(f'stirctl is older than {newer.relative_to(TOP)}: host/build makes it anew')
+def look_at_built():
+    """A fault if what `host/build` makes isn't there, or a program is older than a source of the host."""
+    for file in BUILT.values():
+        if not file.exists():
+            raise Fault(f'{file.relative_to(TOP)} is missing: host/build makes it')
+    for name in ('stird', 'stirctl'):
+        newer = next((file for file in files_below(HOST) if file.stat().st_mtime_ns > BUILT[name].stat().st_mtime_ns), None)
+        if newer:
+            raise Fault(f'{name} is older than {newer.relative_to(TOP)}: host/build makes it anew')
+
+
+def sums():
+    """The checksums of what there is of the archive, the kit's library and what `host/build` makes over them."""
+    return {name: checksum(file) for name, file in {'archive': ARCHIVE, 'kit': KIT, **BUILT}.items() if file.exists()}
 
 
 def look_at_program():
@@ -96,11 +114,16 @@ def record():
         raise Fault('tools/gate has not passed on this tree')
     try:
         known = json.loads(RECORD.read_text())
-        was, program = known['tree'], known['program']
+        was, program, parts = known['tree'], known['program'], known['parts']
     except (ValueError, LookupError, TypeError):
         raise Fault(f'{RECORD.relative_to(TOP)} is no record of the gate: run tools/gate')
     if was != now:
         raise Fault(f'the gate has passed on the tree {was[:12]}, and this is the tree {now[:12]}: run tools/gate')
     if program != checksum(PROGRAM):
         raise Fault(f'{PROGRAM.relative_to(TOP)} is not the program with which the gate has passed: run tools/gate')
+    look_at_built()
+    other = next((name for name, found in sums().items() if parts.get(name) != found), None)
+    if other:
+        file = {'archive': ARCHIVE, 'kit': KIT, **BUILT}[other]
+        raise Fault(f'{os.path.relpath(file, TOP)} is not the one with which the gate has passed: run tools/gate')
     return known

@@ -45,7 +45,7 @@ def claims(world, n, identity):
 def all(stird, world, folder):
     path = folder / "blocks.txt"
     path.write_text("; first count attestation key certificates x5u\n" + table(world, folder, [(0, 0, 100, "A"), (1, 50, 10, "B")]))
-    words = [*world.words(), "--moments", "asked", "--signing", str(path)]
+    words = [*world.words(), "--moments", "asked", "--signing", str(path), "--signing-local", "yes"]
     with Stird(stird, words) as service:
         named(service, world)
         signs(service, world)

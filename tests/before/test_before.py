@@ -1,8 +1,9 @@
 """Clients that ran against the service as it was before it was built anew, and run against this one unchanged but for their start.
 
-These files are as they were then, beside `judging.py` and `world.py` of tests/service, which are too: change nothing in them but how they start the service. Two
-lines do that: a line of the signing table says which attestation a request gets that names none, and the two services over one Redis have calls in the
-order of their moments. `kamailio.cfg` is tried by tests/service/proxy.py. What the service does besides is tried in tests/service.
+These files are as they were then, beside `judging.py` and `world.py` of tests/service, which are too: change nothing in them but how they start the service. Three
+lines do that: a line of the signing table says which attestation a request gets that names none, the service signs for this host over TCP, and the two
+services over one Redis have calls in the order of their moments. `kamailio.cfg` is tried by tests/service/proxy.py. What the service does besides is tried in
+tests/service.
 """
 import dataclasses
 import json

@@ -73,6 +73,13 @@ def test_bash_completes_commands_and_their_options(run, tmp_path):
     assert completed('stirctl', 'judge', '--che') == (['--checked-by'], b'')
 
 
+def test_completions_are_for_the_shell_that_is_named(run):
+    for words, wanted in ((('bash',), b'_stirctl() {\n'), (('zsh',), b'#compdef stirctl\n'), (('fish',), b'complete -c stirctl '), ((), b'_stirctl() {\n')):
+        status, output, said = run('completion', *words)
+        assert (status, wanted in output[:400], said) == (0, True, b''), words
+    assert run('completion', 'csh')[:2] == (2, b'')
+
+
 def test_reports(run, each):
     each(reports.results(run))
 

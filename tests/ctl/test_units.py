@@ -33,7 +33,7 @@ def command(unit, variables):
 def test_systemd_reads_the_units(ctl, tmp_path):
     if not shutil.which('systemd-analyze'):
         pytest.skip('missing: systemd-analyze')
-    names = sorted(path.name for path in UNITS.iterdir())
+    names = sorted(path.name for path in UNITS.glob('stir-*'))
     assert names == ['stir-crl.service', 'stir-crl.timer', 'stir-roots.service', 'stir-roots.timer']
     for name in names:
         (tmp_path / name).write_text((UNITS / name).read_text().replace('/usr/bin/stirctl', str(ctl)))

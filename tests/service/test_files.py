@@ -227,7 +227,12 @@ def test_a_file_that_its_user_may_not_read_is_named(stird, world, files, tmp_pat
     for folder in [files.folder, *files.folder.parents]:
         if folder.stat().st_uid == os.geteuid() and str(folder).startswith("/tmp/"):
             folder.chmod(0o755)
-    program = shutil.copy(stird, tmp_path / "stird")
+    (tmp_path / "bin").mkdir()
+    program = shutil.copy(stird, tmp_path / "bin/stird")
+    library = stird.parent.parent / "lib/libstir.so.1"
+    if library.exists():
+        (tmp_path / "lib").mkdir()
+        shutil.copy(library, tmp_path / "lib")
     os.chmod(program, 0o755)
     (files.folder / "chain-1.der").chmod(0o600)
     words = ["setpriv", f"--reuid={NOBODY}", f"--regid={NOBODY}", "--clear-groups", program]

@@ -100,16 +100,19 @@ def test_each_answer_says_since_when(start, world):
     put(world, crl([entry(1001, authority=A)]))
     service = start("list.crl")
     moment, message = world.call("one", START, 1)
-    assert service.verify(message, moment) == {
+    told = service.verify(message, moment)
+    assert told | {
         "call": 1, "code": 437, "outcome": "refused", "place": "1.1", "reason": "Unsupported Credential",
         "revocation": f"certificate 1 {SINCE}", "rule": 15,
-        "verstat": "TN-Validation-Failed"}
+        "verstat": "TN-Validation-Failed"} == told, told
+    assert "signer" not in told, "a revoked certificate shows who signed"
     status, line = service.ask("POST", "/verify/line", message, {"X-Moment": str(moment)})
     assert (status, line) == (200, b"437 TN-Validation-Failed Unsupported Credential")
     identity = message.decode().partition("Identity: ")[2].partition("\r\n")[0]
     status, said = service.json("/stir/v1/verification", {"verificationRequest": {
         "from": {"tn": "12135550001"}, "to": {"tn": trusted.CALLED}, "time": moment, "identity": identity}})
-    assert (status, said["verificationResponse"]["reasondesc"]) == (200, f"rule 15 at 1.1, certificate 1 {SINCE}")
+    in_words = "a certificate's signature isn't good (RFC 5280, section 6.1.3)"
+    assert (status, said["verificationResponse"]["reasondesc"]) == (200, f"rule 15 at 1.1, certificate 1 {SINCE}: {in_words}")
     # A call that breaks an earlier rule says nothing of it.
     assert "revocation" not in service.verify(message, moment + 61)
 

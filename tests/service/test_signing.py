@@ -14,7 +14,7 @@ BLOCKS = [(0, 0, 100, "A"), (1, 0, 100, "A", "A"), (1, 100, 100, "A", "C"), (2, 
 def service(started, world, tmp_path):
     path = tmp_path / "blocks.txt"
     path.write_text(signing.table(world, tmp_path, BLOCKS))
-    return started("--signing", path)
+    return started("--signing", path, "--signing-local", "yes")
 
 
 def said(service, given):
@@ -56,7 +56,7 @@ def test_a_number_that_no_block_has_is_told_as_one_also_without_attest(service, 
 def test_a_word_that_is_none_or_better_than_the_block_stops_the_start(word, started, world, tmp_path):
     path = tmp_path / "blocks.txt"
     path.write_text("; blocks\n" + signing.table(world, tmp_path, [(0, 0, 100, "B", word)]))
-    with pytest.raises(RuntimeError, match=r"blocks\.txt.*line 2.*the seventh word is A, B or C, and no better"):
+    with pytest.raises(RuntimeError, match=r"blocks\.txt.*line 2.*the last word is A, B or C, and no better"):
         started("--signing", path)
 
 

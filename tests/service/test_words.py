@@ -11,6 +11,7 @@ from world import START
 OPTIONS = {
     "past": "30", "future": "7", "country": '"44"', "national": "9", "moments": '"asked"', "tickets": "1000", "connections": "100", "connections-each": "50",
     "request": "4", "idle": "9", "reload": "3", "split": '"no"', "sync": '"no"', "codes": '"trusted"', "fetch-wait": "100", "fetch-private": '"yes"',
+    "verstat": '"letter"', "record-numbers": '"short"', "page": '"yes"',
 }
 
 
@@ -29,8 +30,9 @@ def file_of(folder, world, more):
 def test_help_names_every_option_and_ends_well(stird):
     done = told(stird, "--help")
     assert done.returncode == 0 and not done.stderr, done
-    for name in [*OPTIONS, "listen", "chains", "anchors", "roots", "table", "fetch", "fetch-hosts", "fetch-authorities", "journal", "redis", "signing", "signing-tokens", "config", "socket-mode", "tls-certificate",
-                 "tls-key", "tls-clients"]:
+    for name in [*OPTIONS, "listen", "chains", "anchors", "roots", "table", "fetch", "fetch-hosts", "fetch-authorities", "journal", "redis", "signing", "signing-tokens",
+                 "signing-clients", "signing-local", "config", "socket-mode", "tls-certificate", "tls-key", "tls-clients", "record",
+                 "record-key"]:
         assert f"--{name}".encode() in done.stdout, f"--{name} isn't named"
     assert told(stird, "-h").returncode == 0
 

@@ -1,7 +1,5 @@
-"""Whether tools/gate records just what has passed, tools/package makes a package of that alone, and the package has what it must have: in a
-tree of its own, with a script for the program, one for the gate and one for the toolchain."""
-import gzip
-import hashlib
+"""Whether tools/gate records just what has passed, and tools/package makes packages of that alone: in a tree of its own, with a script for the program,
+one for the gate and one for the toolchain. tests/packages has what is in the packages."""
 import os
 import pathlib
 import shutil
@@ -15,27 +13,13 @@ COPIED = ('tools', 'examples', 'docs', 'packaging', 'man', 'README.md', 'CONTRIB
 # The interpreter without what is installed beside it, which none of this needs: it starts sooner.
 PYTHON = sys.executable, '-S'
 
-# The tools of a user; all but stir-words have --help.
-HELPFUL = sorted(path.name for path in (TOP / 'tools').glob('stir-*') if path.name != 'stir-words')
-TOOLS = sorted([*HELPFUL, 'stir-words'])
-
-# The tools of those who work on the sources.
-OWN = ('claims', 'completion.py', 'crate', 'crates.py', 'gate', 'gate-cost', 'installed.py', 'making.py', 'manual.py', 'package', 'proved.py', 'prove', 'refusals',
-       'trusted', 'unproved')
-
 TOOLCHAIN = 'toolchain 1 logic 0123456789abcdef'
 LOGIC = 'logic=0123456789abcdef01234567'
 PROGRAM = f'#!/bin/sh\n# \0libc.so.6\0GLIBC_2.4\0GLIBC_2.34\0rattle {LOGIC}\0\necho words refused\nexit 2\n'
 
-# In the place of stirctl: it says what its commands are, and of each the same.
-CTL = """#!/bin/sh
-# \0libssl.so.3\0libgcc_s.so.1\0libc.so.6\0GLIBC_2.36\0
-case "$1 $2" in
-    '--help ') printf 'Judges calls: all of them.\n\nUsage: stirctl <COMMAND>\n\nCommands:\n  judge  Judges calls\n  help   Prints this\n' ;;
-    'completion ') echo 'complete -W judge stirctl' ;;
-    *) printf 'Judges calls.\n\nUsage: stirctl %s\n' "$1" ;;
-esac
-"""
+# What host/build makes, and the archive that it makes it of.
+BUILT = ('lib/libstir.so.1', 'lib/libstir.a', 'release/stird', 'release/stirctl')
+ARCHIVE = 'crates/stir_c/out/libstir_c.a'
 
 LAST = ('rt: ok; every proof was done in this run', '7 passed, 0 failed', 'part  result  seconds', 'cli  passed  8', '2 passed, 0 failed')
 
@@ -81,7 +65,9 @@ class Tree:
         self.write('.ci/run', GATE, 0o755)
         self.write('program', PROGRAM, 0o755)
         self.write('host/src/main.rs', '// a source\n')
-        self.write('host/out/release/stirctl', CTL, 0o755)
+        for name in BUILT:
+            self.write(f'host/out/{name}', 'built', 0o755)
+        self.write(ARCHIVE, 'an archive')
         self.write('.gitignore', (self.top / '.gitignore').read_text() + 'gate-does\n')
         (room / 'rt').write_text(f'#!/bin/sh\necho {TOOLCHAIN}\n')
         (room / 'rt').chmod(0o755)
@@ -170,107 +156,36 @@ def refused(tree):
     tree.write('program', PROGRAM + '\0libssl.so.3\0', 0o755)
     tree.commit()
     tree.gate('passes')
-    yield 'package: another library', (2, 'the program needs libssl, and the package would not name it'), tree.run('package')
+    yield 'package: another library', (2, 'the program needs libssl, and nothing but the C library is told of it'), tree.run('package')
     tree.write('program', PROGRAM.replace('logic=0', 'logic=1'), 0o755)
     tree.commit()
     tree.gate('passes')
     yield 'package: another toolchain', (2, f'the program is not one of the toolchain that says {TOOLCHAIN!r} of itself'), tree.run('package')
     tree.git('reset', '-q', '--hard', 'HEAD~2')
     tree.gate('passes')
-    yield from refused_by_ctl(tree)
+    yield from refused_by_parts(tree)
 
 
-def refused_by_ctl(tree):
-    """What isn't packaged because of stirctl: each with the status and the sentence."""
-    ctl, source = tree.top / 'host/out/release/stirctl', tree.top / 'host/src/main.rs'
-    ctl.rename(ctl.with_name('other'))
-    yield 'package: no stirctl', (2, 'host/out/release/stirctl is missing: host/build makes it'), tree.run('package')
-    ctl.with_name('other').rename(ctl)
-    back = aged(source, ctl)
-    yield 'package: a newer source of stirctl', (2, 'stirctl is older than host/src/main.rs: host/build makes it anew'), tree.run('package')
-    back()
-    ctl.write_text(CTL + '\0libfreetype.so.6\0')
-    yield 'package: another library of stirctl', (2, 'stirctl needs libfreetype, and the package would not name it'), tree.run('package')
-    ctl.write_text(CTL)
-
-
-def completed(root, *words):
-    """What bash completes the last of these words to, sorted."""
-    by = '_stir' if words[0] == 'stir' else '_stir_tool'
-    script = f'source "$1"; shift; COMP_WORDS=("$@"); COMP_CWORD=$(($# - 1)); {by}; printf "%s\\n" "${{COMPREPLY[@]}}"'
-    file = root / 'usr/share/bash-completion/completions/stir'
-    done = subprocess.run(['bash', '-c', script, 'bash', file, *words], stdout=subprocess.PIPE, stderr=subprocess.PIPE, text=True, cwd=root)
-    return sorted(done.stdout.split()), done.stderr
-
-
-def control(package):
-    done = subprocess.run(['dpkg-deb', '--field', package, 'Package', 'Version', 'Architecture', 'Depends'], stdout=subprocess.PIPE, text=True)
-    return done.stdout
-
-
-def names(folder):
-    return sorted(path.name for path in folder.iterdir())
-
-
-def installed(root, tool, word):
-    """The status, the output and the standard error of an installed tool with this word."""
-    done = subprocess.run([*PYTHON, root / 'usr/bin' / tool, word], stdout=subprocess.PIPE, stderr=subprocess.PIPE, text=True,
-                          env=os.environ | {'PYTHONDONTWRITEBYTECODE': '1'})
-    return done.returncode, done.stdout, done.stderr
-
-
-def page(root, tool):
-    """The manual page of a tool, as it reads without a program that sets it."""
-    return gzip.decompress((root / f'usr/share/man/man1/{tool}.1.gz').read_bytes()).decode().replace('\\-', '-')
-
-
-def content(tree, release):
-    """What is in the package: each with what is wanted and what came."""
-    package = tree.top / 'out' / f'stir_{release}_amd64.deb'
-    yield 'package', (0, ''), tree.run('package')
-    first = package.read_bytes()
-    tree.run('package')
-    yield 'package: made twice', True, package.read_bytes() == first
-    fields = f'Package: stir\nVersion: {release}\nArchitecture: amd64\nDepends: libc6 (>= 2.36), libgcc-s1, libssl3, python3 (>= 3.11)\n'
-    yield 'package: control', fields, control(package)
-    root = tree.top / 'out/root'
-    subprocess.run(['dpkg-deb', '--extract', package, root], check=True)
-    yield 'package: the program', PROGRAM.encode(), (root / 'usr/bin/stir').read_bytes()
-    yield 'package: stirctl', CTL.encode(), (root / 'usr/bin/stirctl').read_bytes()
-    yield 'package: usr/bin', sorted(['stir', 'stirctl', *TOOLS]), names(root / 'usr/bin')
-    pages = names(root / 'usr/share/man/man1')
-    yield 'package: pages', sorted(f'{name}.1.gz' for name in (*TOOLS, 'stirctl')), [name for name in pages if name != 'stir.1.gz']
-    said = page(root, 'stirctl')
-    yield 'package: page of stirctl', (True, True), ('stirctl - judges calls\n' in said, '.SH STIRCTL JUDGE\n.EX\nJudges calls.\n\nUsage: stirctl judge\n.EE\n' in said)
-    completion = (root / 'usr/share/bash-completion/completions/stirctl').read_text()
-    yield 'package: completion of stirctl', 'complete -W judge stirctl\n', completion
-    yield 'package: tools of others', [], [name for name in OWN if name in names(root / 'usr/share/stir/tools')]
-    for tool in HELPFUL:
-        said = page(root, tool)
-        yield f'package: page of {tool}', (True, False), (f'.SH SYNOPSIS\n.B {tool}\n' in said and '.SH OPTIONS\n' in said, 'tools/stir-' in said)
-    status, output, error = installed(root, 'stir-log', '--help')
-    yield 'package: stir-log --help', (0, True, ''), (status, '    stir-log day.pcap > day.log\n' in output, error)
-    said = 'stir: man stir shows the commands, and /usr/share/doc/stir/README.md what they are for'
-    status, output, error = installed(root, 'stir-words', 'shows')
-    yield 'package: stir-words', (0, '', True, said), (status, output, error.startswith("stir: 'shows' is no command: "), error.split('\n')[1])
-    yield from told(tree, root, release)
-
-
-def told(tree, root, release):
-    """What the package says of itself, and its examples."""
-    documents = root / 'usr/share/doc/stir'
-    proof = (documents / 'PROOF').read_text()
-    wanted = (f'{hashlib.sha256(PROGRAM.encode()).hexdigest()}  /usr/bin/stir', tree.git('rev-parse', 'HEAD^{tree}'), TOOLCHAIN,
-              LOGIC, '\n'.join(LAST))
-    yield 'package: PROOF', [], [part for part in wanted if f'\n{part}\n' not in proof]
-    yield 'package: the changelog', True, gzip.decompress((documents / 'changelog.gz').read_bytes()).startswith(f'stir ({release}) '.encode())
-    yield 'package: the examples', (TOP / 'examples/carrier/report').read_bytes(), (documents / 'examples/carrier/report').read_bytes()
-    day = (root / 'usr/share/stir/examples/carrier/day').read_text().partition('\n')
-    yield 'package: a day', ('#!/usr/bin/python3', (TOP / 'examples/carrier/day').read_text().partition('\n')[2]), (day[0], day[2])
-    for words, wanted in ((('stir', 'ver'), ['verify']), (('stir', 'ask', '--ta'), ['--table']), (('stir', 'sign', '--form', 'sha'), ['shaken']),
-                          (('stir', 'verify', '--table', '=', 'usr/b'), ['usr/bin']), (('stir-log', '--x'), ['--x5u']),
-                          (('stir-log', 'usr/b'), ['usr/bin'])):
-        yield f'package: completion of {" ".join(words)}', (wanted, ''), completed(root, *words)
+def refused_by_parts(tree):
+    """What isn't packaged because of what rests on the archive: each with the status and the sentence."""
+    for name in BUILT:
+        file = tree.top / 'host/out' / name
+        file.rename(file.with_name('other'))
+        yield f'package: no {name}', (2, f'host/out/{name} is missing: host/build makes it'), tree.run('package')
+        file.with_name('other').rename(file)
+    source = tree.top / 'host/src/main.rs'
+    for name in ('stird', 'stirctl'):
+        back = aged(source, tree.top / 'host/out/release' / name)
+        others = [aged(tree.top / 'host/out/release' / other, source) for other in ('stird', 'stirctl') if other != name]
+        said = f'{name} is older than host/src/main.rs: host/build makes it anew'
+        yield f'package: a newer source of {name}', (2, said), tree.run('package')
+        for undo in (back, *others):
+            undo()
+    for name in (ARCHIVE, *(f'host/out/{name}' for name in BUILT)):
+        was = (tree.top / name).read_text()
+        (tree.top / name).write_text('another')
+        yield f'package: another {name}', (2, f'{name} is not the one with which the gate has passed: run tools/gate'), tree.run('package')
+        (tree.top / name).write_text(was)
 
 
 def results():
@@ -279,4 +194,3 @@ def results():
         tree = Tree(pathlib.Path(folder).resolve())
         yield from recorded(tree)
         yield from refused(tree)
-        yield from content(tree, (TOP / 'VERSION').read_text().strip())

@@ -59,7 +59,7 @@ def test_packaged(each):
     each(packaged.results())
 
 
-@needs('git', 'dpkg-deb')
+@needs('git', 'dh', 'dh_python3')
 def test_package(each):
     each(debian.results())
 

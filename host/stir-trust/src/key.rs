@@ -1,12 +1,25 @@
-//! Private keys of P-256, in PEM.
+//! Private keys of P-256, in PEM or in an HSM.
+mod desk;
+mod worker;
+
 use crate::es256::Unanswered;
+use desk::Desk;
 use openssl::bn::BigNumContext;
 use openssl::ec::{EcKey, PointConversionForm};
 use openssl::ecdsa::EcdsaSig;
 use openssl::error::ErrorStack;
 use openssl::nid::Nid;
 use openssl::pkey::{PKey, Private};
+use std::sync::Arc;
+use std::time::Duration;
+use stir_hsm::{HsmFault, KeyUri};
 use thiserror::Error;
+
+pub use desk::{hsm_counts, HsmCounts};
+
+/// How long an HSM may take to sign, and to give a key.
+const SIGNING: Duration = Duration::from_secs(2);
+const OPENING: Duration = Duration::from_secs(10);
 
 /// A private key that signs by ES256. What it is isn't shown.
 ///
@@ -25,18 +38,47 @@ use thiserror::Error;
 /// # Ok::<(), Box<dyn std::error::Error>>(())
 /// ```
 pub struct Key {
-    key: EcKey<Private>,
+    place: Place,
     public: [u8; 65],
 }
 
-/// Why a file isn't taken as a private key.
+/// Where a private key is.
+enum Place {
+    /// In memory.
+    Here(EcKey<Private>),
+    /// On a token of an HSM, before which there is this desk.
+    Hsm(Arc<KeyUri>, Arc<Desk>),
+}
+
+/// Why nothing is signed.
+///
+/// ```
+/// assert_eq!(stir_trust::SignFault::Late.to_string(), "the HSM gave no answer in time");
+/// ```
+#[derive(Clone, Debug, Error, PartialEq, Eq)]
+pub enum SignFault {
+    /// OpenSSL failed, as if it had no memory.
+    #[error("{0}")]
+    OpenSsl(#[from] Unanswered),
+    /// The HSM failed, also by a session that was opened anew.
+    #[error("{0}")]
+    Hsm(#[from] HsmFault),
+    /// The HSM gave no answer in time.
+    #[error("the HSM gave no answer in time")]
+    Late,
+    /// So many wait for the HSM that no more are taken.
+    #[error("too many wait for the HSM")]
+    Full,
+}
+
+/// Why a file or a URI isn't taken as a private key.
 ///
 /// ```
 /// use stir_trust::{Key, KeyFault};
 ///
 /// assert_eq!(Key::from_pem(b"no key").err(), Some(KeyFault::NoKey));
 /// ```
-#[derive(Clone, Copy, Debug, Error, PartialEq, Eq)]
+#[derive(Clone, Debug, Error, PartialEq, Eq)]
 pub enum KeyFault {
     /// There is none in it, in PEM.
     #[error("it has no private key in PEM")]
@@ -56,6 +98,9 @@ pub enum KeyFault {
     /// OpenSSL failed, as if it had no memory.
     #[error("OpenSSL failed")]
     Failed,
+    /// The HSM doesn't give it.
+    #[error("{0}")]
+    Hsm(SignFault),
 }
 
 impl Key {
@@ -121,7 +166,42 @@ impl Key {
         }
         key.check_key().map_err(|_| KeyFault::OtherPublic)?;
         let public = public_of(&key).ok_or(KeyFault::Failed)?;
-        Ok(Key { key, public })
+        Ok(Key { place: Place::Here(key), public })
+    }
+
+    /// The private key on a token of an HSM that a URI names (RFC 7512), with the token's PIN. It
+    /// stays there. Something is signed, so that it is known to be the one of its public key.
+    ///
+    /// # Errors
+    ///
+    /// The module, the token or the key isn't there or isn't what it has to be, the PIN isn't the
+    /// token's, or there was no answer in ten seconds.
+    ///
+    /// ```
+    /// use stir_trust::{Key, KeyFault};
+    ///
+    /// let uri = "pkcs11:token=a;object=b?module-path=/no/module.so".parse()?;
+    /// assert!(matches!(Key::from_hsm(&uri, None).err(), Some(KeyFault::Hsm(_))));
+    /// # Ok::<(), stir_hsm::UriFault>(())
+    /// ```
+    pub fn from_hsm(uri: &KeyUri, pin: Option<&[u8]>) -> Result<Key, KeyFault> {
+        let taken = || {
+            let desk = Desk::before(uri, pin)?;
+            let uri = Arc::new(uri.clone());
+            let made = desk.wait_for(&uri, None, &TRIAL, OPENING)?;
+            Ok(Key { place: Place::Hsm(uri, desk), public: made.public })
+        };
+        taken().map_err(KeyFault::Hsm)
+    }
+
+    /// Whether it is in an HSM, so that signing takes as long as that does.
+    ///
+    /// ```no_run
+    /// assert!(!stir_trust::Key::from_pem(b"")?.is_in_hsm());
+    /// # Ok::<(), stir_trust::KeyFault>(())
+    /// ```
+    pub fn is_in_hsm(&self) -> bool {
+        matches!(self.place, Place::Hsm(..))
     }
 
     /// Its public key, as an uncompressed point (SEC 1, section 2.3.3).
@@ -134,25 +214,42 @@ impl Key {
         &self.public
     }
 
-    /// The signature over a digest: r and s, 32 bytes each (RFC 7518, section 3.4).
+    /// The signature over a digest: r and s, 32 bytes each (RFC 7518, section 3.4). For an HSM is
+    /// waited, two seconds at most.
     ///
     /// # Errors
     ///
-    /// OpenSSL failed, as if it had no memory.
+    /// OpenSSL or the HSM failed, as [`SignFault`] says.
     ///
     /// ```no_run
     /// # let key = stir_trust::Key::from_pem(b"").unwrap();
     /// let signature: [u8; 64] = key.sign(&[7; 32])?;
-    /// # Ok::<(), stir_trust::Unanswered>(())
+    /// # Ok::<(), stir_trust::SignFault>(())
     /// ```
-    pub fn sign(&self, digest: &[u8; 32]) -> Result<[u8; 64], Unanswered> {
-        drop(ErrorStack::get());
-        let made = EcdsaSig::sign(digest, &self.key)?;
-        let mut signature = [0; 64];
-        signature[..32].copy_from_slice(&made.r().to_vec_padded(32)?);
-        signature[32..].copy_from_slice(&made.s().to_vec_padded(32)?);
-        Ok(signature)
+    pub fn sign(&self, digest: &[u8; 32]) -> Result<[u8; 64], SignFault> {
+        match &self.place {
+            Place::Here(key) => Ok(signature_by(key, digest)?),
+            Place::Hsm(uri, desk) => {
+                Ok(desk.wait_for(uri, Some(&self.public), digest, SIGNING)?.signature)
+            }
+        }
     }
+}
+
+/// The SHA-256 of `is this the private key?`, which is signed when a key of an HSM is taken.
+const TRIAL: [u8; 32] = [
+    0x7d, 0x0e, 0xce, 0x47, 0x7a, 0x24, 0x5b, 0xe9, 0xb1, 0xc1, 0x28, 0x91, 0x9f, 0xba, 0x38, 0x08,
+    0x65, 0x92, 0x00, 0xfb, 0xd1, 0xfc, 0x5d, 0xee, 0x0f, 0x2b, 0xa6, 0x25, 0x8e, 0xe2, 0x70, 0x05,
+];
+
+/// The signature by a key in memory.
+fn signature_by(key: &EcKey<Private>, digest: &[u8; 32]) -> Result<[u8; 64], Unanswered> {
+    drop(ErrorStack::get());
+    let made = EcdsaSig::sign(digest, key)?;
+    let mut signature = [0; 64];
+    signature[..32].copy_from_slice(&made.r().to_vec_padded(32)?);
+    signature[32..].copy_from_slice(&made.s().to_vec_padded(32)?);
+    Ok(signature)
 }
 
 /// Whether a text in PEM says of itself that it is encrypted (RFC 5958, section 3; RFC 1421,
@@ -173,94 +270,4 @@ fn public_of(key: &EcKey<Private>) -> Option<[u8; 65]> {
 }
 
 #[cfg(test)]
-mod tests {
-    use super::*;
-    use openssl::ec::EcGroup;
-    use openssl::rsa::Rsa;
-    use openssl::symm::Cipher;
-
-    fn key(curve: Nid) -> EcKey<Private> {
-        EcKey::generate(&EcGroup::from_curve_name(curve).unwrap()).unwrap()
-    }
-
-    #[test]
-    fn a_key_is_taken_in_both_forms_and_gives_its_public_point() {
-        let made = key(Nid::X9_62_PRIME256V1);
-        let point = public_of(&made).unwrap();
-        let pkcs8 = PKey::from_ec_key(made.clone()).unwrap().private_key_to_pem_pkcs8().unwrap();
-        for pem in [made.private_key_to_pem().unwrap(), pkcs8] {
-            for key in [Key::from_pem(&pem), Key::from_pem_by(&pem, b"word")] {
-                assert_eq!(key.ok().map(|key| *key.public()), Some(point));
-            }
-        }
-    }
-
-    #[test]
-    fn an_encrypted_key_is_refused_and_nobody_is_asked() {
-        let made = key(Nid::X9_62_PRIME256V1);
-        let cipher = Cipher::aes_256_cbc();
-        let pkey = PKey::from_ec_key(made.clone()).unwrap();
-        for word in [b"word".as_slice(), b"a longer word"] {
-            for pem in [
-                made.private_key_to_pem_passphrase(cipher, word).unwrap(),
-                pkey.private_key_to_pem_pkcs8_passphrase(cipher, word).unwrap(),
-            ] {
-                assert_eq!(Key::from_pem(&pem).err(), Some(KeyFault::Encrypted));
-                let point = Key::from_pem_by(&pem, word).ok().map(|key| *key.public());
-                assert_eq!(point, public_of(&made));
-                for other in [&b""[..], b"another"] {
-                    let fault = Key::from_pem_by(&pem, other).err();
-                    assert_eq!(fault, Some(KeyFault::OtherPassphrase));
-                }
-                // Whatever hides it, no terminal is asked: the test would wait for ever.
-                let hidden = String::from_utf8(pem).unwrap().replace("ENCRYPTED", "HIDDEN");
-                assert!(Key::from_pem(hidden.as_bytes()).is_err());
-            }
-        }
-    }
-
-    #[test]
-    fn what_is_no_key_of_p_256_is_refused_by_its_cause() {
-        let other = key(Nid::SECP384R1).private_key_to_pem().unwrap();
-        let rsa = Rsa::generate(2048).unwrap().private_key_to_pem().unwrap();
-        let public = key(Nid::X9_62_PRIME256V1).public_key_to_pem().unwrap();
-        let mut cut = key(Nid::X9_62_PRIME256V1).private_key_to_pem().unwrap();
-        cut.truncate(90);
-        for (pem, fault) in [
-            (other, KeyFault::OtherKind),
-            (rsa, KeyFault::OtherKind),
-            (public, KeyFault::NoKey),
-            (cut, KeyFault::NoKey),
-            (vec![0; 1000], KeyFault::NoKey),
-            (Vec::new(), KeyFault::NoKey),
-        ] {
-            assert_eq!(Key::from_pem(&pem).err(), Some(fault));
-            assert_eq!(Key::from_pem_by(&pem, b"word").err(), Some(fault));
-        }
-    }
-
-    #[test]
-    fn a_private_key_beside_the_public_key_of_another_is_refused() {
-        let (one, two) = (key(Nid::X9_62_PRIME256V1), key(Nid::X9_62_PRIME256V1));
-        let mixed =
-            EcKey::from_private_components(one.group(), one.private_key(), two.public_key());
-        let pem = mixed.unwrap().private_key_to_pem().unwrap();
-        assert_eq!(Key::from_pem(&pem).err(), Some(KeyFault::OtherPublic));
-    }
-
-    #[test]
-    fn what_was_signed_is_confirmed_and_a_changed_digest_isnt() {
-        let pem = key(Nid::X9_62_PRIME256V1).private_key_to_pem().unwrap();
-        let (key, verifier) = (Key::from_pem(&pem).unwrap(), crate::Verifier::new().unwrap());
-        for seed in 0..50 {
-            let digest = [seed; 32];
-            let mut question = [0; 161];
-            question[..65].copy_from_slice(key.public());
-            question[65..97].copy_from_slice(&digest);
-            question[97..].copy_from_slice(&key.sign(&digest).unwrap());
-            assert!(verifier.confirms(&stir::Question::new(question)), "{seed}");
-            question[65] ^= 1;
-            assert!(!verifier.confirms(&stir::Question::new(question)), "{seed}");
-        }
-    }
-}
+mod tests;

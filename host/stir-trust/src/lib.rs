@@ -1,6 +1,6 @@
 //! What a judge of telephone calls has to trust beside its proved library: ES256 (RFC 7518, section
-//! 3.4) and private keys, by OpenSSL; trust anchors ([roots]) and a [chain map](chain_map); and
-//! certificates that are [fetched](fetch) and [kept](cache).
+//! 3.4) by OpenSSL; private keys, in memory or in an HSM; trust anchors ([roots]) and a [chain
+//! map](chain_map); and certificates that are [fetched](fetch) and [kept](cache).
 //!
 //! ```
 //! // RFC 6979, section A.2.5: a key, the digest of "sample", and a signature over it.
@@ -22,6 +22,7 @@
 pub mod authorities;
 pub mod cache;
 pub mod chain_map;
+pub mod claims;
 mod es256;
 pub mod fetch;
 pub mod issuers;
@@ -33,4 +34,5 @@ pub mod roots;
 pub mod split;
 
 pub use es256::{Unanswered, Verifier};
-pub use key::{Key, KeyFault};
+pub use key::{hsm_counts, HsmCounts, Key, KeyFault, SignFault};
+pub use stir_hsm::{HsmFault, KeyUri, UriFault};

@@ -142,6 +142,7 @@ fn words_for(words: &Day, log: &Path, state: &Path, report: &Path) -> words::Jud
     let text = |path: &Path| path.to_string_lossy().into_owned();
     let to = To { report: Some(text(report)), ..To::default() };
     words::Judge {
+        stream: false,
         by: by_for(&words.by, &stem(log)),
         to,
         pool: words.pool.clone(),

@@ -30,6 +30,9 @@ pub enum Fault {
     /// It is outside its grammar from this line or this byte on.
     #[error("refused {0} {1}")]
     Refused(String, u64),
+    /// The certificate of a key's holder has no authority list.
+    #[error("no list {0}")]
+    NoList(String),
     /// A capture, or what was made of certificates, isn't what it has to be; and why.
     #[error("{0}: {1}")]
     Input(String, String),
@@ -52,7 +55,8 @@ impl Fault {
             Fault::Words(_) => 2,
             Fault::Read(_) => 3,
             Fault::Write(..) => 4,
-            Fault::Missing(_) | Fault::Long(_) | Fault::Refused(..) | Fault::Input(..) => 5,
+            Fault::Missing(_) | Fault::Long(_) | Fault::Refused(..) => 5,
+            Fault::NoList(_) | Fault::Input(..) => 5,
             Fault::Memory => 6,
             Fault::Differs(_) => 7,
         }
@@ -62,7 +66,7 @@ impl Fault {
     pub(crate) fn is_of_a_report(&self) -> bool {
         match self {
             Fault::Read(_) | Fault::Missing(_) | Fault::Long(_) | Fault::Refused(..) => true,
-            Fault::Memory => true,
+            Fault::NoList(_) | Fault::Memory => true,
             Fault::Words(_) | Fault::Write(..) | Fault::Input(..) | Fault::Differs(_) => false,
         }
     }

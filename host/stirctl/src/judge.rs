@@ -8,12 +8,9 @@ use crate::revocation::Revocation;
 use crate::verdict::CHAIN;
 use crate::Fault;
 use rayon::prelude::*;
-use serde::de::{IgnoredAny, MapAccess, SeqAccess, Visitor};
-use serde::{Deserialize, Deserializer};
-use std::borrow::Cow;
-use std::fmt;
 use std::sync::Arc;
 use stir::{Call, Passes, Refused, World};
+use stir_trust::claims::Claimed;
 
 /// So many calls at least are judged by a thread before another one takes some of its calls.
 const FEWEST: usize = 8;
@@ -98,113 +95,34 @@ pub(crate) struct Claims {
     pub origid: String,
 }
 
-impl Claims {
-    /// The claims of a payload. What isn't a text is told as none.
-    fn of(payload: &str) -> Claims {
-        let payload: Payload<'_> = serde_json::from_str(payload).unwrap_or_default();
-        let called: Vec<&str> = payload.dest.tn.iter().map(AsRef::as_ref).collect();
+impl From<Claimed> for Claims {
+    /// What isn't a text is told as none.
+    fn from(claimed: Claimed) -> Claims {
         Claims {
-            caller: payload.orig.tn.into_owned(),
-            called: called.join(" "),
-            attestation: payload.attest.0.into_owned(),
-            origid: payload.origid.0.into_owned(),
+            caller: claimed.orig,
+            called: claimed.dest.join(" "),
+            attestation: claimed.attest.unwrap_or_default(),
+            origid: claimed.origid.unwrap_or_default(),
         }
     }
 }
 
-/// The claims that are told, as they stand in a payload whose rules 6 and 7 hold.
-#[derive(Default, Deserialize)]
-#[serde(default)]
-struct Payload<'a> {
-    #[serde(borrow)]
-    orig: Orig<'a>,
-    #[serde(borrow)]
-    dest: Dest<'a>,
-    #[serde(borrow)]
-    attest: Text<'a>,
-    #[serde(borrow)]
-    origid: Text<'a>,
-}
-
-#[derive(Default, Deserialize)]
-#[serde(default)]
-struct Orig<'a> {
-    #[serde(borrow)]
-    tn: Cow<'a, str>,
-}
-
-#[derive(Default, Deserialize)]
-#[serde(default)]
-struct Dest<'a> {
-    #[serde(borrow)]
-    tn: Vec<Cow<'a, str>>,
-}
-
-/// A text, or what is none: a PASSporT without a type may have any value in its place.
-#[derive(Default)]
-struct Text<'a>(Cow<'a, str>);
-
-impl<'de: 'a, 'a> Deserialize<'de> for Text<'a> {
-    fn deserialize<D: Deserializer<'de>>(from: D) -> Result<Text<'a>, D::Error> {
-        from.deserialize_any(TextOrNone)
-    }
-}
-
-struct TextOrNone;
-
-impl<'de> Visitor<'de> for TextOrNone {
-    type Value = Text<'de>;
-
-    fn expecting(&self, to: &mut fmt::Formatter<'_>) -> fmt::Result {
-        to.write_str("any value")
-    }
-
-    fn visit_borrowed_str<E>(self, text: &'de str) -> Result<Text<'de>, E> {
-        Ok(Text(Cow::Borrowed(text)))
-    }
-
-    fn visit_str<E>(self, text: &str) -> Result<Text<'de>, E> {
-        Ok(Text(Cow::Owned(text.to_owned())))
-    }
-
-    fn visit_bool<E>(self, _: bool) -> Result<Text<'de>, E> {
-        Ok(Text::default())
-    }
-
-    fn visit_i64<E>(self, _: i64) -> Result<Text<'de>, E> {
-        Ok(Text::default())
-    }
-
-    fn visit_u64<E>(self, _: u64) -> Result<Text<'de>, E> {
-        Ok(Text::default())
-    }
-
-    fn visit_unit<E>(self) -> Result<Text<'de>, E> {
-        Ok(Text::default())
-    }
-
-    fn visit_seq<A: SeqAccess<'de>>(self, mut of: A) -> Result<Text<'de>, A::Error> {
-        while of.next_element::<IgnoredAny>()?.is_some() {}
-        Ok(Text::default())
-    }
-
-    fn visit_map<A: MapAccess<'de>>(self, mut of: A) -> Result<Text<'de>, A::Error> {
-        while of.next_entry::<IgnoredAny, IgnoredAny>()?.is_some() {}
-        Ok(Text::default())
-    }
-}
-
 /// A call with the chains of its PASSporTs, as far as they are known.
-struct Read {
-    call: Call,
-    found: Vec<(Vec<u8>, Found)>,
+pub(crate) struct Read {
+    pub call: Call,
+    /// The x5u of each PASSporT, and its chain.
+    pub found: Vec<(Vec<u8>, Found)>,
 }
 
 impl Judge {
-    /// Judges the calls of a piece, on all threads of this pool; the answers stand in their order.
-    /// Calls whose certificates are fetched then are judged again.
+    /// Judges the calls of a piece.
     pub fn piece(&self, piece: &Piece) -> Vec<Result<Judged, Fault>> {
-        let calls: Vec<Came<'_>> = piece.calls().collect();
+        self.calls(&piece.calls().collect::<Vec<_>>())
+    }
+
+    /// Judges calls, on all threads of this pool; the answers stand in their order. Calls whose
+    /// certificates are fetched then are judged again.
+    pub fn calls(&self, calls: &[Came<'_>]) -> Vec<Result<Judged, Fault>> {
         let judged = |call: &Came<'_>| self.call(call.0, call.1, call.2);
         let mut answers: Vec<_> = calls.par_iter().with_min_len(FEWEST).map(judged).collect();
         if self.fetching.is_none() {
@@ -292,7 +210,7 @@ impl Judge {
     }
 
     /// Reads a call, and hands in its chains.
-    fn read(&self, moment: u64, message: &[u8]) -> Result<Read, Fault> {
+    pub fn read(&self, moment: u64, message: &[u8]) -> Result<Read, Fault> {
         let mut call = self.world.call(moment, message)?;
         let mut found = Vec::with_capacity(call.passports());
         for index in 0..call.passports() {
@@ -310,7 +228,11 @@ impl Judge {
 
     /// The field of the first PASSporT whose chain isn't known, if the file of that chain couldn't
     /// be read.
-    fn set_aside(&self, call: &mut Call, found: &[(Vec<u8>, Found)]) -> Result<Option<u32>, Fault> {
+    pub fn set_aside(
+        &self,
+        call: &mut Call,
+        found: &[(Vec<u8>, Found)],
+    ) -> Result<Option<u32>, Fault> {
         let first = found.iter().position(|(_, found)| !matches!(found, Found::Known(_)));
         match first {
             Some(index) if matches!(found.get(index), Some((_, Found::Unread))) => {
@@ -330,7 +252,7 @@ fn about(call: &mut Call, found: Vec<(Vec<u8>, Found)>) -> Result<About, Fault> 
     }
     let told = call.claims()?;
     let payload = told.first().and_then(|claims| claims.payload.as_deref()).unwrap_or_default();
-    let claims = Claims::of(payload);
+    let claims = Claimed::of(payload).into();
     let passports = told.iter().zip(found).map(|(claims, (x5u, found))| Passport {
         field: claims.field,
         x5u: String::from_utf8(x5u).unwrap_or_default(),
@@ -360,41 +282,6 @@ impl About {
                 (x5u, known.as_ref().map_or("", |known| known.codes.as_str()))
             }
             None => ("", ""),
-        }
-    }
-}
-
-#[cfg(test)]
-mod tests {
-    use super::*;
-
-    #[test]
-    fn claims_are_told_whatever_else_stands_in_a_payload() {
-        for (payload, told) in [
-            (
-                r#"{"attest":"A","dest":{"tn":["1","2"]},"iat":1,"orig":{"tn":"3"},"origid":"x"}"#,
-                ["3", "1 2", "A", "x"],
-            ),
-            (
-                r#"{"attest":[1,{"a":null}],"dest":{"tn":["1"]},"orig":{"tn":"3"},"z":7}"#,
-                ["3", "1", "", ""],
-            ),
-            (
-                r#"{"attest":"\"\u00e9","dest":{"tn":["1"]},"orig":{"tn":"*#"}}"#,
-                ["*#", "1", "\"\u{e9}", ""],
-            ),
-            (
-                r#"{"attest":true,"dest":{"tn":["1"]},"orig":{"tn":"3"},"origid":-7}"#,
-                ["3", "1", "", ""],
-            ),
-            (
-                r#"{"attest":null,"dest":{"tn":["1"]},"orig":{"tn":"3"},"origid":7}"#,
-                ["3", "1", "", ""],
-            ),
-            ("", ["", "", "", ""]),
-        ] {
-            let Claims { caller, called, attestation, origid } = Claims::of(payload);
-            assert_eq!([caller, called, attestation, origid], told, "{payload}");
         }
     }
 }

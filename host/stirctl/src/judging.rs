@@ -15,7 +15,7 @@ use crate::run::{Day, Run};
 use crate::sink::{Sink, STDOUT};
 use crate::state::State;
 use crate::words::{self, By, Pool, To};
-use crate::{world, Ended, Fault};
+use crate::{streaming, world, Ended, Fault};
 use rayon::{ThreadPool, ThreadPoolBuilder};
 use std::collections::HashSet;
 use std::sync::Mutex;
@@ -24,6 +24,9 @@ use stir_trust::Verifier;
 
 /// Judges the calls of the inputs, and writes what came of them. The status is 0 if each is valid.
 pub(crate) fn judge(words: &words::Judge) -> Ended {
+    if words.stream {
+        return streaming::stream(words);
+    }
     let mut outputs = outputs(&words.to, words.chains_out.as_deref(), words.table_out.as_deref())?;
     let ended = judged(words, &mut outputs).and_then(|are_valid| {
         std::mem::take(&mut outputs).commit(&title(&words.inputs))?;

@@ -11,31 +11,41 @@ mod chaining;
 mod chains;
 mod checking;
 mod code_table;
+mod collecting;
+mod collector;
 mod completing;
 mod confirming;
 mod crl;
 mod days;
+mod diverting;
 mod explaining;
 mod fault;
 mod fetched;
 mod fetching;
 mod files;
+mod hep;
 mod input;
 mod judge;
 mod judging;
 mod log;
 mod logging;
+mod messages;
 mod outputs;
 mod picture;
 mod provider;
 mod reporting;
+mod requesting;
 mod revocation;
 mod rooting;
 mod run;
+mod settling;
 mod showing;
 mod signing;
 mod sink;
 mod state;
+mod stream_input;
+mod stream_line;
+mod streaming;
 mod summary;
 mod telling;
 mod tickets;
@@ -64,9 +74,14 @@ pub fn main(words: words::Words) -> u8 {
         words::Command::Chain(words) => chaining::chain(&words),
         words::Command::Show(words) => showing::show(&words),
         words::Command::Sign(words) => signing::sign(&words),
-        words::Command::Completion => completing::completion(),
+        words::Command::Divert(words) => diverting::divert(&words),
+        words::Command::Retarget(words) => diverting::retarget(&words),
+        words::Command::Request(words) => requesting::request(&words),
+        words::Command::Completion(words) => completing::completion(&words),
         words::Command::Crl(words) => crl::crl(&words),
         words::Command::Roots(words) => rooting::roots(&words),
+        words::Command::Collect(words) => collecting::collect(&words),
+        words::Command::Settle(words) => settling::settle(&words),
     };
     ended.unwrap_or_else(|fault| {
         say(&fault.to_string());

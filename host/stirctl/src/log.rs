@@ -6,7 +6,7 @@ use std::ops::Range;
 
 /// The last second of the year 9999, and the most bytes of a message.
 pub(crate) const LAST_MOMENT: u64 = 253_402_300_799;
-const LONGEST_MESSAGE: u64 = 131_072;
+pub(crate) const LONGEST_MESSAGE: u64 = 131_072;
 
 /// The most bytes of a header: `@`, a moment, a space, a length and LF.
 const LONGEST_HEADER: usize = 21;

@@ -1,9 +1,10 @@
-//! The command `sign`.
+//! The command `sign`: lines, and keys.
 
 use crate::answers::is_key_name;
-use crate::certificates::leaf_first;
+use crate::certificates::{leaf_first, Certificate};
 use crate::files::{self, hex, lines, push_hex, says_nothing};
 use crate::input::{name_of, whole};
+use crate::messages;
 use crate::sink::{Sink, STDOUT};
 use crate::words::certificates::Sign;
 use crate::{say, Ended, Fault};
@@ -12,30 +13,39 @@ use openssl::ec::PointConversionForm;
 use openssl::nid::Nid;
 use openssl::x509::X509Ref;
 use std::collections::HashSet;
-use stir_trust::{Key, KeyFault};
+use stir_trust::{Key, KeyFault, KeyUri, SignFault, UriFault};
 
 /// The most bytes of a file of lines, and of a key or a password.
 const MOST_BYTES: u64 = 536_870_912;
-const LONGEST_KEY: u64 = 1 << 20;
+pub(crate) const LONGEST_KEY: u64 = 1 << 20;
 
-/// Signs what lines ask for. The status is 0.
+/// Signs a message, or what lines ask for; then the status is 0.
 pub(crate) fn sign(words: &Sign) -> Ended {
-    if !is_key_name(words.name.as_bytes()) {
-        return Err(Fault::Words(format!("'{}' can be no name of a key", words.name)));
+    match (&words.of.message, &words.name) {
+        (Some(message), _) => messages::sign(words, message),
+        (None, name) => sign_lines(words, name.as_deref().unwrap_or_default()),
     }
-    let key = read_key(words)?;
+}
+
+/// Signs what lines ask for of the key of this name.
+fn sign_lines(words: &Sign, name: &str) -> Ended {
+    if !is_key_name(name.as_bytes()) {
+        return Err(Fault::Words(format!("'{name}' can be no name of a key")));
+    }
+    let key = read_key(&words.key, words.password_file.as_deref())?;
     if let Some(leaf) = &words.leaf {
-        look_at(leaf, &key, &words.key)?;
+        is_key_of(leaf, &leaf_first(leaf)?, &key, &words.key)?;
+        say(&format!("{} is the key of {leaf}", words.key));
     }
     let mut asked = Vec::new();
     for word in &words.files {
         asked.extend(asked_by(word)?);
     }
     let (mut out, mut signed) = (Sink::open(STDOUT)?, HashSet::new());
-    let own = asked.iter().filter(|(name, _)| name == words.name.as_bytes());
+    let own = asked.iter().filter(|(of, _)| of == name.as_bytes());
     let count = own.clone().count();
     for (name, digest) in own.filter(|(_, digest)| signed.insert(*digest)) {
-        let signature = key.sign(digest).map_err(|_| Fault::Memory)?;
+        let signature = key.sign(digest).map_err(|fault| unsigned(&words.key, fault))?;
         let mut line = [b"sign ", &name[..], b" "].concat();
         push_hex(&mut line, digest);
         line.push(b' ');
@@ -50,16 +60,23 @@ pub(crate) fn sign(words: &Sign) -> Ended {
     Ok(0)
 }
 
-/// The key, opened by its password if there is one.
-fn read_key(words: &Sign) -> Result<Key, Fault> {
-    let pem = files::whole(&words.key, LONGEST_KEY)?;
-    let key = match &words.password_file {
-        None => Key::from_pem(&pem),
-        Some(name) => {
-            let text = files::whole(name, LONGEST_KEY)?;
-            let password = lines(&text).next().map_or(&b""[..], |(_, line)| line);
-            Key::from_pem_by(&pem, password)
-        }
+/// The private key of a file, opened by its password if there is one; or that of an HSM.
+pub(crate) fn read_key(name: &str, password_file: Option<&str>) -> Result<Key, Fault> {
+    let secret = |name: &str| {
+        let text = files::whole(name, LONGEST_KEY)?;
+        let first = lines(&text).next().map_or(&b""[..], |(_, line)| line);
+        Ok::<Vec<u8>, Fault>(first.to_vec())
+    };
+    let password = password_file.map(secret).transpose()?;
+    let key = if KeyUri::is_one(name) {
+        let refused = |fault: UriFault| Fault::Words(format!("{name}: {fault}"));
+        let uri: KeyUri = name.parse().map_err(refused)?;
+        let source = uri.pin_source().map(|path| secret(&path.to_string_lossy()));
+        let pin = source.transpose()?.or(password);
+        Key::from_hsm(&uri, pin.as_deref())
+    } else {
+        let pem = files::whole(name, LONGEST_KEY)?;
+        password.map_or_else(|| Key::from_pem(&pem), |password| Key::from_pem_by(&pem, &password))
     };
     key.map_err(|fault| {
         let why = match fault {
@@ -71,24 +88,35 @@ fn read_key(words: &Sign) -> Result<Key, Fault> {
             KeyFault::OtherKind => "no key on P-256, which ES256 wants".into(),
             other => other.to_string(),
         };
-        Fault::Input(words.key.clone(), why)
+        Fault::Input(name.into(), why)
     })
 }
 
-/// Says that the key is that of the certificate; that it isn't is a fault.
-fn look_at(leaf: &str, key: &Key, name: &str) -> Result<(), Fault> {
-    let chain = leaf_first(leaf)?;
-    let point = chain.first().and_then(|certificate| point_of(&certificate.read));
-    if point.as_deref() != Some(key.public()) {
-        let why = "whoever verifies its signatures refuses them by rule 16";
-        return Err(Fault::Input(name.into(), format!("it isn't the key of {leaf}: {why}")));
+/// Why a key signs nothing: OpenSSL has no memory, or an HSM fails.
+pub(crate) fn unsigned(name: &str, fault: SignFault) -> Fault {
+    match fault {
+        SignFault::OpenSsl(_) => Fault::Memory,
+        other => Fault::Input(name.into(), other.to_string()),
     }
-    say(&format!("{name} is the key of {leaf}"));
-    Ok(())
+}
+
+/// That the key isn't that of the first of these certificates is a fault.
+pub(crate) fn is_key_of(
+    leaf: &str,
+    certificates: &[Certificate],
+    key: &Key,
+    name: &str,
+) -> Result<(), Fault> {
+    let point = certificates.first().and_then(|certificate| point_of(&certificate.read));
+    if point.as_deref() == Some(key.public()) {
+        return Ok(());
+    }
+    let why = "whoever verifies its signatures refuses them by rule 16";
+    Err(Fault::Input(name.into(), format!("it isn't the key of {leaf}: {why}")))
 }
 
 /// The point of a certificate's key, if it is one of P-256.
-fn point_of(certificate: &X509Ref) -> Option<Vec<u8>> {
+pub(crate) fn point_of(certificate: &X509Ref) -> Option<Vec<u8>> {
     let key = certificate.public_key().ok()?.ec_key().ok()?;
     let is_it = key.group().curve_name() == Some(Nid::X9_62_PRIME256V1);
     let mut numbers = BigNumContext::new().ok().filter(|_| is_it)?;

@@ -48,6 +48,16 @@ impl Judge {
         pool: &ThreadPool,
     ) -> Result<(), Fault> {
         let x5us = self.x5us_of(inputs, how, pool)?;
+        self.trust_chains(settings, x5us, pool)
+    }
+
+    /// The same of the chains of these x5us.
+    pub fn trust_chains(
+        &mut self,
+        settings: &Settings,
+        x5us: BTreeSet<Vec<u8>>,
+        pool: &ThreadPool,
+    ) -> Result<(), Fault> {
         let mut candidates = pool.install(|| self.candidates(x5us))?;
         while !candidates.is_empty() {
             let table = self.table_with(&candidates);

@@ -3,7 +3,7 @@
 
 use crate::files::number;
 use std::io::Write;
-use stir::Refused;
+use stir::{Refused, Rule};
 
 /// What comes of a call.
 #[derive(Clone, Copy, Debug, PartialEq, Eq)]
@@ -107,7 +107,7 @@ impl Verdict {
     pub fn is_signed(&self) -> bool {
         match self {
             Verdict::Valid | Verdict::Replay(_) => true,
-            Verdict::Refused(refused) => matches!(refused.rule, 17 | 19),
+            Verdict::Refused(refused) => refused.is_signed(),
             Verdict::Unread(_) => false,
         }
     }
@@ -159,28 +159,7 @@ pub(crate) const UNREAD: &str = "the file of the certificates couldn't be read";
 
 /// What it means that a rule is broken.
 pub(crate) fn broken(rule: u32) -> &'static str {
-    match rule {
-        1 => "the message can't be read, or is no INVITE",
-        2 => "there is no Identity field",
-        3 => "an Identity field can't be read",
-        4 => "no Identity field speaks for the caller",
-        5 => "it isn't signed by ES256",
-        6 => "the PASSporT can't be read",
-        7 => "the PASSporT is of another caller",
-        8 => "the PASSporTs don't lead to the called number",
-        9 => "it was signed too long before or after, or by a clock that is wrong",
-        10 => "the certificates of this x5u aren't there",
-        11 => "a certificate is outside the profile",
-        12 => "the certificates lead to no trust anchor",
-        13 => "a certificate is out of date",
-        14 => "a certificate speaks for more than its issuer",
-        15 => "a certificate's signature isn't good",
-        16 => "the PASSporT's signature isn't good",
-        17 => "the certificate doesn't cover the number",
-        18 => "the PASSporT passed before",
-        19 => "a certificate doesn't allow what is claimed",
-        _ => "",
-    }
+    Rule::of(rule).map_or("", |rule| rule.broken)
 }
 
 /// The four answers, in the order in which they are counted.

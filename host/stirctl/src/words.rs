@@ -2,6 +2,8 @@
 
 pub mod certificates;
 mod fetch;
+pub mod request;
+pub mod signing;
 pub mod trust;
 
 pub use fetch::{Fetch, FetchFrom, YesNo};
@@ -28,6 +30,8 @@ pub enum Command {
     Judge(Box<Judge>),
     Day(Box<Day>),
     Explain(Explain),
+    Collect(Collect),
+    Settle(Settle),
     Report(Report),
     Confirm(Confirm),
     Fetch(Fetch),
@@ -36,9 +40,19 @@ pub enum Command {
     Roots(trust::Roots),
     Chain(certificates::Chain),
     Show(certificates::Show),
-    Sign(certificates::Sign),
-    /// Writes a completion for bash of these words
-    Completion,
+    Sign(Box<certificates::Sign>),
+    Divert(signing::Divert),
+    Retarget(Box<signing::Retarget>),
+    Request(request::Request),
+    Completion(Completion),
+}
+
+/// Writes a completion of these words for a shell.
+#[derive(Debug, Args)]
+pub struct Completion {
+    /// The shell
+    #[arg(value_name = "SHELL", default_value = "bash")]
+    pub shell: clap_complete::Shell,
 }
 
 /// Judges the calls of logs and captures, and writes what came of them.
@@ -66,6 +80,11 @@ pub struct Judge {
     /// trusted
     #[arg(long, value_name = "FILE")]
     pub table_out: Option<String>,
+    /// Reads lines of JSON, each with the moment and the message of a call, and answers each with a
+    /// line on the standard output as soon as it is judged; docs/FORMATS.md, "Stream", has them.
+    /// Replays are told by `settle`. The status says nothing of the calls
+    #[arg(long, conflicts_with_all = NOT_OF_A_STREAM)]
+    pub stream: bool,
     /// Leaves out INVITEs of captures that stand inside a dialog: their To has a tag (RFC 3261,
     /// section 14)
     #[arg(long)]
@@ -78,6 +97,63 @@ pub struct Judge {
     /// may be packed by gzip. `-` is the standard input
     #[arg(required = true, value_name = "INPUT")]
     pub inputs: Vec<String>,
+}
+
+/// What goes with whole logs alone.
+const NOT_OF_A_STREAM: [&str; 12] = [
+    "report",
+    "json",
+    "csv",
+    "words",
+    "summary",
+    "svg",
+    "state",
+    "checked_by",
+    "chains_out",
+    "table_out",
+    "initial",
+    "as_is",
+];
+
+/// Writes the calls that agents of capture send by HEP3, as Kamailio's siptrace and those of HOMER
+/// do, as they come and without retransmissions: lines for `judge --stream`, or a call log.
+///
+/// It ends by SIGTERM or SIGINT, after what had come by then is written.
+#[derive(Debug, Args)]
+pub struct Collect {
+    /// Where to listen, over UDP and TCP: HOST:PORT; may be given several times
+    #[arg(long, required = true, value_name = "ADDRESS")]
+    pub hep: Vec<String>,
+    /// Takes packets alone that have the word in this file
+    #[arg(long, value_name = "FILE")]
+    pub password: Option<String>,
+    /// Writes a call log. A call that comes after a later one gets the moment of that
+    #[arg(long)]
+    pub log: bool,
+    /// Leaves out INVITEs that stand inside a dialog: their To has a tag (RFC 3261, section 14)
+    #[arg(long)]
+    pub initial: bool,
+    /// Leaves P-Asserted-Identity fields with several values as they are
+    #[arg(long)]
+    pub as_is: bool,
+}
+
+/// Reads what `judge --stream` writes, in the order of the calls, and tells of each call that
+/// passes whether it is valid, or a replay of one before it.
+///
+/// A ticket is remembered until its PASSporT is no longer fresh. So if a stream is cut into parts
+/// by the tickets, each part may be settled by itself.
+#[derive(Debug, Args)]
+pub struct Settle {
+    /// The member of a line by which a replay names the call that is valid
+    #[arg(long, value_name = "MEMBER", default_value = "id")]
+    pub id: String,
+    /// How many seconds a call may come after a later one; tickets are remembered so much longer
+    #[arg(long, value_name = "SECONDS", default_value = "0", value_parser = seconds)]
+    pub late: u64,
+    /// Files of lines; the standard input if none is named
+    #[arg(value_name = "FILE", default_value = "-")]
+    pub files: Vec<String>,
 }
 
 /// Judges the logs of a folder one after another, each with the state of the one before, so that
@@ -114,7 +190,7 @@ pub struct Explain {
     /// Explains the call of this number alone
     #[arg(long, value_name = "NUMBER", value_parser = call)]
     pub call: Option<u32>,
-    /// A call log or a capture; `-` is the standard input
+    /// A call log; `-` is the standard input
     #[arg(value_name = "INPUT")]
     pub input: String,
 }
@@ -288,7 +364,7 @@ fn seconds(text: &str) -> Result<u64, String> {
     number(text, 0, 86_400)
 }
 
-fn national(text: &str) -> Result<u8, String> {
+pub(crate) fn national(text: &str) -> Result<u8, String> {
     number(text, 1, 14).map(|number| number as u8)
 }
 
@@ -300,7 +376,7 @@ fn jobs(text: &str) -> Result<usize, String> {
     number(text, 1, 256).map(|number| number as usize)
 }
 
-fn country(text: &str) -> Result<String, String> {
+pub(crate) fn country(text: &str) -> Result<String, String> {
     let is_one = (1..=3).contains(&text.len()) && text.bytes().all(|digit| digit.is_ascii_digit());
     if is_one {
         Ok(text.into())

@@ -1,5 +1,6 @@
 //! Answers, and those that are kept: a request that comes again with its key gets the same one.
 use crate::metrics::Metrics;
+use crate::page;
 use crate::tickets::Clock;
 use bytes::Bytes;
 use hyper::header::{HeaderValue, ALLOW, CONNECTION, CONTENT_TYPE, WWW_AUTHENTICATE};
@@ -29,6 +30,12 @@ pub struct Answer {
 
 const TEXT: &str = "text/plain; charset=utf-8";
 
+/// The media type of JSON.
+pub const JSON: &str = "application/json";
+
+/// How many bytes a line of JSON mostly has at most. Blocks of this size a thread keeps for itself.
+pub const LINE: usize = 1000;
+
 impl Answer {
     /// An answer of text.
     pub fn text(status: StatusCode, body: impl Into<Bytes>) -> Answer {
@@ -51,12 +58,31 @@ impl Answer {
     /// ```
     pub fn json(status: StatusCode, value: &impl Serialize) -> Answer {
         match serde_json::to_vec(value) {
-            Ok(body) => Answer { kind: "application/json", ..Answer::text(status, body) },
-            Err(error) => {
-                tracing::error!("an answer can't be written: {error}");
-                Answer::status(StatusCode::INTERNAL_SERVER_ERROR)
-            }
+            Ok(body) => Answer { kind: JSON, ..Answer::text(status, body) },
+            Err(error) => Answer::unwritten(&error),
         }
+    }
+
+    /// The same with a line end.
+    pub(crate) fn with_line_end(self) -> Answer {
+        Answer { body: [&self.body[..], b"\n"].concat().into(), ..self }
+    }
+
+    /// An answer of JSON on one line, with its LF.
+    pub fn json_line(value: &impl Serialize) -> Answer {
+        let mut body = Vec::with_capacity(LINE);
+        match serde_json::to_writer(&mut body, value) {
+            Ok(()) => {
+                body.push(b'\n');
+                Answer { kind: JSON, ..Answer::text(StatusCode::OK, body) }
+            }
+            Err(error) => Answer::unwritten(&error),
+        }
+    }
+
+    fn unwritten(error: &serde_json::Error) -> Answer {
+        tracing::error!("an answer can't be written: {error}");
+        Answer::status(StatusCode::INTERNAL_SERVER_ERROR)
     }
 
     /// The answer to who has no place among the connections, or loses it.
@@ -80,6 +106,9 @@ impl Answer {
         }
         if self.status == StatusCode::UNAUTHORIZED {
             fields.insert(WWW_AUTHENTICATE, HeaderValue::from_static("Bearer"));
+        }
+        if self.kind == page::KIND {
+            page::protect(fields, self.status == StatusCode::UNAUTHORIZED);
         }
         if self.last {
             fields.insert(CONNECTION, HeaderValue::from_static("close"));

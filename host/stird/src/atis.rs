@@ -1,13 +1,13 @@
 //! Requests in the manner of ATIS-1000082: JSON that says of a call what an INVITE says, and JSON
 //! back.
 use crate::answers::Answer;
-use crate::files::signing_line::attest_of;
+use crate::files::signing::{attest_of, Unsigned};
 use crate::judge::{reason_of, Judged, Outcome};
 use hyper::StatusCode;
 use serde::de::DeserializeOwned;
 use serde::{Deserialize, Deserializer, Serialize};
 use serde_json::Value;
-use stir::Attest;
+use stir::{Attest, Rule};
 
 /// Why a request is refused, as an exception of its document: an identifier and a text.
 #[derive(Debug, PartialEq, Eq)]
@@ -77,6 +77,19 @@ struct RequestError {
     request_error: Exceptions,
 }
 
+/// What is answered if nothing is signed.
+impl From<Unsigned> for Refusal {
+    fn from(why: Unsigned) -> Refusal {
+        match why {
+            Unsigned::NotOurs => NOT_OURS,
+            Unsigned::NoAttest => MISSING,
+            Unsigned::BadValue => BAD_VALUE,
+            Unsigned::NotValid => NOT_VALID,
+            Unsigned::Failed => FAILED,
+        }
+    }
+}
+
 impl Refusal {
     /// The answer that says so.
     pub fn answer(&self) -> Answer {
@@ -108,8 +121,8 @@ pub struct Signing {
     pub message: Vec<u8>,
     /// The second of the PASSporT, if it is said.
     pub time: Option<u64>,
-    /// The identifier.
-    pub origid: String,
+    /// The identifier, if it is said.
+    pub origid: Option<String>,
     /// The best attestation, if it is said.
     pub attest: Option<Attest>,
 }
@@ -146,13 +159,14 @@ struct SigningRequest {
     dest: Number,
     #[serde(default, deserialize_with = "given")]
     iat: Option<u64>,
-    origid: String,
+    #[serde(default, deserialize_with = "given")]
+    origid: Option<String>,
     #[serde(default, deserialize_with = "given")]
     attest: Option<String>,
 }
 
 #[derive(Deserialize)]
-struct Number {
+pub(crate) struct Number {
     tn: Numbers,
 }
 
@@ -172,8 +186,19 @@ where
     T::deserialize(value).map(Some)
 }
 
+/// The same as a type.
+#[derive(Deserialize)]
+#[serde(bound = "T: Deserialize<'de>")]
+pub(crate) struct Given<T>(#[serde(deserialize_with = "given")] pub Option<T>);
+
+impl<T> Default for Given<T> {
+    fn default() -> Given<T> {
+        Given(None)
+    }
+}
+
 /// The value of a body: first it has to be JSON, and then of this form.
-fn read<T: DeserializeOwned>(body: &[u8]) -> Result<T, Refusal> {
+pub(crate) fn read<T: DeserializeOwned>(body: &[u8]) -> Result<T, Refusal> {
     if body.is_empty() {
         return Err(NO_BODY);
     }
@@ -182,17 +207,21 @@ fn read<T: DeserializeOwned>(body: &[u8]) -> Result<T, Refusal> {
 }
 
 impl Number {
-    /// The number, or the first of those in a list: 1 to 15 digits, perhaps behind a `+`.
-    fn text(self) -> Result<String, Refusal> {
-        let text = match self.tn {
+    /// The number, or the first of those in a list.
+    pub(crate) fn text(self) -> Result<String, Refusal> {
+        number(&match self.tn {
             Numbers::One(text) => text,
             Numbers::Several(texts) => texts.into_iter().next().ok_or(MISSING)?,
-        };
-        let digits = text.strip_prefix('+').unwrap_or(&text);
-        let good = (1..=15).contains(&digits.len())
-            && digits.bytes().all(|byte| byte.is_ascii_digit() || b"*#".contains(&byte));
-        good.then(|| digits.into()).ok_or(BAD_VALUE)
+        })
     }
+}
+
+/// A number: 1 to 15 digits, perhaps behind a `+`.
+pub(crate) fn number(text: &str) -> Result<String, Refusal> {
+    let digits = text.strip_prefix('+').unwrap_or(text);
+    let good = (1..=15).contains(&digits.len())
+        && digits.bytes().all(|byte| byte.is_ascii_digit() || b"*#".contains(&byte));
+    good.then(|| digits.into()).ok_or(BAD_VALUE)
 }
 
 /// The Identity values: one, or a list. None may have a line end in it, or it would be more than a
@@ -318,7 +347,8 @@ struct Verified {
 /// The number of the rule on chains that aren't there.
 const NO_CHAIN: u32 = 10;
 
-/// The answer to a request to verify a call.
+/// The answer to a request to verify a call. Why it isn't valid is said by the rule, the place and
+/// the rule in words, with its section.
 pub fn verified(judged: &Judged) -> Answer {
     let outcome = &judged.outcome;
     let reason = match outcome {
@@ -334,11 +364,13 @@ pub fn verified(judged: &Judged) -> Answer {
         }
         Outcome::Valid | Outcome::Unjudged => None,
     };
+    let in_words = Rule::of(outcome.rule());
+    let in_words = in_words.map(|rule| format!(": {} ({})", rule.broken, rule.standard));
     let verification_response = VerificationResponse {
         reasoncode: reason.is_some().then(|| outcome.code().to_string()),
         reasontext: reason.is_some().then(|| reason_of(outcome.code())),
-        reasondesc: reason,
-        verstat: outcome.verstat(),
+        reasondesc: reason.map(|reason| reason + &in_words.unwrap_or_default()),
+        verstat: judged.verstat,
     };
     Answer::json(StatusCode::OK, &Verified { verification_response })
 }
@@ -378,8 +410,12 @@ mod tests {
         );
         let silent = br#"{"signingRequest":{"orig":{"tn":"1"},"dest":{"tn":"2"},"origid":"u"}}"#;
         assert_eq!(signing(silent).map(|request| request.attest), Ok(None));
+        let unnamed = br#"{"signingRequest":{"orig":{"tn":"1"},"dest":{"tn":"2"},"attest":"A"}}"#;
+        assert_eq!(signing(unnamed).map(|request| request.origid), Ok(None));
         for body in [
-            r#"{"signingRequest":{"orig":{"tn":"1"},"dest":{"tn":"2"},"attest":"A"}}"#,
+            r#"{"signingRequest":{"orig":{"tn":"1"},"dest":{"tn":"2"},"origid":null,
+                "attest":"A"}}"#,
+            r#"{"signingRequest":{"orig":{"tn":"1"},"dest":{"tn":"2"},"origid":1,"attest":"A"}}"#,
             r#"{"signingRequest":{"orig":{"tn":"1"},"dest":{"tn":"2"},"origid":"u",
                 "attest":null}}"#,
             r#"{"signingRequest":{"orig":{"tn":[]},"dest":{"tn":"2"},"origid":"u","attest":"A"}}"#,
@@ -450,7 +486,8 @@ mod tests {
             (
                 Outcome::Refused { rule: 6, code: 438, field: 1, part: 14 },
                 concat!(
-                    r#"{"verificationResponse":{"reasoncode":"438","reasondesc":"rule 6 at 1.14","#,
+                    r#"{"verificationResponse":{"reasoncode":"438","reasondesc":"rule 6 at 1.14: "#,
+                    r#"the PASSporT can't be read (RFC 8225, sections 3 to 5)","#,
                     r#""reasontext":"Invalid Identity Header","verstat":"TN-Validation-Failed"}}"#
                 ),
             ),
@@ -458,13 +495,14 @@ mod tests {
                 Outcome::Replay { winner: 7 },
                 concat!(
                     r#"{"verificationResponse":{"reasoncode":"438","#,
-                    r#""reasondesc":"rule 18, the ticket passed with call 7","#,
+                    r#""reasondesc":"rule 18, the ticket passed with call 7: "#,
+                    r#"the PASSporT passed before (our own rule)","#,
                     r#""reasontext":"Invalid Identity Header","verstat":"TN-Validation-Failed"}}"#
                 ),
             ),
             (Outcome::Unjudged, r#"{"verificationResponse":{"verstat":"No-TN-Validation"}}"#),
         ] {
-            let judged = Judged { call: 1, outcome, certificates: None, spoilt: None };
+            let judged = Judged::new(1, outcome);
             assert_eq!(body(&verified(&judged)), wanted);
         }
     }
@@ -474,10 +512,12 @@ mod tests {
         let wanted = |rule, text: &str| {
             let outcome = Outcome::Refused { rule, code: 436, field: 1, part: 0 };
             let certificates = Some(Certificates::Failed("tls"));
-            let answer = verified(&Judged { call: 1, outcome, certificates, spoilt: None });
+            let answer = verified(&Judged { certificates, ..Judged::new(1, outcome) });
             assert!(body(&answer).contains(&format!("\"reasondesc\":\"{text}\"")), "{answer:?}");
         };
-        wanted(10, "rule 10 at 1.0, certificates failed tls");
-        wanted(11, "rule 11 at 1.0");
+        let ten = "the certificates of this x5u aren't there (RFC 8224, section 6.2.2)";
+        wanted(10, &format!("rule 10 at 1.0, certificates failed tls: {ten}"));
+        let twelve = "the certificates lead to no trust anchor (RFC 5280, section 6.1)";
+        wanted(12, &format!("rule 12 at 1.0: {twelve}"));
     }
 }

@@ -26,12 +26,13 @@ pub struct Standing {
 
 /// What `/readyz` says.
 #[derive(Serialize)]
-struct Ready {
-    ready: bool,
-    /// Why calls aren't judged as they should be.
-    why: Vec<String>,
+pub struct Ready {
+    /// Whether calls are judged as they should be.
+    pub ready: bool,
+    /// Why they aren't.
+    pub why: Vec<String>,
     /// What is to be looked at, though they are.
-    notes: Vec<String>,
+    pub notes: Vec<String>,
 }
 
 impl Standing {
@@ -54,6 +55,16 @@ impl Standing {
 
     /// The answer of `/readyz`.
     pub fn answer(&self, service: &Service) -> Answer {
+        let says = self.says(service);
+        let status = match says.ready {
+            true => StatusCode::OK,
+            false => StatusCode::SERVICE_UNAVAILABLE,
+        };
+        Answer::json(status, &says)
+    }
+
+    /// How the service stands now.
+    pub fn says(&self, service: &Service) -> Ready {
         let mut why = Vec::new();
         if self.is_ending.load(Relaxed) {
             why.push("the service comes to its end".into());
@@ -84,16 +95,8 @@ impl Standing {
         }
         notes.extend(service.judge.fetching.iter().flat_map(|fetching| fetching.notes()));
         if let Some(blocks) = &service.blocks {
-            let blocks = blocks.load();
-            notes.extend(
-                (blocks.not_valid(service.clock.now()).iter())
-                    .map(|x5u| format!("signing: {x5u} isn't valid now")),
-            );
+            notes.extend(blocks.load().notes(service.clock.now()));
         }
-        let status = match why.is_empty() {
-            true => StatusCode::OK,
-            false => StatusCode::SERVICE_UNAVAILABLE,
-        };
-        Answer::json(status, &Ready { ready: why.is_empty(), why, notes })
+        Ready { ready: why.is_empty(), why, notes }
     }
 }

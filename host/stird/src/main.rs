@@ -8,6 +8,7 @@ use std::io::Write;
 use std::os::unix::process::CommandExt;
 use std::process::{Command, ExitCode};
 use stird::logs::Log;
+use stird::server::Handed;
 use stird::settings::{self, Settings, SettingsError};
 
 /// The settings of the C library, and how many freed blocks of each size a thread keeps for itself
@@ -29,6 +30,10 @@ fn main() -> ExitCode {
         // Help and the version aren't faults.
         Err(SettingsError::Words(told)) if !told.use_stderr() => {
             let _ = told.print();
+            return ExitCode::SUCCESS;
+        }
+        Err(SettingsError::Completion(script)) => {
+            let _ = std::io::stdout().write_all(script.as_bytes());
             return ExitCode::SUCCESS;
         }
         Err(fault) => {
@@ -65,10 +70,12 @@ fn keep_blocks() {
 }
 
 fn start(settings: Settings) -> Result<()> {
+    // There is one thread as yet.
+    let handed = Handed::take();
     let log = Log::start(settings.log, settings.log_file.as_deref())?;
     let runtime =
         tokio::runtime::Builder::new_multi_thread().worker_threads(OTHERS).enable_all().build()?;
-    let done = runtime.block_on(stird::start::run(settings, log.clone()));
+    let done = runtime.block_on(stird::start::run(settings, log.clone(), handed));
     // What hangs aside, as a file of a network that is gone, doesn't keep it from its end.
     runtime.shutdown_background();
     log.end();

@@ -1,9 +1,11 @@
 //! Files that change: they are looked at from time to time, aside from what answers, and taken if
 //! they can be read; else what was read before stays.
+use crate::clients::Clients;
 use crate::files::{
     self, look::Look, signing::Blocks, FileFault, HostFiles, ListFiles, MayAsk, Revocation, Sources,
 };
 use crate::logs::Log;
+use crate::record::Record;
 use crate::routes::Service;
 use crate::server::Acceptor;
 use crate::tokens::Tokens;
@@ -27,6 +29,8 @@ pub struct Watched {
     pub sources: Sources,
     /// The file of tokens, and how it looked before it was read.
     pub tokens: Option<(Look, PathBuf)>,
+    /// The file of clients, and how it looked before it was read.
+    pub clients: Option<(Look, ClientFile)>,
     /// Whom certificates may be fetched from.
     pub hosts: Option<(HostFiles, MayAsk)>,
     /// Which certificates are revoked.
@@ -35,9 +39,18 @@ pub struct Watched {
     pub acceptor: Option<Arc<Acceptor>>,
 }
 
+/// The file of clients.
+pub struct ClientFile {
+    /// Its name.
+    pub path: PathBuf,
+    /// Whether clients are asked for certificates.
+    pub asks: bool,
+}
+
 struct Shared {
     sources: Sources,
     tokens: Option<PathBuf>,
+    clients: Option<ClientFile>,
     hosts: Option<HostFiles>,
     lists: Option<ListFiles>,
     service: Arc<Service>,
@@ -50,22 +63,29 @@ struct Shared {
 #[derive(Default)]
 struct Last {
     blocks: Option<FileFault>,
+    /// What was told of the blocks that hold.
+    warnings: Vec<String>,
     tokens: Option<String>,
+    clients: Option<String>,
     tls: Option<String>,
     may_ask: Option<MayAsk>,
-    /// How their file looked when they were read.
+    /// How their files looked when they were read.
     token_file: Option<Look>,
+    client_file: Option<Look>,
 }
 
 impl Reload {
     /// Of this service, which has read them once; they are looked at so often.
     pub fn new(watched: Watched, service: Arc<Service>, log: Log, every: Duration) -> Reload {
-        let Watched { sources, tokens, hosts, lists, acceptor } = watched;
+        let Watched { sources, tokens, clients, hosts, lists, acceptor } = watched;
         let (token_file, tokens) = tokens.unzip();
+        let (client_file, clients) = clients.unzip();
         let (hosts, may_ask) = hosts.unzip();
-        let last = Last { token_file, may_ask, ..Last::default() }.into();
+        let warnings = tell_of_blocks(&service, &[]);
+        let last = Last { token_file, client_file, may_ask, warnings, ..Last::default() }.into();
         let patience = every / 4;
-        let shared = Shared { sources, tokens, hosts, lists, service, acceptor, last, patience };
+        let shared =
+            Shared { sources, tokens, clients, hosts, lists, service, acceptor, last, patience };
         Reload { shared: Arc::new(shared), log, every }
     }
 
@@ -77,10 +97,11 @@ impl Reload {
                 () = tokio::time::sleep(every) => false,
                 told = hangs_up.recv() => told.is_some(),
             };
+            let service = &shared.service;
             if is_told {
                 log.reopen();
+                service.judge.record.iter().for_each(Record::reopen);
             }
-            let service = &shared.service;
             service.judge.tickets.look().await;
             let looking = Arc::clone(&shared);
             // A round that panics isn't the last one.
@@ -99,6 +120,7 @@ impl Shared {
         let last = &mut *self.last.lock().held();
         self.blocks(is_told, last);
         self.tokens(is_told, last);
+        self.clients(is_told, last);
         self.may_ask(is_told, last);
         faults.extend(self.revocation(is_told));
         if is_told {
@@ -106,6 +128,7 @@ impl Shared {
         }
         faults.extend(last.blocks.as_ref().map(FileFault::to_string));
         faults.extend(last.tokens.clone());
+        faults.extend(last.clients.clone());
         faults.extend(last.tls.clone());
         faults.extend(last.may_ask.iter().flat_map(MayAsk::faults).map(FileFault::to_string));
         faults
@@ -196,12 +219,14 @@ impl Shared {
         let Some(blocks) = &self.service.blocks else { return };
         let before = blocks.load_full();
         if !is_told && !before.is_stale() {
+            // A certificate may have come near its end.
+            last.warnings = tell_of_blocks(&self.service, &last.warnings);
             return;
         }
         let fault = match Blocks::read(&self.sources, Some(&before)) {
             Ok(new) => {
                 blocks.store(Arc::new(new));
-                tell_of_blocks(&self.service);
+                last.warnings = tell_of_blocks(&self.service, &[]);
                 None
             }
             Err(fault) => Some(fault),
@@ -226,6 +251,21 @@ impl Shared {
         last.tokens = told_fault(taken);
     }
 
+    fn clients(&self, is_told: bool, last: &mut Last) {
+        let Some(ClientFile { path, asks }) = &self.clients else { return };
+        let now = Some(Look::at(path));
+        if !is_told && now == last.client_file {
+            return;
+        }
+        last.client_file = now;
+        let taken = Clients::read(Some(path), *asks).map(|clients| {
+            self.service.judge.metrics.clients.know(clients.names());
+            self.service.clients.store(Arc::new(clients));
+        });
+        self.service.judge.metrics.reload(taken.is_ok());
+        last.clients = told_fault(taken);
+    }
+
     fn acceptor(&self, last: &mut Last) {
         if let Some(acceptor) = &self.acceptor {
             last.tls = told_fault(acceptor.read_again());
@@ -240,10 +280,13 @@ fn told_fault(read: Result<(), impl std::fmt::Display>) -> Option<String> {
     Some(fault)
 }
 
-/// Says of which blocks of numbers nothing is signed, and which keys are open to others.
-pub fn tell_of_blocks(service: &Service) {
-    let Some(blocks) = &service.blocks else { return };
-    for line in blocks.load().warnings(service.clock.now()) {
+/// Says of which blocks of numbers nothing is signed, or soon, and which keys are open to others;
+/// not what was told before.
+fn tell_of_blocks(service: &Service, before: &[String]) -> Vec<String> {
+    let Some(blocks) = &service.blocks else { return Vec::new() };
+    let warnings = blocks.load().warnings(service.clock.now());
+    for line in warnings.iter().filter(|line| !before.contains(line)) {
         tracing::warn!("{line}");
     }
+    warnings
 }

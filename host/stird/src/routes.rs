@@ -1,19 +1,23 @@
 //! The paths, and what is answered there.
 use crate::answers::{name_of, Answer, Answers};
 use crate::atis;
+use crate::clients::{Admission, Clients, Denied, Peer, Sender};
 use crate::codes::Codes;
+use crate::diverting::Diversion;
+use crate::explain;
 use crate::fetching::Page;
-use crate::files::signing::{self, Blocks, Unsigned};
+use crate::files::signing::Blocks;
 use crate::health::Standing;
-use crate::judge::{Judge, Judged, Outcome};
+use crate::judge::{Judge, Judged};
 use crate::tickets::{Clock, Health};
-use crate::tokens::{Denied, Peer, Tokens};
+use crate::tokens::Tokens;
+use crate::told;
 use arc_swap::ArcSwap;
 use bytes::Bytes;
 use hyper::{Method, StatusCode};
-use serde::Serialize;
 use std::sync::Arc;
 use std::time::Instant;
+use tokio::runtime::Handle;
 use tokio::task::spawn_blocking;
 
 /// The endpoints, and what is behind them.
@@ -22,8 +26,12 @@ pub struct Service {
     pub judge: Judge,
     /// For whom is signed; nothing if no table is named.
     pub blocks: Option<ArcSwap<Blocks>>,
-    /// Who may have calls signed.
+    /// The tokens of those who may have calls signed.
     pub tokens: ArcSwap<Tokens>,
+    /// The clients that may have some calls signed.
+    pub clients: ArcSwap<Clients>,
+    /// Whether without both calls are signed for this host over TCP too.
+    pub signs_locally: bool,
     /// Answers that are kept.
     pub answers: Answers,
     /// How the service stands.
@@ -32,6 +40,8 @@ pub struct Service {
     pub clock: Arc<dyn Clock>,
     /// Whether the moment of a call is what the caller says.
     pub asked_moments: bool,
+    /// Whether there is a page to look at.
+    pub has_page: bool,
 }
 
 /// A request, read whole.
@@ -51,8 +61,18 @@ pub struct Request {
     pub key: Option<Bytes>,
     /// Its `Authorization`.
     pub authorization: Option<Bytes>,
+    /// The host that it names.
+    pub host: Option<Bytes>,
     /// Who sent it.
     pub peer: Peer,
+}
+
+impl Request {
+    /// Whether the line for proxies is to have the attestation, by `?attest=yes`.
+    fn asks_attest(&self) -> bool {
+        let query = self.query.as_deref().unwrap_or_default();
+        query.split('&').any(|part| part == "attest=yes")
+    }
 }
 
 /// What there is at a path.
@@ -62,10 +82,16 @@ pub enum Door {
     Verify,
     /// A call judged, told in a line.
     Line,
+    /// A call explained, rule by rule.
+    Explain,
     /// A call judged as ATIS-1000082 has it.
     Verification,
     /// A call signed as ATIS-1000082 has it.
     Signing,
+    /// A message signed that goes on to another number.
+    Divert,
+    /// A call judged, and sent on to another number.
+    Retarget,
     /// Counts.
     Metrics,
     /// Whether tickets can be kept.
@@ -76,6 +102,8 @@ pub enum Door {
     Readyz,
     /// Which certificates were fetched.
     Certificates,
+    /// A page to look at, and a call that is explained on it.
+    Page,
 }
 
 impl Door {
@@ -91,88 +119,56 @@ impl Door {
         match path {
             "/verify" => Some(Door::Verify),
             "/verify/line" => Some(Door::Line),
+            "/explain" => Some(Door::Explain),
             "/stir/v1/verification" => Some(Door::Verification),
             "/stir/v1/signing" => Some(Door::Signing),
+            "/divert" => Some(Door::Divert),
+            "/retarget" => Some(Door::Retarget),
             "/metrics" => Some(Door::Metrics),
             "/healthz" => Some(Door::Healthz),
             "/livez" => Some(Door::Livez),
             "/readyz" => Some(Door::Readyz),
             "/certificates" => Some(Door::Certificates),
+            "/" => Some(Door::Page),
             _ => None,
         }
     }
 
     /// Whether requests there have a body.
     pub fn takes_body(self) -> bool {
-        matches!(self, Door::Verify | Door::Line | Door::Verification | Door::Signing)
+        let judges = matches!(self, Door::Verify | Door::Line | Door::Explain | Door::Verification);
+        judges || self.signs() || self == Door::Page
+    }
+
+    /// Whether something is signed there.
+    fn signs(self) -> bool {
+        matches!(self, Door::Signing | Door::Divert | Door::Retarget)
+    }
+
+    /// By which path a request is told again: with its query, where that says what is wanted.
+    fn path_of(self, request: &Request) -> String {
+        match (self, &request.query) {
+            (Door::Divert | Door::Retarget, Some(query)) => format!("{}?{query}", request.path),
+            _ => request.path.clone(),
+        }
     }
 
     /// The methods of requests there.
     fn methods(self) -> &'static str {
-        if self.takes_body() {
-            "POST"
-        } else {
-            "GET, HEAD"
+        match (self, self.takes_body()) {
+            (Door::Page, _) => "GET, HEAD, POST",
+            (_, true) => "POST",
+            (_, false) => "GET, HEAD",
         }
     }
 
     fn allows(self, method: &Method) -> bool {
         match *method {
             Method::POST => self.takes_body(),
-            Method::GET | Method::HEAD => !self.takes_body(),
+            Method::GET | Method::HEAD => self == Door::Page || !self.takes_body(),
             _ => false,
         }
     }
-}
-
-/// What came of a call, as JSON: its members in the order of their names.
-#[derive(Serialize)]
-struct Told {
-    call: u64,
-    #[serde(skip_serializing_if = "Option::is_none")]
-    certificates: Option<String>,
-    code: u32,
-    outcome: &'static str,
-    #[serde(skip_serializing_if = "Option::is_none")]
-    place: Option<String>,
-    reason: &'static str,
-    #[serde(skip_serializing_if = "Option::is_none")]
-    revocation: Option<String>,
-    rule: u32,
-    verstat: &'static str,
-    #[serde(skip_serializing_if = "Option::is_none")]
-    winner: Option<u64>,
-}
-
-fn told(judged: &Judged) -> Answer {
-    let outcome = &judged.outcome;
-    let (place, winner) = match outcome {
-        Outcome::Refused { field, part, .. } => (Some(format!("{field}.{part}")), None),
-        Outcome::Replay { winner } => (None, Some(*winner)),
-        Outcome::Valid | Outcome::Unjudged => (None, None),
-    };
-    let told = Told {
-        call: judged.call,
-        certificates: judged.certificates.map(|certificates| certificates.to_string()),
-        code: outcome.code(),
-        outcome: outcome.name(),
-        place,
-        reason: outcome.reason(),
-        revocation: judged.spoilt.map(|spoilt| spoilt.to_string()),
-        rule: outcome.rule(),
-        verstat: outcome.verstat(),
-        winner,
-    };
-    let answer = Answer::json(StatusCode::OK, &told);
-    Answer { body: [&answer.body[..], b"\n"].concat().into(), ..answer }
-}
-
-/// What came of a call, on one line for a proxy without JSON: the code (0 if there is none), the
-/// verstat and the reason phrase.
-fn line(judged: &Judged) -> Answer {
-    let outcome = &judged.outcome;
-    let line = format!("{} {} {}", outcome.code(), outcome.verstat(), outcome.reason());
-    Answer::text(StatusCode::OK, line)
 }
 
 impl Service {
@@ -195,25 +191,44 @@ impl Service {
             Door::Livez => Answer::text(StatusCode::OK, "ok\n"),
             Door::Readyz => self.standing.answer(&self),
             Door::Certificates => self.certificates(request).await,
-            Door::Verify | Door::Line | Door::Verification | Door::Signing => {
+            Door::Page => self.page(request).await,
+            Door::Verify | Door::Line | Door::Explain | Door::Verification => {
                 self.call(door, request).await
             }
+            Door::Signing | Door::Divert | Door::Retarget if self.waits_for_hsm() => {
+                self.aside(door, request).await
+            }
+            Door::Signing | Door::Divert | Door::Retarget => self.call(door, request).await,
         }
     }
 
     /// Whether this service has a door.
     fn has(&self, door: Door) -> bool {
         match door {
-            Door::Signing => self.blocks.is_some(),
+            Door::Signing | Door::Divert | Door::Retarget => self.blocks.is_some(),
             Door::Certificates => self.judge.fetching.is_some(),
+            Door::Page => self.has_page,
             _ => true,
         }
     }
 
+    /// Whether what is signed may wait for an HSM.
+    fn waits_for_hsm(&self) -> bool {
+        self.blocks.as_ref().is_some_and(|blocks| blocks.load().has_hsm())
+    }
+
+    /// The answer to a request with a call, made on a thread that may wait.
+    async fn aside(self: Arc<Service>, door: Door, request: Request) -> Answer {
+        let made = spawn_blocking(move || Handle::current().block_on(self.call(door, request)));
+        made.await.unwrap_or_else(|_| Answer::status(StatusCode::INTERNAL_SERVER_ERROR))
+    }
+
     /// A page of the certificates that were fetched, for those for whom would be signed.
     async fn certificates(self: Arc<Service>, request: Request) -> Answer {
-        let token = request.authorization.as_deref();
-        if let Err(denied) = self.tokens.load().admits(token, request.peer) {
+        let admitted = self.admission(|admission| {
+            admission.may_look(request.authorization.as_deref(), &request.peer)
+        });
+        if let Err(denied) = admitted {
             self.judge.metrics.bad_requests.inc();
             return Answer::status(match denied {
                 Denied::NoToken => StatusCode::UNAUTHORIZED,
@@ -234,35 +249,39 @@ impl Service {
 
     /// The answer to a request with a call; the same as before, if it comes again with its key.
     async fn call(self: Arc<Service>, door: Door, request: Request) -> Answer {
-        if door == Door::Signing {
-            let token = request.authorization.as_deref();
-            if let Err(denied) = self.tokens.load().admits(token, request.peer) {
-                return self.refuse(&match denied {
-                    Denied::NoToken => atis::NO_TOKEN,
-                    Denied::Unknown => atis::NOT_ALLOWED,
-                });
-            }
-        }
+        let sender = match door.signs().then(|| self.sender(&request)) {
+            Some(Ok(sender)) => sender,
+            Some(Err(refusal)) => return self.refuse(&refusal),
+            None => Sender::Known,
+        };
         let start = Instant::now();
         let answer = match &request.key {
             Some(key) => {
                 let moment = request.moment.map(u64::to_be_bytes);
                 let moment = moment.as_ref().map_or(&[][..], |moment| moment);
-                let name = name_of(&[request.path.as_bytes(), key, moment, &request.body]);
+                // No client gets the answer of another one.
+                let client = sender.name().unwrap_or_default().as_bytes();
+                let path = door.path_of(&request);
+                let form: &[u8] = if request.asks_attest() { b"attest" } else { b"" };
+                let name = name_of(&[path.as_bytes(), form, key, moment, &request.body, client]);
                 let service = Arc::clone(&self);
-                let made = async move { service.said(door, &request).await };
+                let made = async move { service.said(door, &request, &sender).await };
                 self.answers.of(name, made).await
             }
-            None => self.said(door, &request).await,
+            None => self.said(door, &request, &sender).await,
         };
         self.judge.metrics.requests.observe(start.elapsed().as_secs_f64());
         answer
     }
 
-    async fn said(&self, door: Door, request: &Request) -> Answer {
+    async fn said(&self, door: Door, request: &Request, sender: &Sender) -> Answer {
         match door {
-            Door::Verify => told(&self.verify(request).await),
-            Door::Line => line(&self.verify(request).await),
+            Door::Verify => told::json(&self.verify(request).await),
+            Door::Line => told::line(&self.verify(request).await, request.asks_attest()),
+            Door::Explain => {
+                let moment = self.moment(request.moment);
+                explain::answer(self.judge.explain(&request.body, moment).await.as_ref())
+            }
             Door::Verification => match atis::verification(&request.body) {
                 Ok(call) => {
                     let moment = self.moment(call.time);
@@ -270,15 +289,25 @@ impl Service {
                 }
                 Err(refusal) => self.refuse(&refusal),
             },
-            _ => match atis::signing(&request.body).and_then(|call| self.sign(&call)) {
-                Ok(identity) => atis::signed(&identity),
-                Err(refusal) => self.refuse(&refusal),
+            Door::Divert => self.divert(request, sender),
+            Door::Retarget => self.retarget(request, sender).await,
+            _ => match Diversion::read(&request.body).transpose() {
+                Some(diversion) => self.sign_diversion(diversion, sender),
+                None => self.signing(&request.body, sender),
             },
         }
     }
 
+    /// The answer to a request to sign a call.
+    fn signing(&self, body: &[u8], sender: &Sender) -> Answer {
+        match self.sign(body, sender) {
+            Ok(identity) => atis::signed(&identity),
+            Err(refusal) => self.refuse(&refusal),
+        }
+    }
+
     /// The moment of a call: the clock's, or the one that is said where that is to be taken.
-    fn moment(&self, said: Option<u64>) -> u64 {
+    pub(crate) fn moment(&self, said: Option<u64>) -> u64 {
         match said {
             Some(moment) if self.asked_moments => moment,
             _ => self.clock.now(),
@@ -289,29 +318,13 @@ impl Service {
         self.judge.judge(&request.body, self.moment(request.moment)).await
     }
 
-    /// The Identity value of a call.
-    fn sign(&self, call: &atis::Signing) -> Result<String, atis::Refusal> {
-        let wanted = signing::Call {
-            orig: &call.orig,
-            message: &call.message,
-            iat: self.moment(call.time),
-            origid: &call.origid,
-            attest: call.attest,
-        };
-        let blocks = self.blocks.as_ref().ok_or(atis::NOT_OURS)?.load();
-        let made = blocks.sign(&wanted);
-        self.judge.metrics.sign(made.is_ok());
-        let message = made.map_err(|why| match why {
-            Unsigned::NotOurs => atis::NOT_OURS,
-            Unsigned::NoAttest => atis::MISSING,
-            Unsigned::BadValue => atis::BAD_VALUE,
-            Unsigned::NotValid => atis::NOT_VALID,
-            Unsigned::Failed => atis::FAILED,
-        })?;
-        signing::identity(&message).ok_or(atis::FAILED)
+    /// What whoever asks for signatures is looked up in.
+    pub(crate) fn admission<T>(&self, what: impl FnOnce(Admission) -> T) -> T {
+        let (tokens, clients) = (self.tokens.load(), self.clients.load());
+        what(Admission { tokens: &tokens, clients: &clients, is_local: self.signs_locally })
     }
 
-    fn refuse(&self, refusal: &atis::Refusal) -> Answer {
+    pub(crate) fn refuse(&self, refusal: &atis::Refusal) -> Answer {
         self.judge.metrics.bad_requests.inc();
         refusal.answer()
     }
@@ -320,6 +333,8 @@ impl Service {
         let metrics = &self.judge.metrics;
         let world = self.judge.world.load();
         metrics.tickets.set(self.judge.tickets.count().unwrap_or(0) as i64);
+        let are_kept = matches!(self.judge.tickets.health(), Health::Well);
+        metrics.tickets_kept.set(are_kept.into());
         metrics.chains.set(world.chains() as i64);
         metrics.missing.set(world.missing() as i64);
         metrics.unreadable.set(world.unreadable_count() as i64);
@@ -335,6 +350,7 @@ impl Service {
         }
         let codes = self.judge.codes.as_ref().map_or(0, Codes::count);
         metrics.fetches.codes.set(codes as i64);
+        metrics.keys.measure();
         metrics.lost_lines.set(crate::logs::lost() as i64);
         let answer = Answer::text(StatusCode::OK, metrics.text());
         Answer { kind: "text/plain; version=0.0.4", ..answer }
@@ -344,57 +360,23 @@ impl Service {
 #[cfg(test)]
 mod tests {
     use super::*;
-    use crate::fetching::Certificates;
-    use serde_json::json;
-
-    fn body(answer: &Answer) -> &str {
-        std::str::from_utf8(&answer.body).expect("text")
-    }
-
-    #[test]
-    fn what_came_of_a_call_is_json() {
-        let verstat = |outcome: &Outcome| json!(outcome.verstat());
-        let refused = Outcome::Refused { rule: 9, code: 403, field: 1, part: 0 };
-        for (outcome, wanted) in [
-            (
-                refused,
-                json!({ "call": 7, "code": 403, "outcome": "refused", "place": "1.0",
-                    "reason": "Stale Date", "rule": 9, "verstat": verstat(&refused) }),
-            ),
-            (
-                Outcome::Replay { winner: 3 },
-                json!({ "call": 7, "code": 438, "outcome": "replay",
-                    "reason": "Invalid Identity Header", "rule": 18,
-                    "verstat": "TN-Validation-Failed", "winner": 3 }),
-            ),
-            (
-                Outcome::Valid,
-                json!({ "call": 7, "code": 0, "outcome": "valid", "reason": "", "rule": 0,
-                    "verstat": "TN-Validation-Passed" }),
-            ),
-        ] {
-            let judged = Judged { call: 7, outcome, certificates: None, spoilt: None };
-            assert_eq!(body(&told(&judged)), format!("{wanted}\n"));
-        }
-        let certificates = Some(Certificates::Failed("dns"));
-        let judged = Judged { call: 7, outcome: refused, certificates, spoilt: None };
-        assert_eq!(body(&line(&judged)), "403 TN-Validation-Failed Stale Date");
-        let wanted = r#"{"call":7,"certificates":"failed dns","code":403,"outcome":"refused","#;
-        assert!(body(&told(&judged)).starts_with(wanted), "{}", body(&told(&judged)));
-    }
 
     #[test]
     fn each_path_has_its_methods() {
         for (path, methods) in [
             ("/verify", "POST"),
             ("/verify/line", "POST"),
+            ("/explain", "POST"),
             ("/stir/v1/verification", "POST"),
             ("/stir/v1/signing", "POST"),
+            ("/divert", "POST"),
+            ("/retarget", "POST"),
             ("/metrics", "GET, HEAD"),
             ("/healthz", "GET, HEAD"),
             ("/livez", "GET, HEAD"),
             ("/readyz", "GET, HEAD"),
             ("/certificates", "GET, HEAD"),
+            ("/", "GET, HEAD, POST"),
         ] {
             let door = Door::at(path).expect(path);
             assert_eq!(door.methods(), methods, "{path}");
@@ -403,7 +385,7 @@ mod tests {
                 assert_eq!(door.allows(&method), listed, "{method} {path}");
             }
         }
-        for path in ["/", "", "*", "/verify/", "/Verify", "/metrics/x"] {
+        for path in ["//", "", "*", "/verify/", "/Verify", "/metrics/x"] {
             assert_eq!(Door::at(path), None, "{path}");
         }
     }

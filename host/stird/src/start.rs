@@ -1,5 +1,6 @@
 //! The service from its start to its end.
 use crate::answers::Answers;
+use crate::clients::Clients;
 use crate::codes::{self, adopt_all};
 use crate::fetching::Fetching;
 use crate::files::{self, look::Look, signing::Blocks, MayAsk, Revocation, Sources};
@@ -7,12 +8,14 @@ use crate::health::Standing;
 use crate::judge::Judge;
 use crate::logs::Log;
 use crate::metrics::Metrics;
-use crate::reload::{tell_of_blocks, Reload, Watched};
+use crate::record::Record;
+use crate::reload::{ClientFile, Reload, Watched};
 use crate::routes::Service;
-use crate::server::{Acceptor, Doors, Hands, Places, Server, Times, AT_ONCE};
+use crate::server::{Acceptor, Doors, Handed, Hands, Places, Server, Times, AT_ONCE};
 use crate::settings::Settings;
 use crate::tending::tend;
 use crate::tickets::{Clock, Latest, Memory, Redis, Sqlite, SystemClock, Tickets};
+use crate::today::Today;
 use crate::tokens::Tokens;
 use anyhow::{bail, Context, Result};
 use arc_swap::ArcSwap;
@@ -23,16 +26,20 @@ use std::time::Duration;
 use stir_trust::Verifier;
 use tokio::signal::unix::{signal, SignalKind};
 use tokio::sync::{mpsc, watch};
+use tokio::task::spawn_blocking;
 
 /// How many descriptors there are beside those of connections: files, tickets, the runtime.
 const OTHERS: u64 = 128;
+
+/// How long what comes after the last answer may take: files are written and closed.
+const AFTER: Duration = Duration::from_secs(10);
 
 /// Reads the files, answers requests, and ends when it is told to.
 ///
 /// # Errors
 ///
 /// What keeps it from starting.
-pub async fn run(settings: Settings, log: Log) -> Result<()> {
+pub async fn run(settings: Settings, log: Log, handed: Handed) -> Result<()> {
     let mut ends = [signal(SignalKind::terminate())?, signal(SignalKind::interrupt())?];
     let hangs_up = signal(SignalKind::hangup())?;
     allow_descriptors(settings.connections)?;
@@ -42,21 +49,27 @@ pub async fn run(settings: Settings, log: Log) -> Result<()> {
     let sources = settings.sources();
     // Looked at before it is read, so that a change in between isn't missed.
     let tokens = settings.signing_tokens.clone().map(|path| (Look::at(&path), path));
+    let asks = settings.asks_for_certificates();
+    let clients = settings.signing_clients.clone();
+    let clients = clients.map(|path| (Look::at(&path), ClientFile { path, asks }));
     let Made { service, may_ask, requests } = service(&settings, &sources, &metrics, &clock)?;
     service.judge.tickets.look().await;
-    let doors = Doors::open(&settings.listen, settings.socket_mode, acceptor.as_ref())?;
+    let doors = Doors::open(&settings.listen, settings.socket_mode, acceptor.as_ref(), handed)?;
     tell_start(&service, &doors);
+    if settings.signs_for_nobody() {
+        tracing::warn!("nobody may have calls signed: see --signing-clients, or --signing-local");
+    }
     let (end, ending) = watch::channel(false);
     let server = Arc::new(Server {
         places: Places::new(settings.connections, settings.connections_each, metrics),
         hands: Hands::start().context("threads that answer")?,
-        times: Times { request: settings.request, idle: settings.idle },
+        times: Times { request: settings.request, idle: settings.idle, drain: settings.drain() },
         service: Arc::clone(&service),
         ending,
     });
     let hosts = settings.fetch.map(|fetch| fetch.files).zip(may_ask);
     let lists = settings.revocation;
-    let watched = Watched { sources, tokens, hosts, lists, acceptor };
+    let watched = Watched { sources, tokens, clients, hosts, lists, acceptor };
     let reload = Reload::new(watched, Arc::clone(&service), log, settings.reload);
     let mut aside = vec![
         tokio::spawn(reload.run(hangs_up)),
@@ -76,7 +89,7 @@ pub async fn run(settings: Settings, log: Log) -> Result<()> {
         _ = interrupt.recv() => {}
     }
     tracing::info!("ends when what is under way is answered");
-    notify(NotifyState::Stopping);
+    notify_end(server.times.drain);
     service.standing.end();
     let _ = end.send(true);
     tokio::select! {
@@ -91,6 +104,8 @@ pub async fn run(settings: Settings, log: Log) -> Result<()> {
     if let Some(fetching) = &service.judge.fetching {
         fetching.save_last().await;
     }
+    let ends = Arc::clone(&service);
+    let _ = spawn_blocking(move || ends.judge.record.as_ref().map(Record::end)).await;
     // The store of the tickets is closed with the last of those who hold it.
     drop((server, service));
     Ok(())
@@ -118,6 +133,9 @@ fn service(
         None => None,
     };
     let tokens = Tokens::read(settings.signing_tokens.as_deref())?;
+    let asks = settings.asks_for_certificates();
+    let clients = Clients::read(settings.signing_clients.as_deref(), asks)?;
+    metrics.clients.know(clients.names());
     let tickets = tickets(settings, clock)?;
     let (may_ask, fetching) = fetching(settings, metrics)?.unzip();
     let revocation = settings.revocation.as_ref();
@@ -138,13 +156,19 @@ fn service(
             fetching,
             codes,
             revocation: revocation.map(ArcSwap::from_pointee),
+            verstat: settings.verstat,
+            record: settings.record.as_ref().map(|it| Record::start(it, metrics)).transpose()?,
+            today: Today::new(Arc::clone(clock), metrics.signers.clone()),
         },
         blocks,
         tokens: ArcSwap::from_pointee(tokens),
+        clients: ArcSwap::from_pointee(clients),
+        signs_locally: settings.signs_locally,
         answers: Answers::new(settings.answers, Arc::clone(clock), Arc::clone(metrics)),
         standing: Standing::new(settings.reload.as_secs()),
         clock: Arc::clone(clock),
         asked_moments: settings.asked_moments,
+        has_page: settings.page,
     });
     Ok(Made { service, may_ask, requests })
 }
@@ -189,12 +213,18 @@ fn tell_start(service: &Service, doors: &Doors) {
         service.judge.world.load().chains(),
         service.judge.tickets.count().unwrap_or(0),
     );
-    tell_of_blocks(service);
 }
 
 /// Tells systemd how the service stands, if it asked for that.
 fn notify(state: NotifyState) {
     let _ = sd_notify::notify(false, &[state]);
+}
+
+/// Tells systemd that the service comes to its end, and how long that may take.
+fn notify_end(drain: Duration) {
+    let whole = u32::try_from((drain + AFTER).as_micros()).unwrap_or(u32::MAX);
+    let _ =
+        sd_notify::notify(false, &[NotifyState::Stopping, NotifyState::ExtendTimeoutUsec(whole)]);
 }
 
 /// Tells systemd that the runtime still runs what it has to, if it asked for that.

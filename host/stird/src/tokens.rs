@@ -1,10 +1,8 @@
-//! Who may have calls signed: whoever has a token, if there are tokens; else whoever is on this
-//! host, or has shown a certificate.
+//! Tokens with which calls are signed for all numbers of the signing table.
 use crate::files::{whole, FileFault};
 use crate::lines::lines_of;
 use openssl::memcmp;
 use openssl::sha::sha256;
-use std::net::IpAddr;
 use std::os::unix::fs::PermissionsExt;
 use std::path::{Path, PathBuf};
 
@@ -14,31 +12,6 @@ const MOST_FILE: usize = 1 << 20;
 /// How many characters a token has.
 const LEAST: usize = 16;
 const MOST: usize = 512;
-
-/// Who sent a request.
-#[derive(Clone, Copy, Debug, PartialEq, Eq)]
-pub struct Peer {
-    /// From which address; none over a Unix socket.
-    pub address: Option<IpAddr>,
-    /// Whether it has shown a certificate, and the key to it.
-    pub is_certified: bool,
-}
-
-impl Peer {
-    /// Whether it is a process of this host, or has shown a certificate.
-    fn is_known(&self) -> bool {
-        self.is_certified || self.address.is_none_or(|address| address.to_canonical().is_loopback())
-    }
-}
-
-/// Why nothing is signed for a request.
-#[derive(Clone, Copy, Debug, PartialEq, Eq)]
-pub enum Denied {
-    /// It has no token that is listed.
-    NoToken,
-    /// There are no tokens, and its sender isn't known.
-    Unknown,
-}
 
 /// Why the tokens can't be taken.
 #[derive(Debug, thiserror::Error)]
@@ -82,9 +55,7 @@ impl Tokens {
         let text = whole(path, MOST_FILE)?;
         let mut sums = Vec::new();
         for token in lines_of(&text) {
-            let is_good =
-                (LEAST..=MOST).contains(&token.len()) && token.iter().all(u8::is_ascii_graphic);
-            if !is_good {
+            if !is_token(token) {
                 return Err(TokensError::Token { path: path.into(), number: sums.len() + 1 });
             }
             sums.push(sha256(token));
@@ -99,39 +70,30 @@ impl Tokens {
         Ok(Tokens { sums: Some(sums) })
     }
 
-    /// Whether a request is signed for, by its `Authorization` field and its sender.
-    ///
-    /// # Errors
-    ///
-    /// Why it isn't.
+    /// Whether a file was named.
+    pub fn are_given(&self) -> bool {
+        self.sums.is_some()
+    }
+
+    /// Whether one of them is this one.
     ///
     /// ```
-    /// use stird::tokens::{Denied, Peer, Tokens};
+    /// use stird::tokens::Tokens;
     ///
-    /// let tokens = Tokens::read(None)?;
-    /// let local = Peer { address: "127.0.0.1".parse().ok(), is_certified: false };
-    /// assert_eq!(tokens.admits(None, local), Ok(()));
-    /// let other = Peer { address: "192.0.2.1".parse().ok(), is_certified: false };
-    /// assert_eq!(tokens.admits(None, other), Err(Denied::Unknown));
+    /// assert!(!Tokens::read(None)?.has(b"0123456789abcdef"));
     /// # Ok::<(), stird::tokens::TokensError>(())
     /// ```
-    pub fn admits(&self, authorization: Option<&[u8]>, peer: Peer) -> Result<(), Denied> {
-        let Some(sums) = &self.sums else {
-            return if peer.is_known() { Ok(()) } else { Err(Denied::Unknown) };
-        };
-        let token = authorization.and_then(token_of).ok_or(Denied::NoToken)?;
+    pub fn has(&self, token: &[u8]) -> bool {
         let sum = sha256(token);
         // All are compared, so that the time tells nothing of them.
-        let found = sums.iter().fold(false, |found, known| memcmp::eq(known, &sum) | found);
-        found.then_some(()).ok_or(Denied::NoToken)
+        let sums = self.sums.iter().flatten();
+        sums.fold(false, |found, known| memcmp::eq(known, &sum) | found)
     }
 }
 
-/// The token of `Bearer TOKEN` (RFC 6750, section 2.1).
-fn token_of(value: &[u8]) -> Option<&[u8]> {
-    let (scheme, rest) = value.split_at_checked(6)?;
-    let token = rest.strip_prefix(b" ")?;
-    scheme.eq_ignore_ascii_case(b"bearer").then(|| token.trim_ascii())
+/// Whether this may be a token.
+pub(crate) fn is_token(text: &[u8]) -> bool {
+    (LEAST..=MOST).contains(&text.len()) && text.iter().all(u8::is_ascii_graphic)
 }
 
 #[cfg(test)]
@@ -151,45 +113,14 @@ mod tests {
         read
     }
 
-    fn peer(address: &str) -> Peer {
-        Peer { address: Some(address.parse().expect("an address")), is_certified: false }
-    }
-
     #[test]
-    fn if_there_are_tokens_a_request_needs_one() {
+    fn a_token_is_one_of_those_in_the_file() {
         let tokens = of(&format!("; for the proxy\n{TOKEN}\nfedcba9876543210\n")).expect("tokens");
-        let local = peer("127.0.0.1");
-        for good in ["Bearer 0123456789abcdef", "bearer  fedcba9876543210 "] {
-            assert_eq!(tokens.admits(Some(good.as_bytes()), local), Ok(()), "{good}");
+        for good in [TOKEN, "fedcba9876543210"] {
+            assert!(tokens.has(good.as_bytes()), "{good}");
         }
-        for bad in [
-            "",
-            "Bearer",
-            "Bearer ",
-            "Bearer 0123456789abcde",
-            "Bearer 0123456789abcdef0",
-            "Basic 0123456789abcdef",
-            "0123456789abcdef",
-            "Bearer0123456789abcdef",
-        ] {
-            let said = tokens.admits(Some(bad.as_bytes()), local);
-            assert_eq!(said, Err(Denied::NoToken), "{bad}");
-        }
-        let certified = Peer { is_certified: true, ..local };
-        assert_eq!(tokens.admits(None, certified), Err(Denied::NoToken));
-    }
-
-    #[test]
-    fn without_tokens_this_host_and_who_has_a_certificate_are_signed_for() {
-        let tokens = Tokens::read(None).expect("none");
-        let unix = Peer { address: None, is_certified: false };
-        for known in [unix, peer("127.0.0.1"), peer("::1"), peer("::ffff:127.0.0.1")] {
-            assert_eq!(tokens.admits(None, known), Ok(()), "{known:?}");
-        }
-        for other in ["192.0.2.1", "2001:db8::1", "::ffff:192.0.2.1"] {
-            let other = peer(other);
-            assert_eq!(tokens.admits(None, other), Err(Denied::Unknown), "{other:?}");
-            assert_eq!(tokens.admits(None, Peer { is_certified: true, ..other }), Ok(()));
+        for bad in ["", "0123456789abcde", "0123456789abcdef0", "; for the proxy"] {
+            assert!(!tokens.has(bad.as_bytes()), "{bad}");
         }
     }
 

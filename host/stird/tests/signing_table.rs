@@ -110,8 +110,8 @@ fn sign(
     attest: impl Into<Option<Attest>>,
     iat: i64,
 ) -> Result<Vec<u8>, Unsigned> {
-    let (message, attest) = (invite(orig), attest.into());
-    blocks.sign(&Call { orig, message: &message, iat: second(iat), origid: ORIGID, attest })
+    let (message, attest, most) = (invite(orig), attest.into(), Attest::A);
+    blocks.sign(&Call { orig, message: &message, iat: second(iat), origid: ORIGID, attest, most })
 }
 
 /// The attestation in the payload of a PASSporT.
@@ -153,6 +153,84 @@ fn the_first_block_of_a_number_signs_for_it_and_nothing_else_does() {
     }
 }
 
+/// A line with a block of numbers.
+fn of_block(signing: &Signing, block: &str, attest: &str, name: &str) -> String {
+    signing.line(block, 1, attest, name).replacen(" 1 ", " ", 1)
+}
+
+#[test]
+fn of_blocks_by_text_the_most_special_decides_and_exceptions_are_of_them() {
+    let signing = Signing::new();
+    let lines = [
+        of_block(&signing, "1200001xxxx", "A", "code"),
+        signing.line("12000010000", 10000, "C", "code"),
+        "!12000010007\n".to_owned(),
+        of_block(&signing, "1200001000x", "B", "code"),
+        "!120000102xx\n".to_owned(),
+        of_block(&signing, "12000010250", "B", "code"),
+        signing.line("12000020000", 10, "C", "range"),
+        signing.line("12000020000", 10, "A", "range"),
+        "!12000020001-12000020002\n".to_owned(),
+    ];
+    for turn in [0, 4, 6] {
+        let mut turned = lines.clone();
+        turned[..6].rotate_left(turn % 6);
+        let blocks = signing.read(&turned.concat()).expect("a table");
+        assert_eq!(blocks.count(), 6, "exceptions are no blocks");
+        for (orig, given) in [
+            ("12000010000", Some("B")),
+            ("12000010007", None),
+            ("12000010009", Some("B")),
+            ("12000010010", Some("A")),
+            ("12000010200", None),
+            ("12000010250", Some("B")),
+            ("12000010299", None),
+            ("12000019999", Some("A")),
+            ("12000020000", Some("C")),
+            ("12000020001", None),
+            ("12000020003", Some("C")),
+            ("12000020010", None),
+            ("120000100000", None),
+            ("1200001000", None),
+        ] {
+            let signed = sign(&blocks, orig, Attest::A, NOW).map(|message| attested(&message));
+            assert_eq!(signed, given.map(String::from).ok_or(Unsigned::NotOurs), "{orig}, {turn}");
+        }
+    }
+    let twice = of_block(&signing, "1200001000x", "B", "code");
+    let fault = signing.refused(&format!("; blocks\n{twice}\n{twice}"));
+    assert_eq!(fault, (Some(4), Why::Block(BlockFault::Ambiguous(2))));
+    let uncovered = of_block(&signing, "120000210xx", "A", "range");
+    let fault = BlockFault::Uncovered { x5u: x5u("range"), number: 12_000_021_000 };
+    assert_eq!(signing.refused(&uncovered), (Some(1), Why::Block(fault)));
+}
+
+#[test]
+fn who_may_have_no_higher_attestation_gets_none() {
+    let signing = Signing::new();
+    let said = |line: String| line.replace('\n', " A\n");
+    let blocks = [
+        said(signing.line("12000010000", 10, "A", "code")),
+        signing.line("12000010010", 10, "B", "code"),
+    ];
+    let blocks = signing.read(&blocks.concat()).expect("a table");
+    for (orig, attest, most, given) in [
+        ("12000010000", Some(Attest::A), Attest::A, Ok("A")),
+        ("12000010000", Some(Attest::A), Attest::B, Ok("B")),
+        ("12000010000", Some(Attest::C), Attest::B, Ok("C")),
+        ("12000010000", None, Attest::C, Ok("C")),
+        ("12000010010", Some(Attest::A), Attest::A, Ok("B")),
+        ("12000010010", Some(Attest::A), Attest::C, Ok("C")),
+        ("12000010010", None, Attest::C, Err(Unsigned::NoAttest)),
+    ] {
+        let message = invite(orig);
+        let iat = second(NOW);
+        let call = Call { orig, message: &message, iat, origid: ORIGID, attest, most };
+        let signed = blocks.sign(&call).map(|message| attested(&message));
+        assert_eq!(signed, given.map(String::from), "{orig} {attest:?} {most:?}");
+    }
+}
+
 #[test]
 fn without_a_word_on_it_a_request_gets_what_the_block_says_for_that_or_nothing() {
     let signing = Signing::new();
@@ -180,6 +258,55 @@ fn without_a_word_on_it_a_request_gets_what_the_block_says_for_that_or_nothing()
     }
     let better = said(signing.line("12000010000", 10, "B", "code"), "A");
     assert_eq!(signing.refused(&better), (Some(1), Why::Block(BlockFault::NoUnasked)));
+}
+
+#[test]
+fn a_certificate_is_named_in_its_last_day_and_signs_until_its_last_second() {
+    let signing = Signing::new();
+    let blocks = signing.read(&signing.line("12000010000", 10, "A", "code")).expect("a table");
+    const DAY: i64 = 86_400;
+    for (before, is_told) in [(DAY + 1, false), (DAY, false), (DAY - 1, true), (1, true), (0, true)]
+    {
+        let time = VALID.1 - before;
+        let told = blocks.warnings(second(time));
+        let line = format!("{}: its certificate ends within a day", x5u("code"));
+        assert_eq!(told.contains(&line), is_told, "{before}: {told:?}");
+        let note = format!("signing: the certificate of {} ends in a day", x5u("code"));
+        assert_eq!(blocks.notes(second(time)).contains(&note), is_told, "{before}");
+        assert!(sign(&blocks, "12000010000", Attest::A, time).is_ok(), "{before}");
+    }
+    let told = blocks.notes(second(VALID.1 + 1));
+    assert_eq!(told, [format!("signing: {} isn't valid now", x5u("code"))]);
+}
+
+#[test]
+fn an_encrypted_key_is_opened_by_the_first_line_of_the_file_beside_it() {
+    let signing = Signing::new();
+    let line = signing.line("12000010000", 10, "A", "code");
+    let own = PKey::private_key_from_pem(&std::fs::read(signing.folder.path("code.pem")).unwrap());
+    let locked =
+        own.expect("a key").private_key_to_pem_pkcs8_passphrase(Cipher::aes_256_cbc(), b"word");
+    chmod(&signing.folder.put("code.pem", locked.expect("PEM")), 0o600);
+    for (password, is_taken) in [
+        (&b"word"[..], true),
+        (b"word\n", true),
+        (b"word\r\nmore", true),
+        (b"", false),
+        (b"\nword", false),
+        (b"words", false),
+    ] {
+        chmod(&signing.folder.put("code.pem.password", password), 0o600);
+        let came = signing.read(&line).map(|blocks| blocks.warnings(second(NOW)));
+        match came {
+            Ok(told) => assert!(is_taken && told.is_empty(), "{password:?}: {told:?}"),
+            Err(fault) => {
+                let Why::Block(BlockFault::Key { fault, .. }) = fault.why else {
+                    panic!("{fault}")
+                };
+                assert_eq!((is_taken, fault), (false, KeyFault::OtherPassphrase), "{password:?}");
+            }
+        }
+    }
 }
 
 #[test]

@@ -2,6 +2,7 @@
 //!
 //! A certificate is what OpenSSL reads as one, to its last byte; it is kept as it stands. What it
 //! says is the judge's to read, but for names, by which the leaf comes first, and its last second.
+use asn1::{Asn1Read, ObjectIdentifier, ParseResult, SequenceOf, Tlv};
 use openssl::asn1::{Asn1Time, Asn1TimeRef};
 use openssl::base64;
 use openssl::error::ErrorStack;
@@ -86,7 +87,7 @@ fn read(bytes: &[u8]) -> Result<(Vec<Vec<u8>>, Vec<X509>), FormFault> {
     }
     let mut read = Vec::with_capacity(found.len());
     for (number, der) in found.iter().enumerate() {
-        let is_whole = element(der).is_some_and(|(_, _, rest)| rest.is_empty());
+        let is_whole = asn1::parse_single::<Tlv<'_>>(der).is_ok();
         let certificate = X509::from_der(der).ok().filter(|_| is_whole);
         read.push(certificate.ok_or(FormFault::Certificate(number + 1))?);
     }
@@ -187,52 +188,52 @@ fn decoded(text: &[u8]) -> Result<Vec<u8>, FormFault> {
 
 /// The certificates of a PKCS #7 message, or those that stand one after another.
 fn of_der(bytes: &[u8]) -> Result<Vec<Vec<u8>>, FormFault> {
-    if let Some(certificates) = of_message(bytes) {
-        return elements(certificates).ok_or(FormFault::None);
+    match of_message(bytes) {
+        Some(certificates) => Ok(certificates),
+        None => elements(bytes).map_err(|_| FormFault::None),
     }
-    elements(bytes).ok_or(FormFault::None)
 }
 
-/// The certificates in a SignedData, one after another (RFC 5652, sections 3 and 5.1):
-/// `SEQUENCE { OID, [0] { SEQUENCE { version, SET, SEQUENCE, [0] certificates .. } } }`.
-fn of_message(bytes: &[u8]) -> Option<&[u8]> {
-    const SIGNED_DATA: &[u8] = &[0x2A, 0x86, 0x48, 0x86, 0xF7, 0x0D, 0x01, 0x07, 0x02];
-    let (0x30, inside, b"") = element(bytes)? else { return None };
-    let (0x06, SIGNED_DATA, inside) = element(inside)? else { return None };
-    let (0xA0, inside, b"") = element(inside)? else { return None };
-    let (0x30, inside, b"") = element(inside)? else { return None };
-    let (0x02, _, inside) = element(inside)? else { return None };
-    let (0x31, _, inside) = element(inside)? else { return None };
-    let (0x30, _, inside) = element(inside)? else { return None };
-    let (0xA0, certificates, _) = element(inside)? else { return None };
-    Some(certificates)
+/// `ContentInfo` (RFC 5652, section 3) of a message that is signed.
+#[derive(Asn1Read)]
+struct ContentInfo<'a> {
+    kind: ObjectIdentifier,
+    #[explicit(0)]
+    content: Option<SignedData<'a>>,
 }
 
-/// The sequences that these bytes are, each whole; nothing if they are something else.
-fn elements(bytes: &[u8]) -> Option<Vec<Vec<u8>>> {
-    let (mut found, mut bytes) = (Vec::new(), bytes);
-    while !bytes.is_empty() {
-        let (0x30, _, rest) = element(bytes)? else { return None };
-        found.push(bytes.get(..bytes.len() - rest.len())?.to_vec());
-        bytes = rest;
-    }
-    Some(found)
+/// `SignedData` (section 5.1).
+#[derive(Asn1Read)]
+struct SignedData<'a> {
+    _version: u8,
+    _digests: Tlv<'a>,
+    _content: Tlv<'a>,
+    // Written in any order, and so no SET OF as DER has it.
+    #[implicit(0)]
+    certificates: Option<SequenceOf<'a, Tlv<'a>>>,
+    #[implicit(1)]
+    _lists: Option<SequenceOf<'a, Tlv<'a>>>,
+    _signers: Tlv<'a>,
 }
 
-/// The first element's tag and content, and what comes after it (X.690, sections 8.1 and 10.1).
-fn element(bytes: &[u8]) -> Option<(u8, &[u8], &[u8])> {
-    let (tag, rest) = bytes.split_first()?;
-    let (first, rest) = rest.split_first()?;
-    let (length, rest) = match first {
-        0..=0x7F => (usize::from(*first), rest),
-        0x81..=0x84 => {
-            let (digits, rest) = rest.split_at_checked(usize::from(first & 0x7F))?;
-            (digits.iter().fold(0, |length, digit| length << 8 | usize::from(*digit)), rest)
+const SIGNED_DATA: ObjectIdentifier = asn1::oid!(1, 2, 840, 113549, 1, 7, 2);
+
+/// The certificates in a SignedData; nothing if these bytes are no such message.
+fn of_message(bytes: &[u8]) -> Option<Vec<Vec<u8>>> {
+    let message = asn1::parse_single::<ContentInfo<'_>>(bytes).ok()?;
+    let certificates = message.content.filter(|_| message.kind == SIGNED_DATA)?.certificates?;
+    Some(certificates.map(|one| one.full_data().to_vec()).collect())
+}
+
+/// The elements that these bytes are, one after another.
+fn elements(bytes: &[u8]) -> ParseResult<Vec<Vec<u8>>> {
+    asn1::parse(bytes, |parser| {
+        let mut found = Vec::new();
+        while !parser.is_empty() {
+            found.push(parser.read_element::<Tlv<'_>>()?.full_data().to_vec());
         }
-        _ => return None,
-    };
-    let (content, rest) = rest.split_at_checked(length)?;
-    Some((*tag, content, rest))
+        Ok(found)
+    })
 }
 
 /// The numbers of the certificates from the leaf's on, each before its issuer's (RFC 5280, section

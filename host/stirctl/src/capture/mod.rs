@@ -6,11 +6,13 @@ mod packets;
 mod spool;
 
 pub(crate) use frames::is_capture;
+pub(crate) use spool::{key_of, Repeats, NANOSECONDS};
 
 use crate::Fault;
 use frames::{Broken, Frames};
 use packets::{Carried, Packets};
 use spool::Spool;
+use std::borrow::Cow;
 use std::fs::File;
 use std::io::{BufReader, Read, Seek};
 use stir::{Settings, World};
@@ -38,31 +40,85 @@ pub(crate) struct How {
 /// The INVITEs of captures.
 pub(crate) struct Captures {
     spool: Spool,
-    how: How,
-    /// What tells header fields.
-    world: World,
-    counts: Counts,
+    sieve: Sieve,
+    cut: u64,
+    fragments: u64,
+    on_port: u64,
     /// The name of the first.
     name: String,
 }
 
-/// What was passed over.
+/// What tells the messages that are calls from others.
+pub(crate) struct Sieve {
+    how: How,
+    /// What tells header fields.
+    world: World,
+    pub counts: Counts,
+}
+
+/// What was passed over, and what was split.
 #[derive(Debug, Default)]
-struct Counts {
-    others: u64,
-    cut: u64,
-    fragments: u64,
-    split: u64,
+pub(crate) struct Counts {
+    pub others: u64,
     in_dialogs: u64,
-    on_port: u64,
+    split: u64,
+}
+
+impl Sieve {
+    pub fn new(how: How) -> Result<Sieve, Fault> {
+        let world = World::open(&Settings::default(), b"", b"")?;
+        Ok(Sieve { how, world, counts: Counts::default() })
+    }
+
+    /// The message as it is judged, if it is a call; it came at this second.
+    pub fn call<'a>(
+        &mut self,
+        moment: u64,
+        message: &'a [u8],
+    ) -> Result<Option<Cow<'a, [u8]>>, Fault> {
+        if !message.starts_with(INVITE) {
+            self.counts.others += 1;
+            return Ok(None);
+        }
+        if self.how.initial && self.is_in_dialog(moment, message)? {
+            self.counts.in_dialogs += 1;
+            return Ok(None);
+        }
+        let split = (!self.how.as_is).then(|| stir_trust::split::lists(message)).flatten();
+        self.counts.split += u64::from(split.is_some());
+        Ok(Some(split.map_or(Cow::Borrowed(message), Cow::Owned)))
+    }
+
+    /// Whether To has a tag (RFC 3261, section 12.2).
+    fn is_in_dialog(&self, moment: u64, message: &[u8]) -> Result<bool, Fault> {
+        let mut call = self.world.call(moment, message)?;
+        let to = call.header("To").next().transpose()?.unwrap_or_default();
+        Ok(has_tag(&to))
+    }
+
+    /// What is said of so many calls, of what else was left out, and how often.
+    pub fn said(&self, calls: u64, repeated: u64, others: &[(&str, u64)]) -> String {
+        let Counts { others: other, in_dialogs, split } = self.counts;
+        let own =
+            [("retransmissions", repeated), ("re-INVITEs", in_dialogs), ("other messages", other)];
+        let left_out = own.iter().chain(others).filter(|(_, count)| *count > 0);
+        let left_out: Vec<_> = left_out.map(|(what, count)| format!("{what} {count}")).collect();
+        let mut said = format!("calls {calls}");
+        if !left_out.is_empty() {
+            said += &format!("; left out: {}", left_out.join(", "));
+        }
+        if split > 0 {
+            said += &format!("; messages with P-Asserted-Identity split: {split}");
+        }
+        said
+    }
 }
 
 impl Captures {
     /// None so far.
     pub fn new(how: How) -> Result<Captures, Fault> {
-        let (spool, counts) = (Spool::new()?, Counts::default());
-        let world = World::open(&Settings::default(), b"", b"")?;
-        Ok(Captures { spool, how, world, counts, name: String::new() })
+        let (spool, sieve) = (Spool::new()?, Sieve::new(how)?);
+        Ok(Captures { spool, sieve, cut: 0, fragments: 0, on_port: 0, name: String::new() })
     }
 
     /// Whether none was added.
@@ -87,12 +143,12 @@ impl Captures {
                 return Err(Fault::Input(name.into(), why));
             }
             let Some(bytes) = frame.bytes else {
-                self.counts.cut += 1;
+                self.cut += 1;
                 continue;
             };
             match packets.carried(frame.time, frame.link, &bytes) {
                 Carried::Datagram { source, content, is_on_port } => {
-                    self.counts.on_port += u64::from(is_on_port);
+                    self.on_port += u64::from(is_on_port);
                     self.take(frame.time, &source, &content)?;
                 }
                 Carried::SipOverTcp => {
@@ -100,61 +156,29 @@ impl Captures {
                     return Err(Fault::Input(name.into(), why));
                 }
                 Carried::Fragment => {}
-                Carried::Other => self.counts.others += 1,
+                Carried::Other => self.sieve.counts.others += 1,
             }
         }
-        self.counts.fragments += packets.missing();
+        self.fragments += packets.missing();
         Ok(())
     }
 
     fn take(&mut self, time: u64, source: &[u8], message: &[u8]) -> Result<(), Fault> {
-        if !message.starts_with(INVITE) {
-            self.counts.others += 1;
-            return Ok(());
+        match self.sieve.call(time / NANOSECONDS, message)? {
+            Some(call) => self.spool.add(time, source, &call),
+            None => Ok(()),
         }
-        if self.how.initial && self.is_in_dialog(time, message)? {
-            self.counts.in_dialogs += 1;
-            return Ok(());
-        }
-        match (!self.how.as_is).then(|| stir_trust::split::lists(message)).flatten() {
-            Some(split) => {
-                self.counts.split += 1;
-                self.spool.add(time, source, &split)
-            }
-            None => self.spool.add(time, source, message),
-        }
-    }
-
-    /// Whether To has a tag (RFC 3261, section 12.2).
-    fn is_in_dialog(&self, time: u64, message: &[u8]) -> Result<bool, Fault> {
-        let mut call = self.world.call(time / 1_000_000_000, message)?;
-        let to = call.header("To").next().transpose()?.unwrap_or_default();
-        Ok(has_tag(&to))
     }
 
     /// A log of the calls from its first byte on, the name of its capture, and what is said of
     /// both.
     pub fn log(self) -> Result<(File, String, String), Fault> {
-        let Captures { spool, counts, name, .. } = self;
+        let Captures { spool, sieve, cut, fragments, on_port, name } = self;
         let (mut log, calls, repeated) = spool.log()?;
         log.rewind().map_err(|error| Fault::write("a temporary file", &error))?;
-        let left_out = [
-            ("retransmissions", repeated),
-            ("re-INVITEs", counts.in_dialogs),
-            ("other messages", counts.others),
-            ("cut packets", counts.cut),
-            ("datagrams with missing fragments", counts.fragments),
-        ];
-        let left_out = left_out.iter().filter(|(_, count)| *count > 0);
-        let left_out: Vec<_> = left_out.map(|(what, count)| format!("{what} {count}")).collect();
-        let mut said = format!("calls {calls}");
-        if !left_out.is_empty() {
-            said += &format!("; left out: {}", left_out.join(", "));
-        }
-        if counts.split > 0 {
-            said += &format!("; messages with P-Asserted-Identity split: {}", counts.split);
-        }
-        if calls == 0 && counts.on_port > 0 {
+        let others = [("cut packets", cut), ("datagrams with missing fragments", fragments)];
+        let mut said = sieve.said(calls, repeated, &others);
+        if calls == 0 && on_port > 0 {
             said += "; there was traffic on port 5060, and no call in it";
         }
         Ok((log, name, said))

@@ -7,16 +7,30 @@ use std::collections::{HashSet, VecDeque};
 use std::fs::{self, File, OpenOptions};
 use std::io::{self, BufWriter, Read, Seek, SeekFrom, Write};
 
-const NANOSECONDS: u64 = 1_000_000_000;
+pub(crate) const NANOSECONDS: u64 = 1_000_000_000;
 
 /// How long a client sends an INVITE again: 64 times T1, which is half a second (RFC 3261, sections
 /// 17.1.1.1 and 17.1.1.2).
 const LONGEST_RETRY: u64 = 32 * NANOSECONDS;
 
+/// So many messages are remembered at most: the calls of 32 seconds, at 60,000 a second.
+const MOST_KNOWN: usize = 2_000_000;
+
 const BUFFER: usize = 1 << 20;
 
 /// By what a retransmission is known: it has the same source and the same bytes.
-type Key = [u8; 16];
+pub(crate) type Key = [u8; 16];
+
+/// The key of a message from this source.
+pub(crate) fn key_of(source: &[u8], message: &[u8]) -> Key {
+    let mut digest = Sha256::new();
+    for part in [&(source.len() as u64).to_be_bytes()[..], source, message] {
+        digest.update(part);
+    }
+    let mut key = Key::default();
+    key.copy_from_slice(&digest.finish()[..16]);
+    key
+}
 
 /// A message that was added.
 #[derive(Clone, Copy)]
@@ -60,12 +74,7 @@ impl Spool {
 
     /// Adds a message that came at this time, in nanoseconds, from this address and port.
     pub fn add(&mut self, time: u64, source: &[u8], message: &[u8]) -> Result<(), Fault> {
-        let mut digest = Sha256::new();
-        for part in [&(source.len() as u64).to_be_bytes()[..], source, message] {
-            digest.update(part);
-        }
-        let mut key = Key::default();
-        key.copy_from_slice(&digest.finish()[..16]);
+        let key = key_of(source, message);
         self.file.write_all(message).map_err(failed)?;
         let length = message.len() as u32;
         self.entries.push(Entry { time, place: self.end, length, key });
@@ -132,24 +141,36 @@ impl Window {
     }
 }
 
-/// Messages in the order of time, without those that have the source and the bytes of one that came
-/// at most 32 seconds before.
+/// Messages in the order of time, without retransmissions.
 fn without_retransmissions(entries: Vec<Entry>) -> Vec<Entry> {
-    let (mut known, mut ends) = (HashSet::new(), VecDeque::new());
-    let mut kept = entries;
-    kept.retain(|entry| {
-        while let Some((end, key)) = ends.front() {
-            if *end >= entry.time {
+    let (mut repeats, mut kept) = (Repeats::default(), entries);
+    kept.retain(|entry| repeats.is_first(entry.time, entry.key));
+    kept
+}
+
+/// What tells retransmissions: they have the source and the bytes of a message that came at most 32
+/// seconds before.
+#[derive(Default)]
+pub(crate) struct Repeats {
+    known: HashSet<Key>,
+    /// Until when each is remembered, in the order in which they came.
+    ends: VecDeque<(u64, Key)>,
+}
+
+impl Repeats {
+    /// Whether a message that came at this time, in nanoseconds, is none.
+    pub fn is_first(&mut self, time: u64, key: Key) -> bool {
+        while let Some((end, key)) = self.ends.front() {
+            if *end >= time && self.ends.len() < MOST_KNOWN {
                 break;
             }
-            known.remove(key);
-            ends.pop_front();
+            self.known.remove(key);
+            self.ends.pop_front();
         }
-        let is_first = known.insert(entry.key);
+        let is_first = self.known.insert(key);
         if is_first {
-            ends.push_back((entry.time + LONGEST_RETRY, entry.key));
+            self.ends.push_back((time + LONGEST_RETRY, key));
         }
         is_first
-    });
-    kept
+    }
 }

@@ -6,6 +6,7 @@ mod told;
 mod words;
 
 pub(crate) use outside::{broken, is_outside, Broken};
+pub(crate) use parts::Parts;
 pub(crate) use told::Told;
 
 use crate::input::{name_of, whole};

@@ -1,5 +1,6 @@
 //! The words of the commands on certificates and keys.
 
+use super::signing::OfMessage;
 use super::trust::RevokedBy;
 use clap::{ArgGroup, Args};
 
@@ -64,6 +65,9 @@ pub struct Show {
 ///
 /// The signature is one of ES256 (RFC 7518, section 3.4). A digest that was signed before is left
 /// out. Lines of other names are passed over and counted. If a line is none, nothing is written.
+///
+/// With --message it signs an INVITE in one run: what it writes is what `stir sign` writes with the
+/// same signature, and the status is 1 if the message can't be signed.
 #[derive(Debug, Args)]
 pub struct Sign {
     /// The certificate of the key's holder: if the key isn't its key, nothing is signed
@@ -72,12 +76,15 @@ pub struct Sign {
     /// A file whose first line is the password of an encrypted key
     #[arg(long, value_name = "FILE")]
     pub password_file: Option<String>,
-    /// The private key, of P-256 in PEM
-    #[arg(value_name = "KEY.pem")]
+    #[command(flatten)]
+    pub of: OfMessage,
+    /// The private key, of P-256: its file in PEM, or the URI of one in an HSM, `pkcs11:..` (RFC
+    /// 7512)
+    #[arg(value_name = "KEY")]
     pub key: String,
     /// The name of the key, 1 to 64 visible characters without ; , " < > \
-    #[arg(value_name = "NAME")]
-    pub name: String,
+    #[arg(value_name = "NAME", required_unless_present = "message", conflicts_with = "message")]
+    pub name: Option<String>,
     /// Files of such lines; the standard input if none is named
     #[arg(value_name = "FILE", default_value = "-")]
     pub files: Vec<String>,

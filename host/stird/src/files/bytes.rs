@@ -1,6 +1,7 @@
 //! The bytes of a file, which is looked at before and after it is read.
 use super::fault::Why;
 use super::look::{Kind, Look, Stamp};
+use super::place::place;
 use std::fs::{File, OpenOptions};
 use std::io::{ErrorKind, Read};
 use std::os::unix::fs::OpenOptionsExt;
@@ -70,6 +71,7 @@ fn read_once(
         kind => Err(Why::NoFile(kind)),
     };
     // A device may do something if it is opened, so it isn't.
+    let path = &place(path);
     is_file(stamp_of(std::fs::metadata(path))?)?;
     let file = OpenOptions::new()
         .read(true)

@@ -3,6 +3,7 @@ use super::bytes;
 use super::fault::Why;
 use super::lists::Revocation;
 use super::look::Look;
+use super::signer::Signer;
 use arc_swap::ArcSwapOption;
 use std::path::Path;
 use std::sync::atomic::{AtomicBool, Ordering};
@@ -29,6 +30,8 @@ pub struct Listed {
     ends: Option<u64>,
     /// The codes of its certificates, once they are asked for.
     codes: OnceLock<Vec<Box<[u8]>>>,
+    /// Who its leaf says that its holder is, once that is asked for.
+    signer: OnceLock<Arc<Signer>>,
     /// Whether it was tried in vain to prove it with its codes.
     is_unproved: AtomicBool,
     /// Its certificates that are revoked, by the lists of which that was asked last.
@@ -56,6 +59,7 @@ impl Listed {
             confirmed: OnceLock::new(),
             ends,
             codes: OnceLock::new(),
+            signer: OnceLock::new(),
             is_unproved: AtomicBool::new(false),
             revoked: ArcSwapOption::empty(),
         })
@@ -107,6 +111,19 @@ impl Listed {
             codes.extend(lines.map(Box::from));
         }
         Ok(self.codes.get_or_init(|| codes))
+    }
+
+    /// Who its leaf says that its holder is. It is read once a chain.
+    ///
+    /// # Errors
+    ///
+    /// Want of memory.
+    pub fn signer(&self) -> Result<Arc<Signer>, Error> {
+        if let Some(signer) = self.signer.get() {
+            return Ok(Arc::clone(signer));
+        }
+        let signer = Arc::new(Signer::of(&self.opened)?);
+        Ok(Arc::clone(self.signer.get_or_init(|| signer)))
     }
 
     /// A part of one of its certificates; the leaf is number 1.

@@ -1,4 +1,5 @@
 //! What the file system says of a file, by which a change is noticed without reading it.
+use super::place::place;
 use std::fs::{FileType, Metadata};
 use std::io::ErrorKind;
 use std::os::unix::fs::{FileTypeExt, MetadataExt};
@@ -66,7 +67,7 @@ impl Look {
     /// assert_eq!(Look::at("/no/such/file".as_ref()), Look::Missing);
     /// ```
     pub fn at(path: &Path) -> Look {
-        match std::fs::metadata(path) {
+        match std::fs::metadata(place(path)) {
             Ok(data) => Look::There(Stamp::of(&data)),
             Err(error) if error.kind() == ErrorKind::NotFound => Look::Missing,
             Err(error) => Look::Hidden(error.raw_os_error().unwrap_or(0)),

@@ -12,16 +12,22 @@
 //! that a reader has all of a world or all of the one before.
 
 mod bytes;
+pub mod diverting;
 mod fault;
 mod ground;
 mod hosts;
 mod listed;
 mod lists;
 pub mod look;
+pub mod number_map;
+pub mod numbers;
+mod place;
 mod reading;
 mod several;
+mod signer;
 pub mod signing;
 mod signing_block;
+mod signing_key;
 pub mod signing_line;
 mod single;
 mod world;
@@ -32,6 +38,7 @@ pub use hosts::{HostFiles, MayAsk};
 pub use listed::Listed;
 pub use lists::{Ended, ListFiles, Revocation};
 pub use reading::read;
+pub use signer::Signer;
 pub use world::World;
 
 use std::path::{Path, PathBuf};

@@ -26,6 +26,13 @@ impl Files {
         Ok(File { bytes, mode })
     }
 
+    /// They have to be read again, however they look.
+    pub(super) fn read_again(&mut self) {
+        for (_, _, again) in &mut self.0 {
+            *again = true;
+        }
+    }
+
     /// Whether one isn't what it was when it was read, or couldn't be read.
     pub(super) fn are_stale(&self) -> bool {
         self.0.iter().any(|(path, look, again)| *again || Look::at(path) != *look)

@@ -2,9 +2,12 @@
 //! attestation. What is signed is said by the proved library, which first holds the number against
 //! the key's certificate.
 use super::fault::FileFault;
+use super::number_map::{Ambiguous, NumberMap, Standing};
+use super::numbers::Numbers;
 use super::several::Files;
 use super::signing_block::{Block, Signer};
-use super::signing_line::{number_of, BlockFault, Line};
+use super::signing_key::Secret;
+use super::signing_line::{BlockFault, Line, Row};
 use super::Sources;
 use crate::lines::split;
 use std::collections::{BTreeSet, HashMap};
@@ -42,18 +45,22 @@ const MOST_WARNINGS: usize = 16;
 ///     iat: 1_767_225_600,
 ///     origid: "123e4567-e89b-12d3-a456-426655440000",
 ///     attest: Some(stir::Attest::A),
+///     most: stir::Attest::A,
 /// };
 /// assert_eq!(blocks.sign(&call), Err(Unsigned::NotOurs), "there is no table");
 /// # Ok::<(), stird::files::FileFault>(())
 /// ```
 #[derive(Default)]
 pub struct Blocks {
-    blocks: Vec<Block>,
+    /// The block of a number; none of those of which no call is signed.
+    blocks: NumberMap<Option<Block>>,
     files: Files,
     /// How the files looked when they were read last and refused.
     refused: Mutex<Option<Files>>,
-    /// The keys that others may read.
-    open_keys: BTreeSet<PathBuf>,
+    /// The keys and passwords that others may read.
+    open: BTreeSet<(PathBuf, Secret)>,
+    /// Whether a key is in an HSM.
+    has_hsm: bool,
 }
 
 impl Blocks {
@@ -72,7 +79,12 @@ impl Blocks {
         }
         let mut blocks = Blocks::default();
         match blocks.fill(sources, path) {
-            Ok(()) => Ok(blocks),
+            Ok(()) => {
+                if let Some(before) = before {
+                    blocks.go_on_from(before);
+                }
+                Ok(blocks)
+            }
             Err(fault) => {
                 if let Some(before) = before {
                     *before.refused.lock().held() = Some(blocks.files);
@@ -80,6 +92,12 @@ impl Blocks {
                 Err(fault)
             }
         }
+    }
+
+    /// Keys that didn't sign the last time haven't signed since.
+    fn go_on_from(&self, before: &Blocks) {
+        let failures = before.all().filter_map(|block| block.signer.key.failure()).collect();
+        self.all().for_each(|block| block.signer.key.go_on_from(&failures));
     }
 
     fn fill(&mut self, sources: &Sources, path: &Path) -> Result<(), FileFault> {
@@ -98,15 +116,36 @@ impl Blocks {
             line: None,
             why: error.into(),
         })?;
-        let mut signers = HashMap::new();
+        let (mut signers, mut blocks, mut places) = (HashMap::new(), Vec::new(), Vec::new());
         let lines = split(&text).enumerate();
         for (at, line) in lines.filter(|(_, line)| !line.is_empty() && !line.starts_with(b";")) {
-            let block = Line::read(line)
-                .and_then(|line| self.block(&line, &world, &mut signers))
+            let block = Row::read(line)
+                .and_then(|row| self.row(row, &world, &mut signers))
                 .map_err(|fault| FileFault::of_line(path, at + 1, fault))?;
-            self.blocks.push(block);
+            blocks.push(block);
+            places.push(at + 1);
         }
+        self.blocks = NumberMap::new(blocks).map_err(|Ambiguous { earlier, later }| {
+            let line = |place| places.get(place).copied().unwrap_or_default();
+            FileFault::of_line(path, line(later), BlockFault::Ambiguous(line(earlier)))
+        })?;
         Ok(())
+    }
+
+    /// What a line says of its numbers.
+    fn row<'a>(
+        &mut self,
+        row: Row<'a>,
+        world: &stir::World,
+        signers: &mut HashMap<[&'a str; 3], Arc<Signer>>,
+    ) -> Result<(Numbers, Standing, Option<Block>), BlockFault> {
+        match row {
+            Row::Sign(line) => {
+                let block = self.block(&line, world, signers)?;
+                Ok((line.numbers, line.standing, Some(block)))
+            }
+            Row::Except(numbers) => Ok((numbers, Standing::BySize, None)),
+        }
     }
 
     fn block<'a>(
@@ -120,9 +159,8 @@ impl Blocks {
             Some(signer) => Arc::clone(signer),
             None => {
                 let signer = Arc::new(Signer::read(line, world, &mut self.files)?);
-                if signer.is_open {
-                    self.open_keys.insert(line.key.into());
-                }
+                self.open.extend(signer.key.open.iter().cloned());
+                self.has_hsm |= signer.key.is_in_hsm();
                 signers.insert(name, Arc::clone(&signer));
                 signer
             }
@@ -138,30 +176,64 @@ impl Blocks {
 
     /// How many there are.
     pub fn count(&self) -> usize {
-        self.blocks.len()
+        self.all().count()
+    }
+
+    fn all(&self) -> impl Iterator<Item = &Block> {
+        self.blocks.values().flatten()
     }
 
     /// The URIs of the certificates that aren't valid at this second: nothing is signed with them.
     pub fn not_valid(&self, second: u64) -> BTreeSet<&str> {
-        let signers = self.blocks.iter().map(|block| &block.signer);
+        let signers = self.all().map(|block| &block.signer);
         signers.filter(|signer| !signer.is_valid(second)).map(|one| one.x5u.as_str()).collect()
     }
 
-    /// What is to be told at the start and after each reading: certificates that aren't valid at
-    /// this second, and keys that others may read or change.
+    /// The URIs of those that are, and end within a day.
+    pub fn ending(&self, second: u64) -> BTreeSet<&str> {
+        let signers = self.all().map(|block| &block.signer);
+        signers.filter(|signer| signer.ends_soon(second)).map(|one| one.x5u.as_str()).collect()
+    }
+
+    /// Whether a key is in an HSM, so that signing may take as long as that does.
+    pub fn has_hsm(&self) -> bool {
+        self.has_hsm
+    }
+
+    /// What is to be told at this second: certificates that aren't valid or end soon, and keys
+    /// that others may read or change.
     pub fn warnings(&self, second: u64) -> Vec<String> {
         let not_valid = self
             .not_valid(second)
             .into_iter()
             .map(|x5u| format!("{x5u}: not valid now, so nothing is signed with its key"));
-        let open = self.open_keys.iter().map(|path| {
+        let ending = self.ending(second).into_iter();
+        let ending = ending.map(|x5u| format!("{x5u}: its certificate ends within a day"));
+        let open = self.open.iter().map(|(path, secret)| {
+            let (what, another) = match secret {
+                Secret::Key => ("PRIVATE KEY, and sign calls by it", "key"),
+                Secret::Password => ("PASSWORD OF A PRIVATE KEY", "password"),
+            };
             format!(
-                "{}: OTHERS MAY READ OR CHANGE THIS PRIVATE KEY, and sign calls by it: keep it to \
-                 its owner (chmod 600), and take a new key if somebody may have read it",
+                "{}: OTHERS MAY READ OR CHANGE THIS {what}: keep it to its owner (chmod 600), and \
+                 take a new {another} if somebody may have read it",
                 path.display()
             )
         });
-        not_valid.take(MOST_WARNINGS).chain(open.take(MOST_WARNINGS)).collect()
+        let told = not_valid.take(MOST_WARNINGS).chain(ending.take(MOST_WARNINGS));
+        told.chain(open.take(MOST_WARNINGS)).collect()
+    }
+
+    /// What `/readyz` says of certificates and keys at this second, though calls are judged.
+    pub fn notes(&self, second: u64) -> Vec<String> {
+        let not_valid = self.not_valid(second).into_iter();
+        let not_valid = not_valid.map(|x5u| format!("signing: {x5u} isn't valid now"));
+        let ending = self.ending(second).into_iter();
+        let ending = ending.map(|x5u| format!("signing: the certificate of {x5u} ends in a day"));
+        let keys = self.all().filter_map(|block| block.signer.key.note());
+        let keys: BTreeSet<String> = keys.map(|note| format!("signing: {note}")).collect();
+        let told = not_valid.chain(ending.take(MOST_WARNINGS));
+        told.chain(keys.into_iter().take(MOST_WARNINGS)).collect()
     }
 
     /// The message of a call with its Identity field.
@@ -170,9 +242,12 @@ impl Blocks {
     ///
     /// Nothing is signed, as [`Unsigned`] says.
     pub fn sign(&self, call: &Call) -> Result<Vec<u8>, Unsigned> {
-        let number = number_of(call.orig).ok_or(Unsigned::NotOurs)?;
-        let block = self.blocks.iter().find(|block| block.has(number));
-        block.ok_or(Unsigned::NotOurs)?.sign(call)
+        self.block_of(call.orig).ok_or(Unsigned::NotOurs)?.sign(call)
+    }
+
+    /// The block that has a number.
+    pub(super) fn block_of(&self, number: &str) -> Option<&Block> {
+        self.blocks.at(number).and_then(Option::as_ref)
     }
 }
 

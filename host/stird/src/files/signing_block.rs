@@ -1,34 +1,33 @@
 //! A block of numbers, and the key that signs for it.
+use super::numbers::Numbers;
 use super::several::Files;
+use super::signing_key::SigningKey;
 use super::signing_line::{BlockFault, Line};
+use std::collections::BTreeSet;
 use std::ops::RangeInclusive;
 use std::path::{Path, PathBuf};
 use std::sync::Arc;
-use stir::{Attest, Chain, Error, Form, Order, Part, SignError, Withheld};
-use stir_trust::Key;
+use stir::{Attest, Chain, Error, Form, Order, Part, SignError};
 
-/// The most bytes of a key, and of its certificates.
+/// The most bytes of certificates.
 const MOST_FILE: usize = 49_152;
 
-/// The permissions by which others may read a key, or change it (chmod(1)): the owner's group may
-/// read it.
-const OPEN: u32 = 0o027;
+/// Within how many seconds before its end a certificate is told of.
+const SOON: i64 = 86_400;
 
 /// A key with the certificates that go with it, the seconds at which its own is valid, and their
 /// URI.
 pub(super) struct Signer {
-    key: Key,
-    chain: Chain,
+    pub key: SigningKey,
+    pub chain: Chain,
     valid: RangeInclusive<i64>,
     pub x5u: String,
-    /// Whether others may read the key's file, or change it.
-    pub is_open: bool,
 }
 
 /// Numbers that follow each other, with how well their callers are known (RFC 8588, section 4) and
 /// the key that signs for them.
 pub(super) struct Block {
-    numbers: RangeInclusive<u64>,
+    numbers: Numbers,
     attest: Attest,
     unasked: Option<Attest>,
     pub signer: Arc<Signer>,
@@ -61,6 +60,8 @@ pub struct Call<'a> {
     pub origid: &'a str,
     /// The best attestation that is wanted, if that is said.
     pub attest: Option<Attest>,
+    /// The best one that whoever asks may have.
+    pub most: Attest,
 }
 
 impl Signer {
@@ -73,9 +74,7 @@ impl Signer {
     ) -> Result<Signer, BlockFault> {
         let (key_path, path) = (PathBuf::from(line.key), PathBuf::from(line.certificates));
         let unread = |file: &Path, why| BlockFault::File { file: file.into(), why: Box::new(why) };
-        let pem = files.read(&key_path, MOST_FILE).map_err(|why| unread(&key_path, why))?;
-        let key = Key::from_pem(&pem.bytes)
-            .map_err(|fault| BlockFault::Key { file: key_path.clone(), fault })?;
+        let key = SigningKey::read(line.key, files)?;
         let der = files.read(&path, MOST_FILE).map_err(|why| unread(&path, why))?.bytes;
         let no_chain = || BlockFault::NoChain { file: path.clone() };
         let shown = stir::show(&der).map_err(|error| match error {
@@ -89,33 +88,41 @@ impl Signer {
         }
         let chain = world.chain(&der)?;
         let valid = dates(&chain)?.ok_or_else(no_chain)?;
-        let is_open = pem.mode & OPEN != 0;
-        Ok(Signer { key, chain, valid, x5u: line.x5u.into(), is_open })
+        Ok(Signer { key, chain, valid, x5u: line.x5u.into() })
     }
 
     /// Whether its certificate is valid at this second, as rule 13 asks of it.
     pub(super) fn is_valid(&self, second: u64) -> bool {
         i64::try_from(second).is_ok_and(|second| self.valid.contains(&second))
     }
+
+    /// The signature of a digest, if the certificate is valid at this second.
+    pub(super) fn signature(&self, digest: &[u8; 32], second: u64) -> Result<[u8; 64], Unsigned> {
+        if !self.is_valid(second) {
+            return Err(Unsigned::NotValid);
+        }
+        self.key.sign(digest).map_err(|_| Unsigned::Failed)
+    }
+
+    /// Whether it is at this second, and ends within a day.
+    pub(super) fn ends_soon(&self, second: u64) -> bool {
+        let left = i64::try_from(second).map(|second| self.valid.end().saturating_sub(second));
+        self.is_valid(second) && left.is_ok_and(|left| left < SOON)
+    }
 }
 
 impl Block {
     /// The block of a line, if its certificate covers the first number of it and the last.
     pub(super) fn new(line: &Line, signer: Arc<Signer>) -> Result<Block, BlockFault> {
-        let (numbers, attest, unasked) = (line.first..=line.last, line.attest, line.unasked);
+        let Line { numbers, attest, unasked, .. } = *line;
         let block = Block { numbers, attest, unasked, signer };
         block.test()?;
         Ok(block)
     }
 
-    /// Whether it has a number.
-    pub(super) fn has(&self, number: u64) -> bool {
-        self.numbers.contains(&number)
-    }
-
     /// Signs nothing, but looks whether the first number and the last could be signed for.
     fn test(&self) -> Result<(), BlockFault> {
-        for number in [*self.numbers.start(), *self.numbers.end()] {
+        for number in BTreeSet::from([self.numbers.first(), self.numbers.last()]) {
             let orig = number.to_string();
             let call = Call {
                 orig: &orig,
@@ -123,6 +130,7 @@ impl Block {
                 iat: 0,
                 origid: "00000000-0000-4000-8000-000000000000",
                 attest: Some(self.attest),
+                most: self.attest,
             };
             self.signer.chain.to_sign(&self.order(&call, self.attest)).map_err(
                 |error| match error {
@@ -134,10 +142,12 @@ impl Block {
         Ok(())
     }
 
-    /// The attestation of a call: what is wanted, but no better than that of the block.
+    /// The attestation of a call: what is wanted, but no better than that of the block, or than
+    /// whoever asks may have.
     fn attest(&self, call: &Call) -> Option<Attest> {
         // The later letter is the lower attestation.
-        call.attest.map(|wanted| wanted.max(self.attest)).or(self.unasked)
+        let given = call.attest.map(|wanted| wanted.max(self.attest)).or(self.unasked);
+        given.map(|given| given.max(call.most))
     }
 
     fn order<'a>(&'a self, call: &'a Call, attest: Attest) -> Order<'a> {
@@ -153,15 +163,8 @@ impl Block {
     pub(super) fn sign(&self, call: &Call) -> Result<Vec<u8>, Unsigned> {
         let attest = self.attest(call).ok_or(Unsigned::NoAttest)?;
         let (order, signer) = (self.order(call, attest), &self.signer);
-        let digest = signer.chain.to_sign(&order).map_err(|error| match error {
-            SignError::Withheld(Withheld::Authority) => Unsigned::NotOurs,
-            SignError::Withheld(_) | SignError::Failed(Error::BadInput(_)) => Unsigned::BadValue,
-            SignError::Failed(_) => Unsigned::Failed,
-        })?;
-        if !signer.is_valid(call.iat) {
-            return Err(Unsigned::NotValid);
-        }
-        let signature = signer.key.sign(&digest).map_err(|_| Unsigned::Failed)?;
+        let digest = signer.chain.to_sign(&order)?;
+        let signature = signer.signature(&digest, call.iat)?;
         signer.chain.signed(&order, &signature).map_err(|_| Unsigned::Failed)
     }
 }

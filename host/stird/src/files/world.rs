@@ -271,6 +271,13 @@ impl World {
         self.totals.ends
     }
 
+    /// Each x5u that has a chain, and the second after which its first certificate isn't valid any
+    /// more, but for chains that break a rule at every second.
+    pub fn ends_of_each(&self) -> impl Iterator<Item = (&[u8], u64)> + '_ {
+        let Parts { listed, files, .. } = &self.parts;
+        listed.all().filter_map(|(x5u, number)| Some((x5u, files.get(number)?.chain()?.ends()?)))
+    }
+
     /// Which of the three files aren't taken, and stay what they were.
     pub fn faults(&self) -> Vec<&FileFault> {
         let Parts { map, anchors, table, .. } = &self.parts;

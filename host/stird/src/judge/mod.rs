@@ -1,123 +1,33 @@
 //! A call judged: it is given its chains, its questions are asked of OpenSSL, what comes of it is
 //! taken from the proved library, and its ticket claimed.
+mod about;
+mod judged;
+mod onward;
+mod outcome;
 mod reach;
 mod spoilt;
 
+pub use about::{About, Passport, Ppt, Spent};
+pub use judged::{Explained, Judged};
+pub use onward::Onward;
+pub use outcome::{reason_of, Outcome, Verstat};
 pub use spoilt::{Revocations, Spoilt};
+pub use stir::Attest;
 
 use crate::codes::Codes;
 use crate::fetching::{Certificates, Fetching};
 use crate::files::World;
-use crate::metrics::{Metrics, Part};
+use crate::metrics::Metrics;
+use crate::record::Record;
 use crate::tickets::{Claim, Latest, Passed, Tickets};
+use crate::today::{SignedBy, Today};
 use arc_swap::ArcSwap;
-use spoilt::AllSpoilt;
+use spoilt::Handed;
 use std::sync::atomic::{AtomicU64, Ordering};
 use std::sync::Arc;
 use std::time::Instant;
-use stir::{Call, Error, Passes, Refused, Verdict};
+use stir::{Call, Error, Explanation, Passes, Refused, Verdict};
 use stir_trust::{split, Unanswered, Verifier};
-
-/// What came of a call.
-#[derive(Clone, Copy, Debug, PartialEq, Eq)]
-pub enum Outcome {
-    /// It breaks no rule, and its ticket passed for the first time.
-    Valid,
-    /// It breaks this rule first, at this place.
-    Refused {
-        /// The rule.
-        rule: u32,
-        /// Its response code.
-        code: u32,
-        /// The Identity field, counted from 1; 0 if it is none.
-        field: u32,
-        /// The part of it.
-        part: u32,
-    },
-    /// Its ticket passed before: with the call of this number; 0 if that isn't known.
-    Replay {
-        /// The number of that call.
-        winner: u64,
-    },
-    /// Nothing is said of it: its ticket can't be told from one that passed, or isn't kept; or
-    /// memory ran out.
-    Unjudged,
-}
-
-/// A call that was judged: its number, counted from 1 over the life of the journal, and what came
-/// of it.
-#[derive(Clone, Copy, Debug)]
-pub struct Judged {
-    /// Its number.
-    pub call: u64,
-    /// What came of it.
-    pub outcome: Outcome,
-    /// How its certificates came, if they are fetched and it asked for some.
-    pub certificates: Option<Certificates>,
-    /// Why a signature of a certificate wasn't taken for good, if the call was refused for that.
-    pub spoilt: Option<Spoilt>,
-}
-
-impl Outcome {
-    /// Its name in the answers.
-    pub fn name(&self) -> &'static str {
-        match self {
-            Outcome::Valid => "valid",
-            Outcome::Refused { .. } => "refused",
-            Outcome::Replay { .. } => "replay",
-            Outcome::Unjudged => "unjudged",
-        }
-    }
-
-    /// The SIP response code; 0 if there is none.
-    pub fn code(&self) -> u32 {
-        match self {
-            Outcome::Refused { code, .. } => *code,
-            Outcome::Replay { .. } => 438,
-            Outcome::Valid | Outcome::Unjudged => 0,
-        }
-    }
-
-    /// The rule that is broken; 0 if none is.
-    pub fn rule(&self) -> u32 {
-        match self {
-            Outcome::Refused { rule, .. } => *rule,
-            Outcome::Replay { .. } => 18,
-            Outcome::Valid | Outcome::Unjudged => 0,
-        }
-    }
-
-    /// The value of the `verstat` parameter (ATIS-1000074, section 5.3): nothing was validated of a
-    /// call that is no INVITE, has no PASSporT of its origin, or whose certificates aren't there;
-    /// one that breaks another rule has failed.
-    pub fn verstat(&self) -> &'static str {
-        match self {
-            Outcome::Valid => "TN-Validation-Passed",
-            Outcome::Refused { code: 400 | 428 | 436, .. } | Outcome::Unjudged => {
-                "No-TN-Validation"
-            }
-            Outcome::Refused { .. } | Outcome::Replay { .. } => "TN-Validation-Failed",
-        }
-    }
-
-    /// The reason phrase of the code (RFC 8224, section 6.2.2).
-    pub fn reason(&self) -> &'static str {
-        reason_of(self.code())
-    }
-}
-
-/// The reason phrase of a code; empty if it has none.
-pub fn reason_of(code: u32) -> &'static str {
-    match code {
-        400 => "Bad Request",
-        403 => "Stale Date",
-        428 => "Use Identity Header",
-        436 => "Bad Identity Info",
-        437 => "Unsupported Credential",
-        438 => "Invalid Identity Header",
-        _ => "",
-    }
-}
 
 /// The judge with all that it goes by.
 pub struct Judge {
@@ -141,6 +51,27 @@ pub struct Judge {
     pub codes: Option<Codes>,
     /// Which certificates are revoked, if that is looked at.
     pub revocation: Option<Revocations>,
+    /// Which values the `verstat` parameter has.
+    pub verstat: Verstat,
+    /// Where calls are recorded, if they are.
+    pub record: Option<Record>,
+    /// What is counted of today and of yesterday.
+    pub today: Today,
+}
+
+/// A call as it came.
+#[derive(Clone, Copy)]
+struct Case<'a> {
+    message: &'a [u8],
+    moment: u64,
+    aim: Aim,
+}
+
+/// What is wanted of a call.
+#[derive(Clone, Copy, PartialEq, Eq)]
+enum Aim {
+    Verdict,
+    Explanation,
 }
 
 /// What is said of a call.
@@ -148,12 +79,31 @@ struct Ruled {
     verdict: Verdict,
     /// Why it breaks the rule on signatures of certificates, if that is known.
     spoilt: Option<Spoilt>,
+    about: About,
+    spent: Spent,
+    /// The call, if it breaks no rule.
+    passing: Option<Passing>,
+    explanation: Option<Explanation>,
 }
 
+/// A call with its chains, and which of its questions were confirmed.
+struct Passing {
+    call: Call,
+    good: Vec<bool>,
+}
+
+/// What is said of a call, and how its certificates came.
+type Said = Result<(Ruled, Option<Certificates>), Unsaid>;
+
 impl Ruled {
-    /// A verdict without regard to certificates.
-    fn early(verdict: Verdict) -> Ruled {
-        Ruled { verdict, spoilt: None }
+    /// What is said of a message that can't be read.
+    fn unread(call: &mut Call, aim: Aim) -> Result<Ruled, Error> {
+        let explanation = match aim {
+            Aim::Explanation => Some(call.explain(1, &[])?),
+            Aim::Verdict => None,
+        };
+        let (verdict, about, spent) = (call.early(), About::default(), Spent::default());
+        Ok(Ruled { verdict, spoilt: None, about, spent, passing: None, explanation })
     }
 }
 
@@ -175,98 +125,158 @@ enum Unsaid {
     Signature(#[from] Unanswered),
 }
 
-/// The number of the rule on what is no INVITE.
-const MESSAGE: u32 = 1;
+/// Whether a message can't be read, or is no INVITE: rule 1.
+fn is_unread(call: &Call) -> bool {
+    matches!(call.early(), Verdict::Refused(Refused { rule: 1, .. }))
+}
 
 impl Judge {
     /// What comes of an INVITE that came at this moment.
     pub async fn judge(&self, message: &[u8], moment: u64) -> Judged {
-        let reached = match (&self.fetching, &self.codes) {
-            (None, None) => self.verdict(message, moment).map(|ruled| (ruled, None)),
-            _ => self.reached(message, moment).await,
-        };
+        let said = self.said(Case { message, moment, aim: Aim::Verdict }).await;
+        self.came_of(said, moment).await
+    }
+
+    /// What comes of a call of this moment, of which this is said.
+    async fn came_of(&self, said: Said, moment: u64) -> Judged {
         let call = next(&self.numbers);
-        let certificates = reached.as_ref().ok().and_then(|(_, certificates)| *certificates);
-        let spoilt = reached.as_ref().ok().and_then(|(ruled, _)| ruled.spoilt);
-        let outcome = match reached.map(|(ruled, certificates)| (ruled.verdict, certificates)) {
-            Ok((Verdict::Refused(Refused { rule, code, field, part }), _)) => {
-                Outcome::Refused { rule, code, field, part }
+        let mut judged = match said {
+            Ok((ruled, certificates)) => {
+                let judged = self.claimed(call, ruled, moment).await;
+                Judged { certificates, ..judged }
             }
-            Ok((Verdict::Passes(Passes { last, .. }), _))
-                if self.latest.as_ref().is_some_and(|it| it.leaves_behind(moment, last)) =>
-            {
-                Outcome::Unjudged
-            }
-            Ok((Verdict::Passes(Passes { ticket, last }), _)) => {
-                let timer = self.metrics.claims.start_timer();
-                let claim = self.tickets.claim(ticket, Passed { last, number: call }, moment);
-                let claim = claim.await;
-                timer.observe_duration();
-                match claim {
-                    Claim::Won => Outcome::Valid,
-                    Claim::Lost { winner } => Outcome::Replay { winner },
-                    Claim::Forgotten | Claim::Unable => Outcome::Unjudged,
-                }
-            }
-            Err(_) => Outcome::Unjudged,
+            Err(_) => Judged::new(call, Outcome::Unjudged),
         };
-        self.metrics.count(&outcome);
-        if spoilt.is_some() {
+        self.metrics.count(&judged.outcome);
+        let codes = judged.signer().map(|signer| &signer.codes[..]);
+        self.today.count(&judged.outcome, &SignedBy::of(codes));
+        if judged.spoilt.is_some() {
             self.metrics.revocation.calls.inc();
         }
-        Judged { call, outcome, certificates, spoilt }
+        if let Some(record) = &self.record {
+            judged.json = record.put(&judged, moment);
+        }
+        judged
+    }
+
+    /// Which rules an INVITE meets that came at this moment, with certificates as a call gets them.
+    /// No ticket is claimed, and no call is counted. Nothing is said if memory runs out.
+    pub async fn explain(&self, message: &[u8], moment: u64) -> Option<Explained> {
+        let said = self.said(Case { message, moment, aim: Aim::Explanation }).await;
+        let (ruled, certificates) = said.ok()?;
+        let outcome = match ruled.verdict {
+            Verdict::Passes(_) => Outcome::Valid,
+            Verdict::Refused(refused) => refused.into(),
+        };
+        let explanation = ruled.explanation?;
+        let attest = ruled.about.passports.first().and_then(Passport::attest);
+        let (verstat, spoilt) = (outcome.verstat_in(self.verstat, attest), ruled.spoilt);
+        let judged =
+            Judged { certificates, verstat, spoilt, about: ruled.about, ..Judged::new(0, outcome) };
+        Some(Explained { judged, explanation })
+    }
+
+    /// What is said of a call, and how its certificates came.
+    async fn said(&self, case: Case<'_>) -> Said {
+        match (&self.fetching, &self.codes) {
+            (None, None) => self.verdict(case).map(|ruled| (ruled, None)),
+            _ => self.reached(case).await,
+        }
+    }
+
+    /// What comes of a call of which this is said: a call that passes claims its ticket.
+    async fn claimed(&self, call: u64, ruled: Ruled, moment: u64) -> Judged {
+        let Ruled { verdict, spoilt, about, mut spent, .. } = ruled;
+        let (outcome, ticket) = match verdict {
+            Verdict::Refused(refused) => (refused.into(), None),
+            Verdict::Passes(Passes { ticket, last }) => {
+                let begun = Instant::now();
+                let outcome = self.claim(ticket, Passed { last, number: call }, moment).await;
+                spent.claim = begun.elapsed();
+                (outcome, Some(ticket))
+            }
+        };
+        let attest = about.passports.first().and_then(Passport::attest);
+        let verstat = outcome.verstat_in(self.verstat, attest);
+        Judged { verstat, spoilt, about, ticket, spent, ..Judged::new(call, outcome) }
+    }
+
+    /// What comes of a call with this ticket.
+    async fn claim(&self, ticket: [u8; 32], passed: Passed, moment: u64) -> Outcome {
+        if self.latest.as_ref().is_some_and(|it| it.leaves_behind(moment, passed.last)) {
+            return Outcome::Unjudged;
+        }
+        let timer = self.metrics.claims.start_timer();
+        let claim = self.tickets.claim(ticket, passed, moment).await;
+        timer.observe_duration();
+        match claim {
+            Claim::Won => Outcome::Valid,
+            Claim::Lost { winner } => Outcome::Replay { winner },
+            Claim::Forgotten | Claim::Unable => Outcome::Unjudged,
+        }
     }
 
     /// What the rules say of a message, or of the same with its lists split.
-    fn verdict(&self, message: &[u8], moment: u64) -> Result<Ruled, Unsaid> {
+    fn verdict(&self, case: Case<'_>) -> Result<Ruled, Unsaid> {
         let world = self.world.load();
-        let Some(split) = self.split.then(|| split::lists(message)).flatten() else {
-            return self.ruled(&world, message, moment);
+        let Some(split) = self.split.then(|| split::lists(case.message)).flatten() else {
+            return self.ruled(&world, case);
         };
         // A place in a message that can't be read is one in what came.
-        let early = world.call(moment, message)?.early();
-        if matches!(early, Verdict::Refused(Refused { rule: MESSAGE, .. })) {
-            return Ok(Ruled::early(early));
+        let mut call = world.call(case.moment, case.message)?;
+        if is_unread(&call) {
+            return Ok(Ruled::unread(&mut call, case.aim)?);
         }
         self.metrics.split.inc();
-        self.ruled(&world, &split, moment)
+        self.ruled(&world, Case { message: &split, ..case })
     }
 
     /// What the rules say: asked with each answer taken for good; and if an answer isn't, judged by
     /// those that are.
-    fn ruled(&self, world: &World, message: &[u8], moment: u64) -> Result<Ruled, Unsaid> {
+    fn ruled(&self, world: &World, case: Case<'_>) -> Result<Ruled, Unsaid> {
         let start = Instant::now();
-        let (mut call, mut spoilt) = (world.call(moment, message)?, AllSpoilt::new());
+        let (mut call, mut handed) = (world.call(case.moment, case.message)?, Handed::default());
         for index in 0..call.passports() {
             if let Some(listed) = world.listed(&call.x5u(index)?) {
-                self.hand_in(&mut call, index, listed, moment, &mut spoilt)?;
+                self.hand_in(&mut call, index, listed, case.moment, &mut handed)?;
             }
         }
-        self.settled(&mut call, start, &spoilt)
+        self.settled(call, case.aim, start, &handed)
     }
 
-    /// What comes of a call that has its chains, of which this is spoilt. The work on it began at
-    /// this moment.
+    /// What comes of a call that has its chains, of which these were handed in. The work on it
+    /// began at this moment.
     fn settled(
         &self,
-        call: &mut Call,
+        mut call: Call,
+        aim: Aim,
         start: Instant,
-        spoilt: &AllSpoilt,
+        handed: &Handed,
     ) -> Result<Ruled, Unsaid> {
         let asked = call.questions()?;
         let confirming = Instant::now();
-        self.metrics.spend(Part::Ask, confirming - start);
         let answers = asked.questions.iter().map(|question| self.verifier.answer(question));
         let good = answers.collect::<Result<Vec<bool>, Unanswered>>()?;
         let judging = Instant::now();
-        self.metrics.spend(Part::Confirm, judging - confirming);
-        if good.iter().all(|good| *good) {
-            let spoilt = spoilt::why(call, &asked.if_all, spoilt)?;
-            return Ok(Ruled { verdict: asked.if_all, spoilt });
-        }
-        let verdict = call.judge(&good)?;
-        self.metrics.spend(Part::Judge, judging.elapsed());
-        Ok(Ruled { verdict, spoilt: spoilt::why(call, &verdict, spoilt)? })
+        let (ask, confirm) = (confirming - start, judging - confirming);
+        let mut spent = Spent { ask, confirm, ..Spent::default() };
+        let verdict = if good.iter().all(|good| *good) {
+            asked.if_all
+        } else {
+            let verdict = call.judge(&good)?;
+            spent.judge = judging.elapsed();
+            verdict
+        };
+        self.metrics.spend(&spent);
+        let spoilt = spoilt::why(&mut call, &verdict, handed)?;
+        let explanation = match aim {
+            Aim::Explanation => Some(call.explain(1, &good)?),
+            Aim::Verdict => None,
+        };
+        let about = About::of(&mut call, &verdict, handed, self.record.is_some())?;
+        let passes = matches!(verdict, Verdict::Passes(_));
+        let passing = passes.then_some(Passing { call, good });
+        Ok(Ruled { verdict, spoilt, about, spent, passing, explanation })
     }
 }
 
@@ -279,13 +289,5 @@ mod tests {
         let numbers = AtomicU64::new(u64::MAX - 2);
         let given = [(); 3].map(|()| next(&numbers));
         assert_eq!(given, [u64::MAX - 1, u64::MAX, u64::MAX]);
-    }
-
-    #[test]
-    fn a_call_that_isnt_valid_has_a_reason() {
-        let refused = Outcome::Refused { rule: 9, code: 403, field: 1, part: 0 };
-        assert_eq!((refused.verstat(), refused.reason()), ("TN-Validation-Failed", "Stale Date"));
-        assert_eq!((Outcome::Valid.verstat(), Outcome::Valid.code()), ("TN-Validation-Passed", 0));
-        assert_eq!(Outcome::Unjudged.verstat(), "No-TN-Validation");
     }
 }

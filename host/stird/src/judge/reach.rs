@@ -1,12 +1,12 @@
 //! A call that may have to be reached for: by certificates that are fetched for it, or by codes
 //! that aren't in the table.
-use super::spoilt::AllSpoilt;
-use super::{Judge, Ruled, Unsaid, MESSAGE};
+use super::spoilt::Handed;
+use super::{is_unread, Case, Judge, Ruled, Unsaid};
 use crate::codes::{Used, Wants};
 use crate::fetching::{Came, Certificates};
 use crate::files::{Ground, World};
 use std::sync::Arc;
-use std::time::Instant;
+use std::time::{Duration, Instant};
 use stir::{Call, Refused, Verdict};
 use stir_trust::cache::{Entry, Miss};
 use stir_trust::split;
@@ -15,13 +15,6 @@ use stir_trust::split;
 /// that the leaf covers the number (docs/RULES.md).
 const WITHIN: u32 = 14;
 const COVERS: u32 = 17;
-
-/// A call as it came.
-#[derive(Clone, Copy)]
-struct Case<'a> {
-    message: &'a [u8],
-    moment: u64,
-}
 
 /// A call with what is known of its x5us.
 struct Sight {
@@ -58,32 +51,38 @@ impl Judge {
     /// that are to be fetched, of a call that keeps rules 1 to 9; the files may change meanwhile.
     pub(super) async fn reached(
         &self,
-        message: &[u8],
-        moment: u64,
+        case: Case<'_>,
     ) -> Result<(Ruled, Option<Certificates>), Unsaid> {
-        let split = self.split.then(|| split::lists(message)).flatten();
+        let split = self.split.then(|| split::lists(case.message)).flatten();
         if split.is_some() {
             // A place in a message that can't be read is one in what came.
-            let early = self.world.load().call(moment, message)?.early();
-            if matches!(early, Verdict::Refused(Refused { rule: MESSAGE, .. })) {
-                return Ok((Ruled::early(early), None));
+            let mut call = self.world.load().call(case.moment, case.message)?;
+            if is_unread(&call) {
+                return Ok((Ruled::unread(&mut call, case.aim)?, None));
             }
             self.metrics.split.inc();
         }
-        let case = Case { message: split.as_deref().unwrap_or(message), moment };
-        let mut came = Came::default();
+        let case = Case { message: split.as_deref().unwrap_or(case.message), ..case };
+        let (mut came, mut waited) = (Came::default(), Duration::ZERO);
         let mut said = match self.by_map(case)? {
             Ok(said) => said,
             Err(sight) => {
+                let begun = Instant::now();
                 let (sight, brought) = self.brought(case, sight).await?;
+                waited = begun.elapsed();
                 came = brought;
                 self.by_sight(case, sight, false)?
             }
         };
+        let begun = Instant::now();
         if self.adopted(&said).await? {
+            waited += begun.elapsed();
             let sight = self.sight(case, &came)?;
-            said = Said { certificates: said.certificates, ..self.by_sight(case, sight, true)? };
+            let mut again = self.by_sight(case, sight, true)?;
+            again.ruled.spent = again.ruled.spent.and(said.ruled.spent);
+            said = Said { certificates: said.certificates, ..again };
         }
+        said.ruled.spent.wait = waited;
         Ok((said.ruled, said.certificates))
     }
 
@@ -92,13 +91,13 @@ impl Judge {
     fn by_map(&self, case: Case<'_>) -> Result<Result<Said, Sight>, Unsaid> {
         let start = Instant::now();
         let world = self.world.load();
-        let (mut call, mut spoilt) = (world.call(case.moment, case.message)?, AllSpoilt::new());
+        let (mut call, mut handed) = (world.call(case.moment, case.message)?, Handed::default());
         let mut certificates = (call.passports() > 0).then_some(Certificates::Held);
         for index in 0..call.passports() {
             let x5u = call.x5u(index)?;
             match world.listed(&x5u) {
                 Some(listed) => {
-                    self.hand_in(&mut call, index, listed, case.moment, &mut spoilt)?;
+                    self.hand_in(&mut call, index, listed, case.moment, &mut handed)?;
                 }
                 None if world.lists(&x5u) || self.fetching.is_none() => certificates = None,
                 None => {
@@ -108,18 +107,15 @@ impl Judge {
             }
         }
         let certificates = certificates.filter(|_| self.fetching.is_some());
-        let passports = call.passports();
+        let x5us = if self.codes.is_some() { call.x5us()? } else { Vec::new() };
         let mut said = Said {
-            ruled: self.settled(&mut call, start, &spoilt)?,
+            ruled: self.settled(call, case.aim, start, &handed)?,
             certificates,
             used: Vec::new(),
             extended: None,
         };
         if self.may_extend(&said.ruled.verdict) {
-            for index in 0..passports {
-                let x5u = call.x5u(index)?;
-                said.used.extend(used(&world, x5u));
-            }
+            said.used.extend(x5us.into_iter().filter_map(|x5u| used(&world, x5u)));
         }
         Ok(Ok(said))
     }
@@ -185,7 +181,7 @@ impl Judge {
             }
             None => world.ground(),
         };
-        let (mut chains, mut spoilt) = (Vec::with_capacity(places.len()), AllSpoilt::new());
+        let (mut chains, mut handed) = (Vec::with_capacity(places.len()), Handed::default());
         for (index, (x5u, place)) in places.iter().enumerate() {
             let chain = match place {
                 Place::Map(Some(used)) if extended.is_none() => Some(used.clone()),
@@ -203,11 +199,11 @@ impl Judge {
                 },
             };
             if let Some(used) = chain {
-                self.hand_in(&mut call, index, &used.chain, case.moment, &mut spoilt)?;
+                self.hand_in(&mut call, index, &used.chain, case.moment, &mut handed)?;
                 chains.push(used);
             }
         }
-        let ruled = self.settled(&mut call, start, &spoilt)?;
+        let ruled = self.settled(call, case.aim, start, &handed)?;
         let certificates = places.iter().filter_map(|(_, place)| place.certificates());
         let certificates = certificates.reduce(Certificates::and);
         let used = if self.may_extend(&ruled.verdict) { chains } else { Vec::new() };

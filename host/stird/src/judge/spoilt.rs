@@ -1,7 +1,8 @@
 //! Signatures of certificates that aren't taken for good, whatever OpenSSL says of them.
 use super::{Judge, Unsaid};
-use crate::files::{Listed, Revocation};
+use crate::files::{Listed, Revocation, Signer};
 use std::fmt::{self, Display, Formatter};
+use std::sync::Arc;
 use stir::{Call, Refused, Verdict};
 use stir_trust::revocation::{moment, Revoked};
 use stir_trust::Unanswered;
@@ -34,8 +35,22 @@ impl Display for Spoilt {
     }
 }
 
-/// What is spoilt in the chains of a call, each with the number of its PASSporT.
-pub(super) type AllSpoilt = Vec<(usize, Spoilt)>;
+/// What was handed in of a call, each with the number of its PASSporT.
+#[derive(Default)]
+pub(super) struct Handed {
+    /// What is spoilt in its chains.
+    spoilt: Vec<(usize, Spoilt)>,
+    /// Who its chains say that their holders are.
+    signers: Vec<(usize, Arc<Signer>)>,
+}
+
+impl Handed {
+    /// Who the chain of a PASSporT says that its holder is, if it is there.
+    pub fn signer(&self, index: usize) -> Option<Arc<Signer>> {
+        let found = self.signers.iter().find(|(of, _)| *of == index);
+        found.map(|(_, signer)| Arc::clone(signer))
+    }
+}
 
 impl Judge {
     /// Hands in the chain of a PASSporT, with what is good of its signatures. Revocation is looked
@@ -46,8 +61,10 @@ impl Judge {
         index: usize,
         listed: &Listed,
         moment: u64,
-        spoilt: &mut AllSpoilt,
+        handed: &mut Handed,
     ) -> Result<(), Unsaid> {
+        handed.signers.push((index, listed.signer()?));
+        let spoilt = &mut handed.spoilt;
         if let Some(revocation) = &self.revocation {
             let revocation = revocation.load();
             if let Some(ended) = revocation.refuses_since(moment) {
@@ -98,11 +115,12 @@ impl Judge {
 pub(super) fn why(
     call: &mut Call,
     verdict: &Verdict,
-    spoilt: &AllSpoilt,
+    handed: &Handed,
 ) -> Result<Option<Spoilt>, stir::Error> {
     let Verdict::Refused(Refused { rule: SIGNATURES, field, part, .. }) = verdict else {
         return Ok(None);
     };
+    let spoilt = &handed.spoilt;
     if spoilt.is_empty() {
         return Ok(None);
     }

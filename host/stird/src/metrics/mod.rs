@@ -1,27 +1,23 @@
 //! What is counted, for Prometheus.
+mod clients;
 mod fetches;
+mod keys;
+mod records;
 mod revocation;
+mod signers;
 
+pub use clients::{Clients, Signing};
 pub use fetches::{Fetches, Waited};
+pub use keys::Keys;
+pub use records::Records;
 pub use revocation::Revocation;
+pub use signers::SignerCalls;
 
-use crate::judge::Outcome;
+use crate::judge::{Outcome, Spent};
 use prometheus::{
     Counter, CounterVec, Encoder, Error, Histogram, HistogramOpts, IntCounter, IntCounterVec,
     IntGauge, IntGaugeVec, Opts, Registry, TextEncoder,
 };
-use std::time::Duration;
-
-/// The parts of the work on a call.
-#[derive(Clone, Copy)]
-pub enum Part {
-    /// Reading it, and asking what is to be confirmed.
-    Ask,
-    /// ES256.
-    Confirm,
-    /// Judging it by what wasn't confirmed.
-    Judge,
-}
 
 /// The greatest number of a rule, and that of the rule on replays, which are counted apart
 /// (docs/RULES.md).
@@ -47,6 +43,10 @@ pub struct Metrics {
     pub claims: Histogram,
     signed: IntCounter,
     unsigned: IntCounter,
+    /// What is counted of clients that have calls signed.
+    pub clients: Clients,
+    /// Calls that pass and can't go on to their target.
+    pub held: IntCounter,
     /// Requests that were refused.
     pub bad_requests: IntCounter,
     /// Connections past the most that there may be.
@@ -67,6 +67,8 @@ pub struct Metrics {
     pub lost_lines: IntGauge,
     /// Tickets that are held in memory.
     pub tickets: IntGauge,
+    /// 1 if tickets can be kept, and 0 if not.
+    pub tickets_kept: IntGauge,
     /// Chains that are listed and there.
     pub chains: IntGauge,
     /// Files of the chain map that are missing.
@@ -85,6 +87,12 @@ pub struct Metrics {
     pub fetches: Fetches,
     /// What is counted of revocation lists.
     pub revocation: Revocation,
+    /// What is counted of keys in HSMs.
+    pub keys: Keys,
+    /// What is counted of the record of calls.
+    pub records: Records,
+    /// Calls by who signed them.
+    pub signers: SignerCalls,
 }
 
 /// The metrics of a registry, as they are made.
@@ -161,6 +169,11 @@ impl Metrics {
                 "stir_unsigned_total",
                 "Calls that weren't, since their number isn't signed for or they can't be.",
             )?,
+            clients: Clients::new(&maker)?,
+            held: maker.counter(
+                "stir_held_total",
+                "Calls that pass and can't go on to their target; nobody claimed their tickets.",
+            )?,
             bad_requests: maker.counter(
                 "stir_bad_requests_total",
                 "Requests that were refused for their form, size, time or sender.",
@@ -196,6 +209,8 @@ impl Metrics {
                 "Lines of the log that were lost, since the start.",
             )?,
             tickets: maker.gauge("stir_tickets", "Tickets that are held in memory.")?,
+            tickets_kept: maker
+                .gauge("stir_tickets_kept", "1 if tickets can be kept, and 0 if not.")?,
             chains: maker
                 .gauge("stir_chains", "Chains of certificates that are listed and there.")?,
             missing: maker
@@ -217,6 +232,9 @@ impl Metrics {
             )?,
             fetches: Fetches::new(&maker)?,
             revocation: Revocation::new(&maker)?,
+            keys: Keys::new(&maker)?,
+            records: Records::new(&maker)?,
+            signers: SignerCalls::new(&maker)?,
             registry: maker.0,
         })
     }
@@ -234,14 +252,12 @@ impl Metrics {
         counter.inc();
     }
 
-    /// A part of the work took this time.
-    pub fn spend(&self, part: Part, time: Duration) {
-        match part {
-            Part::Ask => &self.ask,
-            Part::Confirm => &self.confirm,
-            Part::Judge => &self.judge,
+    /// The parts of the work on a call took these times.
+    pub fn spend(&self, spent: &Spent) {
+        let times = [(&self.ask, spent.ask), (&self.confirm, spent.confirm)];
+        for (counter, time) in times.into_iter().chain([(&self.judge, spent.judge)]) {
+            counter.inc_by(time.as_secs_f64());
         }
-        .inc_by(time.as_secs_f64());
     }
 
     /// A call was to be signed.

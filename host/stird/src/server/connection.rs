@@ -1,11 +1,11 @@
 //! A connection: its requests read, answered, and its end.
 use crate::answers::Answer;
+use crate::clients::Peer;
 use crate::routes::{Door, Request};
 use crate::server::guard::{Guard, Talk};
 use crate::server::places::{Doing, Place};
 use crate::server::stream::Stream;
 use crate::server::{Server, MOST_BODY, MOST_HEAD};
-use crate::tokens::Peer;
 use bytes::{Bytes, BytesMut};
 use hyper::body::HttpBody;
 use hyper::header::{AUTHORIZATION, CONNECTION, CONTENT_LENGTH, HOST, TRANSFER_ENCODING};
@@ -16,6 +16,12 @@ use std::convert::Infallible;
 use std::future::{poll_fn, Future};
 use std::pin::Pin;
 use std::sync::Arc;
+use std::time::Duration;
+use tokio::sync::watch;
+use tokio::time::sleep;
+
+/// How long a connection without a request stays after the service was told to end.
+const LAST: Duration = Duration::from_millis(250);
 
 type Answered = Pin<Box<dyn Future<Output = Result<Response<Body>, Infallible>> + Send>>;
 
@@ -26,7 +32,7 @@ pub async fn serve(stream: Stream, peer: Peer, place: Place, server: Arc<Server>
     let (heard, answers) = (Arc::clone(&talk), Arc::clone(&server));
     let service = service_fn(move |request: hyper::Request<Body>| -> Answered {
         heard.head_came(request.body().size_hint().exact());
-        let (talk, server) = (Arc::clone(&heard), Arc::clone(&answers));
+        let (talk, server, peer) = (Arc::clone(&heard), Arc::clone(&answers), peer.clone());
         Box::pin(async move { Ok(answer(request, peer, &talk, &server).await.response()) })
     });
     let mut connection = Http::new()
@@ -42,7 +48,7 @@ pub async fn serve(stream: Stream, peer: Peer, place: Place, server: Arc<Server>
             biased;
             done = poll_fn(|context| connection.poll_without_shutdown(context)) => break done,
             () = place.seat.leave.notified(), if !is_closing => {}
-            _ = ending.changed(), if !is_closing => {}
+            () = ended(&mut ending), if !is_closing => {}
         }
         is_closing = true;
         let has_to_wait = match place.seat.doing() {
@@ -68,11 +74,18 @@ pub async fn serve(stream: Stream, peer: Peer, place: Place, server: Arc<Server>
     parts.io.end(answer).await;
 }
 
+/// Waits for the end of the service, and a moment longer: so a request that is on its way then is
+/// answered. That answer says that it is the last one.
+async fn ended(ending: &mut watch::Receiver<bool>) {
+    let _ = ending.changed().await;
+    sleep(LAST).await;
+}
+
 /// The answer to a request; to one after which the connection ends it says so.
 async fn answer(request: hyper::Request<Body>, peer: Peer, talk: &Talk, server: &Server) -> Answer {
     let is_last = !stays(request.headers(), request.version());
     let answer = answer_of(request, peer, talk, server).await;
-    if is_last {
+    if is_last || *server.ending.borrow() {
         answer.last()
     } else {
         answer
@@ -128,6 +141,7 @@ async fn answer_of(
         moment,
         key: field("idempotency-key").or_else(|| field("x-requestid")),
         authorization: field(AUTHORIZATION.as_str()),
+        host: field(HOST.as_str()),
         method: head.method,
         peer,
     };

@@ -343,7 +343,7 @@ mod tests {
         far.write_all(bytes).await.expect("they are sent");
         let talk = Arc::new(Talk::new(Arc::new(Seat::new(std::time::Instant::now()))));
         let wait = Duration::from_millis(50);
-        let times = Times { request: wait, idle: 2 * wait };
+        let times = Times { request: wait, idle: 2 * wait, drain: wait };
         (Guard::new(Stream::Unix(near), Arc::clone(&talk), times), talk, far)
     }
 

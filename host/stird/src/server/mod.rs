@@ -1,8 +1,10 @@
 //! HTTP/1.1 by hyper: listeners, connections, and the limits on both.
+mod accepting;
 mod connection;
 mod date;
 mod doors;
 mod guard;
+mod handed;
 mod hands;
 mod head;
 mod places;
@@ -10,6 +12,7 @@ mod stream;
 mod tls;
 
 pub use doors::{Doors, DoorsError};
+pub use handed::Handed;
 pub use hands::Hands;
 pub use places::{Places, AT_ONCE};
 pub use tls::{Acceptor, TlsError};
@@ -31,6 +34,8 @@ pub struct Times {
     pub request: Duration,
     /// A connection may be so long without a request.
     pub idle: Duration,
+    /// What is under way at the end may take so long.
+    pub drain: Duration,
 }
 
 /// What each connection needs.

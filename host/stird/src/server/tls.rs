@@ -1,4 +1,5 @@
 //! TLS over TCP, by OpenSSL.
+use crate::clients::Shown;
 use crate::files::{whole, FileFault};
 use crate::settings::Tls;
 use arc_swap::ArcSwap;
@@ -121,13 +122,16 @@ impl Acceptor {
         Ok(())
     }
 
-    /// Greets a client, and whether it has shown a certificate that is trusted.
-    pub(super) async fn accept(&self, stream: TcpStream) -> Option<(SslStream<TcpStream>, bool)> {
+    /// Greets a client, and says which certificate it has shown that is trusted.
+    pub(super) async fn accept(
+        &self,
+        stream: TcpStream,
+    ) -> Option<(SslStream<TcpStream>, Option<Shown>)> {
         let ssl = Ssl::new(self.inner.load().context()).ok()?;
         let mut stream = SslStream::new(ssl, stream).ok()?;
         Pin::new(&mut stream).accept().await.ok()?;
-        let is_certified =
-            self.files.clients.is_some() && stream.ssl().peer_certificate().is_some();
-        Some((stream, is_certified))
+        let certificate = stream.ssl().peer_certificate().filter(|_| self.files.clients.is_some());
+        let shown = certificate.and_then(|certificate| Shown::of(&certificate));
+        Some((stream, shown))
     }
 }

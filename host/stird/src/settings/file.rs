@@ -41,6 +41,9 @@ pub enum ConfigError {
     },
 }
 
+/// The options that a file can't have.
+const COMMAND_LINE: [&str; 3] = ["completion", "config", "help"];
+
 /// The words of a file, but those of options that `is_given` has already.
 pub(super) fn words(
     path: &Path,
@@ -56,7 +59,7 @@ pub(super) fn words(
     let mut words = Vec::new();
     for (name, value) in lines {
         let option = options.get_arguments().find(|option| {
-            option.get_long() == Some(name.as_str()) && name != "config" && name != "help"
+            option.get_long() == Some(name.as_str()) && !COMMAND_LINE.contains(&name.as_str())
         });
         let Some(option) = option else {
             return Err(ConfigError::Unknown { path: path.into(), name });

@@ -7,6 +7,8 @@ pub use words::{Form, Listen};
 
 use crate::fetching;
 use crate::files::{Anchors, Codes, Ended, HostFiles, ListFiles, Sources};
+use crate::judge::Verstat;
+use crate::record;
 use clap::parser::ValueSource;
 use clap::{CommandFactory, FromArgMatches};
 use std::ffi::OsString;
@@ -14,10 +16,13 @@ use std::path::PathBuf;
 use std::time::Duration;
 use stir::Settings as Rules;
 use stir_trust::fetch::Reach;
-use words::{Choice, EndedList, Moments, TrustedCodes, Words};
+use words::{Choice, EndedList, Moments, NumbersForm, TrustedCodes, VerstatForm, Words};
 
 /// The version of the project.
 pub const VERSION: &str = include_str!("../../../../VERSION").trim_ascii();
+
+/// How long the stores of tickets, and what else a call needs, may take at most.
+const STORES: Duration = Duration::from_secs(4);
 
 /// What is ordered.
 #[derive(Debug)]
@@ -48,6 +53,8 @@ pub struct Settings {
     pub ordered_moments: bool,
     /// Whether lists in P-Asserted-Identity are split.
     pub split: bool,
+    /// Which values the `verstat` parameter has.
+    pub verstat: Verstat,
     /// The file in which tickets are kept.
     pub journal: Option<PathBuf>,
     /// Whether a call is answered after its ticket is on the disk.
@@ -72,6 +79,14 @@ pub struct Settings {
     pub signing: Option<PathBuf>,
     /// The tokens of those that may have calls signed.
     pub signing_tokens: Option<PathBuf>,
+    /// The clients that may have some calls signed.
+    pub signing_clients: Option<PathBuf>,
+    /// Whether without both calls are signed for this host over TCP too.
+    pub signs_locally: bool,
+    /// How calls are recorded, if they are.
+    pub record: Option<record::Order>,
+    /// Whether there is a page to look at.
+    pub page: bool,
     /// The form of what is told, and the file for it.
     pub log: Form,
     /// The file for it; standard error if there is none.
@@ -107,19 +122,25 @@ pub enum SettingsError {
     /// The words aren't those of the options; or help, or the version, is wanted.
     #[error("{0}")]
     Words(#[from] clap::Error),
+    /// No start is wanted, but this completion of the words for a shell.
+    #[error("a completion is wanted")]
+    Completion(String),
     /// The file of settings can't be taken.
     #[error("{0}")]
     File(#[from] ConfigError),
     /// There are no trust anchors.
     #[error("--anchors is missing, or --roots")]
     NoAnchors,
+    /// Numbers are to be hashed, and there is no key.
+    #[error("--record-key is missing, by which numbers are hashed")]
+    NoRecordKey,
 }
 
 /// What these words order, and the file of settings that they name.
 ///
 /// # Errors
 ///
-/// They can't be taken; or help, or the version, is wanted.
+/// They can't be taken; or help, the version, or a completion is wanted.
 ///
 /// ```
 /// use stird::settings::{read, Listen};
@@ -145,8 +166,19 @@ pub fn read(words: impl IntoIterator<Item = OsString>) -> Result<Settings, Setti
         let is_given = |id: &str| given.value_source(id) == Some(ValueSource::CommandLine);
         words.extend(file::words(path, &options, is_given)?);
     }
-    let matches = options.try_get_matches_from(words)?;
-    Settings::of(Words::from_arg_matches(&matches)?)
+    let matches = options.clone().try_get_matches_from(words)?;
+    let words = Words::from_arg_matches(&matches)?;
+    match words.completion {
+        Some(shell) => Err(SettingsError::Completion(completion(options, shell))),
+        None => Settings::of(words),
+    }
+}
+
+/// The completion of these words for a shell.
+fn completion(mut options: clap::Command, shell: clap_complete::Shell) -> String {
+    let mut script = Vec::new();
+    clap_complete::generate(shell, &mut options, "stird", &mut script);
+    String::from_utf8_lossy(&script).into_owned()
 }
 
 impl Settings {
@@ -162,8 +194,31 @@ impl Settings {
         }
     }
 
+    /// Whether calls would be signed, but nobody could ask for that.
+    pub fn signs_for_nobody(&self) -> bool {
+        // What systemd hands over may be a Unix socket.
+        let may_be = |listen: &Listen| matches!(listen, Listen::Unix(_) | Listen::Systemd);
+        let has_socket = self.listen.iter().any(may_be);
+        let has_lists = self.signing_tokens.is_some() || self.signing_clients.is_some();
+        let is_reached = has_lists || has_socket || self.signs_locally;
+        self.signing.is_some() && !is_reached && !self.asks_for_certificates()
+    }
+
+    /// Whether clients over TLS are asked for a certificate.
+    pub fn asks_for_certificates(&self) -> bool {
+        self.tls.as_ref().is_some_and(|tls| tls.clients.is_some())
+    }
+
+    /// How long what is under way at the end may take: a request has to come, its certificates and
+    /// its ticket may be waited for, and its answer has to go.
+    pub fn drain(&self) -> Duration {
+        let wait = self.fetch.as_ref().map_or(Duration::ZERO, |fetch| fetch.order.limit);
+        self.request * 2 + wait + STORES
+    }
+
     fn of(words: Words) -> Result<Settings, SettingsError> {
         let (fetch, revocation) = (fetch(&words), revocation(&words));
+        let record = record(&words)?;
         let anchors = match (words.anchors, words.roots) {
             (Some(path), _) => Anchors::Der(path),
             (None, Some(path)) => Anchors::Pem(path),
@@ -197,6 +252,10 @@ impl Settings {
             asked_moments: matches!(words.moments, Moments::Asked | Moments::Ordered),
             ordered_moments: matches!(words.moments, Moments::Ordered),
             split: matches!(words.split, Choice::Yes),
+            verstat: match words.verstat {
+                VerstatForm::Plain => Verstat::Plain,
+                VerstatForm::Letter => Verstat::Letter,
+            },
             journal: words.journal,
             sync: matches!(words.sync, Choice::Yes),
             redis: words.redis,
@@ -209,6 +268,10 @@ impl Settings {
             reload: words.reload,
             signing: words.signing,
             signing_tokens: words.signing_tokens,
+            signing_clients: words.signing_clients,
+            signs_locally: matches!(words.signing_local, Choice::Yes),
+            record,
+            page: matches!(words.page, Choice::Yes),
             log: words.log,
             log_file: words.log_file,
         })
@@ -223,6 +286,23 @@ fn revocation(words: &Words) -> Option<ListFiles> {
     };
     let (lists, signers) = (words.crl.clone(), words.crl_signer.clone());
     (!lists.is_empty()).then_some(ListFiles { lists, signers, ended })
+}
+
+/// How calls are recorded, if they are.
+fn record(words: &Words) -> Result<Option<record::Order>, SettingsError> {
+    let numbers = match (words.record_numbers, &words.record_key) {
+        (NumbersForm::Whole, _) => record::Form::Whole,
+        (NumbersForm::Short, _) => record::Form::Short,
+        (NumbersForm::Hashed, Some(key)) => record::Form::Hashed(key.clone()),
+        (NumbersForm::Hashed, None) => return Err(SettingsError::NoRecordKey),
+    };
+    Ok(words.record.as_ref().map(|path| {
+        let to = match path.as_os_str() == "-" {
+            true => record::To::Output,
+            false => record::To::File(path.clone()),
+        };
+        record::Order { to, numbers }
+    }))
 }
 
 /// How certificates are fetched, if hosts are named.
@@ -295,6 +375,45 @@ mod tests {
     }
 
     #[test]
+    fn signing_is_for_this_host_over_tcp_only_if_that_is_said() {
+        for (words, wanted) in [
+            ("", (false, true)),
+            ("--signing-local no", (false, true)),
+            ("--signing-local yes", (true, false)),
+            ("--listen unix:a", (false, false)),
+            ("--listen unix:a --listen 127.0.0.1:1", (false, false)),
+            ("--signing-clients c --signing-tokens t", (false, false)),
+            ("--signing-tokens t", (false, false)),
+            ("--tls-certificate c --tls-key k", (false, true)),
+            ("--tls-certificate c --tls-key k --tls-clients a", (false, false)),
+        ] {
+            let settings = of(&format!("--roots a --signing s {words}")).unwrap();
+            let found = (settings.signs_locally, settings.signs_for_nobody());
+            assert_eq!(found, wanted, "{words}");
+        }
+        assert!(!of("--roots a").unwrap().signs_for_nobody());
+    }
+
+    #[test]
+    fn calls_are_recorded_in_a_file_or_on_the_output_with_numbers_in_a_form() {
+        let path = |name: &str| record::To::File(name.into());
+        for (words, wanted) in [
+            ("", None),
+            ("--record-numbers short", None),
+            ("--record -", Some((record::To::Output, record::Form::Whole))),
+            ("--record f --record-numbers short", Some((path("f"), record::Form::Short))),
+            (
+                "--record f --record-numbers hashed --record-key k",
+                Some((path("f"), record::Form::Hashed("k".into()))),
+            ),
+        ] {
+            let settings = of(&format!("--roots a {words}")).unwrap();
+            let wanted = wanted.map(|(to, numbers)| record::Order { to, numbers });
+            assert_eq!(settings.record, wanted, "{words}");
+        }
+    }
+
+    #[test]
     fn certificates_are_fetched_if_hosts_are_named() {
         let settings = of("--roots a --fetch-hosts h --connections 10").unwrap();
         assert_eq!(settings.codes, Codes::Trusted);
@@ -334,13 +453,35 @@ mod tests {
             (&format!("{three} --crl a"), "--crl-signer"),
             (&format!("{three} --crl-signer a"), "--crl"),
             (&format!("{three} --crl a --crl-signer b --crl-ended stop"), "stop"),
+            (&format!("{three} --record-key a"), "--record"),
+            (&format!("{three} --record a --record-numbers hashed"), "--record-key"),
+            (&format!("{three} --verstat none"), "none"),
             (&format!("{three} --signing-tokens a"), "--signing"),
+            (&format!("{three} --signing-clients a"), "--signing"),
+            (&format!("{three} --signing-local yes"), "--signing"),
+            (&format!("{three} --signing s --signing-local maybe"), "maybe"),
+            (&format!("{three} --signing s --signing-local yes --signing-tokens t"), "--signing"),
+            (&format!("{three} --signing s --signing-clients c --signing-local yes"), "--signing"),
             (&format!("{three} --nothing a"), "--nothing"),
             (&format!("{three} a"), "'a'"),
         ] {
             let fault = of(words).err().map(|fault| fault.to_string()).unwrap_or_default();
             assert!(fault.contains(told), "{words}: {fault}");
         }
+    }
+
+    #[test]
+    fn a_completion_has_each_option_and_is_wanted_alone() {
+        for shell in ["bash", "zsh"] {
+            let told = of(&format!("--completion {shell}"));
+            let Err(SettingsError::Completion(script)) = told else { panic!("{shell}: {told:?}") };
+            for option in Words::command().get_arguments().filter(|option| !option.is_hide_set()) {
+                let name = option.get_long().unwrap_or_default();
+                assert!(script.contains(&format!("--{name}")), "{shell}: {name}");
+            }
+        }
+        let fault = of("--completion bash --roots a").expect_err("it is wanted alone");
+        assert!(fault.to_string().contains("--completion"), "{fault}");
     }
 
     #[test]
@@ -375,6 +516,7 @@ mod tests {
             ("past = 1.5", "past is a text"),
             ("pasts = 1", "pasts isn't an option"),
             ("config = 'x'", "config isn't an option"),
+            ("completion = 'bash'", "completion isn't an option"),
             ("past", "line 1"),
             ("past = 1\npast = 2", "past"),
             ("journal = 'a'\nredis = 'b'", "--redis"),

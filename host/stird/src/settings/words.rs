@@ -1,6 +1,7 @@
 //! The options, as the command line and the file of settings have them.
 use clap::builder::TypedValueParser;
 use clap::{value_parser, Parser, ValueEnum};
+use clap_complete::Shell;
 use std::path::PathBuf;
 use std::time::Duration;
 
@@ -15,7 +16,12 @@ pub(super) struct Words {
     #[arg(long, value_name = "FILE")]
     pub config: Option<PathBuf>,
 
-    /// Where to listen: HOST:PORT or unix:PATH; may be given several times
+    /// Write a completion of these words for this shell, and end
+    #[arg(long, value_name = "SHELL", exclusive = true, hide = true)]
+    pub completion: Option<Shell>,
+
+    /// Where to listen: HOST:PORT, unix:PATH, or systemd for the sockets that it hands over; may be
+    /// given several times
     #[arg(long, value_name = "ADDRESS", default_value = "127.0.0.1:8080")]
     pub listen: Vec<Listen>,
 
@@ -119,6 +125,11 @@ pub(super) struct Words {
     #[arg(long, value_name = "WHETHER", default_value = "yes")]
     pub split: Choice,
 
+    /// The values of verstat: the three of ATIS-1000074; or, of a valid call, one that ends with
+    /// the letter of its attestation
+    #[arg(long, value_name = "FORM", default_value = "plain")]
+    pub verstat: VerstatForm,
+
     /// Keep tickets over restarts in this file
     #[arg(long, value_name = "FILE", conflicts_with = "redis")]
     pub journal: Option<PathBuf>,
@@ -174,6 +185,33 @@ pub(super) struct Words {
     #[arg(long, value_name = "FILE", requires = "signing")]
     pub signing_tokens: Option<PathBuf>,
 
+    /// Sign for the clients in this file (TOML) by their tokens and certificates, for each the
+    /// numbers and the attestation that it says
+    #[arg(long, value_name = "FILE", requires = "signing")]
+    pub signing_clients: Option<PathBuf>,
+
+    /// Sign for this host over TCP too, if nobody has a token or a certificate
+    #[arg(long, value_name = "WHETHER", default_value = "no", requires = "signing",
+        conflicts_with_all = ["signing_tokens", "signing_clients"])]
+    pub signing_local: Choice,
+
+    /// Record each call that is judged in this file, or on the standard output (-)
+    #[arg(long, value_name = "FILE")]
+    pub record: Option<PathBuf>,
+
+    /// How numbers stand in the record: whole, without their last four digits, or hashed by the key
+    #[arg(long, value_name = "FORM", default_value = "whole")]
+    pub record_numbers: NumbersForm,
+
+    /// The key by which they are hashed: the bytes of this file, 16 at least
+    #[arg(long, value_name = "FILE", requires = "record")]
+    pub record_key: Option<PathBuf>,
+
+    /// Show a page at / of the counts, of certificates that end soon, and of calls explained, to
+    /// those who would be signed for
+    #[arg(long, value_name = "WHETHER", default_value = "no")]
+    pub page: Choice,
+
     /// The form of what is told
     #[arg(long, value_name = "FORM", default_value = "text")]
     pub log: Form,
@@ -190,17 +228,22 @@ pub enum Listen {
     Tcp(String),
     /// A Unix socket.
     Unix(PathBuf),
+    /// The sockets that systemd hands over.
+    Systemd,
 }
 
 impl std::str::FromStr for Listen {
     type Err = String;
 
     fn from_str(word: &str) -> Result<Listen, String> {
+        if word == "systemd" {
+            return Ok(Listen::Systemd);
+        }
         match word.strip_prefix("unix:") {
             Some("") => Err("unix: is followed by a path".into()),
             Some(path) => Ok(Listen::Unix(path.into())),
             None if word.contains(':') => Ok(Listen::Tcp(word.into())),
-            None => Err("it is HOST:PORT or unix:PATH".into()),
+            None => Err("it is HOST:PORT, unix:PATH or systemd".into()),
         }
     }
 }
@@ -232,6 +275,21 @@ pub(super) enum Moments {
     Clock,
     Asked,
     Ordered,
+}
+
+/// Which values the verstat parameter has.
+#[derive(Clone, Copy, ValueEnum)]
+pub(super) enum VerstatForm {
+    Plain,
+    Letter,
+}
+
+/// How numbers stand in the record.
+#[derive(Clone, Copy, ValueEnum)]
+pub(super) enum NumbersForm {
+    Whole,
+    Short,
+    Hashed,
 }
 
 /// The form of what is told.

@@ -1,0 +1,169 @@
+//! The key of a line of the signing table: a file in PEM, or one in an HSM.
+use super::fault::Why;
+use super::several::Files;
+use super::signing_line::BlockFault;
+use crate::lines::split;
+use std::collections::HashMap;
+use std::ffi::OsString;
+use std::path::{Path, PathBuf};
+use std::sync::Mutex;
+use stir_trust::locks::Held;
+use stir_trust::{HsmFault, Key, KeyFault, KeyUri, SignFault};
+
+/// The most bytes of a key, and of a password or a PIN.
+const MOST_KEY: usize = 49_152;
+const MOST_SECRET: usize = 4096;
+
+/// What the name of a key's file has after it for that of its password.
+const PASSWORD: &str = ".password";
+
+/// The permissions by which others may read a file, or change it (chmod(1)): the owner's group may
+/// read it.
+const OPEN: u32 = 0o027;
+
+/// Something that nobody but its owner may read.
+#[derive(Clone, Copy, Debug, PartialEq, Eq, PartialOrd, Ord)]
+pub(super) enum Secret {
+    /// A private key.
+    Key,
+    /// A password of a key, or a PIN.
+    Password,
+}
+
+/// A key of a line.
+pub(super) struct SigningKey {
+    key: Key,
+    /// As the line names it.
+    name: String,
+    /// What of it others may read or change.
+    pub open: Vec<(PathBuf, Secret)>,
+    /// Why it didn't sign the last time.
+    failing: Mutex<Option<SignFault>>,
+}
+
+impl SigningKey {
+    /// The key that a line names, by its file or by a URI. What is read for it are some of these
+    /// files.
+    pub(super) fn read(name: &str, files: &mut Files) -> Result<SigningKey, BlockFault> {
+        let mut read = Read { files, open: Vec::new() };
+        let key = match KeyUri::is_one(name) {
+            true => read.hsm(name)?,
+            false => read.pem(Path::new(name))?,
+        };
+        let (name, open, failing) = (name.into(), read.open, Mutex::default());
+        Ok(SigningKey { key, name, open, failing })
+    }
+
+    /// Its public key, as an uncompressed point.
+    pub(super) fn public(&self) -> &[u8; 65] {
+        self.key.public()
+    }
+
+    /// Whether it is in an HSM, so that signing takes as long as that does.
+    pub(super) fn is_in_hsm(&self) -> bool {
+        self.key.is_in_hsm()
+    }
+
+    /// The signature over a digest. For an HSM is waited.
+    pub(super) fn sign(&self, digest: &[u8; 32]) -> Result<[u8; 64], SignFault> {
+        let made = self.key.sign(digest);
+        let mut failing = self.failing.lock().held();
+        match &made {
+            Ok(_) => {
+                if failing.take().is_some() {
+                    tracing::warn!("{}: it signs again", self.name);
+                }
+            }
+            Err(fault) => {
+                if failing.as_ref() != Some(fault) {
+                    tracing::warn!("{}: nothing is signed with it now: {fault}", self.name);
+                }
+                *failing = Some(fault.clone());
+            }
+        }
+        made
+    }
+
+    /// Its name, and why it didn't sign the last time, if it didn't.
+    pub(super) fn failure(&self) -> Option<(&str, SignFault)> {
+        let failing = self.failing.lock().held();
+        failing.as_ref().map(|fault| (self.name.as_str(), fault.clone()))
+    }
+
+    /// It is the key of which one of these failures is told, read anew: it hasn't signed since.
+    pub(super) fn go_on_from(&self, failures: &HashMap<&str, SignFault>) {
+        if let Some(fault) = failures.get(self.name.as_str()) {
+            *self.failing.lock().held() = Some(fault.clone());
+        }
+    }
+
+    /// What is to be told of it, if it didn't sign the last time.
+    pub(super) fn note(&self) -> Option<String> {
+        let failing = self.failing.lock().held();
+        failing
+            .as_ref()
+            .map(|fault| format!("{}: it didn't sign the last time: {fault}", self.name))
+    }
+}
+
+/// Files that are read, and those of them that others may read or change.
+struct Read<'a> {
+    files: &'a mut Files,
+    open: Vec<(PathBuf, Secret)>,
+}
+
+impl Read<'_> {
+    fn file(&mut self, path: &Path, most: usize, secret: Secret) -> Result<Vec<u8>, Why> {
+        let file = self.files.read(path, most)?;
+        if file.mode & OPEN != 0 {
+            self.open.push((path.into(), secret));
+        }
+        Ok(file.bytes)
+    }
+
+    /// The first line of a file.
+    fn secret(&mut self, path: &Path) -> Result<Vec<u8>, Why> {
+        let text = self.file(path, MOST_SECRET, Secret::Password)?;
+        let first = split(&text).next().unwrap_or_default().to_vec();
+        Ok(first)
+    }
+
+    /// A key in PEM. One that is encrypted is opened by the password in the file beside it.
+    fn pem(&mut self, path: &Path) -> Result<Key, BlockFault> {
+        let pem = self.file(path, MOST_KEY, Secret::Key).map_err(|why| unread(path, why))?;
+        let taken = match Key::from_pem(&pem) {
+            Err(KeyFault::Encrypted) => {
+                let password = [path.as_os_str(), PASSWORD.as_ref()].into_iter();
+                let beside = PathBuf::from(password.collect::<OsString>());
+                match self.secret(&beside) {
+                    Ok(password) => Key::from_pem_by(&pem, &password),
+                    Err(Why::Missing) => Err(KeyFault::Encrypted),
+                    Err(why) => return Err(unread(&beside, why)),
+                }
+            }
+            taken => taken,
+        };
+        taken.map_err(|fault| BlockFault::Key { file: path.into(), fault })
+    }
+
+    /// A key in an HSM. If that isn't there now, or fails, it is asked again at the next look; not
+    /// with a PIN that it refused.
+    fn hsm(&mut self, name: &str) -> Result<Key, BlockFault> {
+        let uri: KeyUri =
+            name.parse().map_err(|fault| BlockFault::Uri { uri: name.into(), fault })?;
+        let pin = match uri.pin_source() {
+            Some(path) => Some(self.secret(path).map_err(|why| unread(path, why))?),
+            None => None,
+        };
+        Key::from_hsm(&uri, pin.as_deref()).map_err(|fault| {
+            if !matches!(fault, KeyFault::Hsm(SignFault::Hsm(HsmFault::Pin(_)))) {
+                self.files.read_again();
+            }
+            BlockFault::Key { file: name.into(), fault }
+        })
+    }
+}
+
+fn unread(file: &Path, why: Why) -> BlockFault {
+    BlockFault::File { file: file.into(), why: Box::new(why) }
+}
