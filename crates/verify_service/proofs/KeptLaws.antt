@@ -1,6 +1,6 @@
 -- What is kept for which x5u, by the bytes of the keys.
 use denote.Ref.{Bor}
-use Rattle.std.proofs.Common.{◌≡◌, ℕ, Bool, true, false, cond, List, [], ◌∷◌, Option, Some, None, refl, sym, ap, ◌∙◌, Vec}
+use Rattle.std.proofs.Common.{◌≡◌, ℕ, Bool, true, false, cond, List, [], ◌∷◌, length, Option, Some, None, refl, sym, ap, ◌∙◌, arith, Vec}
 use Rattle.std.specs.Cmp.Lexicographic.{bytes_decides, nat_list_eq_equiv}
 use Rattle.std.specs.Map.{lookup, AreApart, IsKeyTest, KeepsOthers}
 use Rattle.std.specs.Option.{option_copied, option_map}
@@ -21,6 +21,11 @@ pub kept_is : {Y : Type 0} (entries : List (Vec ℕ Y × ChainStatus)) (x : List
 kept_is [] x = refl
 kept_is (entry ∷ entries) x =
     ap (cond (bytes_eq x (vec_items entry.0)) (Some (state_of entry.1))) (kept_is entries x) ∙ seen_by (bytes_eq x (vec_items entry.0)) entry.1 (stored entries x)
+
+-- a round that keeps none
+pub none_kept : {Y : Type 0} (entries : List (Vec ℕ Y × ChainStatus)) (x : List ℕ) → length entries ≡ 0 → None ≡ kept_state x (kept_in entries)
+none_kept [] x none = refl
+none_kept (entry ∷ entries) x none = absurd (omega arith)
 
 others : {K X : Type 0} (eq : K → K → Bool) (test : K → Bool) (old new : List (K × X)) → KeepsOthers eq test old new
     → (other : K → Bool) → IsKeyTest eq other → AreApart test other → lookup other new ≡ lookup other old

@@ -41,6 +41,10 @@ impl KeptChains {
     pub(crate) fn get(&self, x5u: &[u8]) -> Option<&ChainStatus>
         ensures { IsKeptState result (kept_state x5u.now self.now) }
     {
+        // Most rounds keep none, and a look-up goes over the whole x5u for its hash.
+        if self.chains.is_empty() {
+            return None;
+        }
         self.chains.get(x5u)
     }
 
