@@ -25,13 +25,12 @@ impl Model for Tickets {
 }
 
 impl Tickets {
-    /// None yet.
-    fn new(alloc: Global) -> Tickets
-        ensures { result ≡ [] }
+    /// None yet, with room for so many. `AllocError` is the only error.
+    fn with_capacity(alloc: Global, count: usize) -> Result<Tickets, AllocError>
+        ensures { IfOk result (λ tickets. tickets ≡ []) }
     {
-        Tickets {
-            tickets: IndexSet::new(alloc),
-        }
+        let tickets = IndexSet::with_capacity(alloc, count)?;
+        Ok(Tickets { tickets })
     }
 
     /// How many there are.
@@ -59,7 +58,7 @@ pub(crate) fn class_calls(alloc: Global, calls: &mut [ReadyCall]) -> Result<u32,
     ensures counted { length calls.new ≡ length calls.old }
     ensures classes { IfOk result (λ count. AreGivenClasses count calls.old calls.new) }
 {
-    let mut tickets = Tickets::new(alloc);
+    let mut tickets = Tickets::with_capacity(alloc, calls.len())?;
     'calls: for at in 0..calls.len() {
         let class = class_of(&mut tickets, &calls[at].screening)?;
         calls[at].class = class;
