@@ -1,5 +1,6 @@
 -- What is asked for the files of a round's texts.
-use Rattle.std.proofs.Common.{◌≡◌, ℕ, suc, ◌+◌, ◌*◌, ◌<◌, ◌≤◌, ◌%◌, ◌==◌, Bool, true, false, cond, List, [], ◌∷◌, ◌++◌, drop, filter, get_or, length, map, take, is_some, Option, Some, None, if◌then◌else◌, refl, sym, ap, ◌∙◌, subst, arith}
+use Rattle.std.proofs.Common.{◌≡◌, ◌≢◌, ℕ, suc, ◌+◌, ◌*◌, ◌<◌, ◌≤◌, ◌%◌, ◌==◌, Bool, true, false, cond, List, [], ◌∷◌, ◌++◌, drop, filter, get_or, length, map, take, is_some, Option, Some, None, if◌then◌else◌, refl, sym, ap, ◌∙◌, subst, arith}
+use Rattle.std.proofs.lemmas.Bool.Decides.{nat_tests}
 use Rattle.std.proofs.lemmas.List.{drop_more}
 use Rattle.std.specs.List.{slice_get}
 use Rattle.cert_store.specs.declared.world.World.{World as Materials}
@@ -13,7 +14,7 @@ use Rattle.verify_service.specs.Causes.{AreCounted}
 use Rattle.verify_service.specs.Contents.{AsksFew, Contents, HasContents, chain_sizes}
 use Rattle.verify_service.specs.Judging.{EachPair}
 use Rattle.verify_service.specs.RoundRead.{own_of}
-use Rattle.verify_service.specs.WorkerChains.{own_size, own_sizes}
+use Rattle.verify_service.specs.WorkerChains.{own_sizes}
 use Rattle.verify_service.proofs.FetchedLaws.{take_stands}
 use Rattle.verify_service.proofs.ListLaws.{each_more}
 
@@ -94,14 +95,29 @@ own_by : (b : Bool) (bytes : Option (List ℕ)) (others : Contents) → chain_si
 own_by true bytes others = refl
 own_by false bytes others = omega arith
 
--- what may be asked for the files from a place on, by the file there and those after it
-pub left_step : (index count place : ℕ) (files : List Fetched) (file d : Fetched) → place < length files → file ≡ get_or files place d
-    → own_sizes index count place (drop place files) ≡ own_size (place % count == index) file + own_sizes index count (place + 1) (drop (place + 1) files)
+-- what may be asked for the files from a place on, by whether the file there is the worker's own, and those after it
+left_step : (index count place : ℕ) (files : List Fetched) (file d : Fetched) → place < length files → file ≡ get_or files place d
+    → own_sizes index count place (drop place files)
+    ≡ (if place % count == index then chain_size (bytes_in file) else 0) + own_sizes index count (place + 1) (drop (place + 1) files)
 left_step index count place files file d within is =
     let next : place + 1 ≡ suc place = omega arith in
     ap (own_sizes index count place) (drop_more files place d within ∙ ap (λ (f : Fetched). f ∷ drop (place + 1) files) (sym is))
     ∙ own_by (place % count == index) (bytes_in file) (own_of index count (suc place) (map bytes_in (drop (place + 1) files)))
-    ∙ ap (λ n. own_size (place % count == index) file + own_sizes index count n (drop (place + 1) files)) (sym next)
+    ∙ ap (λ n. cond (place % count == index) (chain_size (bytes_in file)) 0 + own_sizes index count n (drop (place + 1) files)) (sym next)
+
+pub left_own : (index count place : ℕ) (files : List Fetched) (file d : Fetched) → place < length files → file ≡ get_or files place d → place % count ≡ index
+    → own_sizes index count place (drop place files) ≡ chain_size (bytes_in file) + own_sizes index count (place + 1) (drop (place + 1) files)
+left_own index count place files file d within is own =
+    let test : (place % count == index) ≡ true = grind (arith, nat_tests) in
+    left_step index count place files file d within is
+    ∙ ap (λ b. cond b (chain_size (bytes_in file)) 0 + own_sizes index count (place + 1) (drop (place + 1) files)) test
+
+pub left_other : (index count place : ℕ) (files : List Fetched) (file d : Fetched) → place < length files → file ≡ get_or files place d → place % count ≢ index
+    → own_sizes index count place (drop place files) ≡ 0 + own_sizes index count (place + 1) (drop (place + 1) files)
+left_other index count place files file d within is other =
+    let test : (place % count == index) ≡ false = grind (arith, nat_tests) in
+    left_step index count place files file d within is
+    ∙ ap (λ b. cond b (chain_size (bytes_in file)) 0 + own_sizes index count (place + 1) (drop (place + 1) files)) test
 
 -- ---- over other words for the same
 

@@ -10,6 +10,7 @@ pub mod PastLaws
 mod TextLaws
 mod NeededLaws
 mod FetchedLaws
+mod OwnPlaceLaws
 mod WorkerChainLaws
 mod KeptLaws
 mod RightLaws

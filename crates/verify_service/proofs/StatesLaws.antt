@@ -1,9 +1,10 @@
 -- What is known by files, one file more.
-use Rattle.std.proofs.Common.{◌≡◌, ℕ, zero, suc, ◌+◌, ◌<◌, ◌%◌, List, [], ◌∷◌, ◌++◌, length, get_or, take, Option, None, refl, sym, ap, ◌∙◌, arith, zero-add}
+use Rattle.std.proofs.Common.{◌≡◌, ℕ, zero, suc, ◌+◌, ◌<◌, List, [], ◌∷◌, ◌++◌, length, get_or, take, Option, refl, sym, ap, ◌∙◌, arith, zero-add}
 use Rattle.cert_store.specs.Judged.{JudgedView}
 use Rattle.verify_rules.specs.States.{State}
 use Rattle.call_judging.specs.Fetched.{file_state}
 use Rattle.verify_service.specs.RoundRead.{states_from}
+use Rattle.verify_service.specs.WorkerChains.{chain_at}
 use Rattle.call_judging.specs.declared.fetching.Fetched.{Fetched}
 
 pub states_count : (place : ℕ) (judged : ℕ → Option JudgedView) (files : List Fetched) → length (states_from place judged files) ≡ length files
@@ -31,6 +32,5 @@ state_next judged files i file d within is =
 
 -- the same of the same number of workers and the same files
 pub states_same : (slots : ℕ → List (Option JudgedView)) (count many : ℕ) (files read : List Fetched) → many ≡ count → read ≡ files
-    → states_from 0 (λ place. get_or (slots (place % many)) place None) read ≡ states_from 0 (λ place. get_or (slots (place % count)) place None) files
-states_same slots count many files read same are =
-    ap (λ n. states_from 0 (λ place. get_or (slots (place % n)) place None) read) same ∙ ap (states_from 0 (λ place. get_or (slots (place % count)) place None)) are
+    → states_from 0 (chain_at slots many) read ≡ states_from 0 (chain_at slots count) files
+states_same slots count many files read same are = ap (λ n. states_from 0 (chain_at slots n) read) same ∙ ap (states_from 0 (chain_at slots count)) are

@@ -1,28 +1,25 @@
--- The chains that a worker judged of a round's texts, place by place.
-use Rattle.std.specs.Prelude.{◌≡◌, ℕ, suc, ◌%◌, ◌==◌, ◌+◌, ◌≤◌, ⊤, List, [], ◌∷◌, Bool, true, false, map, Option, None, if◌then◌else◌}
+-- The chains that a worker judged of its own texts of a round, one after the other.
+use Rattle.std.specs.Prelude.{ℕ, ◌%◌, ◌/◌, ◌+◌, ◌≤◌, ⊤, List, [], ◌∷◌, Bool, true, false, get_or, map, Option, None}
 use Rattle.cert_store.specs.Judged.{JudgedView}
 use Rattle.cert_store.specs.Rules.{Says}
 use Rattle.cert_store.specs.declared.world.World.{World as Materials}
 use Rattle.verify_service.specs.Causes.{AreCounted}
 use Rattle.call_judging.specs.declared.fetching.Fetched.{Fetched}
-use Rattle.call_judging.specs.Fetched.{IsJudgedFile, bytes_in, certificates_in, chain_size, has_failed}
+use Rattle.call_judging.specs.Fetched.{IsJudgedFile, bytes_in, certificates_in, has_failed}
 use Rattle.verify_service.specs.Contents.{chain_sizes}
+use Rattle.verify_service.specs.Judging.{EachPair}
 use Rattle.verify_service.specs.RoundRead.{own_of}
 
 -- ---- which are judged
 
--- A place of the worker's own has what was judged of the file there. The place of another worker has nothing.
-abbrev pub IsOwn : Materials → Says → Bool → Fetched → Option JudgedView → Type 0
-IsOwn materials says true file chain = IsJudgedFile materials says file chain
-IsOwn materials says false file chain = chain ≡ None
-
--- The same of each place from this one on, for the worker of this index among so many. Its own are those that leave its index as remainder.
+-- These are what was judged of the files at the places of a worker's own, in turn, for the worker of this index among so many. Its own are those from
+-- this place on that leave its index as remainder.
 abbrev pub EachOwn : Materials → Says → ℕ → ℕ → ℕ → List Fetched → List (Option JudgedView) → Type 0
-EachOwn materials says index count place [] [] = ⊤
-EachOwn materials says index count place [] (chain ∷ chains) = ⊥
-EachOwn materials says index count place (file ∷ files) [] = ⊥
-EachOwn materials says index count place (file ∷ files) (chain ∷ chains) =
-    IsOwn materials says (place % count == index) file chain × EachOwn materials says index count (suc place) files chains
+EachOwn materials says index count place files chains = EachPair (IsJudgedFile materials says) (own_of index count place files) chains
+
+-- what was judged at a place, by what each worker judged: the worker whose place it is has it after what it judged at its places before
+abbrev pub chain_at : (ℕ → List (Option JudgedView)) → ℕ → ℕ → Option JudgedView
+chain_at chains count place = get_or (chains (place % count)) (place / count) None
 
 -- unless memory ran out
 abbrev pub EachOwnUnless : Bool → Materials → Says → ℕ → ℕ → List Fetched → List (Option JudgedView) → Type 0
@@ -31,11 +28,7 @@ EachOwnUnless false materials says index count files chains = EachOwn materials 
 
 -- ---- what is asked for them
 
--- how many certificates the chain in the file has, if it is the worker's own
-abbrev pub own_size : Bool → Fetched → ℕ
-own_size own file = if own then chain_size (bytes_in file) else 0
-
--- the same of each place from this one on
+-- how many certificates the chains in the files have at the worker's own places from this one on
 abbrev pub own_sizes : ℕ → ℕ → ℕ → List Fetched → ℕ
 own_sizes index count place files = chain_sizes (own_of index count place (map bytes_in files))
 

@@ -1,5 +1,5 @@
 //! What a round needs before its calls are judged: each call screened, and each chain that they need at hand.
-ghost use Rattle.std.specs.Prelude.{◌≡◌, ◌<◌, ◌≤◌, ◌+◌, ◌%◌, ℕ, [], None, true, get_or, length, vec_len, slice_index_or, IfOk};
+ghost use Rattle.std.specs.Prelude.{◌≡◌, ◌<◌, ◌≤◌, ◌+◌, ℕ, [], true, length, vec_len, slice_index_or, IfOk};
 ghost use Rattle.std.specs.List.{list_any};
 ghost use Rattle.stir_outside.specs.Files.{tries};
 ghost use Rattle.stir_outside.specs.Stays.{ProviderStays, ShelfStays};
@@ -8,6 +8,7 @@ ghost use Rattle.verify_service.specs.Judging.{EachPair};
 ghost use Rattle.verify_service.specs.RightChains.{AreRightHeld};
 ghost use Rattle.verify_service.specs.RoundRead.{HasAskedOwn, KnownBy, RoundReads, states_from, texts_of};
 ghost use Rattle.verify_service.specs.Screening.{IsReady, is_open};
+ghost use Rattle.verify_service.specs.WorkerChains.{chain_at};
 ghost use Rattle.verify_service.specs.Workers.{EachWorker, SayTheSame};
 
 use crate::fetching::fetch_all;
@@ -135,7 +136,7 @@ fn fetch_and_judge<R: Threads + Sync, S: Shelf, P: Provider + Send, G: Gate + Se
         (S.counts shelf.old) (S.counts shelf.new) (λ states. (w : ℕ) → w < length workers.old → HasAskedOwn w (length workers.old)
         (P.asks (slice_index_or workers.old w d).provider) (P.asks (slice_index_or workers.new w d).provider)
         (P.faults (slice_index_or workers.old w d).provider) (P.faults (slice_index_or workers.new w d).provider) states)
-        (states_from 0 (λ place. get_or (slice_index_or workers.new (place % length workers.old) d).judged.items place None) files.items)) }
+        (states_from 0 (chain_at (λ w. (slice_index_or workers.new w d).judged.items) (length workers.old)) files.items)) }
     ensures asks { (d : _) → HasContents (S.files shelf.old) world.now texts.now (S.counts shelf.old).reads (S.counts shelf.new).reads
         (λ contents. (w : ℕ) → w < length workers.old → AsksFew w (length workers.old) 0 (P.asks (slice_index_or workers.old w d).provider)
         (P.asks (slice_index_or workers.new w d).provider) contents) }

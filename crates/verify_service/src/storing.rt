@@ -1,6 +1,7 @@
 //! Storing the chains of a round's texts: in the cache, or for the round alone.
-ghost use Rattle.std.specs.Prelude.{◌≡◌, ◌≢◌, ◌<◌, ◌%◌, ℕ, None, length, get_or, slice_index_or, OnOk};
+ghost use Rattle.std.specs.Prelude.{◌≡◌, ◌≢◌, ◌<◌, ℕ, None, length, get_or, slice_index_or, OnOk};
 ghost use Rattle.verify_service.specs.RoundRead.{StoresAll, StoresSome, states_from};
+ghost use Rattle.verify_service.specs.WorkerChains.{chain_at};
 ghost use Rattle.verify_service.specs.Workers.{EachWorker};
 
 use crate::kept::{KeptChains, store_chain};
@@ -23,9 +24,9 @@ pub(crate) fn store_all<P, G>(
     requires some { 0 < length workers.old }
     requires files { length files.now ≡ length texts.now }
     ensures stored { (d : _) → OnOk result (StoresAll texts.now
-        (states_from 0 (λ place. get_or (slice_index_or workers.old (place % length workers.old) d).judged.items place None) files.now) cache.old cache.new kept.old kept.new) }
+        (states_from 0 (chain_at (λ w. (slice_index_or workers.old w d).judged.items) (length workers.old)) files.now) cache.old cache.new kept.old kept.new) }
     ensures first { (d : _) → StoresSome texts.now
-        (states_from 0 (λ place. get_or (slice_index_or workers.old (place % length workers.old) d).judged.items place None) files.now) cache.old cache.new kept.old }
+        (states_from 0 (chain_at (λ w. (slice_index_or workers.old w d).judged.items) (length workers.old)) files.now) cache.old cache.new kept.old }
     ensures capacity { cache.new.capacity ≡ cache.old.capacity }
     ensures counted { length workers.new ≡ length workers.old }
     ensures same { EachWorker workers.old workers.new (λ _ before now. now.provider ≡ before.provider) }
@@ -33,20 +34,20 @@ pub(crate) fn store_all<P, G>(
     let count = workers.len();
     'files: for (place, file) in files.iter().enumerate() {
         cache.answered();
-        let judged = take_judged(&mut workers[place % count], place);
+        let judged = take_judged(&mut workers[place % count], place / count);
         let chain = file.status(judged);
         store_chain(alloc, texts.text(place), chain, cache, kept)?;
     }
     Ok(())
 }
 
-/// Takes what a worker judged at this place.
-fn take_judged<P, G>(worker: &mut Worker<P, G>, place: usize) -> Option<Judged>
-    ensures judged { result ≡ get_or worker.old.judged.items place None }
-    ensures others { (other : ℕ) → other ≢ place → get_or worker.new.judged.items other None ≡ get_or worker.old.judged.items other None }
+/// Takes what a worker judged at the place of this number among its own, counted from 0.
+fn take_judged<P, G>(worker: &mut Worker<P, G>, number: usize) -> Option<Judged>
+    ensures judged { result ≡ get_or worker.old.judged.items number None }
+    ensures others { (other : ℕ) → other ≢ number → get_or worker.new.judged.items other None ≡ get_or worker.old.judged.items other None }
     ensures same { worker.new.provider ≡ worker.old.provider }
 {
-    match worker.judged.get_mut(place) {
+    match worker.judged.get_mut(number) {
         Some(judged) => judged.take(),
         None => None,
     }

@@ -13,7 +13,7 @@ use std::alloc::Global;
 pub struct Worker<P, G> {
     pub provider: P,
     pub gate: G,
-    /// The chains that it judged of the texts of a round: at the place of each of its own that was read.
+    /// The chains that it judged of its own texts of a round, in turn: nothing for one that wasn't read.
     pub(crate) judged: Vec<Option<Judged>>,
     /// Memory ran out when it judged them.
     pub(crate) out_of_memory: bool,

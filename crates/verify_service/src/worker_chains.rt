@@ -1,13 +1,11 @@
 //! Judging the chains of a round's texts, each by the worker whose text it is.
-ghost use Rattle.std.specs.Prelude.{◌≡◌, ◌<◌, ◌≤◌, ◌+◌, [], length, IfOk, OnOk};
+ghost use Rattle.std.specs.Prelude.{◌≡◌, ◌<◌, ◌≤◌, ◌+◌, [], length, OnOk};
 ghost use Rattle.stir_outside.specs.Stays.{ProviderStays};
-ghost use Rattle.call_judging.specs.Causes.{HasCauseIf};
-ghost use Rattle.call_judging.specs.Fetched.{certificates_in, has_failed};
-ghost use Rattle.verify_service.specs.WorkerChains.{ChainsCounted, CountedUnless, EachOwn, EachOwnUnless, IsOwn, own_size, own_sizes};
+ghost use Rattle.verify_service.specs.WorkerChains.{ChainsCounted, CountedUnless, EachOwn, EachOwnUnless, own_sizes};
 ghost use Rattle.verify_service.specs.Workers.{EachWorker};
 
 use crate::worker::Worker;
-use call_judging::Fetched;
+use call_judging::{Fetched, judge_file};
 use cert_store::{Judged, World};
 use std::alloc::{AllocError, Global};
 use std::thread;
@@ -70,8 +68,8 @@ fn judge_own<P: Provider, G: Gate>(
     worker.out_of_memory = judged.is_err();
 }
 
-/// Judges the chains of the worker's texts into a list that is empty: at each place its own, and nothing at the places of others.
-/// `AllocError` is the only error. The provider is asked at most for each certificate of the worker's own, also if memory runs out.
+/// Judges the chains of the worker's texts, in turn, into a list that is empty. `AllocError` is the only error. The provider is asked at most for
+/// each certificate of the worker's own, also if memory runs out.
 pub(crate) fn judge_files<P: Provider>(
     alloc: Global,
     world: &World,
@@ -90,29 +88,11 @@ pub(crate) fn judge_files<P: Provider>(
     ensures provider { ProviderStays P.Provider provider.old provider.new }
 {
     'files: for (place, file) in files.iter().enumerate() {
-        let chain = judge_file(alloc, world, file, place % count == index, provider)?;
+        if place % count != index {
+            continue;
+        }
+        let chain = judge_file(alloc, world, file, provider)?;
         judged.push(chain)?;
     }
     Ok(())
-}
-
-/// Judges a chain, if it is the worker's own and was read.
-fn judge_file<P: Provider>(
-    alloc: Global,
-    world: &World,
-    file: &Fetched,
-    own: bool,
-    provider: &mut P,
-) -> Result<Option<Judged>, AllocError>
-    ensures judged { IfOk result (IsOwn world.now (P.says provider.old) own file.now) }
-    ensures asked { IfOk result (λ chain. P.asks provider.new ≤ P.asks provider.old + certificates_in chain) }
-    ensures most { P.asks provider.new ≤ P.asks provider.old + own_size own file.now }
-    ensures failed { IfOk result (λ chain. HasCauseIf (has_failed chain) (P.faults provider.old) (P.faults provider.new)) }
-    ensures asks { P.asks provider.old ≤ P.asks provider.new }
-    ensures provider { ProviderStays P.Provider provider.old provider.new }
-{
-    if !own {
-        return Ok(None);
-    }
-    call_judging::judge_file(alloc, world, file, provider)
 }

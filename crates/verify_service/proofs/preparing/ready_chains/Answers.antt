@@ -1,8 +1,9 @@
 -- The chains of a round are held or kept, and stay right.
-use Rattle.std.proofs.Common.{ℕ, ◌<◌, ◌%◌, List, [], None, get_or, length, refl, sym, ap, ◌∙◌, subst, arith}
+use Rattle.std.proofs.Common.{ℕ, ◌<◌, List, [], get_or, length, refl, sym, ap, ◌∙◌, subst, arith}
 use Rattle.stir_outside.specs.Stays.{ProviderStays}
 use Rattle.verify_service.specs.Needed.{all_named, needed, once}
 use Rattle.verify_service.specs.RoundRead.{states_from}
+use Rattle.verify_service.specs.WorkerChains.{chain_at}
 use Rattle.verify_service.proofs.ContentLaws.{asked_later, nothing_read}
 use Rattle.verify_service.proofs.ReadyChainLaws.{own_after, right_same, round_reads, some_right}
 use Rattle.verify_service.proofs.StatesLaws.{states_same}
@@ -74,7 +75,7 @@ returns-clause-reads g c = λ d.
       knows = (c.in_ok-files.ensures.known d).knows;
       own = own_after g.P.Provider.asks g.P.Provider.faults (λ w. (get_or c.args.workers.now w d).provider) (λ w. (get_or c.fetch_and_judge.new.workers w d).provider)
           (λ w. (get_or c.store_all.new.workers w d).provider) (length c.args.workers.now)
-          (states_from 0 (λ place. get_or (slots (place % length c.args.workers.now)) place None) c.in_ok-files.files.items)
+          (states_from 0 (chain_at slots (length c.args.workers.now)) c.in_ok-files.files.items)
           (λ w less. c.store_all.ensures.same w d (subst (λ n. w < n) (sym c.fetch_and_judge.ensures.counted) less)) (c.in_ok-files.ensures.known d).own;
     })
     (c.in_ok-store_all.ensures.stored d)
