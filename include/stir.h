@@ -60,7 +60,7 @@
  * - Tickets. Of the calls that pass with one ticket only one is let through. Up to its second `last` a ticket has to be remembered.
  * - Keys. A signature that is handed in was made by the key of the chain's first certificate, and the caller may be signed for as the form says.
  *
- * What is proved, and of what, is in docs/PROVED.md. Not proved, but so by the way the library is made: what this page says of malloc, threads and fork.
+ * What is proved, and of what, is in docs/dev/PROVED.md. Not proved, but so by the way the library is made: what this page says of malloc, threads and fork.
  *
  * A program is linked with libstir_c.a and then with liblibc_c.a of the Rattle kit.
  */

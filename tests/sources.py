@@ -3,7 +3,7 @@
 
     tests/sources.py [FOLDER..]
 
-Without a folder these are tools, tests, python and examples. A file is Python if its name ends with .py, or if its first line starts a Python. If
+Without a folder these are tools, dev, tests, python and examples. A file is Python if its name ends with .py, or if its first line starts a Python. If
 pyflakes3 is missing that is said, and the files are compiled alone.
 """
 import pathlib
@@ -13,7 +13,7 @@ import sys
 import warnings
 
 TOP = pathlib.Path(__file__).resolve().parents[1]
-FOLDERS = ("tools", "tests", "python", "examples")
+FOLDERS = ("tools", "dev", "tests", "python", "examples")
 
 
 def is_python(path):

@@ -10,7 +10,7 @@
 halves. `explain` says which rules hold, `claims` what the PASSporTs say, `sign` writes a message with an Identity field, and `show` tells what
 certificates say. `stir.logs` reads call logs and cuts them into parts, `stir.days` judges a log part by part, and `stir.jobs` hands that to other machines.
 
-What the library says is proved (docs/PROVED.md). What this package hands it, the verifier of signatures and the count of tickets aren't. Any
+What the library says is proved (docs/dev/PROVED.md). What this package hands it, the verifier of signatures and the count of tickets aren't. Any
 number of threads may call at once; a thread needs a stack of 256 kilobytes and what Python takes.
 """
 from .answers import Answers

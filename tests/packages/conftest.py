@@ -18,7 +18,7 @@ def pytest_addoption(parser):
 
 def made_by(tool, folder):
     """What this tool makes of what was built, in this folder."""
-    subprocess.run([sys.executable, TOP / 'tools' / tool, '--trial', '--to', folder], stdout=subprocess.DEVNULL, check=True)
+    subprocess.run([sys.executable, TOP / 'dev' / tool, '--trial', '--to', folder], stdout=subprocess.DEVNULL, check=True)
     return folder
 
 

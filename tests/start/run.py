@@ -23,7 +23,7 @@ LONGEST = 900
 
 def tree(room):
     """The parts of the tree that a start needs, without what was made there."""
-    for name in ('crates', 'tools', 'examples'):
+    for name in ('crates', 'tools', 'dev', 'examples'):
         shutil.copytree(TOP / name, room / name, ignore=shutil.ignore_patterns('out', '__pycache__'))
     for name in ('stir', 'crates.txt'):
         shutil.copy2(TOP / name, room / name)

@@ -1,4 +1,4 @@
-"""Whether tools/gate records just what has passed, and tools/package makes packages of that alone: in a tree of its own, with a script for the program,
+"""Whether dev/gate records just what has passed, and dev/package makes packages of that alone: in a tree of its own, with a script for the program,
 one for the gate and one for the toolchain. tests/packages has what is in the packages."""
 import os
 import pathlib
@@ -8,7 +8,7 @@ import sys
 import tempfile
 
 TOP = pathlib.Path(__file__).resolve().parent.parent.parent
-COPIED = ('tools', 'examples', 'docs', 'packaging', 'man', 'README.md', 'CONTRIBUTING.md', 'VERSION', 'CHANGELOG.md', '.gitignore')
+COPIED = ('tools', 'dev', 'examples', 'docs', 'packaging', 'man', 'README.md', 'CONTRIBUTING.md', 'VERSION', 'CHANGELOG.md', '.gitignore')
 
 # The interpreter without what is installed beside it, which none of this needs: it starts sooner.
 PYTHON = sys.executable, '-S'
@@ -91,7 +91,7 @@ class Tree:
 
     def run(self, tool):
         """The status of a tool, and what it says."""
-        done = subprocess.run([*PYTHON, self.top / 'tools' / tool], stdin=subprocess.DEVNULL, stdout=subprocess.PIPE, stderr=subprocess.PIPE,
+        done = subprocess.run([*PYTHON, self.top / 'dev' / tool], stdin=subprocess.DEVNULL, stdout=subprocess.PIPE, stderr=subprocess.PIPE,
                               text=True, env=self.environment)
         return done.returncode, done.stderr.removeprefix(f'{tool}: ').removesuffix('\n')
 
@@ -104,10 +104,10 @@ class Tree:
 
 
 def recorded(tree):
-    """What tools/gate records, and what not: each with the status and the sentence."""
-    yield 'package: no program', (2, 'crates/stir/out/stir is missing: tools/gate makes it'), tree.run('package')
+    """What dev/gate records, and what not: each with the status and the sentence."""
+    yield 'package: no program', (2, 'crates/stir/out/stir is missing: dev/gate makes it'), tree.run('package')
     yield 'gate: fails', (1, 'the gate ended with 1: nothing is recorded'), tree.gate('fails')
-    none = 2, 'tools/gate has not passed on this tree'
+    none = 2, 'dev/gate has not passed on this tree'
     yield 'package: the gate failed', none, tree.run('package')
     said = 'the gate ended well, and no line says `N passed, 0 failed`: nothing is recorded'
     yield 'gate: no verdict', (2, said), tree.gate('says nothing')
@@ -115,7 +115,7 @@ def recorded(tree):
     yield 'gate: a tree with a change', (2, f'{DIRTY}README.md'), tree.gate('passes')
     tree.git('checkout', '-q', 'README.md')
     yield 'package: the gate recorded nothing', none, tree.run('package')
-    said = f'the gate has passed on the tree {tree.hash()}; tools/package makes a package of it'
+    said = f'the gate has passed on the tree {tree.hash()}; dev/package makes a package of it'
     yield 'gate', (0, said), tree.gate('passes')
 
 
@@ -133,21 +133,21 @@ def refused(tree):
     yield 'package: a new file', (2, f'{DIRTY}new'), tree.run('package')
     (tree.top / 'new').unlink()
     back = aged(source, program)
-    yield 'package: a newer source', (2, 'the program is older than crates/stir/src/main.rt: tools/gate makes it anew'), tree.run('package')
+    yield 'package: a newer source', (2, 'the program is older than crates/stir/src/main.rt: dev/gate makes it anew'), tree.run('package')
     back()
     back = aged(program)
     program.write_text(PROGRAM + '\n')
     back()
-    said = 'crates/stir/out/stir is not the program with which the gate has passed: run tools/gate'
+    said = 'crates/stir/out/stir is not the program with which the gate has passed: run dev/gate'
     yield 'package: another program', (2, said), tree.run('package')
     whole = (tree.top / 'out/gate.json').read_text()
     tree.write('out/gate.json', whole[:-9])
-    yield 'package: a record cut short', (2, 'out/gate.json is no record of the gate: run tools/gate'), tree.run('package')
+    yield 'package: a record cut short', (2, 'out/gate.json is no record of the gate: run dev/gate'), tree.run('package')
     tree.write('out/gate.json', whole)
     was = tree.hash()
     tree.write('VERSION', '9.9\n')
     tree.commit()
-    said = f'the gate has passed on the tree {was}, and this is the tree {tree.hash()}: run tools/gate'
+    said = f'the gate has passed on the tree {was}, and this is the tree {tree.hash()}: run dev/gate'
     yield 'package: a later tree', (2, said), tree.run('package')
     tree.gate('passes')
     release = (TOP / 'VERSION').read_text().strip()
@@ -184,7 +184,7 @@ def refused_by_parts(tree):
     for name in (ARCHIVE, *(f'host/out/{name}' for name in BUILT)):
         was = (tree.top / name).read_text()
         (tree.top / name).write_text('another')
-        yield f'package: another {name}', (2, f'{name} is not the one with which the gate has passed: run tools/gate'), tree.run('package')
+        yield f'package: another {name}', (2, f'{name} is not the one with which the gate has passed: run dev/gate'), tree.run('package')
         (tree.top / name).write_text(was)
 
 

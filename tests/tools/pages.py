@@ -1,6 +1,6 @@
 """The pages that people read: each command that they show is run, in a copy of the tree in which the program stands as the proved one, and what it
-writes is compared; no sentence is too long; man/stir.1 is what tools/man makes; what docs/PROVED.md names is there; docs/REFUSALS.md is what
-tools/refusals makes; and README.md trusts the crates of the kit that tools/trusted lists.
+writes is compared; no sentence is too long; man/stir.1 is what dev/man makes; what docs/dev/PROVED.md names is there; docs/dev/REFUSALS.md is what
+dev/refusals makes; and README.md trusts the crates of the kit that dev/trusted lists.
 
     pages.py    counts the long sentences of these pages, and names them
 
@@ -37,7 +37,7 @@ NOT_RUN = ('rt ci', '.ci/run', './stir --prove')
 
 # The pages whose sentences are counted, and how many words a sentence has at most.
 READ = ('README.md', 'CONTRIBUTING.md', 'CHANGELOG.md', 'host/stird/kamailio/README.md', 'python/README.md', 'examples/cluster/README.md',
-        *sorted(f'docs/{page.name}' for page in (TOP / 'docs').glob('*.md')))
+        *sorted(str(page.relative_to(TOP)) for page in (TOP / 'docs').rglob('*.md')))
 MOST_WORDS = 40
 
 
@@ -137,7 +137,7 @@ def named_in(crate):
 
 
 def unknown(page):
-    """What the tables of docs/PROVED.md name and isn't there: a clause of the crates of its heading, or a file of `specs/`."""
+    """What the tables of docs/dev/PROVED.md name and isn't there: a clause of the crates of its heading, or a file of `specs/`."""
     crates, known = [], set()
     for line in page.splitlines():
         if line.startswith('#'):
@@ -157,14 +157,16 @@ def results(program, has_library):
     yield from shown(program, has_library)
     for page in READ:
         yield f'{page}, sentences of more than {MOST_WORDS} words', [], long_sentences((TOP / page).read_text())
-    yield 'docs/PROVED.md, names that aren\'t there', [], list(unknown((TOP / 'docs/PROVED.md').read_text()))
-    done = subprocess.run([sys.executable, TOP / 'tools' / 'man', '--check'], stderr=subprocess.PIPE, text=True)
-    yield 'tools/man --check', (0, ''), (done.returncode, done.stderr)
-    done = subprocess.run([sys.executable, TOP / 'tools' / 'refusals', '--check'], stdout=subprocess.PIPE, text=True)
-    yield 'tools/refusals --check', (0, 'refusals: docs/REFUSALS.md has what the sources say\n'), (done.returncode, done.stdout)
+    yield 'docs/dev/PROVED.md, names that aren\'t there', [], list(unknown((TOP / 'docs/dev/PROVED.md').read_text()))
+    done = subprocess.run([sys.executable, TOP / 'dev' / 'man', '--check'], stderr=subprocess.PIPE, text=True)
+    yield 'dev/man --check', (0, ''), (done.returncode, done.stderr)
+    done = subprocess.run([sys.executable, TOP / 'dev' / 'refusals', '--check'], stdout=subprocess.PIPE, text=True)
+    yield 'dev/refusals --check', (0, 'refusals: docs/dev/REFUSALS.md has what the sources say\n'), (done.returncode, done.stdout)
 
-    done = subprocess.run([sys.executable, TOP / 'tools' / 'trusted', '--check'], stdout=subprocess.PIPE, text=True)
-    yield 'tools/trusted --check', (0, 'trusted: README.md names the crates of the kit that crates.txt names\n'), (done.returncode, done.stdout)
+    done = subprocess.run([sys.executable, TOP / 'dev' / 'picture', '--check'], stdout=subprocess.PIPE, text=True)
+    yield 'dev/picture --check', (0, ''), (done.returncode, done.stdout)
+    done = subprocess.run([sys.executable, TOP / 'dev' / 'trusted', '--check'], stdout=subprocess.PIPE, text=True)
+    yield 'dev/trusted --check', (0, 'trusted: README.md names the crates of the kit that crates.txt names\n'), (done.returncode, done.stdout)
 
 
 def main():

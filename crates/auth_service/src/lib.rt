@@ -24,7 +24,7 @@
 //!
 //! The bytes are exactly those of one definition, or the first of four faults, each with its cause in the message, the order and the holder. What
 //! comes out is read back as the PASSporT that was signed, and breaks none of rules 1 to 9 at the next hop ([`signed_rules_law`],
-//! [`diverted_rules_law`]). `docs/SIGNING.md` tells how, and `docs/PROVED.md`, "Signing", has the clauses.
+//! [`diverted_rules_law`]). `docs/SIGNING.md` tells how, and `docs/dev/PROVED.md`, "Signing", has the clauses.
 //!
 //! # Cases
 //!

@@ -35,7 +35,7 @@
 //! # What is proved
 //!
 //! What is found is what the rules say of the call in the world of the files and the signatures. A call is set aside only if a read or a question
-//! failed and was counted. `docs/PROVED.md` has the clauses.
+//! failed and was counted. `docs/dev/PROVED.md` has the clauses.
 //!
 //! # Cases
 //!

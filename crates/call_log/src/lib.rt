@@ -22,7 +22,7 @@
 //! [`LogReader::after`] goes on from the number and the moment of an earlier log's last call.
 //!
 //! Proved of [`LogReader::next`]: however the source cuts the bytes, a call is the next entry of the one log that they are, and exactly its bytes
-//! were taken. A fault is the first one, and is known at the last byte taken and at none before ([`one_log`], [`reads_law`]; `docs/PROVED.md`, "A
+//! were taken. A fault is the first one, and is known at the last byte taken and at none before ([`one_log`], [`reads_law`]; `docs/dev/PROVED.md`, "A
 //! log").
 //!
 //! Cases: section `log` of `crates/vectors/stdin`; whole runs in `crates/vectors/stdin` and `tests/cli/verify.rows`.

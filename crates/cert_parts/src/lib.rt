@@ -17,7 +17,7 @@
 //!
 //! # What is proved
 //!
-//! Each part is what `x509_profile` says of the certificate, or is said of its whole text. `docs/PROVED.md`, "Certificates", has the clauses.
+//! Each part is what `x509_profile` says of the certificate, or is said of its whole text. `docs/dev/PROVED.md`, "Certificates", has the clauses.
 //!
 //! # Cases
 //!

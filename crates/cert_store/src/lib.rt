@@ -30,7 +30,7 @@
 //!
 //! What is judged is a function of bytes, anchors, table and provider, and the same is said in each rule's own words. The provider is asked once for
 //! each certificate that isn't an anchor, and only if rules 11, 12 and 14 hold. A chain that is held stays until as many others were used as the
-//! cache may hold. `docs/PROVED.md`, "Certificates", has the clauses.
+//! cache may hold. `docs/dev/PROVED.md`, "Certificates", has the clauses.
 //!
 //! # Cases
 //!

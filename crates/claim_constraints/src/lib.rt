@@ -15,7 +15,7 @@
 //! (RFC 9118) aren't part of them.
 //!
 //! Proved: constraints are read just if the bytes are their one text, and the first fault is said both ways. They are met just if each claim that
-//! must be there is a member of the payload and each member with permitted values is one of them ([`constraints_law`]; `docs/PROVED.md` has the
+//! must be there is a member of the payload and each member with permitted values is one of them ([`constraints_law`]; `docs/dev/PROVED.md` has the
 //! clauses).
 //!
 //! Cases: section `constraints` of `crates/vectors/stdin`, which `tests/vectors/constraints.py` prints.

@@ -24,7 +24,7 @@
 //!
 //! A list covers a number just if one of its entries holds it. One authority lies within another just if every number does, which is decided without
 //! trying them all. A path is found just if there is one, and otherwise the fault is the first row that applies, both ways. [`covers_law`],
-//! [`within_law`] and [`path_law`] are the laws for the crates above, and `docs/PROVED.md`, "Certificates", has the clauses.
+//! [`within_law`] and [`path_law`] are the laws for the crates above, and `docs/dev/PROVED.md`, "Certificates", has the clauses.
 //!
 //! # Cases
 //!

@@ -27,7 +27,7 @@
 //! # What is proved
 //!
 //! An element is read just if the bytes begin with its one text; which fault comes, and where, is said both ways; what [`put`] writes is read back.
-//! The clauses are in `docs/PROVED.md`, and the laws ([`element_law`], [`integer_law`] and their kin) are cited by the crates of certificates.
+//! The clauses are in `docs/dev/PROVED.md`, and the laws ([`element_law`], [`integer_law`] and their kin) are cited by the crates of certificates.
 //!
 //! # Cases
 //!

@@ -18,7 +18,7 @@
 //! `passport_claims`.
 //!
 //! Proved: a value is accepted just if it is in the grammar, with exactly its four parts. The place of a fault is the length of the longest prefix
-//! with which some value begins. What is written is read back ([`field_law`]; `docs/PROVED.md`, "Messages and PASSporTs").
+//! with which some value begins. What is written is read back ([`field_law`]; `docs/dev/PROVED.md`, "Messages and PASSporTs").
 //!
 //! Cases: section `identity` of `crates/vectors/stdin`.
 #![tactic(auto)]

@@ -33,7 +33,7 @@
 //! # What is proved
 //!
 //! Won, Lost and Full come exactly as told, in any order of any threads' steps; a claim makes at most six times as many steps as a level has slots.
-//! The rule that the words of a desk and all its seats meet between any two steps is in `specs/Rule` and `specs/Views`. `docs/PROVED.md` has the
+//! The rule that the words of a desk and all its seats meet between any two steps is in `specs/Rule` and `specs/Views`. `docs/dev/PROVED.md` has the
 //! clauses.
 //!
 //! # Cases

@@ -15,7 +15,7 @@
 //!
 //! Proved: what was written is the report of the rounds, each outcome may be given to its call, and by the premise that no two signed texts have one
 //! SHA-256 the outcomes of the whole log are legal (`replay_law`). The reads of files are bounded. `specs/Batches`, `Judged` and `Reads` have the
-//! words, and `docs/PROVED.md`, "A log", the clauses. [`status_law`] says what the status of a whole report means, [`runs_law`] that runs which hand
+//! words, and `docs/dev/PROVED.md`, "A log", the clauses. [`status_law`] says what the status of a whole report means, [`runs_law`] that runs which hand
 //! their state on are legal together, and [`output_law`] that the whole output of such a run is the file for the next. [`day_law`] says that a log may be
 //! judged call by call, on any number of machines, and settled by its tickets afterwards, and [`days_law`] the same of a day after others.
 //!

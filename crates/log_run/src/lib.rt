@@ -27,7 +27,7 @@
 //! # What is proved
 //!
 //! What a run promises by its status is said once, in the words that a command has for its batches: `specs/Words` (`LogSays`) and `specs/Ending`
-//! (the six ways in which a run ends). [`batch_law`] is what commands cite. `docs/PROVED.md`, "A log", has the table.
+//! (the six ways in which a run ends). [`batch_law`] is what commands cite. `docs/dev/PROVED.md`, "A log", has the table.
 //!
 //! # Cases
 //!

@@ -33,7 +33,7 @@
 //!
 //! A world is the one that the bytes are, or the first input that is none is named. What is known of a chain is what the rules say of its bytes under
 //! its world, by what was confirmed. The verdict is what the rules say over exactly these chains and answers; and it is the first rule that is broken
-//! in each world that leads to these chains and whose provider says what the host said. Nothing is left open. `docs/PROVED.md` has the clauses.
+//! in each world that leads to these chains and whose provider says what the host said. Nothing is left open. `docs/dev/PROVED.md` has the clauses.
 //!
 //! # Cases
 //!

@@ -23,7 +23,7 @@
 //! # What is proved
 //!
 //! The verdict is that of the call over exactly these chains and answers. The digest, each fault and the message that goes on are what `retarget` promises
-//! by a provider that confirms what the host confirmed, and has the signature that was handed in or none. `docs/PROVED.md`, "Signing", has the clauses.
+//! by a provider that confirms what the host confirmed, and has the signature that was handed in or none. `docs/dev/PROVED.md`, "Signing", has the clauses.
 //!
 //! # Cases
 //!

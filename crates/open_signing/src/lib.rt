@@ -23,7 +23,7 @@
 //! # What is proved
 //!
 //! The digest is that of the PASSporT which the order asks for; or the fault is told, with its cause in the message, the order and the holder. The message
-//! that comes out is read back as the one that was signed. `docs/PROVED.md`, "Signing", has the clauses.
+//! that comes out is read back as the one that was signed. `docs/dev/PROVED.md`, "Signing", has the clauses.
 //!
 //! # Cases
 //!

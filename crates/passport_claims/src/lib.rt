@@ -24,7 +24,7 @@
 //!
 //! A PASSporT is read just if header and payload have all claims of its type, and at most one fits. Each of the ten faults, and each of the five of
 //! an order, is said in the standards' words, both ways. What [`Passport::to_values`] writes reads back. The laws for the crates above are
-//! [`claims_law`], [`order_law`], [`one_link_more_law`] and [`signed_claims_law`]; `docs/PROVED.md`, "Messages and PASSporTs", has the rest.
+//! [`claims_law`], [`order_law`], [`one_link_more_law`] and [`signed_claims_law`]; `docs/dev/PROVED.md`, "Messages and PASSporTs", has the rest.
 //!
 //! # Cases
 //!

@@ -21,7 +21,7 @@
 //! # What is proved
 //!
 //! A token is read just if the text is that token for its call, and at most one fits. Each of the five refusals is said in the words of the
-//! serialization, both ways. The deterministic text is one and reads back. `docs/PROVED.md`, "Messages and PASSporTs", has the clauses.
+//! serialization, both ways. The deterministic text is one and reads back. `docs/dev/PROVED.md`, "Messages and PASSporTs", has the clauses.
 //!
 //! # Cases
 //!

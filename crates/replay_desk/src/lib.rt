@@ -27,7 +27,7 @@
 //! # What is proved
 //!
 //! A class is won at most once, in any order of any threads' steps, and each loss names its one winner: `specs/Rule` is the rule that the words of a
-//! desk and all its seats meet between any two steps. The past is a finite map, whole after each call. `docs/PROVED.md`, "Rounds", has the clauses.
+//! desk and all its seats meet between any two steps. The past is a finite map, whole after each call. `docs/dev/PROVED.md`, "Rounds", has the clauses.
 //!
 //! # Cases
 //!

@@ -20,7 +20,7 @@
 //! What a ticket is, and that two different calls don't share one, isn't said here: the laws take it as a premise that `log_rounds` and `stir_cmd`
 //! name.
 //!
-//! All of it is proved, and there is nothing to test: `docs/PROVED.md`, "Rounds", has the laws.
+//! All of it is proved, and there is nothing to test: `docs/dev/PROVED.md`, "Rounds", has the laws.
 #![tactic(auto)]
 
 ghost use Rattle.replay_law.specs.Law.{LegalPassesOnce, LegalTogether, FirstOfAll, ReplayNamesOne, OneByOne, OneRoundMore, MoreRounds, PurgedAlone, OneTurnMore, SameIsOne, OneAnswer};

@@ -28,7 +28,7 @@
 //!
 //! What it writes is the message with the other request URI and with one more field, whose PASSporT goes from the calling number and the earlier
 //! called one to the new one. At the next hop it breaks none of rules 1 to 17 and 19, if the conditions hold that [`retarget`] names. Each fault comes just if
-//! its cause is there and those before it aren't. `docs/PROVED.md`, "The retarget gateway", has the clauses.
+//! its cause is there and those before it aren't. `docs/dev/PROVED.md`, "The retarget gateway", has the clauses.
 //!
 //! # Cases
 //!

@@ -9,7 +9,7 @@
 //! assert_eq!(text.bytes(), b"12155551212");
 //! ```
 //!
-//! Proved: a text is the list of its bytes, and equality, order and hash are those of this list (`docs/PROVED.md`).
+//! Proved: a text is the list of its bytes, and equality, order and hash are those of this list (`docs/dev/PROVED.md`).
 //!
 //! Cases: those of the two crates above, sections `numbers` and `authority` of `crates/vectors/stdin`.
 #![tactic(auto)]

@@ -23,7 +23,7 @@
 //! # What is proved
 //!
 //! The lines of a call are those of the rules before the first broken one, and its own. A question is listed exactly if a call of the log asks it
-//! ([`asked_law`], [`asks_law`]), and providers that agree on the listed questions let each call be judged alike ([`agreement_law`]). `docs/PROVED.md`, "A log", has the clauses.
+//! ([`asked_law`], [`asks_law`]), and providers that agree on the listed questions let each call be judged alike ([`agreement_law`]). `docs/dev/PROVED.md`, "A log", has the clauses.
 //!
 //! # Cases
 //!

@@ -30,7 +30,7 @@
 //! # What is proved
 //!
 //! A message is read just if the bytes are one, the first fault and its offset are said both ways, and each number is the one that the grammar of
-//! addresses and URIs gives. A field that was put in is read back as the last, and with another request URI all else is read as before. `docs/PROVED.md`,
+//! addresses and URIs gives. A field that was put in is read back as the last, and with another request URI all else is read as before. `docs/dev/PROVED.md`,
 //! "Messages and PASSporTs", has the clauses, and [`head_law`], [`added_field_law`] and [`target_law`] are the laws for the crates above.
 //!
 //! # Cases

@@ -16,7 +16,7 @@
 //!
 //! Proved: exactly the state files are read, each for the state that it holds, and any other text is refused with its first bad line.
 //! `specs/StateText` has the text and the files, `specs/BadLine` the line that a fault names, and `specs/Reading` a reader of lists, which the code
-//! follows. `docs/PROVED.md` has the clauses.
+//! follows. `docs/dev/PROVED.md` has the clauses.
 //!
 //! Cases: section `state` of `crates/vectors/stdin`, which `tests/vectors/states.py` prints.
 #![tactic(auto)]

@@ -12,7 +12,7 @@
 //! It reads no environment, no clock and no network, and writes nothing to standard error. `docs/COMMANDS.md` has each command with its options,
 //! lines and statuses; `man -l man/stir.1` shows the same.
 //!
-//! Proved: this file is safe and returns. All promises are clauses of `run` (`docs/HEADLINE.md`, `docs/PROVED.md`); what the kit's contracts say of
+//! Proved: this file is safe and returns. All promises are clauses of `run` (`docs/dev/HEADLINE.md`, `docs/dev/PROVED.md`); what the kit's contracts say of
 //! real files and streams is trusted.
 //!
 //! Cases: `tests/cli`, on logs with their files, on pipes and on closed streams. `stdin`, `args`, `data/`, `stdout` and `status` beside `src/` are

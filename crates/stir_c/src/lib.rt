@@ -35,7 +35,7 @@
 //! # What is proved
 //!
 //! The clauses of each export say of the bytes from which the handles were opened what the rules say of the call: which rule is broken first, by what the call
-//! is known again, what is asked, what is to be signed; and which input is at fault. `docs/PROVED.md`, "The library for C", has them. Neither a file nor a
+//! is known again, what is asked, what is to be signed; and which input is at fault. `docs/dev/PROVED.md`, "The library for C", has them. Neither a file nor a
 //! provider can fail here, so no call is set aside.
 //!
 //! # Cases

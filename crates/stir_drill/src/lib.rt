@@ -16,7 +16,7 @@
 //! reads what is made here, judges it and sums up.
 //!
 //! Proved: each file is a function of seed and count, in the words of its format. The log is whole ([`log_law`]), no line of the answers is refused
-//! ([`answers_law`]), and what each call is depends on the first of its two draws ([`call_law`]). `docs/PROVED.md` has the clauses, and
+//! ([`answers_law`]), and what each call is depends on the first of its two draws ([`call_law`]). `docs/dev/PROVED.md` has the clauses, and
 //! `specs/Calls` and `specs/World` the definitions.
 //!
 //! Cases: section `drill` of `crates/vectors/stdin`: the size and the SHA-256 of each file.

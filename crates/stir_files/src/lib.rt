@@ -21,7 +21,7 @@
 //! chains are read later, as calls name them (`verify_service`).
 //!
 //! Proved: the files are given as their readers say, or the fault is that of the first file that has one, with its cause in the shelf's own counts;
-//! nothing else was read. `docs/PROVED.md`, "The program", has the clauses, and `docs/FORMATS.md` the lines.
+//! nothing else was read. `docs/dev/PROVED.md`, "The program", has the clauses, and `docs/FORMATS.md` the lines.
 //!
 //! Cases: section `files` of `crates/vectors/stdin`, `tests/cli/files.rows`, and files of the longest in `crates/stir_tests`.
 #![tactic(auto)]

@@ -28,7 +28,7 @@
 //! # What is proved
 //!
 //! A fault comes only if the object's own count rose, and no count falls. The memory forms fail at exactly the listed calls, and the adapters raise
-//! each count at its own event alone. An answers file is read exactly, or its first bad line is named. `docs/PROVED.md`, "The outside, and texts",
+//! each count at its own event alone. An answers file is read exactly, or its first bad line is named. `docs/dev/PROVED.md`, "The outside, and texts",
 //! has the clauses. What the kit's contracts say of real files and streams is trusted.
 //!
 //! # Cases

@@ -19,7 +19,7 @@
 //! `docs/COMMANDS.md` and `man/stir.1` have the commands. The named files are read by `stir_files`.
 //!
 //! Proved: exactly the lists of words are accepted that the definition accepts, with exactly its values (`specs/Order`, `specs/Values`,
-//! `specs/Options`, `specs/Table`). `docs/PROVED.md`, "The program", has the clauses.
+//! `specs/Options`, `specs/Table`). `docs/dev/PROVED.md`, "The program", has the clauses.
 //!
 //! Cases: section `words` of `crates/vectors/stdin`, which `tests/vectors/words.py` prints; `tests/cli/words.rows`.
 #![tactic(auto)]

@@ -22,7 +22,7 @@
 //! the state file have forms of their own (`call_log`, `state_text`).
 //!
 //! Proved: the lines and words are exactly those of their list functions, and a line has these words just if it is these words with single spaces
-//! ([`words_law`]). `specs/Rows` says what a file of rows is, for all three. The list is in `docs/PROVED.md`.
+//! ([`words_law`]). `specs/Rows` says what a file of rows is, for all three. The list is in `docs/dev/PROVED.md`.
 //!
 //! Cases: section `text` of `crates/vectors/stdin` (`text.lines`, `text.line_count`, `text.words`).
 #![tactic(auto)]

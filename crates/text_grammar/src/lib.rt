@@ -18,7 +18,7 @@
 //! `identity_header`. URIs aren't taken apart, only tested ([`is_uri`]: 1 to 2,048 bytes, this project's own rule).
 //!
 //! Proved: each function gives exactly what its list function in `specs/` gives. `specs/Grammar` has the pieces of which formats are put together,
-//! and `proofs/Laws` joins a grammar, its reader and the place of a fault. `docs/PROVED.md` lists them under "The outside, and texts".
+//! and `proofs/Laws` joins a grammar, its reader and the place of a fault. `docs/dev/PROVED.md` lists them under "The outside, and texts".
 //!
 //! Cases: sections `text` and `tokens` (`tokens.is_uri`) of `crates/vectors/stdin`.
 #![tactic(auto)]

@@ -25,7 +25,7 @@
 //! # What is proved
 //!
 //! A list is read just if the bytes are its one DER text, and the first fault is said in the grammar's words, both ways ([`list_law`]). A table is
-//! exactly what its lines say, or its first bad line is named. `docs/PROVED.md`, "Certificates", has the clauses.
+//! exactly what its lines say, or its first bad line is named. `docs/dev/PROVED.md`, "Certificates", has the clauses.
 //!
 //! # Cases
 //!

@@ -25,7 +25,7 @@
 //! # What is proved
 //!
 //! `Number::read` gives exactly the canonical number, in one of three ways. A set has a number just if a span or single that was given holds it, at
-//! a cost of the binary logarithm. [`NumberSet::within`] is true just if every number of the one is in the other. `docs/PROVED.md` has the clauses,
+//! a cost of the binary logarithm. [`NumberSet::within`] is true just if every number of the one is in the other. `docs/dev/PROVED.md` has the clauses,
 //! and [`number_law`], [`set_law`] and [`every_number_law`] are the laws for the crates above.
 //!
 //! # Cases

@@ -32,7 +32,7 @@
 //! # What is proved
 //!
 //! A call is refused exactly with the first rule that it breaks, at the first place at which it is broken; the same is said of each rule in the
-//! standard's own words, both ways. `docs/RULES.md` has the rules with their codes, places and sections, and `docs/PROVED.md`, "The rules", the
+//! standard's own words, both ways. `docs/RULES.md` has the rules with their codes, places and sections, and `docs/dev/PROVED.md`, "The rules", the
 //! clauses. The laws re-exported here are what the crates above cite.
 //!
 //! # Cases

@@ -36,7 +36,7 @@
 //! Each outcome is what the rules say of its call in the world of the files and the signatures. Of the calls that pass with one ticket one is valid,
 //! and each other a replay of it, whatever the workers do at once. A call is set aside no more often than reads or questions failed. If memory runs
 //! out, that is before the first claim. Rounds one after another, from a new service on and from state to state, are legal together ([`rounds_law`]).
-//! `docs/PROVED.md`, "Rounds", has the clauses, and `docs/ARCHITECTURE.md` the way of a round in detail.
+//! `docs/dev/PROVED.md`, "Rounds", has the clauses, and `docs/dev/ARCHITECTURE.md` the way of a round in detail.
 //!
 //! # Cases
 //!

@@ -26,7 +26,7 @@
 //! # What is proved
 //!
 //! A certificate is read just if the bytes are one of the profile, and at most one fits. The first broken part is said both ways, part by part in
-//! byte order and extension by extension. `docs/PROVED.md`, "Certificates", has the clauses; [`certificate_law`], [`authority_law`] and
+//! byte order and extension by extension. `docs/dev/PROVED.md`, "Certificates", has the clauses; [`certificate_law`], [`authority_law`] and
 //! [`chain_law`] are the laws for the crates above.
 //!
 //! # Cases

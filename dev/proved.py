@@ -1,5 +1,5 @@
 """Whether what was built in this tree is proved or rests on what is, and of which sources: the tree that git knows, the program, the archive of the
-library, what is made of that, and the record that `tools/gate` leaves.
+library, what is made of that, and the record that `dev/gate` leaves.
 
 The record guards against mistakes, such as a file that was changed after the gate. It is no seal: who can write in this folder can write it.
 """
@@ -94,11 +94,11 @@ def sums():
 def look_at_program():
     """A fault if the program isn't there, or is older than a source."""
     if not os.access(PROGRAM, os.X_OK):
-        raise Fault(f'{PROGRAM.relative_to(TOP)} is missing: tools/gate makes it')
+        raise Fault(f'{PROGRAM.relative_to(TOP)} is missing: dev/gate makes it')
     made = PROGRAM.stat().st_mtime_ns
     for file in sources():
         if file.lstat().st_mtime_ns > made:
-            raise Fault(f'the program is older than {file.relative_to(TOP)}: tools/gate makes it anew')
+            raise Fault(f'the program is older than {file.relative_to(TOP)}: dev/gate makes it anew')
 
 
 def write_record(record):
@@ -107,23 +107,23 @@ def write_record(record):
 
 
 def record():
-    """What `tools/gate` wrote of exactly this tree and program; a fault if the gate hasn't passed on them."""
+    """What `dev/gate` wrote of exactly this tree and program; a fault if the gate hasn't passed on them."""
     look_at_program()
     now = tree()
     if not RECORD.exists():
-        raise Fault('tools/gate has not passed on this tree')
+        raise Fault('dev/gate has not passed on this tree')
     try:
         known = json.loads(RECORD.read_text())
         was, program, parts = known['tree'], known['program'], known['parts']
     except (ValueError, LookupError, TypeError):
-        raise Fault(f'{RECORD.relative_to(TOP)} is no record of the gate: run tools/gate')
+        raise Fault(f'{RECORD.relative_to(TOP)} is no record of the gate: run dev/gate')
     if was != now:
-        raise Fault(f'the gate has passed on the tree {was[:12]}, and this is the tree {now[:12]}: run tools/gate')
+        raise Fault(f'the gate has passed on the tree {was[:12]}, and this is the tree {now[:12]}: run dev/gate')
     if program != checksum(PROGRAM):
-        raise Fault(f'{PROGRAM.relative_to(TOP)} is not the program with which the gate has passed: run tools/gate')
+        raise Fault(f'{PROGRAM.relative_to(TOP)} is not the program with which the gate has passed: run dev/gate')
     look_at_built()
     other = next((name for name, found in sums().items() if parts.get(name) != found), None)
     if other:
         file = {'archive': ARCHIVE, 'kit': KIT, **BUILT}[other]
-        raise Fault(f'{os.path.relpath(file, TOP)} is not the one with which the gate has passed: run tools/gate')
+        raise Fault(f'{os.path.relpath(file, TOP)} is not the one with which the gate has passed: run dev/gate')
     return known

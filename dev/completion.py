@@ -3,7 +3,7 @@ import re
 
 import command_words
 
-HEAD = """# Completion for bash of the words of stir, and of the options of the tools around it. tools/package makes this file.
+HEAD = """# Completion for bash of the words of stir, and of the options of the tools around it. dev/package makes this file.
 
 _stir_files() {
     compopt -o filenames 2>/dev/null
