@@ -298,6 +298,16 @@ module _ (size slots id : ℕ) (me : Me (List ℕ) View) (above : 0 < me.0.share
         subst (λ (ws : List ℕ). Holds size (record { words = ws; homes = s.homes; views = set s.views id (with_seen level slot n me.0) })) (sym (set-get_or s.words (level * size + slot) 0))
         (same_holds size s id me.0 at above holds (seen_of level slot n ∷ me.0.seen) me.0.blanks (suc me.0.steps) (stand_more size s id me.0 at above holds level slot n stands))
 
+    -- a word that isn't 0 stays, and joins what was seen, whatever the step is to tell besides
+    found_so : (s : State (List ℕ) View) → Holds size s → get_elem? s.views id ≡ some me.0 → get_or s.words (level * size + slot) 0 ≢ 0 → (Tells : Me (List ℕ) View → Type 0)
+        → (KnownOf (with_seen level slot (get_or s.words (level * size + slot) 0) me.0) → Tells (with_seen level slot (get_or s.words (level * size + slot) 0) me.0, carried_after me.1 keeps))
+        → (w : View) × (a : Act (List ℕ)) × Valid s.homes me.1 a × Holds size (stepped s (level * size + slot) (get_or s.words (level * size + slot) 0) id me.1 w a)
+        × Tells (w, carried_after me.1 a)
+    found_so s holds at taken Tells tells =
+        let w : View = with_seen level slot (get_or s.words (level * size + slot) 0) me.0 in
+        let after = found_holds s holds at taken in
+        (w, keeps, tt, after, tells (known_of size _ after id w (set_there s.views id me.0 w at) above))
+
     seen_is : (n : ℕ) → with_seen level slot n me.0 ≡ with_seen ((level * size + slot) / me.0.size) ((level * size + slot) % me.0.size) n me.0
     seen_is n = ap (λ (l : ℕ). with_seen l slot n me.0) (sym level_is) ∙ ap (λ (k : ℕ). with_seen ((level * size + slot) / me.0.size) k n me.0) (sym slot_is)
 
@@ -321,20 +331,8 @@ module _ (size slots id : ℕ) (me : Me (List ℕ) View) (above : 0 < me.0.share
             known = known_of size _ after id w (set_there s.views id me.0 w at) above;
           },
         ))
-        (λ taken.
-        let w : View = with_seen level slot n me.0 in
-        let after = found_holds s holds at taken in (
-          w,
-          keeps,
-          tt,
-          after,
-          record {
-            blank = λ free. absurd (taken free);
-            seen = λ _. seen_is n;
-            slots = refl;
-            known = known_of size _ after id w (set_there s.views id me.0 w at) above;
-          },
-        ))
+        (λ taken. found_so s holds at taken (Loads (step slots (level * size + slot) 0 0 none) me n)
+        (λ known. record { blank = λ free. absurd (taken free); seen = λ _. seen_is n; slots = refl; known = known }))
 
     pub exchange_allowed : (parent code : ℕ) (ticket : List ℕ) → IsTicket ticket → code ≡ code_of parent (get_or (pieces ticket) level 0)
         → (tries : ℕ) → tries < size → slot ≡ turn size code tries
@@ -365,20 +363,8 @@ module _ (size slots id : ℕ) (me : Me (List ℕ) View) (above : 0 < me.0.share
             known = known_of size _ after id w (set_there s.views id me.0 w at) above;
           },
         ))
-        (λ taken.
-        let w : View = with_seen level slot n me.0 in
-        let after = found_holds s holds at taken in (
-          w,
-          keeps,
-          tt,
-          after,
-          record {
-            won = λ free. absurd (taken free);
-            lost = λ _. seen_is n;
-            slots = refl;
-            known = known_of size _ after id w (set_there s.views id me.0 w at) above;
-          },
-        ))
+        (λ taken. found_so s holds at taken (Exchanges (step slots place 0 code (some ticket)) me n)
+        (λ known. record { won = λ free. absurd (taken free); lost = λ _. seen_is n; slots = refl; known = known }))
 
 -- the same in the words of who calls it: the size may be known by other names
 pub exchange_ready : (key size near slots id : ℕ) (me : Me (List ℕ) View) (h : Holder) (level slot code : ℕ) (ticket : List ℕ) → size ≡ key → near ≡ key → 0 < me.0.share → me.0.size ≡ key

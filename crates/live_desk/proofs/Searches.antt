@@ -13,6 +13,7 @@ use Rattle.live_desk.specs.ClaimSteps.{Begins, ClaimedExactly, Descended, Descen
 use Rattle.live_desk.specs.declared.view.SetWord.{SetWord}
 use Rattle.live_desk.specs.declared.view.SeenWord.{SeenWord}
 use Rattle.live_desk.specs.declared.view.Blank.{Blank}
+use Rattle.live_desk.specs.declared.claiming.Place.{Place}
 use Rattle.live_desk.specs.declared.claiming.Place.TheVariants.{Set, Found, Full}
 use Rattle.live_desk.specs.declared.claim.LiveClaim.TheVariants.{Won, Lost, Full as FullLevel}
 use Rattle.live_desk.proofs.Levels.{levels_all, levels_more}
@@ -53,11 +54,12 @@ ready_of size near level code tries slot ticket before now near_is begins passes
       searched = λ n less. let was = passes.passed n less in (was.0, inr (in_left _ passes.seen before.seen was.1), was.2);
     })
 
-pub passes_more : (size near level code tries slot found : ℕ) (ticket : List ℕ) (before now next : Holder) → near ≡ size → Passes size level code tries before now
-    → Exchanged level slot code ticket now next found → found ≢ 0 → found ≢ code → slot ≡ turn near code tries → Passes size level code (tries + 1) before next
-passes_more size near level code tries slot found ticket before now next near_is passes exchanged taken other here = record {
+-- a word that was seen there isn't the ticket's code, so the search goes on
+pub passes_seen : (size near level code tries slot found : ℕ) (before now next : Holder) → near ≡ size → Passes size level code tries before now
+    → next ≡ gained [] (seen_of level slot found ∷ []) [] now → found ≢ code → slot ≡ turn near code tries → Passes size level code (tries + 1) before next
+passes_seen size near level code tries slot found before now next near_is passes more other here = record {
   seen = seen_of level slot found ∷ passes.seen;
-  gained = exchanged.lost taken ∙ ap (gained [] (seen_of level slot found ∷ []) []) passes.gained;
+  gained = more ∙ ap (gained [] (seen_of level slot found ∷ []) []) passes.gained;
   own = λ e there. ⊎_elim (λ same. subst (λ (x : SeenWord). (x.level ≡ level) × (x.word ≢ code)) (sym same) (refl, other)) (passes.own e) there;
   passed = λ n less. dite (ℕ_discrete n tries)
       (λ same.
@@ -66,6 +68,11 @@ passes_more size near level code tries slot found ticket before now next near_is
       (λ apart. let was = passes.passed n (omega arith) in (was.0, inr was.1, was.2));
   steps = omega (arith, passes.steps);
 }
+
+pub passes_more : (size near level code tries slot found : ℕ) (ticket : List ℕ) (before now next : Holder) → near ≡ size → Passes size level code tries before now
+    → Exchanged level slot code ticket now next found → found ≢ 0 → found ≢ code → slot ≡ turn near code tries → Passes size level code (tries + 1) before next
+passes_more size near level code tries slot found ticket before now next near_is passes exchanged taken other here =
+    passes_seen size near level code tries slot found before now next near_is passes (exchanged.lost taken) other here
 
 pub searched_set : (size level code tries slot found : ℕ) (ticket : List ℕ) (before now next : Holder) → Passes size level code tries before now
     → Exchanged level slot code ticket now next found → found ≡ 0 → tries < size → slot < size → Searched size level code ticket before next (Set slot)
@@ -159,49 +166,39 @@ module _ (size : ℕ) (ticket : List ℕ) (level parent code : ℕ) (before now 
   next_level : suc level ≡ level + 1
   next_level = omega arith
 
+  -- the ticket's code is at this level, and what was set there is the ticket's
+  descends_at : (next : Holder) (place : Place) (slot : ℕ) → (searched : Searched size level code ticket now next place) → slot < size
+      → ((e : SetWord) → In e searched.sets → (e.ticket ≡ ticket) × (e.level ≡ level)) → Has (searched.sets ++ descends.sets) (searched.seen ++ descends.seen) level slot code
+      → Descends size ticket (level + 1) slot before next
+  descends_at next place slot searched within own has = record {
+    sets = searched.sets ++ descends.sets;
+    seen = searched.seen ++ descends.seen;
+    gained = here_gained next searched.sets searched.seen searched.gained;
+    own_sets = λ e there. ⊎_elim
+        (λ new. ((own e new).0, below e.level (own e new).1))
+        (λ old. ((descends.own_sets e old).0, later e.level (descends.own_sets e old).1))
+        (in_append e searched.sets descends.sets there);
+    own_seen = λ e there. ⊎_elim (λ new. below e.level (searched.own e new)) (λ old. later e.level (descends.own_seen e old)) (in_append e searched.seen descends.seen there);
+    trail = subst (λ (n : ℕ). Trail (searched.sets ++ descends.sets) (searched.seen ++ descends.seen) (pieces ticket) n slot) next_level (
+      parent,
+      trail_right descends.sets searched.sets descends.seen searched.seen (pieces ticket) level parent descends.trail,
+      subst (λ (c : ℕ). Has (searched.sets ++ descends.sets) (searched.seen ++ descends.seen) level slot c) code_is has,
+    );
+    within = within;
+    steps = levels_more size level descends.sets searched.sets descends.seen searched.seen descends.steps searched.steps;
+  }
+
   pub descends_set : (next : Holder) (slot : ℕ) → Searched size level code ticket now next (Set slot) → Descends size ticket (level + 1) slot before next
   descends_set next slot searched =
       let one : searched.sets ≡ set_of level slot code ticket ∷ [] = searched.ended.1 in
-      record {
-        sets = searched.sets ++ descends.sets;
-        seen = searched.seen ++ descends.seen;
-        gained = here_gained next searched.sets searched.seen searched.gained;
-        own_sets = λ e there. ⊎_elim
-            (λ new. ⊎_elim (λ same. (ap (λ (x : SetWord). x.ticket) same, below e.level (ap (λ (x : SetWord). x.level) same))) (λ nothing. absurd nothing) (subst (In e) one new))
-            (λ old. ((descends.own_sets e old).0, later e.level (descends.own_sets e old).1))
-            (in_append e searched.sets descends.sets there);
-        own_seen = λ e there. ⊎_elim (λ new. below e.level (searched.own e new)) (λ old. later e.level (descends.own_seen e old)) (in_append e searched.seen descends.seen there);
-        trail = subst (λ (n : ℕ). Trail (searched.sets ++ descends.sets) (searched.seen ++ descends.seen) (pieces ticket) n slot) next_level (
-          parent,
-          trail_right descends.sets searched.sets descends.seen searched.seen (pieces ticket) level parent descends.trail,
-          subst (λ (c : ℕ). Has (searched.sets ++ descends.sets) (searched.seen ++ descends.seen) level slot c) code_is
-              (inl (ticket, in_left _ searched.sets descends.sets (subst (In (set_of level slot code ticket)) (sym one) (inl refl)))),
-        );
-        within = searched.ended.0;
-        steps = levels_more size level descends.sets searched.sets descends.seen searched.seen descends.steps searched.steps;
-      }
+      descends_at next (Set slot) slot searched searched.ended.0
+      (λ e new. ⊎_elim (λ same. (ap (λ (x : SetWord). x.ticket) same, ap (λ (x : SetWord). x.level) same)) (λ nothing. absurd nothing) (subst (In e) one new))
+      (inl (ticket, in_left _ searched.sets descends.sets (subst (In (set_of level slot code ticket)) (sym one) (inl refl))))
 
   pub descends_found : (next : Holder) (slot : ℕ) → Searched size level code ticket now next (Found slot) → Descends size ticket (level + 1) slot before next
   descends_found next slot searched =
       let none : searched.sets ≡ [] = searched.ended.1 in
-      record {
-        sets = searched.sets ++ descends.sets;
-        seen = searched.seen ++ descends.seen;
-        gained = here_gained next searched.sets searched.seen searched.gained;
-        own_sets = λ e there. ⊎_elim
-            (λ new. absurd (subst (In e) none new))
-            (λ old. ((descends.own_sets e old).0, later e.level (descends.own_sets e old).1))
-            (in_append e searched.sets descends.sets there);
-        own_seen = λ e there. ⊎_elim (λ new. below e.level (searched.own e new)) (λ old. later e.level (descends.own_seen e old)) (in_append e searched.seen descends.seen there);
-        trail = subst (λ (n : ℕ). Trail (searched.sets ++ descends.sets) (searched.seen ++ descends.seen) (pieces ticket) n slot) next_level (
-          parent,
-          trail_right descends.sets searched.sets descends.seen searched.seen (pieces ticket) level parent descends.trail,
-          subst (λ (c : ℕ). Has (searched.sets ++ descends.sets) (searched.seen ++ descends.seen) level slot c) code_is
-              (inr (in_left _ searched.seen descends.seen searched.ended.2)),
-        );
-        within = searched.ended.0;
-        steps = levels_more size level descends.sets searched.sets descends.seen searched.seen descends.steps searched.steps;
-      }
+      descends_at next (Found slot) slot searched searched.ended.0 (λ e new. absurd (subst (In e) none new)) (inr (in_left _ searched.seen descends.seen searched.ended.2))
 
   pub descended_full : (next : Holder) → Searched size level code ticket now next Full → Descended size ticket before next level
   descended_full next searched =

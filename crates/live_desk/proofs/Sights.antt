@@ -1,39 +1,29 @@
 -- How a look goes on and ends, in the words of a seat's holder.
-use Rattle.std.proofs.Common.{◌≡◌, ◌≢◌, ℕ, suc, true, false, ◌+◌, ◌*◌, ◌<◌, ◌≤◌, inl, inr, ⊎_elim, List, [], ◌∷◌, ◌++◌, length, get_or, refl, sym, ap, ◌∙◌, subst, arith}
+use Rattle.std.proofs.Common.{◌≡◌, ◌≢◌, ℕ, suc, true, false, ◌+◌, ◌*◌, ◌<◌, ◌≤◌, ◌⊎◌, inl, inr, ⊎_elim, List, [], ◌∷◌, ◌++◌, length, get_or, refl, sym, ap, ◌∙◌, subst, arith}
 use Rattle.std.proofs.lemmas.List.{length-append}
-use mathlib.Core.Logic.{dite}
-use native.Mathlib.Decide.{ℕ_discrete}
 use Rattle.live_desk.specs.Lists.{In}
 use Rattle.live_desk.specs.Rule.{code_of, turn}
 use Rattle.live_desk.specs.Ticket.{pieces}
 use Rattle.live_desk.specs.Views.{blank_of, seen_of}
-use Rattle.live_desk.specs.Trail.{Trail}
+use Rattle.live_desk.specs.Trail.{BlankAt, FullAt, Trail}
 use Rattle.live_desk.specs.Holder.{Holder, gained}
 use Rattle.live_desk.specs.ClaimSteps.{Passes}
 use Rattle.live_desk.specs.HeldSteps.{Follows, HeldExactly, Loaded, Looked}
 use Rattle.live_desk.specs.declared.view.SeenWord.{SeenWord}
 use Rattle.live_desk.specs.declared.view.Blank.{Blank}
+use Rattle.live_desk.specs.declared.looking.Sight.{Sight}
 use Rattle.live_desk.specs.declared.looking.Sight.TheVariants.{Found, Blank as Clear, Missing}
 use Rattle.live_desk.proofs.Levels.{level_more, levels_all}
 use Rattle.live_desk.proofs.Sums.{in_append, in_left}
 use Rattle.live_desk.proofs.Words.{turn_of}
-use Rattle.live_desk.proofs.Searches.{gained_more, trail_right}
+use Rattle.live_desk.proofs.Searches.{gained_more, passes_seen, trail_right}
 
 -- ---- one level
 
 pub sees_more : (size near level code tries slot found : ℕ) (before now next : Holder) → near ≡ size → Passes size level code tries before now
     → Loaded level slot now next found → found ≢ 0 → found ≢ code → slot ≡ turn near code tries → Passes size level code (tries + 1) before next
-sees_more size near level code tries slot found before now next near_is passes loaded taken other here = record {
-  seen = seen_of level slot found ∷ passes.seen;
-  gained = loaded.taken taken ∙ ap (gained [] (seen_of level slot found ∷ []) []) passes.gained;
-  own = λ e there. ⊎_elim (λ same. subst (λ (x : SeenWord). (x.level ≡ level) × (x.word ≢ code)) (sym same) (refl, other)) (passes.own e) there;
-  passed = λ n less. dite (ℕ_discrete n tries)
-      (λ same.
-      let slot_is : slot ≡ turn size code n = here ∙ (ap (λ (k : ℕ). turn k code tries) near_is ∙ ap (λ (k : ℕ). turn size code k) (sym same)) in
-      (found, inl (ap (λ (s : ℕ). seen_of level s found) (sym slot_is)), other))
-      (λ apart. let was = passes.passed n (omega arith) in (was.0, inr was.1, was.2));
-  steps = omega (arith, passes.steps);
-}
+sees_more size near level code tries slot found before now next near_is passes loaded taken other here =
+    passes_seen size near level code tries slot found before now next near_is passes (loaded.taken taken) other here
 
 pub looked_found : (size level code tries slot found : ℕ) (before now next : Holder) → Passes size level code tries before now
     → Loaded level slot now next found → found ≢ 0 → found ≡ code → tries < size → slot < size → Looked size level code before next (Found slot)
@@ -124,8 +114,13 @@ module _ (size : ℕ) (ticket : List ℕ) (level parent code : ℕ) (before now 
     steps = let here : length looked.seen ≤ size = omega (arith, looked.steps) in omega (arith, length-append looked.seen follows.seen, level_more size level (length follows.seen) (length looked.seen) follows.steps here);
   }
 
-  pub held_blank : level < 6 → (next : Holder) → Looked size level code now next Clear → HeldExactly size ticket before next false
-  held_blank lt next looked = record {
+  -- a look that ends at this level
+  held_at : level < 6 → (next : Holder) (sight : Sight) → (looked : Looked size level code now next sight)
+      → (((b : BlankAt size ticket (looked.seen ++ follows.seen) (looked.blanks ++ []) level)
+      × ((e : SeenWord) → In e (looked.seen ++ follows.seen) → e.level ≡ level → e.word ≢ code_of b.parent (get_or (pieces ticket) level 0)))
+      ⊎ FullAt size ticket [] (looked.seen ++ follows.seen) level)
+      → HeldExactly size ticket before next false
+  held_at lt next sight looked why = record {
     seen = looked.seen ++ follows.seen;
     blanks = looked.blanks ++ [];
     gained = here_gained next looked.seen looked.blanks looked.gained;
@@ -133,39 +128,31 @@ module _ (size : ℕ) (ticket : List ℕ) (level parent code : ℕ) (before now 
       level,
       lt,
       (λ e there. ⊎_elim (λ new. at_most e.level (looked.own e new)) (λ old. at_most_before e.level (follows.own e old)) (in_append e looked.seen follows.seen there)),
-      inl (
-        record {
-          parent = parent;
-          trail = trail_right [] [] follows.seen looked.seen (pieces ticket) level parent follows.trail;
-          tries = looked.ended.0;
-          few = looked.ended.1;
-          blank = subst (λ (c : ℕ). In (blank_of level (turn size c looked.ended.0)) (looked.blanks ++ [])) code_is (in_left _ looked.blanks [] looked.ended.2);
-          searched = subst (λ (c : ℕ). (n : ℕ) → n < looked.ended.0 → (word : ℕ) × In (seen_of level (turn size c n) word) (looked.seen ++ follows.seen) × (word ≢ c)) code_is
-              (λ n less. let was = looked.ended.3 n less in (was.0, in_left _ looked.seen follows.seen was.1, was.2));
-        },
-        λ e there last. ⊎_elim
-            (λ new same. looked.ended.4 e new (same ∙ sym code_is))
-            (λ old same. let less = follows.own e old in let no : ⊥ = omega arith in no)
-            (in_append e looked.seen follows.seen there),
-      ),
+      why,
     );
     steps = here_steps lt looked.seen looked.blanks looked.steps;
   }
 
+  pub held_blank : level < 6 → (next : Holder) → Looked size level code now next Clear → HeldExactly size ticket before next false
+  held_blank lt next looked = held_at lt next Clear looked (inl (
+    record {
+      parent = parent;
+      trail = trail_right [] [] follows.seen looked.seen (pieces ticket) level parent follows.trail;
+      tries = looked.ended.0;
+      few = looked.ended.1;
+      blank = subst (λ (c : ℕ). In (blank_of level (turn size c looked.ended.0)) (looked.blanks ++ [])) code_is (in_left _ looked.blanks [] looked.ended.2);
+      searched = subst (λ (c : ℕ). (n : ℕ) → n < looked.ended.0 → (word : ℕ) × In (seen_of level (turn size c n) word) (looked.seen ++ follows.seen) × (word ≢ c)) code_is
+          (λ n less. let was = looked.ended.3 n less in (was.0, in_left _ looked.seen follows.seen was.1, was.2));
+    },
+    λ e there last. ⊎_elim
+        (λ new same. looked.ended.4 e new (same ∙ sym code_is))
+        (λ old same. let less = follows.own e old in let no : ⊥ = omega arith in no)
+        (in_append e looked.seen follows.seen there),
+  ))
+
   pub held_missing : level < 6 → (next : Holder) → Looked size level code now next Missing → HeldExactly size ticket before next false
-  held_missing lt next looked = record {
-    seen = looked.seen ++ follows.seen;
-    blanks = looked.blanks ++ [];
-    gained = here_gained next looked.seen looked.blanks looked.gained;
-    ended = (
-      level,
-      lt,
-      (λ e there. ⊎_elim (λ new. at_most e.level (looked.own e new)) (λ old. at_most_before e.level (follows.own e old)) (in_append e looked.seen follows.seen there)),
-      inr (record {
-        parent = parent;
-        trail = trail_right [] [] follows.seen looked.seen (pieces ticket) level parent follows.trail;
-        each = λ slot within. let found = looked.ended slot within in (found.0, in_left _ looked.seen follows.seen found.1, λ same. found.2 (same ∙ sym code_is));
-      }),
-    );
-    steps = here_steps lt looked.seen looked.blanks looked.steps;
-  }
+  held_missing lt next looked = held_at lt next Missing looked (inr (record {
+    parent = parent;
+    trail = trail_right [] [] follows.seen looked.seen (pieces ticket) level parent follows.trail;
+    each = λ slot within. let found = looked.ended slot within in (found.0, in_left _ looked.seen follows.seen found.1, λ same. found.2 (same ∙ sym code_is));
+  }))
