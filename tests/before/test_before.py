@@ -24,31 +24,19 @@ import lasting  # noqa: E402
 import load  # noqa: E402
 import refusing  # noqa: E402
 import signing  # noqa: E402
+from judged import Judged  # noqa: E402
 from stird import Stird, line_of  # noqa: E402
-from world import World  # noqa: E402
-
-CALLS = 600
 
 
 @dataclasses.dataclass(frozen=True)
-class Place:
-    """What the tests share: the programs, and a world with its calls and the program's report of them."""
+class Place(Judged):
+    """What the tests share: a judged world, and the service."""
     stird: pathlib.Path
-    stir: pathlib.Path
-    folder: pathlib.Path
-    world: World
-    calls: list
-    report: str
 
 
 @pytest.fixture(scope="session")
 def at(request, program, tmp_path_factory):
-    given = request.config.getoption
-    folder = tmp_path_factory.mktemp("before")
-    world = World(folder / "world", given("chains"))
-    calls = list(world.calls(given("calls") or CALLS))
-    report = judging.report(program, TOP, world, calls, folder)
-    return Place(given("stird").resolve(), program, folder, world, calls, report)
+    return Place.of(request, program, tmp_path_factory.mktemp("before"), stird=request.config.getoption("stird").resolve())
 
 
 def light(at):

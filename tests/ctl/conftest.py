@@ -19,3 +19,21 @@ def run(ctl):
         done = subprocess.run([ctl, *words], input=given, stdout=stdout, stderr=subprocess.PIPE, cwd=folder, timeout=120)
         return done.returncode, done.stdout, done.stderr
     return go
+
+
+@pytest.fixture
+def there(ctl, world):
+    """Runs `stirctl`, or another program, where the files of the module's world lie."""
+    def go(*words, given=b'', program=None):
+        done = subprocess.run([program or ctl, *words], input=given, stdout=subprocess.PIPE, stderr=subprocess.PIPE, cwd=world.folder, timeout=120)
+        return done.returncode, done.stdout, done.stderr.decode()
+    return go
+
+
+@pytest.fixture
+def stir(request):
+    """The proved program, if it is there."""
+    program = request.config.getoption('program').resolve()
+    if not program.exists():
+        pytest.skip('missing: the proved program')
+    return program

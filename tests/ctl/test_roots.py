@@ -19,25 +19,9 @@ def world(tmp_path_factory):
     return trusted.Abroad(tmp_path_factory.mktemp('roots'))
 
 
-@pytest.fixture(scope='session')
-def ctl(request):
-    return request.config.getoption('ctl').resolve()
-
-
 @pytest.fixture
-def run(ctl, world):
-    def go(*words, given=b'', program=None):
-        done = subprocess.run([program or ctl, *words], input=given, stdout=subprocess.PIPE, stderr=subprocess.PIPE, cwd=world.folder, timeout=120)
-        return done.returncode, done.stdout, done.stderr.decode()
-    return go
-
-
-@pytest.fixture
-def stir(request):
-    program = request.config.getoption('program').resolve()
-    if not program.exists():
-        pytest.skip('missing: the proved program')
-    return program
+def run(there):
+    return there
 
 
 @pytest.fixture

@@ -20,22 +20,12 @@ import signing
 import strangers
 from cryptography import x509
 from cryptography.hazmat.primitives import serialization
-from stird import Stird, status_of, wait_until
+from stird import Numbers, Stird, status_of, wait_until
 from test_doors import outer
 from web import Fetched, Fetching, Web, tls_certificate
 from world import START, World, code_list, range_list
 
 VALID = ("valid", 0)
-
-
-class Numbers:
-    """Numbers of calls, each of which comes once."""
-    last = 0
-
-    @classmethod
-    def next(cls):
-        cls.last += 1
-        return cls.last
 
 
 @pytest.fixture

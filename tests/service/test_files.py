@@ -6,7 +6,7 @@ import socket
 import time
 
 import pytest
-from stird import Stird, wait_until
+from stird import Numbers, Stird, wait_until
 from world import START
 
 # A user who may read what everybody may.
@@ -46,16 +46,6 @@ def files(world, tmp_path):
     folder = tmp_path / "files"
     folder.mkdir()
     return Changing(world, folder)
-
-
-class Numbers:
-    """Numbers of calls, each of which comes once."""
-    last = 0
-
-    @classmethod
-    def next(cls):
-        cls.last += 1
-        return cls.last
 
 
 def told(service, world, n):

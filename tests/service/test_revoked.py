@@ -8,7 +8,7 @@ import sys
 import time
 
 import pytest
-from stird import Stird, wait_until
+from stird import Numbers, Stird, wait_until
 from web import Fetched, Fetching, Web
 from world import code_list, range_list
 
@@ -18,16 +18,6 @@ from trusted import START, crl, entry  # noqa: E402
 
 A, B = trusted.name("A"), trusted.name("B")
 SINCE = "is revoked since 2026-01-01T00:00:00Z"
-
-
-class Numbers:
-    """Numbers of calls, each of which comes once."""
-    last = 0
-
-    @classmethod
-    def next(cls):
-        cls.last += 1
-        return cls.last
 
 
 @pytest.fixture

@@ -8,36 +8,23 @@ import pathlib
 
 import fields
 import header
-import judging
 import pytest
 import same
 import sending
-from world import World
-
-TOP = pathlib.Path(__file__).resolve().parents[2]
-CALLS = 600
+from judged import TOP, Judged
 
 
 @dataclasses.dataclass(frozen=True)
-class Place:
-    """What the tests share: the programs, the library, and a world with its calls and the program's report of them."""
-    stir: pathlib.Path
+class Place(Judged):
+    """What the tests share: a judged world, and the library and the program over it."""
     library: pathlib.Path
     judge: pathlib.Path
-    folder: pathlib.Path
-    world: World
-    calls: list
-    report: str
 
 
 @pytest.fixture(scope="session")
 def at(request, program, tmp_path_factory):
     given = request.config.getoption
-    folder = tmp_path_factory.mktemp("service")
-    world = World(folder / "world", given("chains"))
-    calls = list(world.calls(given("calls") or CALLS))
-    report = judging.report(program, TOP, world, calls, folder)
-    return Place(program, given("library").resolve(), given("judge").resolve(), folder, world, calls, report)
+    return Place.of(request, program, tmp_path_factory.mktemp("service"), library=given("library").resolve(), judge=given("judge").resolve())
 
 
 TESTS = {
