@@ -53,6 +53,9 @@ pub record ChainLaws : Type 0 where
   pub read : ChainLaw
   pub met : MeetsLaw
 
+pub chain_laws : AnsweredLaw → WordsLaw → ShortLaw → ChainLaw → MeetsLaw → ChainLaws
+chain_laws answered words short read met = record { answered = answered; words = words; short = short; read = read; met = met }
+
 -- ---- what is said of a part
 
 part_none : (field : ℕ) (part : Option ℕ) → part_at field (by_part part) ≡ None → part ≡ None

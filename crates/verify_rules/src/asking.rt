@@ -57,8 +57,7 @@ fn ask_at<P: Provider>(
     ensures cause { HasCause (P.faults provider.old) (P.faults provider.new) result }
     ensures asks { P.asks provider.new ≤ P.asks provider.old + 1 }
     ensures asks_stay { P.asks provider.old ≤ P.asks provider.new }
-    ensures same_says { P.says provider.new ≡ P.says provider.old }
-    ensures same_signs { P.signs provider.new ≡ P.signs provider.old }
+    ensures provider { ProviderStays P.Provider provider.old provider.new }
     ensures signs_nothing { P.sign_faults provider.new ≡ P.sign_faults provider.old }
 {
     let field = one.field;
@@ -96,8 +95,7 @@ fn is_signed<P: Provider>(
     ensures cause { HasCause (P.faults provider.old) (P.faults provider.new) result }
     ensures asks { P.asks provider.new ≤ P.asks provider.old + 1 }
     ensures asks_stay { P.asks provider.old ≤ P.asks provider.new }
-    ensures same_says { P.says provider.new ≡ P.says provider.old }
-    ensures same_signs { P.signs provider.new ≡ P.signs provider.old }
+    ensures provider { ProviderStays P.Provider provider.old provider.new }
     ensures signs_nothing { P.sign_faults provider.new ≡ P.sign_faults provider.old }
 {
     match leaf {

@@ -95,40 +95,22 @@ pub fn finish<C: Chains, P: Provider>(
     judged_law();
     late_words_law();
     late_places_law();
-    finish_exactly(screened, chains, moment, table, provider)
-}
-
-/// The same, over what is known of the chains, asked for once.
-fn finish_exactly<C: Chains, P: Provider>(
-    screened: &Screened,
-    chains: &C,
-    moment: u64,
-    table: &CodeTable,
-    provider: &mut P,
-) -> Verdict
-    requires one_each { length (C.states chains.now) ≡ length screened.now.readings }
-    ensures verdict { IsVerdict (P.says provider.old) table.now moment screened.now.readings (C.states chains.now) (P.faults provider.old) (P.faults provider.new) result }
-    ensures asks { P.asks provider.new ≤ P.asks provider.old + length screened.now.readings }
-    ensures asks_stay { P.asks provider.old ≤ P.asks provider.new }
-    ensures provider { ProviderStays P.Provider provider.old provider.new }
-    ensures signs_nothing { P.sign_faults provider.new ≡ P.sign_faults provider.old }
-{
     let _few = screened.count();
     let once = Once::of(chains);
-    by_rules(screened, &once, moment, table, provider)
+    finish_exactly(screened, &once, moment, table, provider)
 }
 
-/// The same, by the rules in their order.
+/// The same, over what is known of the chains, asked for once: the rules are tried in their order.
 #[tactic(auto, using(crate::proofs::VerdictLaws::by_before, crate::proofs::VerdictLaws::by_asking, crate::proofs::VerdictLaws::left_open, crate::proofs::VerdictLaws::by_after, crate::proofs::VerdictLaws::by_none))]
-fn by_rules<C: Chains, P: Provider>(
+fn finish_exactly<P: Provider>(
     screened: &Screened,
-    chains: &C,
+    chains: &Once<'_>,
     moment: u64,
     table: &CodeTable,
     provider: &mut P,
 ) -> Verdict
-    requires one_each { length (C.states chains.now) ≡ length screened.now.readings }
-    ensures verdict { IsVerdict (P.says provider.old) table.now moment screened.now.readings (C.states chains.now) (P.faults provider.old) (P.faults provider.new) result }
+    requires one_each { length chains.now ≡ length screened.now.readings }
+    ensures verdict { IsVerdict (P.says provider.old) table.now moment screened.now.readings chains.now (P.faults provider.old) (P.faults provider.new) result }
     ensures asks { P.asks provider.new ≤ P.asks provider.old + length screened.now.readings }
     ensures asks_stay { P.asks provider.old ≤ P.asks provider.new }
     ensures provider { ProviderStays P.Provider provider.old provider.new }

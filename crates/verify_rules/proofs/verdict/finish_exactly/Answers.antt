@@ -1,6 +1,6 @@
 -- The verdict of a rule after the signatures.
 use Rattle.verify_rules.proofs.VerdictLaws.{by_after}
-use Rattle.verify_rules.proofs.verdict.by_rules.Goals as goal
+use Rattle.verify_rules.proofs.verdict.finish_exactly.Goals as goal
 
 pub returns-in-Some-first_rule-clause-verdict : goal.returns-in-Some-first_rule-clause-verdict
 returns-in-Some-first_rule-clause-verdict g c =
