@@ -9,6 +9,19 @@ use Rattle.sip_message.specs.Short.{AreShort}
 
 -- ---- what is found is the value of such a field
 
+-- one field more before it
+after_one : (name : List ℕ) (field : FieldView) (others : List FieldView) (i now : ℕ) (value : List ℕ) → (found : IsFieldValue name others i value)
+    → length (filter (λ (f : FieldView). is_one_field name f.name) (field ∷ found.earlier)) ≡ now → IsFieldValue name (field ∷ others) now value
+after_one name field others i now value found before = record {
+  earlier = field ∷ found.earlier;
+  own = found.own;
+  later = found.later;
+  parts = ap (λ (x : List FieldView). field ∷ x) found.parts;
+  named = found.named;
+  before = before;
+  value_is = found.value_is;
+}
+
 found_by : (name : List ℕ) (field : FieldView) (others : List FieldView) (i : ℕ) (value : List ℕ) (t : Bool) → is_one_field name field.name ≡ t
     → ((k : ℕ) → slice_get (values_named name others) k ≡ Some value → IsFieldValue name others k value)
     → slice_get (values_named name (field ∷ others)) i ≡ Some value → IsFieldValue name (field ∷ others) i value
@@ -18,27 +31,11 @@ found_by name field others zero value true e below h =
 found_by name field others (suc i) value true e below h =
     let k : slice_get (values_named name others) i ≡ Some value = rw e at h in
     let found = below i k in
-    record {
-      earlier = field ∷ found.earlier;
-      own = found.own;
-      later = found.later;
-      parts = ap (λ (x : List FieldView). field ∷ x) found.parts;
-      named = found.named;
-      before = rw e (ap suc found.before);
-      value_is = found.value_is;
-    }
+    after_one name field others i (suc i) value found (rw e (ap suc found.before))
 found_by name field others i value false e below h =
     let k : slice_get (values_named name others) i ≡ Some value = rw e at h in
     let found = below i k in
-    record {
-      earlier = field ∷ found.earlier;
-      own = found.own;
-      later = found.later;
-      parts = ap (λ (x : List FieldView). field ∷ x) found.parts;
-      named = found.named;
-      before = rw e found.before;
-      value_is = found.value_is;
-    }
+    after_one name field others i i value found (rw e found.before)
 
 pub value_found : (name : List ℕ) (fields : List FieldView) (i : ℕ) (value : List ℕ) → slice_get (values_named name fields) i ≡ Some value
     → IsFieldValue name fields i value
