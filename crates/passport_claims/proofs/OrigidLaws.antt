@@ -6,7 +6,7 @@ use Rattle.std.proofs.lemmas.Bool.Decides.{nat_tests}
 use Rattle.std.proofs.lemmas.Str.{IsUtf8-from_is_utf8, is_utf8-from_IsUtf8}
 use Rattle.uuid.specs.Text.{parsed}
 use Rattle.passport_claims.specs.Origid.{IsOrigid, is_origid}
-use Rattle.std.proofs.lemmas.Bool.{and_parts}
+use Rattle.std.proofs.lemmas.Bool.{and_parts, false_from_ne_true}
 
 some_of : {A : Type 0} (found : Option A) (x : A) → found ≡ Some x → is_some found ≡ true
 some_of None x e = absurd cc
@@ -29,12 +29,8 @@ uuid_read (Err x) text both = sym (none_of (parsed text) (λ u e. let k = both.1
 pub text_is : (text : List ℕ) → IsUtf8 text → is_utf8 text ≡ true
 text_is = is_utf8-from_IsUtf8
 
-not_by : (text : List ℕ) (t : Bool) → is_utf8 text ≡ t → (IsUtf8 text → ⊥) → is_utf8 text ≡ false
-not_by text true e no_text = absurd (no_text (IsUtf8-from_is_utf8 text e))
-not_by text false e no_text = e
-
 pub text_not : (text : List ℕ) → (IsUtf8 text → ⊥) → is_utf8 text ≡ false
-text_not text no_text = not_by text (is_utf8 text) refl no_text
+text_not text no_text = false_from_ne_true _ (λ is. no_text (IsUtf8-from_is_utf8 text is))
 
 -- an identifier has 36 bytes
 pub origid_size : (text : List ℕ) → is_origid text ≡ true → length text ≡ 36
