@@ -235,9 +235,10 @@ size_read text parts bytes d n =
       no_size bytes.signature n,
     ) refl
 
-header_read : (text : List ℕ) (parts bytes : PartTexts) → IsSized text parts bytes → IsNoObject bytes.header → read_full text ≡ Err (faults.Json 1)
+-- what is left to read, if the encodings and the size of the signature are right
+sized_read : (text : List ℕ) (parts bytes : PartTexts) → IsSized text parts bytes → read_full text ≡ behind_size parts bytes.header bytes.payload bytes.signature
 unfolding read_full
-header_read text parts bytes z none =
+sized_read text parts bytes z =
     let d = z.decoded in
     rw (
       serialized_again text parts d.serialized,
@@ -245,23 +246,14 @@ header_read text parts bytes z none =
       base64_again 2 parts.payload bytes.payload d.payload,
       base64_again 3 parts.signature bytes.signature d.signature,
       signature_again bytes.signature z.size,
-      no_object 1 bytes.header none,
     ) refl
+
+header_read : (text : List ℕ) (parts bytes : PartTexts) → IsSized text parts bytes → IsNoObject bytes.header → read_full text ≡ Err (faults.Json 1)
+header_read text parts bytes z none = rw (sized_read text parts bytes z, no_object 1 bytes.header none) refl
 
 payload_read : (text : List ℕ) (parts bytes : PartTexts) (header : Data) → IsSized text parts bytes → IsObjectText bytes.header header
     → IsNoObject bytes.payload → read_full text ≡ Err (faults.Json 2)
-unfolding read_full
-payload_read text parts bytes header z object none =
-    let d = z.decoded in
-    rw (
-      serialized_again text parts d.serialized,
-      base64_again 1 parts.header bytes.header d.header,
-      base64_again 2 parts.payload bytes.payload d.payload,
-      base64_again 3 parts.signature bytes.signature d.signature,
-      signature_again bytes.signature z.size,
-      json_again 1 bytes.header header object,
-      no_object 2 bytes.payload none,
-    ) refl
+payload_read text parts bytes header z object none = rw (sized_read text parts bytes z, json_again 1 bytes.header header object, no_object 2 bytes.payload none) refl
 
 -- the compact form
 
