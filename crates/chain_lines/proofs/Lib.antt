@@ -1,1 +1,3 @@
+pub mod ElementLaws
+pub mod SerialLaws
 pub mod ShowSteps

@@ -1,1 +1,5 @@
+pub mod Elements
+pub mod Parts
+pub mod Revocation
+pub mod Serial
 pub mod Show

@@ -3,8 +3,8 @@ use Rattle.std.proofs.Common.{◌≡◌, ℕ, ◌-◌, ◌≤◌, List, Option, 
 use Rattle.std.proofs.lemmas.Option.{same_Some}
 use Rattle.std.specs.List.{slice_get}
 use Rattle.std.specs.Option.{option_map}
-use Rattle.cert_parts.specs.Parts.{PartIs}
-use Rattle.cert_parts.specs.declared.parts.Part.{Part}
+use Rattle.chain_lines.specs.Parts.{PartIs}
+use Rattle.chain_lines.specs.declared.parts.Part.{Part}
 use Rattle.x509_profile.specs.Chain.{Chain, RefusedCertificate, refused_at}
 use Rattle.x509_profile.specs.View.{CertView}
 use Rattle.stir_c.specs.ChainParts.{ChainPartIs, HasCertificate, IsPartOf, ToldFound, ToldPart, part_of}

@@ -1,9 +1,9 @@
 -- The parts of the certificates of a chain, and how they are told.
 use Rattle.std.specs.Prelude.{◌≡◌, ℕ, ◌-◌, ◌≤◌, ◌==◌, List, Option, Some, None, Result, Ok, Err, if◌then◌else◌}
 use Rattle.std.specs.List.{slice_get}
-use Rattle.cert_parts.specs.Parts.{PartIs}
-use Rattle.cert_parts.specs.declared.parts.Part.{Part}
-use Rattle.cert_parts.specs.declared.parts.Part.TheVariants as parts
+use Rattle.chain_lines.specs.Parts.{PartIs}
+use Rattle.chain_lines.specs.declared.parts.Part.{Part}
+use Rattle.chain_lines.specs.declared.parts.Part.TheVariants as parts
 use Rattle.x509_profile.specs.Chain.{Chain}
 use Rattle.x509_profile.specs.View.{CertView}
 use Rattle.stir_c.specs.Saying.{ToldMaybe}

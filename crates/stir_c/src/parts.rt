@@ -4,7 +4,7 @@ ghost use Rattle.std.specs.Prelude.{◌≡◌, IfOk};
 ghost use Rattle.stir_c.specs.ChainParts.{ChainPartIs, part_of};
 
 use crate::writing::Text;
-use cert_parts::{Part, certificate_part};
+use chain_lines::{Part, certificate_part};
 use std::alloc::{AllocError, Global};
 use x509_profile::{CertChainFault, read_chain};
 

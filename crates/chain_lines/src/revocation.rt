@@ -1,8 +1,8 @@
 //! Where it is told whether a certificate is revoked.
 ghost use Rattle.std.specs.Option.{option_map};
 ghost use Rattle.std.specs.Prelude.{◌≡◌, IfOk};
-ghost use Rattle.cert_parts.specs.Elements.{inside};
-ghost use Rattle.cert_parts.specs.Revocation.{points_in, revocation_of, uris_in};
+ghost use Rattle.chain_lines.specs.Elements.{inside};
+ghost use Rattle.chain_lines.specs.Revocation.{points_in, revocation_of, uris_in};
 
 use crate::made::{Make, within};
 use std::alloc::{AllocError, Global};

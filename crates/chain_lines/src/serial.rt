@@ -1,8 +1,8 @@
 //! The serial number of a certificate.
 ghost use Rattle.std.specs.Prelude.{◌≡◌};
 ghost use Rattle.der_reader.specs.Elem.{AllBytes};
-ghost use Rattle.cert_parts.specs.Revocation.{bytes_view};
-ghost use Rattle.cert_parts.specs.Serial.{IsSerial, serial_in};
+ghost use Rattle.chain_lines.specs.Revocation.{bytes_view};
+ghost use Rattle.chain_lines.specs.Serial.{IsSerial, serial_in};
 
 use der_reader::{Der, DerFault, element_law};
 use x509_profile::{Certificate, certificate_law};

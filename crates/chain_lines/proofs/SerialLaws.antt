@@ -8,7 +8,7 @@ use Rattle.der_reader.specs.declared.fault.DerFault.{DerFault}
 use Rattle.x509_profile.specs.Cert.{Cert}
 use Rattle.x509_profile.specs.Text.{algorithm_text, version_text}
 use Rattle.x509_profile.specs.View.{CertView}
-use Rattle.cert_parts.specs.Serial.{IsSerial, serial_in}
+use Rattle.chain_lines.specs.Serial.{IsSerial, serial_in}
 
 abbrev pub IsNext : Type 0
 IsNext = (bytes : List ℕ) (element : Element) (rest : List ℕ) → BeginsWith bytes element rest → next_at bytes ≡ Ok (element, rest)

@@ -1,10 +1,10 @@
 -- The certificate is the text of its parts, so its serial number is read.
 use Rattle.std.proofs.Common.{sym, ◌∙◌, ap, subst}
 use Rattle.der_reader.specs.Elem.{AllBytes}
-use Rattle.cert_parts.specs.Revocation.{bytes_view}
-use Rattle.cert_parts.specs.Serial.{serial_in}
-use Rattle.cert_parts.proofs.SerialLaws.{is_serial, never_fails}
-use Rattle.cert_parts.proofs.serial.serial_of.Goals as goal
+use Rattle.chain_lines.specs.Revocation.{bytes_view}
+use Rattle.chain_lines.specs.Serial.{serial_in}
+use Rattle.chain_lines.proofs.SerialLaws.{is_serial, never_fails}
+use Rattle.chain_lines.proofs.serial.serial_of.Goals as goal
 
 pub unreachable-requires : goal.unreachable-requires
 unreachable-requires c =

@@ -3,8 +3,8 @@ ghost use Rattle.std.specs.Prelude.{◌≡◌, ◌++◌, [], IfOk, OnOk, if◌th
 ghost use Rattle.std.specs.Str.{bytes_eq};
 ghost use Rattle.der_reader.specs.Elem.{element_of};
 ghost use Rattle.der_reader.specs.Next.{sole_view};
-ghost use Rattle.cert_parts.specs.Elements.{made_of, within};
-ghost use Rattle.cert_parts.specs.Revocation.{bytes_view, made_by, points_of, points_oid, points_read, uri_line, value_at};
+ghost use Rattle.chain_lines.specs.Elements.{made_of, within};
+ghost use Rattle.chain_lines.specs.Revocation.{bytes_view, made_by, points_of, points_oid, points_read, uri_line, value_at};
 
 use der_reader::{Der, DerFault};
 use std::alloc::{AllocError, Global};

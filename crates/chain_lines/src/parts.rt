@@ -2,7 +2,7 @@
 ghost use Rattle.std.specs.Option.{option_map};
 ghost use Rattle.std.specs.Prelude.{◌≡◌, ◌++◌, IfOk, OnOk};
 ghost use Rattle.std.specs.Fmt.{signed_decimal};
-ghost use Rattle.cert_parts.specs.Parts.{PartIs, code_line, code_lines};
+ghost use Rattle.chain_lines.specs.Parts.{PartIs, code_line, code_lines};
 
 use crate::revocation::revocation_of;
 use crate::serial::serial_of;
@@ -78,7 +78,7 @@ fn codes_of(alloc: Global, certificate: &Certificate) -> Result<Option<Vec<u8>>,
 }
 
 /// The codes among these entries.
-#[tactic(auto, using(crate::proofs::CodeLaws::lines_more, crate::proofs::CodeLaws::lines_done))]
+#[tactic(auto, using(crate::proofs::ShowSteps::entries_more, crate::proofs::ShowSteps::entries_done))]
 fn code_lines(alloc: Global, entries: &[Entry]) -> Result<Vec<u8>, AllocError>
     ensures { IfOk result (λ lines. lines.items ≡ code_lines entries.now) }
 {

@@ -7,9 +7,9 @@ use Rattle.der_reader.specs.Elem.{Element}
 use Rattle.der_reader.specs.Next.{next_at}
 use Rattle.der_reader.specs.declared.fault.DerFault.{DerFault}
 use Rattle.text_grammar.specs.Uri.{is_uri}
-use Rattle.cert_parts.specs.Elements.{along, within}
-use Rattle.cert_parts.specs.declared.made.Make.{Make}
-use Rattle.cert_parts.specs.declared.made.Make.TheVariants as make
+use Rattle.chain_lines.specs.Elements.{along, within}
+use Rattle.chain_lines.specs.declared.made.Make.{Make}
+use Rattle.chain_lines.specs.declared.made.Make.TheVariants as make
 
 -- cRLDistributionPoints, 2.5.29.31
 abbrev pub points_oid : List ℕ

@@ -1,10 +1,10 @@
 -- One element more, and the end.
 use Rattle.std.proofs.Common.{sym}
 use Rattle.der_reader.specs.Elem.{element_of}
-use Rattle.cert_parts.specs.Elements.{within}
-use Rattle.cert_parts.specs.Revocation.{made_by}
-use Rattle.cert_parts.proofs.ElementLaws.{at_end, more}
-use Rattle.cert_parts.proofs.made.within.Goals as goal
+use Rattle.chain_lines.specs.Elements.{within}
+use Rattle.chain_lines.specs.Revocation.{made_by}
+use Rattle.chain_lines.proofs.ElementLaws.{at_end, more}
+use Rattle.chain_lines.proofs.made.within.Goals as goal
 
 pub elements-preserved : goal.elements-preserved
 elements-preserved c =

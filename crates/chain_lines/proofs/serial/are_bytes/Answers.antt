@@ -1,6 +1,6 @@
 -- Each byte is one.
 use Rattle.std.proofs.Common.{arith}
-use Rattle.cert_parts.proofs.serial.are_bytes.Goals as goal
+use Rattle.chain_lines.proofs.serial.are_bytes.Goals as goal
 
 pub returns : goal.returns
 returns c = λ i. omega (arith, c.type_inv.bytes i)

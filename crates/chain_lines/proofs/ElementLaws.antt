@@ -3,7 +3,7 @@ use Rattle.std.proofs.Common.{◌≡◌, ℕ, zero, suc, ◌<◌, ◌≤◌, Lis
 use Rattle.der_reader.specs.Elem.{Element}
 use Rattle.der_reader.specs.Next.{next_at}
 use Rattle.der_reader.specs.declared.fault.DerFault.{DerFault}
-use Rattle.cert_parts.specs.Elements.{each_up_to, made_from, made_of, within}
+use Rattle.chain_lines.specs.Elements.{each_up_to, made_from, made_of, within}
 
 pub record Left (tag : ℕ) (make : List ℕ → List ℕ) (all out left : List ℕ) : Type 0 where
   pub room : ℕ

@@ -6,10 +6,10 @@ use Rattle.std.specs.Option.{option_map}
 use Rattle.tn_auth_list.specs.declared.entries.Entry.{Entry}
 use Rattle.tn_auth_list.specs.declared.entries.Entry.TheVariants as entries
 use Rattle.x509_profile.specs.View.{CertView}
-use Rattle.cert_parts.specs.Revocation.{revocation_of}
-use Rattle.cert_parts.specs.Serial.{IsSerial}
-use Rattle.cert_parts.specs.declared.parts.Part.{Part}
-use Rattle.cert_parts.specs.declared.parts.Part.TheVariants as parts
+use Rattle.chain_lines.specs.Revocation.{revocation_of}
+use Rattle.chain_lines.specs.Serial.{IsSerial}
+use Rattle.chain_lines.specs.declared.parts.Part.{Part}
+use Rattle.chain_lines.specs.declared.parts.Part.TheVariants as parts
 
 -- a service provider code on a line of its own (RFC 8226, section 9)
 abbrev pub code_line : Entry → List ℕ

@@ -1,9 +1,9 @@
 -- What was made so far, and what is made of the elements left, is what is made of all.
 use Rattle.std.proofs.Common.{length}
-use Rattle.cert_parts.specs.Elements.{within}
-use Rattle.cert_parts.specs.Revocation.{made_by}
-use Rattle.cert_parts.proofs.ElementLaws.{Left}
-use Rattle.cert_parts.proofs.made.within.Given as goal
+use Rattle.chain_lines.specs.Elements.{within}
+use Rattle.chain_lines.specs.Revocation.{made_by}
+use Rattle.chain_lines.proofs.ElementLaws.{Left}
+use Rattle.chain_lines.proofs.made.within.Given as goal
 
 abbrev pub invariant-elements : goal.invariant-elements
 invariant-elements l = Left l.tag (made_by l.make) (within l.tag (made_by l.make) l.bytes) l.out.items l.left

@@ -1,3 +1,0 @@
-pub mod ElementLaws
-pub mod CodeLaws
-pub mod SerialLaws

@@ -1,5 +1,0 @@
--- What the contracts of this crate say.
-pub mod Elements
-pub mod Serial
-pub mod Revocation
-pub mod Parts
