@@ -11,3 +11,4 @@ pub mod QuestionLaws
 pub mod Sent
 pub mod SlotValues
 pub mod RetargetLaws
+pub mod LooseValues

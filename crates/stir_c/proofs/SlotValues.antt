@@ -27,7 +27,7 @@ use Rattle.std.specs.contracts.alloc.Global as heap
 use Rattle.std.proofs.alloc.Global.TheLaws as heap_laws
 use Rattle.std.specs.contracts.impls.GlobalAllocator.TheImpl.{ghosts}
 use Rattle.std.specs.declared.alloc.Global.{Global}
-use Rattle.loose.proofs.Values.{both, al}
+use Rattle.stir_c.proofs.LooseValues.{both, al}
 use Rattle.stir_c.specs.Held.{held_owns}
 use Rattle.stir_c.specs.declared.owner.Owner.{Owner}
 use Rattle.stir_c.specs.contracts.owner.Owner as owner

@@ -2,9 +2,9 @@
 ghost use Rattle.std.specs.Prelude.{◌≡◌, ◌↔◌, IsTrue, None, Some, is_some};
 ghost use Rattle.std.specs.Option.{option_map};
 
+use crate::loose::Loose;
 use crate::owner::Owner;
 use crate::slot::Slot;
-use loose::Loose;
 use std::alloc::Global;
 
 /// What all handles are in memory: nothing, or the address of one owner.

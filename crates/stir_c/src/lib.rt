@@ -57,6 +57,7 @@ mod handle;
 mod handles;
 mod judging;
 mod key;
+mod loose;
 mod moving;
 mod owner;
 mod owning;

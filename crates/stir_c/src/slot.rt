@@ -3,8 +3,8 @@ ghost use Rattle.std.specs.Prelude.{◌≡◌, IsSome, None, Option, Some};
 ghost use Rattle.stir_c.specs.Held.{held_owns};
 ghost use Rattle.stir_c.specs.declared.owner.Owner.{Owner};
 
+use crate::loose::Loose;
 use crate::owner::Owner;
-use loose::Loose;
 use std::alloc::Global;
 use std::marker::Model;
 use std::ptr::null_mut;

@@ -17,7 +17,7 @@ use denote.Signature.{types_at, plain}
 use denote.Steps.{nothing}
 use denote.Triple.Walked.{Stays, stay_dropped, walk_of, Goes-dropped}
 use Rattle.std.proofs.raw_atomic.Walks.{proved_at, leaves}
-use Rattle.loose.proofs.Values.{both}
+use Rattle.stir_c.proofs.LooseValues.{both}
 use Rattle.stir_c.proofs.SlotValues.{S, slot_good, slot_seen}
 use Rattle.stir_c.specs.contracts.slot.Slot.discard.{ended, clauses}
 use Rattle.stir_c.specs.contracts.slot.Slot.discard.Key.{name as #self}

@@ -19,13 +19,13 @@ use denote.Triple.Walked.{Stays, stay_dropped, walk_of, Goes-dropped}
 use Rattle.std.proofs.alloc.Global.TheLaws as heap_laws
 use Rattle.std.proofs.raw_atomic.Walks.{proved_at, leaves}
 use Rattle.std.specs.contracts.impls.GlobalAllocator.TheImpl.{ghosts}
-use Rattle.loose.proofs.Values.{both}
+use Rattle.stir_c.proofs.LooseValues.{both}
 use denote.RawPtr.{ptr_val}
 use denote.Param.{layout}
 use mir.Val.{has_ty}
 use Rattle.std.proofs.alloc.Calls.{handle_tells}
 use Rattle.std.proofs.ResultValues.{and_tt}
-use Rattle.loose.proofs.Values.{al}
+use Rattle.stir_c.proofs.LooseValues.{al}
 use Rattle.stir_c.specs.declared.owner.Owner.{Owner}
 use Rattle.stir_c.proofs.SlotValues.{R, Z, slot_in}
 use Rattle.stir_c.specs.contracts.slot.Slot.empty.{ended, clauses}

@@ -19,7 +19,7 @@ use denote.Triple.Walked.{Stays, stay_dropped, walk_of, Goes-dropped}
 use Rattle.std.proofs.alloc.Global.TheLaws as heap_laws
 use Rattle.std.proofs.raw_atomic.Walks.{proved_at, leaves}
 use Rattle.std.specs.contracts.impls.GlobalAllocator.TheImpl.{ghosts}
-use Rattle.loose.proofs.Values.{both, loose_good, loose_in}
+use Rattle.stir_c.proofs.LooseValues.{both, loose_good, loose_in}
 use Rattle.std.specs.Prelude.{IsSome}
 use Rattle.stir_c.proofs.SlotValues.{picked, R, Z, S, slot_out}
 use Rattle.stir_c.specs.contracts.slot.Slot.into_loose.{ended, clauses}

@@ -1,14 +1,7 @@
 //! A box taken apart into its address and the right to free it, and put together again. So C can hold the address.
 //!
-//! # What it isn't
-//!
-//! It keeps nothing and frees nothing: whoever takes a box apart puts it together again, since a [`Loose`] can't be dropped.
-//!
-//! # What is proved
-//!
-//! What goes in comes out: the value is the same before and after, and at the address lies that value alone.
-#![tactic(auto)]
-
+//! It keeps nothing and frees nothing: whoever takes a box apart puts it together again, since a [`Loose`] can't be dropped. What goes in comes out: the value
+//! is the same before and after, and at the address lies that value alone.
 ghost use Rattle.std.specs.Prelude.{◌≡◌};
 ghost use Rattle.std.specs.Box.Ownership.{box_owns};
 
@@ -16,13 +9,13 @@ use std::alloc::Allocator;
 use std::marker::Model;
 
 /// A box, taken apart: where its value lies, and the allocator whose block it is.
-pub struct Loose<T, A: Allocator> {
+pub(crate) struct Loose<T, A: Allocator> {
     /// The address.
-    pub at: *mut T,
+    pub(crate) at: *mut T,
     /// The allocator.
-    pub alloc: A,
+    pub(crate) alloc: A,
     /// What lies there.
-    pub ghost value: { T },
+    pub(crate) ghost value: { T },
 }
 
 impl<T, A: Allocator> Model for Loose<T, A> {
@@ -31,7 +24,7 @@ impl<T, A: Allocator> Model for Loose<T, A> {
 
 impl<T: Drop, A: Allocator> Loose<T, A> {
     /// The box, taken apart.
-    pub fn of(value: Box<T, A>) -> Loose<T, A>
+    pub(crate) fn of(value: Box<T, A>) -> Loose<T, A>
         ensures { result.value ≡ value.value }
     {
         let (at, alloc) = Box::into_raw_with_allocator(value);
@@ -39,7 +32,7 @@ impl<T: Drop, A: Allocator> Loose<T, A> {
     }
 
     /// The box, put together again.
-    pub fn into_box(self) -> Box<T, A>
+    pub(crate) fn into_box(self) -> Box<T, A>
         ensures { result.value ≡ self.value }
     {
         let Loose { at, alloc } = self;
