@@ -21,7 +21,7 @@
 //! # What is proved
 //!
 //! The lines are exactly those of one definition (`specs/Show`), whose format `docs/FORMATS.md` tells. Each part is what `x509_profile` says of the
-//! certificate, or is said of its whole text. `docs/PROVED.md`, "Certificates", has the clauses.
+//! certificate, or is said of its whole text. `docs/dev/PROVED.md`, "Certificates", has the clauses.
 //!
 //! # Cases
 //!

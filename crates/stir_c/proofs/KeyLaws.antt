@@ -6,10 +6,10 @@ use Rattle.cert_store.specs.Judged.{judged_of}
 use Rattle.cert_store.specs.Rules.{Says}
 use Rattle.delegation.specs.Coverage.{Table}
 use Rattle.der_reader.specs.Elem.{AllBytes}
-use Rattle.open_signing.specs.Key.{HasLeaf, KeyView, LeafIs}
-use Rattle.open_signing.specs.Order.{Given}
-use Rattle.open_signing.specs.Signing.{IsUnsignedFor, IsUnsignedWith}
-use Rattle.open_signing.specs.declared.fault.Unsigned.{Unsigned}
+use Rattle.open_calls.specs.Key.{HasLeaf, KeyView, LeafIs}
+use Rattle.open_calls.specs.Order.{Given}
+use Rattle.open_calls.specs.Signing.{IsUnsignedFor, IsUnsignedWith}
+use Rattle.open_calls.specs.declared.unsigned.Unsigned.{Unsigned}
 use Rattle.tn_values.specs.Local.{LocalView}
 use Rattle.stir_c.specs.Signing.{ToldUnsigned}
 use Rattle.stir_c.specs.declared.said.Said.{Said}

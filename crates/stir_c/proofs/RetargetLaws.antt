@@ -1,6 +1,6 @@
 -- What is told of a call that is to go on, from why it doesn't.
 use Rattle.std.proofs.Common.{◌≡◌}
-use Rattle.open_retarget.specs.declared.fault.Unmoved.{Unmoved}
+use Rattle.open_calls.specs.declared.unmoved.Unmoved.{Unmoved}
 use Rattle.stir_c.specs.Retarget.{ToldUnmoved, said_of_unmoved}
 use Rattle.stir_c.specs.declared.said.Said.{Said}
 

@@ -1,13 +1,13 @@
 -- What is told of a message that is signed, from why none comes out, or from what does.
 use Rattle.std.proofs.Common.{◌≡◌, ◌≢◌, ℕ, ◌<◌, ◌≤◌, ◌⊎◌, List, length, Option, Some, None, IsSomeAnd, Result, Ok, Err, IfOk, IfErr, inl, inr, refl, sym, ◌∙◌, ap, subst, arith}
 use Rattle.std.proofs.lemmas.Option.{same_Some}
-use Rattle.open_signing.specs.Key.{KeyView}
-use Rattle.open_signing.specs.Order.{Given}
-use Rattle.open_signing.specs.Signing.{IsSignedBy, IsToSign, IsUnread, IsUnreadWith, IsUnsignedFor, IsUnsignedWith}
-use Rattle.open_signing.specs.declared.fault.Unread.{Unread}
-use Rattle.open_signing.specs.declared.fault.Unread.TheVariants as unread
-use Rattle.open_signing.specs.declared.fault.Unsigned.{Unsigned}
-use Rattle.open_signing.specs.declared.fault.Unsigned.TheVariants as unsigned
+use Rattle.open_calls.specs.Key.{KeyView}
+use Rattle.open_calls.specs.Order.{Given}
+use Rattle.open_calls.specs.Signing.{IsSignedBy, IsToSign, IsUnread, IsUnreadWith, IsUnsignedFor, IsUnsignedWith}
+use Rattle.open_calls.specs.declared.unsigned.Unread.{Unread}
+use Rattle.open_calls.specs.declared.unsigned.Unread.TheVariants as unread
+use Rattle.open_calls.specs.declared.unsigned.Unsigned.{Unsigned}
+use Rattle.open_calls.specs.declared.unsigned.Unsigned.TheVariants as unsigned
 use Rattle.open_calls.specs.Worlds.{GivenWorld}
 use Rattle.stir_c.specs.Handles.{IsChainUnder}
 use Rattle.stir_c.specs.Holding.{HeldChainView}

@@ -3,7 +3,7 @@ use Rattle.std.specs.Prelude.{◌≡◌, ℕ, List, Some}
 use Rattle.std.specs.List.{slice_get}
 use Rattle.open_calls.specs.OpenChains.{certificates_of}
 use Rattle.open_calls.specs.Worlds.{GivenWorld}
-use Rattle.open_signing.specs.Key.{KeyView, LeafIs}
+use Rattle.open_calls.specs.Key.{KeyView, LeafIs}
 use Rattle.tn_auth_list.specs.Grant.{TableOf}
 use Rattle.tn_values.specs.Local.{local_of}
 use Rattle.stir_c.specs.Holding.{HeldChainView}

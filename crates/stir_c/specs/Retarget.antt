@@ -3,9 +3,9 @@ use Rattle.std.specs.Prelude.{◌≡◌, ◌⊎◌, ℕ, List, Option, Some, Non
 use Rattle.std.specs.List.{slice_get}
 use Rattle.open_calls.specs.OpenChains.{certificates_of}
 use Rattle.open_calls.specs.declared.found.Found.TheVariants as founds
-use Rattle.open_retarget.specs.Going.{Given}
-use Rattle.open_retarget.specs.declared.fault.Unmoved.{Unmoved}
-use Rattle.open_retarget.specs.declared.fault.Unmoved.TheVariants as unmoved
+use Rattle.open_calls.specs.Going.{Given}
+use Rattle.open_calls.specs.declared.unmoved.Unmoved.{Unmoved}
+use Rattle.open_calls.specs.declared.unmoved.Unmoved.TheVariants as unmoved
 use Rattle.stir_c.specs.Holding.{HeldCallView, HeldChainView}
 use Rattle.stir_c.specs.Saying.{said_found}
 use Rattle.stir_c.specs.Signing.{ToldMessage, input_of, said_digest, said_withheld}

@@ -1,12 +1,12 @@
 -- What is told of a message that is signed by the key of a chain.
 use Rattle.std.specs.Prelude.{◌≡◌, ◌≢◌, ◌⊎◌, ℕ, ◌<◌, List, ◌++◌, drop, length, Option, Some, None, Result, Ok, Err}
-use Rattle.open_signing.specs.Key.{HasNoHolder, KeyView}
-use Rattle.open_signing.specs.Order.{Given, origin}
-use Rattle.open_signing.specs.Signing.{IsBadOrder, IsNumbered, IsRefusedBy, IsSignedBy}
-use Rattle.open_signing.specs.declared.fault.Unread.{Unread}
-use Rattle.open_signing.specs.declared.fault.Unread.TheVariants as unread
-use Rattle.open_signing.specs.declared.fault.Unsigned.{Unsigned}
-use Rattle.open_signing.specs.declared.fault.Unsigned.TheVariants as unsigned
+use Rattle.open_calls.specs.Key.{HasNoHolder, KeyView}
+use Rattle.open_calls.specs.Order.{Given, origin}
+use Rattle.open_calls.specs.Signing.{IsBadOrder, IsNumbered, IsRefusedBy, IsSignedBy}
+use Rattle.open_calls.specs.declared.unsigned.Unread.{Unread}
+use Rattle.open_calls.specs.declared.unsigned.Unread.TheVariants as unread
+use Rattle.open_calls.specs.declared.unsigned.Unsigned.{Unsigned}
+use Rattle.open_calls.specs.declared.unsigned.Unsigned.TheVariants as unsigned
 use Rattle.stir_c.specs.Told.{no_ticket, said_by_input}
 use Rattle.stir_c.specs.WrittenText.{ToldText}
 use Rattle.stir_c.specs.declared.exports_signing.SigningOrder.{SigningOrder}

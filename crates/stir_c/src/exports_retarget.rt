@@ -1,6 +1,6 @@
 //! What C calls to send a call on to another number. `include/stir.h` declares the same.
 ghost use Rattle.std.specs.Prelude.{◌≡◌, ◌≤◌, ◌⊎◌, None, Some};
-ghost use Rattle.open_retarget.specs.Unmoved.{IsMovedBy, IsUnmovedFor, IsUnmovedWith};
+ghost use Rattle.open_calls.specs.Unmoved.{IsMovedBy, IsUnmovedFor, IsUnmovedWith};
 ghost use Rattle.stir_c.specs.Handles.{call_held, chain_held};
 ghost use Rattle.stir_c.specs.Retarget.{IfBothOpen, ToldMoved, ToldUnmoved, given_on};
 

@@ -1,8 +1,8 @@
 //! What C calls to have a message signed by the key of a chain. `include/stir.h` declares the same.
 ghost use Rattle.std.specs.Prelude.{◌≡◌, ◌≤◌, ◌⊎◌, List, None, Some, ℕ};
 ghost use Rattle.open_calls.specs.Worlds.{GivenWorld};
-ghost use Rattle.open_signing.specs.Order.{diversion};
-ghost use Rattle.open_signing.specs.Signing.{IsSignedBy, IsToSign, IsUnsignedFor, IsUnsignedWith};
+ghost use Rattle.open_calls.specs.Order.{diversion};
+ghost use Rattle.open_calls.specs.Signing.{IsSignedBy, IsToSign, IsUnsignedFor, IsUnsignedWith};
 ghost use Rattle.stir_c.specs.Handles.{IsChainOn, chain_held};
 ghost use Rattle.stir_c.specs.Keys.{OnKey, key_in};
 ghost use Rattle.stir_c.specs.Saying.{IfOpen};
@@ -12,7 +12,7 @@ use crate::handles::ChainHandle;
 use crate::key::{signed_text, told_digest};
 use crate::said::Said;
 use crate::told_signing::told_message;
-use open_signing::Order;
+use open_calls::Order;
 use std::alloc::Global;
 use std::mem;
 

@@ -3,8 +3,8 @@
 ghost use Rattle.std.specs.Prelude.{IfErr, IfOk, List, None, Some, ℕ};
 ghost use Rattle.der_reader.specs.Elem.{AllBytes};
 ghost use Rattle.open_calls.specs.Worlds.{GivenWorld};
-ghost use Rattle.open_signing.specs.Order.{given_of};
-ghost use Rattle.open_signing.specs.Signing.{IsSignedBy, IsUnsignedFor, IsUnsignedWith};
+ghost use Rattle.open_calls.specs.Order.{given_of};
+ghost use Rattle.open_calls.specs.Signing.{IsSignedBy, IsUnsignedFor, IsUnsignedWith};
 ghost use Rattle.stir_c.specs.Handles.{IsChainUnder};
 ghost use Rattle.stir_c.specs.Keys.{IsKeyOn, key_in};
 ghost use Rattle.stir_c.specs.Owned.{view_of_chain};
@@ -14,8 +14,7 @@ use crate::owner::HeldChain;
 use crate::said::Said;
 use crate::told_signing::told_to_sign;
 use crate::writing::Text;
-use open_calls::OpenChain;
-use open_signing::{Key, Order, Unsigned, leaf_law, signed};
+use open_calls::{Key, OpenChain, Order, Unsigned, leaf_law, signed};
 use std::alloc::Global;
 
 /// The digest that is to be signed of a message by the key of a chain, or why there is none.

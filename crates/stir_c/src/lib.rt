@@ -18,7 +18,7 @@
 //! - A handle is closed, or the address of one owner ([`owner`]): a share of a world, a chain, or a call. [`handle`] and [`slot`] are what it is in memory, and
 //!   [`taking`] takes its owner out for a call and puts it back.
 //! - Each call gives a [`Said`]: its `kind`, and what belongs to that kind. A text goes into the caller's room.
-//! - A call is judged by `open_calls`, and signed by `open_signing`.
+//! - `open_calls` judges a call, and signs a message or sends a call on.
 //!
 //! ```c
 //! stir_said said = stir_call_open(&world, moment, message, message_size, &call);

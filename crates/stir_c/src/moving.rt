@@ -1,17 +1,17 @@
 //! What is told of a call that a handle holds, and that is to go on.
 ghost use Rattle.std.specs.Prelude.{◌≡◌, ◌≤◌, IfErr, IfOk, None, Some, length};
 ghost use Rattle.open_calls.specs.OpenCalls.{judged_in};
-ghost use Rattle.open_retarget.specs.Going.{given_of, target_of};
-ghost use Rattle.open_retarget.specs.Unmoved.{IsMovedBy, IsUnmovedFor, IsUnmovedWith};
+ghost use Rattle.open_calls.specs.Going.{given_of, target_of};
+ghost use Rattle.open_calls.specs.Unmoved.{IsMovedBy, IsUnmovedFor, IsUnmovedWith};
 ghost use Rattle.stir_c.specs.Owned.{view_of_call, view_of_chain};
 ghost use Rattle.stir_c.specs.Retarget.{ToldCame, ToldUnmoved, given_by};
 
 use crate::owner::{HeldCall, HeldChain};
 use crate::said::{Said, said_of_unmoved};
 use crate::writing::{Text, told_text};
-use open_calls::{OpenCall, OpenChains, OpenWorld};
-use open_retarget::{Target, Unmoved, retargeted, to_retarget};
-use open_signing::Unread;
+use open_calls::{
+    OpenCall, OpenChains, OpenWorld, Target, Unmoved, Unread, retargeted, to_retarget,
+};
 use std::alloc::Global;
 
 /// What is handed in beside a call and a key.

@@ -9,9 +9,7 @@ ghost use Rattle.stir_c.specs.WorldFaults.{said_of_world_fault};
 ghost use Rattle.stir_c.specs.WrittenText.{said_written};
 
 use crate::showing::Unshown;
-use open_calls::{Found, WorldFault};
-use open_retarget::Unmoved;
-use open_signing::{Unread, Unsigned};
+use open_calls::{Found, Unmoved, Unread, Unsigned, WorldFault};
 use verify_rules::code;
 
 /// What `kind` may be.

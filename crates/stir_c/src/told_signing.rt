@@ -1,13 +1,13 @@
 //! What is told of a message that is signed by the key of a chain, or of the digest that is to be signed.
 ghost use Rattle.std.specs.Prelude.{None};
-ghost use Rattle.open_signing.specs.Key.{key_of};
-ghost use Rattle.open_signing.specs.Order.{given_of};
-ghost use Rattle.open_signing.specs.Signing.{IsUnsignedFor};
+ghost use Rattle.open_calls.specs.Key.{key_of};
+ghost use Rattle.open_calls.specs.Order.{given_of};
+ghost use Rattle.open_calls.specs.Signing.{IsUnsignedFor};
 ghost use Rattle.stir_c.specs.Signing.{ToldCame, ToldUnsigned};
 
 use crate::said::{Said, said_of_unsigned};
 use crate::writing::{Text, told_text};
-use open_signing::{Key, Order, Unsigned, to_sign};
+use open_calls::{Key, Order, Unsigned, to_sign};
 use std::alloc::Global;
 
 /// The digest that is to be signed of a message by a key, or why there is none.

@@ -1,7 +1,7 @@
 -- What is told of the message, by the bytes of the chain.
 use Rattle.std.proofs.Common.{rules, ◌≡◌, ◌≤◌, Option, Some, sym, subst, arith}
-use Rattle.open_signing.specs.Order.{diversion}
-use Rattle.open_signing.specs.Signing.{IsSignedBy, IsUnsignedWith}
+use Rattle.open_calls.specs.Order.{diversion}
+use Rattle.open_calls.specs.Signing.{IsSignedBy, IsUnsignedWith}
 use Rattle.stir_c.specs.Handles.{chain_held}
 use Rattle.stir_c.specs.Holding.{HeldChainView}
 use Rattle.stir_c.specs.Keys.{key_in}

@@ -1,7 +1,7 @@
 -- What is told of the digest, by the bytes of the chain.
 use Rattle.std.proofs.Common.{rules, ◌≡◌, Some, None}
-use Rattle.open_signing.specs.Order.{diversion}
-use Rattle.open_signing.specs.Signing.{IsToSign}
+use Rattle.open_calls.specs.Order.{diversion}
+use Rattle.open_calls.specs.Signing.{IsToSign}
 use Rattle.stir_c.specs.Handles.{chain_held}
 use Rattle.stir_c.specs.Owned.{view_of_chain}
 use Rattle.stir_c.specs.Signing.{HasFault, IsWithheld, origin_given}

@@ -1,6 +1,6 @@
 -- The key is that of the chain which is held.
 use Rattle.std.proofs.Common.{rules, None}
-use Rattle.open_signing.specs.Order.{given_of}
+use Rattle.open_calls.specs.Order.{given_of}
 use Rattle.stir_c.specs.Keys.{key_in}
 use Rattle.stir_c.specs.Owned.{view_of_chain}
 use Rattle.stir_c.proofs.KeyLaws.{told_as}

@@ -1,6 +1,6 @@
 -- Memory ran out, and so it is told.
-use Rattle.open_signing.specs.declared.fault.Unread.TheVariants as unread
-use Rattle.open_retarget.specs.declared.fault.Unmoved.TheVariants as unmoved
+use Rattle.open_calls.specs.declared.unsigned.Unread.TheVariants as unread
+use Rattle.open_calls.specs.declared.unmoved.Unmoved.TheVariants as unmoved
 use Rattle.stir_c.proofs.RetargetLaws.{told_unmoved}
 use Rattle.stir_c.proofs.moving.told_unmoved.Goals as goal
 

@@ -1,2 +1,0 @@
-pub mod MovedLaws
-pub mod OnwardLaws

@@ -1,4 +1,0 @@
--- What the contracts of this crate say.
-pub mod Going
-pub mod Onward
-pub mod Unmoved

@@ -1,6 +1,0 @@
--- More bytes than a chain may have are none.
-use Rattle.open_signing.proofs.KeyLaws.{long_none}
-use Rattle.open_signing.proofs.laws.leaf_law.Goals as goal
-
-pub returns-clause-long : goal.returns-clause-long
-returns-clause-long c = long_none c.judged_law.ensures.short

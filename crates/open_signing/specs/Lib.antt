@@ -1,4 +1,0 @@
--- What the contracts of this crate say.
-pub mod Order
-pub mod Key
-pub mod Signing
