@@ -99,7 +99,7 @@ def program(reader, crates):
     return PROGRAM.replace("CRATE", crates[0]).replace("READER", reader)
 
 
-TEXTS = ["text_file", "text_grammar", "lists"]
+TEXTS = ["text_grammar", "lists"]
 ANSWERS = ["stir_outside", "short_text"] + TEXTS
 TABLE = ["tn_auth_list", "tn_values", "der_reader", "short_text"] + TEXTS
 CHAINS = ["cert_store", "stir_outside", "delegation", "x509_profile"] + TABLE

@@ -9,7 +9,7 @@ use Rattle.std.specs.String.{string_bytes}
 use Rattle.std.specs.Vec.{vec_items}
 use Rattle.std.specs.declared.string.String.{String}
 use Rattle.std.proofs.lemmas.Bool.Decides.{nat_tests}
-use Rattle.text_file.specs.FileLines.{file_lines}
+use Rattle.text_grammar.specs.FileLines.{file_lines}
 use Rattle.cert_store.specs.ChainMap.{Row, file_in, is_repeated, within_limit, map_rows, listed, MapOf, FaultOf}
 use Rattle.cert_store.specs.Files.{Files, files_in}
 use Rattle.cert_store.specs.MapReading.{HoldsRows, Adds, FirstRead, FirstFault}

@@ -2,10 +2,10 @@
 -- too many.
 use Rattle.std.proofs.Common.{◌≡◌, ℕ, ◌<◌, ◌≤◌, ◌⊎◌, inl, inr, Bool, true, false, nat_le, cond, List, [], length, map, Some, Result, Ok, Err, ◌↔◌, refl, sym, ap, ◌∙◌, subst, arith}
 use Rattle.std.proofs.lemmas.Bool.Decides.{nat_tests}
-use Rattle.text_file.specs.FileLines.{file_lines}
-use Rattle.text_file.proofs.ReadingLaws.{refuses_found, refuses_again}
+use Rattle.text_grammar.specs.FileLines.{file_lines}
+use Rattle.text_grammar.proofs.ReadingLaws.{refuses_found, refuses_again}
 use Rattle.cert_store.specs.ChainMap.{Row, row_of, is_repeated, add_row, first_lines, first_rows, within_limit, map_rows, ListsOnce, MapText, FirstBad}
-use Rattle.text_file.proofs.RowLaws.{rows_found, rows_again}
+use Rattle.text_grammar.proofs.RowLaws.{rows_found, rows_again}
 
 -- ---- the limit
 

@@ -3,7 +3,7 @@ use Rattle.std.proofs.Common.{◌≡◌, ◌≤◌, ℕ, Bool, true, false, ◌&
 use Rattle.std.specs.List.{list_all}
 use Rattle.std.proofs.lemmas.Bool.Decides.{nat_tests}
 use Rattle.std.proofs.lemmas.Option.{same_Some}
-use Rattle.text_file.specs.LineWords.{is_word, line_words, parts}
+use Rattle.text_grammar.specs.LineWords.{is_word, line_words, parts}
 use Rattle.cert_store.specs.ChainMap.{IsFileName, Row, is_file_name, is_x5u, row_of, row_of_words}
 
 pub is_name : (word : List ℕ) → is_file_name word ≡ true → IsFileName word

@@ -5,14 +5,14 @@ use Rattle.std.specs.List.{list_all}
 use Rattle.std.specs.Map.{lookup}
 use Rattle.std.specs.Str.{bytes_eq}
 use Rattle.lists.specs.Given.{IsFaultOf}
-use Rattle.text_file.specs.FileLines.{file_lines, text_lines}
-use Rattle.text_file.specs.LineWords.{line_words}
-use Rattle.text_file.specs.Reading.{read_lines, Refuses}
+use Rattle.text_grammar.specs.FileLines.{file_lines, text_lines}
+use Rattle.text_grammar.specs.LineWords.{line_words}
+use Rattle.text_grammar.specs.ReadLines.{read_lines, Refuses}
 use Rattle.text_grammar.specs.Bytes.{is_uri_byte, is_visible}
 use Rattle.cert_store.specs.Files.{Files}
 use Rattle.cert_store.specs.declared.map.MapFault.{MapFault}
 use Rattle.cert_store.specs.declared.map.MapFault.TheVariants.{Line, Memory}
-use Rattle.text_file.specs.Rows.{one_row, EachFits}
+use Rattle.text_grammar.specs.Rows.{one_row, EachFits}
 
 -- ---- a line
 

@@ -1,7 +1,7 @@
 -- How far a chain map was read.
 use Rattle.std.specs.Prelude.{◌≡◌, ℕ, Bool, List, Ok}
 use Rattle.lists.specs.Given.{IsFaultOf}
-use Rattle.text_file.specs.Rows as file
+use Rattle.text_grammar.specs.Rows as file
 use Rattle.cert_store.specs.ChainMap.{Row, add_row, file_in, first_rows, is_repeated, line_of, listed, up_to_limit}
 use Rattle.cert_store.specs.Files.{Files}
 use Rattle.cert_store.specs.declared.map.MapFault.{MapFault}

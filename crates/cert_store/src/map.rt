@@ -11,7 +11,7 @@ use std::collections::HashMap;
 use std::error::Error;
 use std::fmt;
 use std::marker::Model;
-use text_file::{Lines, line_count};
+use text_grammar::{Lines, line_count};
 
 /// The most lines of a chain map, those that are passed over too.
 const MOST_LINES: u32 = 50_000;

@@ -7,8 +7,7 @@ ghost use Rattle.std.specs.List.{list_all};
 ghost use Rattle.text_grammar.specs.Bytes as bytes;
 
 use std::str;
-use text_file::{Words, words_of};
-use text_grammar::{is_uri_byte, is_visible};
+use text_grammar::{Words, is_uri_byte, is_visible, words_of};
 
 /// The most bytes of a file's name.
 const LONGEST_NAME: usize = 255;

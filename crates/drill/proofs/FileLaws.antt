@@ -12,7 +12,7 @@ use Rattle.der_reader.specs.Next.{header_at, next_at, optional_at, pair_at, sole
 use Rattle.der_reader.specs.Part.{element_at, item_at}
 use Rattle.der_reader.specs.Time.{generalized_moment, moment_at, moment_of, time_of, two_front, utc_moment}
 use Rattle.stir_drill.specs.World.{anchors_text, chain_map_text, table_text}
-use Rattle.text_file.specs.LineWords.{line_words}
+use Rattle.text_grammar.specs.LineWords.{line_words}
 use Rattle.tn_auth_list.specs.CodeTable.{table_rows}
 use Rattle.x509_profile.specs.Contents.{basic_of, extension_of, signature_of, validity_of}
 use Rattle.x509_profile.specs.ExtensionId.{name_of}

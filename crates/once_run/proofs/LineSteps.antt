@@ -1,6 +1,6 @@
 -- A text of tickets read line by line: one ticket more, the first bad line, and the end.
 use Rattle.std.proofs.Common.{◌≡◌, ℕ, nat_le, Bool, true, false, cond, List, [], ◌∷◌, ◌++◌, length, Option, Some, None, option_and_then, Result, Ok, Err, refl, sym, ap, ◌∙◌}
-use Rattle.text_file.specs.Reading.{go_on, read_lines}
+use Rattle.text_grammar.specs.ReadLines.{go_on, read_lines}
 use Rattle.once_run.specs.Reading.{add_ticket, ticket_of}
 
 -- what is left gives the same after a line, by what is on it and whether it is one too many

@@ -3,11 +3,11 @@ use Rattle.std.proofs.Common.{◌≡◌, ◌⊎◌, ◌↔◌, inl, inr, ℕ, �
 use Rattle.std.proofs.lemmas.Bool.Decides.{nat_tests}
 use Rattle.std.proofs.lemmas.List.{length-append}
 use Rattle.lists.specs.Given.{Gives}
-use Rattle.text_file.specs.FileLines.{text_lines}
-use Rattle.text_file.specs.Reading.{read_lines}
-use Rattle.text_file.specs.Rows.{EachFits}
-use Rattle.text_file.proofs.ReadingLaws.{refuses_again, refuses_found}
-use Rattle.text_file.proofs.RowLaws.{rows_again, rows_found}
+use Rattle.text_grammar.specs.FileLines.{text_lines}
+use Rattle.text_grammar.specs.ReadLines.{read_lines}
+use Rattle.text_grammar.specs.Rows.{EachFits}
+use Rattle.text_grammar.proofs.ReadingLaws.{refuses_again, refuses_found}
+use Rattle.text_grammar.proofs.RowLaws.{rows_again, rows_found}
 use Rattle.stir_outside.proofs.HexLaws.{hex_is}
 use Rattle.once_run.specs.Reading.{add_ticket, is_past, ticket_of, tickets_in}
 use Rattle.once_run.specs.Seen.{IfLine, fault_line}

@@ -1,8 +1,8 @@
 -- A text of tickets read line by line: the exact reading beside `TicketText`.
 use Rattle.std.specs.Prelude.{ℕ, nat_le, Bool, List, [], length, Option, Result}
-use Rattle.text_file.specs.FileLines.{text_lines}
-use Rattle.text_file.specs.Reading.{read_lines}
-use Rattle.text_file.specs.Rows.{one_row}
+use Rattle.text_grammar.specs.FileLines.{text_lines}
+use Rattle.text_grammar.specs.ReadLines.{read_lines}
+use Rattle.text_grammar.specs.Rows.{one_row}
 use Rattle.stir_outside.specs.AnswersText.{bytes_of}
 
 -- the ticket on a line

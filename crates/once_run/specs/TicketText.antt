@@ -1,7 +1,7 @@
 -- A text of tickets (this project's own format): a line for each, of its 32 bytes in hex digits. `text_lines` are the lines of a text that
 -- say something, each with its number.
 use Rattle.std.specs.Prelude.{◌≡◌, ◌⊎◌, ℕ, ◌≤◌, List, [], ◌∷◌, ◌++◌, length}
-use Rattle.text_file.specs.FileLines.{text_lines}
+use Rattle.text_grammar.specs.FileLines.{text_lines}
 use Rattle.stir_outside.specs.AnswersLine.{IsHex}
 
 -- the line is the ticket's 32 bytes, two hex digits each, of either case

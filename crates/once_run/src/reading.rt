@@ -7,7 +7,7 @@ ghost use Rattle.once_run.specs.TicketText.{IsBadLine, TicketText};
 
 use crate::fault::TicketsFault;
 use std::alloc::{AllocError, Global};
-use text_file::Lines;
+use text_grammar::Lines;
 
 /// The most tickets of a text.
 const MOST_TICKETS: usize = 1_000_000;

@@ -13,11 +13,11 @@ use Rattle.sha2.proofs.Facts256.{length-sha256}
 use Rattle.sha2.specs.Sha256.{digest_bytes, final_hash, initial_hash_256, sha256}
 use Rattle.std.specs.Result.{result_ok}
 use Rattle.text_grammar.specs.Cut.{lacks}
-use Rattle.text_file.proofs.LineLaws.{first_of}
-use Rattle.text_file.proofs.LineOfLaws.{words_are}
-use Rattle.text_file.specs.FileLines.{file_lines, is_passed_over, numbered_from, text_lines}
-use Rattle.text_file.specs.LineWords.{IsWord, line_words}
-use Rattle.text_file.specs.Reading.{go_on, read_lines}
+use Rattle.text_grammar.proofs.LineLaws.{first_of}
+use Rattle.text_grammar.proofs.LineOfLaws.{words_are}
+use Rattle.text_grammar.specs.FileLines.{file_lines, is_passed_over, numbered_from, text_lines}
+use Rattle.text_grammar.specs.LineWords.{IsWord, line_words}
+use Rattle.text_grammar.specs.ReadLines.{go_on, read_lines}
 use Rattle.stir_outside.proofs.HexLaws.{hex_is, hex_word}
 use Rattle.stir_outside.specs.AnswersText.{add_row, answer_rows, bytes_of, row_of}
 use Rattle.stir_drill.specs.Calls.{drawn_at}

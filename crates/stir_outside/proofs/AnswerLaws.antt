@@ -4,14 +4,14 @@ use Rattle.std.specs.Option.{option_map}
 use Rattle.std.specs.Str.{bytes_eq}
 use Rattle.std.specs.Cmp.Lexicographic.{bytes_decides}
 use Rattle.std.specs.Prelude.{codes}
-use Rattle.text_file.specs.FileLines.{text_lines}
-use Rattle.text_file.specs.LineWords.{line_words}
-use Rattle.text_file.proofs.ReadingLaws.{refuses_found, refuses_again}
+use Rattle.text_grammar.specs.FileLines.{text_lines}
+use Rattle.text_grammar.specs.LineWords.{line_words}
+use Rattle.text_grammar.proofs.ReadingLaws.{refuses_found, refuses_again}
 use Rattle.stir_outside.specs.KeyName.{is_name}
 use Rattle.stir_outside.specs.AnswersText.{bytes_of, confirm_of, sign_of, row_of_words, row_of, signature_in, signs, is_repeated, add_row, answer_rows, SignsOnce, AnswersText, FirstBad}
 use Rattle.stir_outside.specs.declared.answers.rows.Row.{Row}
 use Rattle.stir_outside.specs.declared.answers.rows.Row.TheVariants.{Sign}
-use Rattle.text_file.proofs.RowLaws.{rows_found, rows_again}
+use Rattle.text_grammar.proofs.RowLaws.{rows_found, rows_again}
 
 pub answers_are : (text : List ℕ) (rows : List Row) → (answer_rows text ≡ Ok rows) ↔ AnswersText text rows
 unfolding answer_rows

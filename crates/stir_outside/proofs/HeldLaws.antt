@@ -12,9 +12,9 @@ use Rattle.stir_outside.specs.AnswersText.{confirms, says, signature_in, signs, 
 use Rattle.stir_outside.specs.Held.{Held, same_triple, same_order, held_for, HoldsRows, Reached, AnswersOf}
 use Rattle.stir_outside.specs.KeyName.{is_name}
 use Rattle.stir_outside.proofs.AnswerLaws.{none_for_other}
-use Rattle.text_file.specs.FileLines.{text_lines}
-use Rattle.text_file.specs.Reading.{read_lines}
-use Rattle.text_file.proofs.ReachedLaws.{all_given}
+use Rattle.text_grammar.specs.FileLines.{text_lines}
+use Rattle.text_grammar.specs.ReadLines.{read_lines}
+use Rattle.text_grammar.proofs.ReachedLaws.{all_given}
 use Rattle.stir_outside.specs.declared.answers.rows.Triple.{Triple}
 use Rattle.stir_outside.specs.declared.answers.rows.Order.{Order}
 use Rattle.stir_outside.specs.declared.answers.rows.Row.{Row}

@@ -14,7 +14,7 @@ use Rattle.hex.specs.declared.error.FromHexError.{FromHexError}
 use Rattle.hex.proofs.HexLemmas.{IsDigits-lower_digits, decode_pairs-ok, decode_sized-ok, length-encode_with}
 use Rattle.hex.proofs.Pairs.{decode_sized-pairs}
 use Rattle.text_grammar.specs.Cut.{lacks}
-use Rattle.text_file.specs.LineWords.{IsWord}
+use Rattle.text_grammar.specs.LineWords.{IsWord}
 use Rattle.stir_outside.specs.AnswersText.{bytes_of}
 use Rattle.stir_outside.specs.AnswersLine.{IsHex}
 

@@ -8,7 +8,7 @@ use Rattle.std.proofs.lemmas.Bool.{and_parts, eqb-true}
 use Rattle.std.proofs.lemmas.Bool.Decides.{nat_tests}
 use Rattle.std.proofs.lemmas.Option.{same_Some}
 use Rattle.text_grammar.specs.Cut.{lacks}
-use Rattle.text_file.specs.LineWords.{IsLineOf, IsWord, line_words}
+use Rattle.text_grammar.specs.LineWords.{IsLineOf, IsWord, line_words}
 use Rattle.stir_outside.specs.KeyName.{is_name, is_name_byte}
 use Rattle.stir_outside.specs.AnswersText.{bytes_of, confirm_of, key_of, row_of, row_of_words, sign_of}
 use Rattle.stir_outside.specs.AnswersLine.{IsConfirmLine, IsHex, IsRowLine, IsSignLine}

@@ -7,13 +7,13 @@ use Rattle.std.specs.Option.{option_map, option_or}
 use Rattle.std.specs.Result.{result_ok}
 use Rattle.std.specs.Str.{bytes_eq}
 use Rattle.hex.specs.Hex.{decode_sized, hex_digit_value}
-use Rattle.text_file.specs.FileLines.{text_lines}
-use Rattle.text_file.specs.LineWords.{line_words}
-use Rattle.text_file.specs.Reading.{read_lines, Refuses}
+use Rattle.text_grammar.specs.FileLines.{text_lines}
+use Rattle.text_grammar.specs.LineWords.{line_words}
+use Rattle.text_grammar.specs.ReadLines.{read_lines, Refuses}
 use Rattle.stir_outside.specs.KeyName.{name_of}
 use Rattle.stir_outside.specs.declared.answers.rows.Row.{Row}
 use Rattle.stir_outside.specs.declared.answers.rows.Row.TheVariants.{Confirm, Sign}
-use Rattle.text_file.specs.Rows.{one_row, EachFits}
+use Rattle.text_grammar.specs.Rows.{one_row, EachFits}
 
 -- ---- a line
 

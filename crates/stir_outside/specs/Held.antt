@@ -8,7 +8,7 @@ use Rattle.stir_outside.specs.KeyName.{is_name}
 use Rattle.stir_outside.specs.declared.answers.held.AnswerFault.{AnswerFault}
 use Rattle.stir_outside.specs.declared.answers.held.AnswerFault.TheVariants.{Line, Memory}
 use Rattle.lists.specs.Given.{IsFaultOf}
-use Rattle.text_file.specs.Rows as file
+use Rattle.text_grammar.specs.Rows as file
 use Rattle.stir_outside.specs.declared.answers.rows.Triple.{Triple}
 use Rattle.stir_outside.specs.declared.answers.rows.Order.{Order}
 use Rattle.stir_outside.specs.declared.answers.rows.Row.{Row}

@@ -1,8 +1,15 @@
 pub mod CutLaws
 pub mod DecimalLaws
 pub mod Laws
+pub mod LineLaws
+pub mod LineOfLaws
 pub mod Lists
+pub mod Parts
 pub mod Pieces
 pub mod PlaceLaws
+pub mod ReachedLaws
+pub mod ReadingLaws
+pub mod RowLaws
 pub mod Runs
 pub mod UriLaws
+pub mod WordLaws

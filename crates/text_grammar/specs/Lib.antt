@@ -1,10 +1,14 @@
 pub mod Bytes
 pub mod Cut
 pub mod Decimal
+pub mod FileLines
 pub mod Gives
 pub mod Grammar
 pub mod Line
+pub mod LineWords
 pub mod Moment
 pub mod Place
+pub mod ReadLines
 pub mod Reading
+pub mod Rows
 pub mod Uri

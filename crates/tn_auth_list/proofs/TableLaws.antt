@@ -1,10 +1,10 @@
 -- A text is read as a table's rows exactly if its lines say these rows, and they are within the limits.
 use Rattle.std.proofs.Common.{◌≡◌, ℕ, true, not, List, [], ◌∷◌, ◌++◌, map, Some, Ok, Err, ◌↔◌, sym, ap, ◌∙◌, append_assoc, append-nil, refl, arith}
 use Rattle.std.proofs.lemmas.Bool.{not-false}
-use Rattle.text_file.specs.FileLines.{text_lines}
-use Rattle.text_file.specs.Rows.{EachFits}
-use Rattle.text_file.proofs.RowLaws.{rows_again, rows_found}
-use Rattle.text_file.proofs.ReadingLaws.{refuses_found, refuses_again}
+use Rattle.text_grammar.specs.FileLines.{text_lines}
+use Rattle.text_grammar.specs.Rows.{EachFits}
+use Rattle.text_grammar.proofs.RowLaws.{rows_again, rows_found}
+use Rattle.text_grammar.proofs.ReadingLaws.{refuses_found, refuses_again}
 use Rattle.tn_auth_list.specs.CodeTable.{row_of, is_past, is_within, add_row, table_rows, TableText, FirstBad}
 use Rattle.tn_auth_list.specs.declared.table_rows.Row.{Row}
 use Rattle.tn_auth_list.proofs.CountLaws.{limits, codes_push, given_push}

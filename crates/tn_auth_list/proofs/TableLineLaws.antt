@@ -12,7 +12,7 @@ use Rattle.std.proofs.lemmas.Option.{same_Some}
 use Rattle.text_grammar.specs.Cut.{lacks}
 use Rattle.text_grammar.specs.Decimal.{number_up_to}
 use Rattle.text_grammar.proofs.DecimalLaws.{decimal_lacks, number_only, number_within, number_written}
-use Rattle.text_file.specs.LineWords.{IsLineOf, IsWord, line_words}
+use Rattle.text_grammar.specs.LineWords.{IsLineOf, IsWord, line_words}
 use Rattle.tn_values.specs.Digit.{are_digits, is_digit}
 use Rattle.tn_values.specs.Number.{exact, is_number, is_number_byte}
 use Rattle.tn_values.specs.Span.{SpanView, is_span, span_of}

@@ -5,10 +5,10 @@ use Rattle.std.specs.Option.{option_map}
 use Rattle.std.specs.Set.{distinct_count}
 use Rattle.std.specs.Str.{bytes_eq}
 use Rattle.text_grammar.specs.Decimal.{number_up_to}
-use Rattle.text_file.specs.FileLines.{text_lines}
-use Rattle.text_file.specs.LineWords.{line_words}
-use Rattle.text_file.specs.Reading.{read_lines, Refuses}
-use Rattle.text_file.specs.Rows.{one_row}
+use Rattle.text_grammar.specs.FileLines.{text_lines}
+use Rattle.text_grammar.specs.LineWords.{line_words}
+use Rattle.text_grammar.specs.ReadLines.{read_lines, Refuses}
+use Rattle.text_grammar.specs.Rows.{one_row}
 use Rattle.tn_values.specs.Number.{exact}
 use Rattle.tn_values.specs.Span.{SpanHolds, span_of}
 use Rattle.tn_auth_list.specs.Code.{code_of}

@@ -12,7 +12,7 @@ use std::collections::BTreeMap;
 use std::error::Error;
 use std::fmt;
 use std::marker::Model;
-use text_file::{Lines, words_law};
+use text_grammar::{Lines, words_law};
 use tn_values::NumberSet;
 
 /// Which telephone numbers each service provider code stands for.
@@ -117,7 +117,7 @@ impl CodeTable {
 }
 
 /// Reads the lines one by one, up to the first bad one.
-#[tactic(auto, using(text_file::proofs::ReachedLaws::one_more, text_file::proofs::ReachedLaws::bad_line), unfolding(crate::specs::CodeTable::table_rows))]
+#[tactic(auto, using(text_grammar::proofs::ReachedLaws::one_more, text_grammar::proofs::ReachedLaws::bad_line), unfolding(crate::specs::CodeTable::table_rows))]
 fn read_table(alloc: Global, text: &[u8]) -> Result<CodeTable, TableFault>
     requires { length text.now < 4294967295 }
     ensures table { IfOk result (TableOf text.now) }

@@ -2,7 +2,7 @@
 ghost use Rattle.std.specs.Prelude.{◌≡◌, [], Some, IfOk, OnOk};
 ghost use Rattle.tn_auth_list.specs.CodeGroups.{HeldByCode, HeldFrom, IsGroups, PutsRow, has_room, no_group, with_gives};
 ghost use Rattle.tn_auth_list.specs.CodeTable.{add_row, is_past};
-ghost use Rattle.text_file.specs.Rows.{Adds, AddsLine};
+ghost use Rattle.text_grammar.specs.Rows.{Adds, AddsLine};
 
 use crate::Memory;
 use crate::codes::Code;

@@ -3,8 +3,7 @@ ghost use Rattle.std.specs.Prelude.{◌≡◌};
 ghost use Rattle.tn_auth_list.specs.CodeTable.{given_of, is_all, range_of, row_of, with_code};
 
 use crate::codes::Code;
-use text_file::{Words, words_of};
-use text_grammar::read_number;
+use text_grammar::{Words, read_number, words_of};
 use tn_values::{Number, Span};
 
 /// What a line of the table gives its code.

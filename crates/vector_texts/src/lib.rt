@@ -1,6 +1,6 @@
 //! Calls of a table on texts and bytes: the cases of the crates that read and write them.
 //!
-//! A module for each subject, each with one `answer`: [`text`] (`text_grammar`, `text_file`), [`numbers`] (`tn_values`), [`der`] (`der_reader`),
+//! A module for each subject, each with one `answer`: [`text`] (`text_grammar`), [`numbers`] (`tn_values`), [`der`] (`der_reader`),
 //! [`answers`] and [`outside`] (`stir_outside`), [`log`] (`call_log`), [`state`] (`state_text`, and the list of `replay_desk`'s past), and [`drills`]
 //! (`stir_drill`, the section `drill`).
 //!

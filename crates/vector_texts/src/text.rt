@@ -1,8 +1,7 @@
-//! Lines, words and decimal digits: the calls of `text_file` and `text_grammar`.
+//! Lines, words and decimal digits: the calls of `text_grammar`.
 
 use std::alloc::Global;
-use text_file::{Line, Lines, Words, line_count, words_of};
-use text_grammar::{behind, cut, read_number};
+use text_grammar::{Line, Lines, Words, behind, cut, line_count, read_number, words_of};
 use vector_table::{Answer, Unread, number, or_none, word};
 
 /// What a call answers.

@@ -11,7 +11,7 @@ use crate::answers::steady::SteadyProvider;
 use std::alloc::{AllocError, Global};
 use std::collections::{HashMap, HashSet};
 use std::marker::Model;
-use text_file::{Lines, words_law};
+use text_grammar::{Lines, words_law};
 
 /// How many bytes a `confirm` line has without its end: its four words, three of them in hex digits, with a space between each two.
 const CONFIRM_LINE: usize = 332;
@@ -78,7 +78,7 @@ impl Answers {
     }
 
     /// Reads the lines one by one, up to the first bad one.
-    #[tactic(auto, using(text_file::proofs::ReachedLaws::one_more, text_file::proofs::ReachedLaws::bad_line, crate::proofs::HeldLaws::none_read, crate::proofs::HeldLaws::all_read))]
+    #[tactic(auto, using(text_grammar::proofs::ReachedLaws::one_more, text_grammar::proofs::ReachedLaws::bad_line, crate::proofs::HeldLaws::none_read, crate::proofs::HeldLaws::all_read))]
     fn read_lines(alloc: Global, text: &[u8]) -> Result<Answers, AnswerFault>
         requires { length text.now < 2 ^ 32 - 1 }
         ensures answers { IfOk result (AnswersOf text.now) }

@@ -5,7 +5,7 @@ ghost use Rattle.stir_outside.specs.AnswersText.{confirm_of, key_of, of_kind, ro
 use crate::answers::hex_word::bytes_of;
 use crate::answers::key_name::KeyName;
 use std::hash::{Hash, Hasher};
-use text_file::{Words, words_of};
+use text_grammar::{Words, words_of};
 
 /// A signature over a digest, good under a key.
 #[derive(Clone, Copy, PartialEq, Eq)]

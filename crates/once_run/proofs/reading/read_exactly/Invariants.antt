@@ -1,6 +1,6 @@
 -- The lines that are left lead on from the tickets read so far to what the whole text gives.
 use Rattle.std.proofs.Common.{◌≡◌, length}
-use Rattle.text_file.specs.Reading.{read_lines}
+use Rattle.text_grammar.specs.ReadLines.{read_lines}
 use Rattle.once_run.specs.Reading.{add_ticket, tickets_in}
 use Rattle.once_run.proofs.reading.read_exactly.Given as goal
 

@@ -1,7 +1,7 @@
 -- All lines were read, and each code holds what their rows give it.
 use Rattle.std.proofs.Common.{subst}
 use Rattle.tn_auth_list.specs.CodeTable.{add_row, table_rows}
-use Rattle.text_file.proofs.ReachedLaws.{all_given}
+use Rattle.text_grammar.proofs.ReachedLaws.{all_given}
 use Rattle.tn_auth_list.specs.CodeGroups.{IsGroups}
 use Rattle.tn_auth_list.specs.Grant.{GrantOf}
 use Rattle.tn_auth_list.proofs.HeldLaws.{get_by_bytes}

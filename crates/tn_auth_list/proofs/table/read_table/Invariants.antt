@@ -1,6 +1,6 @@
 -- The rows so far, and how many lines are left.
 use Rattle.std.proofs.Common.{length}
-use Rattle.text_file.specs.Rows.{Reached}
+use Rattle.text_grammar.specs.Rows.{Reached}
 use Rattle.tn_auth_list.specs.CodeTable.{add_row, table_rows}
 use Rattle.tn_auth_list.specs.CodeGroups.{IsGroups}
 use Rattle.tn_auth_list.proofs.table.read_table.Given as goal

@@ -2,7 +2,7 @@
 -- one that repeats another.
 use Rattle.std.specs.Prelude.{◌≡◌, ℕ, Bool, true, false, List, [], ◌∷◌, ◌++◌, Option, Some, None, option_and_then, Result, if◌then◌else◌}
 use Rattle.std.specs.Bool.{MatchBool}
-use Rattle.text_file.specs.Reading.{read_lines}
+use Rattle.text_grammar.specs.ReadLines.{read_lines}
 
 -- one row more; a line that says none is bad, and so is one whose row is refused given those before it
 abbrev pub one_row : {R : Type 0} → (List ℕ → Option R) → (List R → R → Bool) → List R → List ℕ → Option (List R)

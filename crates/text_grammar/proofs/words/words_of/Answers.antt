@@ -1,6 +1,6 @@
 -- A space after the third one makes a fifth part.
-use Rattle.text_file.proofs.WordLaws.{more_parts}
-use Rattle.text_file.proofs.words.words_of.Goals as goal
+use Rattle.text_grammar.proofs.WordLaws.{more_parts}
+use Rattle.text_grammar.proofs.words.words_of.Goals as goal
 
 pub returns-in-Some-cut-3 : goal.returns-in-Some-cut-3
 returns-in-Some-cut-3 c =

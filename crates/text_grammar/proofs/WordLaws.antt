@@ -3,8 +3,8 @@ use Rattle.std.proofs.Common.{◌≡◌, ℕ, ◌≤◌, Bool, true, false, ◌&
 use Rattle.std.proofs.lemmas.List.Splits.{length-slice_split}
 use Rattle.std.proofs.lemmas.Bool.Decides.{nat_tests}
 use Rattle.text_grammar.specs.Cut.{lacks}
-use Rattle.text_file.specs.LineWords.{parts, none_empty, line_words}
-use Rattle.text_file.proofs.Parts.{split_none, split_first_of}
+use Rattle.text_grammar.specs.LineWords.{parts, none_empty, line_words}
+use Rattle.text_grammar.proofs.Parts.{split_none, split_first_of}
 
 -- two to four parts, or none
 abbrev chosen : List (List ℕ) → Option (List (List ℕ))

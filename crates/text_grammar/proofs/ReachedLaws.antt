@@ -1,7 +1,7 @@
 -- How far the lines of a file were read, and what is held of their rows: one line more, a bad line, and at the end.
 use Rattle.std.proofs.Common.{◌≡◌, ℕ, true, false, List, [], ◌∷◌, Option, Some, None, Result, Ok, Err, sym, ap, ◌∙◌}
-use Rattle.text_file.specs.Reading.{go_on, read_lines}
-use Rattle.text_file.specs.Rows.{AddsLine, Reached}
+use Rattle.text_grammar.specs.ReadLines.{go_on, read_lines}
+use Rattle.text_grammar.specs.Rows.{AddsLine, Reached}
 
 -- what is left gives the same after a line
 reads_on : {R : Type 0} (add : List R → List ℕ → Option (List R)) (given : Result (List R) ℕ) (lines more : List (ℕ × List ℕ)) (line : ℕ × List ℕ) (rows : List R) (k : Option (List R))

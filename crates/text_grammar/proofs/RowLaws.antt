@@ -1,7 +1,7 @@
 -- Lines are read as rows exactly if they say these rows, and none is refused given those before it.
 use Rattle.std.proofs.Common.{◌≡◌, ℕ, Bool, true, false, cond, List, [], ◌∷◌, ◌++◌, map, Option, Some, None, option_and_then, Ok, refl, sym, ap, ◌∙◌, append_assoc, append-nil}
-use Rattle.text_file.specs.Reading.{go_on, read_lines}
-use Rattle.text_file.specs.Rows.{one_row, EachFits}
+use Rattle.text_grammar.specs.ReadLines.{go_on, read_lines}
+use Rattle.text_grammar.specs.Rows.{one_row, EachFits}
 
 abbrev said : {R : Type 0} → (List ℕ → Option R) → List (ℕ × List ℕ) → List (Option R)
 said row_of lines = map (λ line. row_of line.1) lines

@@ -5,8 +5,8 @@ use Rattle.std.proofs.lemmas.List.Splits.{length-slice_split}
 use Rattle.std.proofs.lemmas.Bool.Decides.{nat_tests}
 use Rattle.std.proofs.Math.Seq.{take-length, drop-length}
 use Rattle.text_grammar.specs.Cut.{lacks}
-use Rattle.text_file.proofs.Parts.{split_at_byte, split_none, split_first_of}
-use Rattle.text_file.specs.FileLines.{file_lines}
+use Rattle.text_grammar.proofs.Parts.{split_at_byte, split_none, split_first_of}
+use Rattle.text_grammar.specs.FileLines.{file_lines}
 
 lines_by : (front : List ℕ) (parts : List (List ℕ)) → 0 < length parts → lines_of_parts (front ∷ parts) ≡ strip_carriage_return front ∷ lines_of_parts parts
 lines_by front [] some = absurd (omega arith)

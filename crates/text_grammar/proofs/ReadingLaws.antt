@@ -1,6 +1,6 @@
 -- A reading stops at a line exactly if that line is refused after the ones before it.
 use Rattle.std.proofs.Common.{◌≡◌, ℕ, List, [], ◌∷◌, ◌++◌, Option, Some, None, Ok, Err, refl, ap, ◌∙◌}
-use Rattle.text_file.specs.Reading.{go_on, read_lines, Refuses}
+use Rattle.text_grammar.specs.ReadLines.{go_on, read_lines, Refuses}
 
 later : {S : Type 0} (take : S → List ℕ → Option S) (line : ℕ × List ℕ) (lines : List (ℕ × List ℕ)) (state next : S) (number : ℕ)
     → take state line.1 ≡ Some next → Refuses take lines next number → Refuses take (line ∷ lines) state number

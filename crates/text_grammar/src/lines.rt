@@ -1,10 +1,10 @@
 //! The lines of a text file.
 ghost use Rattle.std.specs.Prelude.{◌≡◌, ◌+◌, ◌-◌, ◌^◌, ◌<◌, [], ◌∷◌, length, MatchOption, IfSome};
 ghost use Rattle.std.specs.Str.Lines.{strip_carriage_return};
-ghost use Rattle.text_file.specs.FileLines.{file_lines, is_passed_over, numbered_from, text_lines};
+ghost use Rattle.text_grammar.specs.FileLines.{file_lines, is_passed_over, numbered_from, text_lines};
 
+use crate::cut;
 use std::marker::Model;
-use text_grammar::cut;
 
 /// A line of a text file, without its end.
 #[derive(Clone, Copy, Debug)]
@@ -27,7 +27,7 @@ pub struct Lines<'a> {
 
 impl<'a> Model for Lines<'a> {
     ghost use Rattle.std.specs.Prelude.{ℕ, List, ◌+◌, ◌^◌, ◌<◌, length};
-    ghost use Rattle.text_file.specs.FileLines.{numbered_from};
+    ghost use Rattle.text_grammar.specs.FileLines.{numbered_from};
 
     ghost Value = { List (ℕ × List ℕ) };
 

@@ -6,8 +6,8 @@ use Rattle.std.proofs.lemmas.Bool.Decides.{nat_tests}
 use Rattle.std.proofs.lemmas.Option.{same_Some}
 use Rattle.std.proofs.lemmas.List.Splits.{join_with_byte-slice_split}
 use Rattle.text_grammar.specs.Cut.{lacks}
-use Rattle.text_file.specs.LineWords.{parts, is_word, line_words, EachIsWord, IsLineOf}
-use Rattle.text_file.proofs.Parts.{split_none, split_first}
+use Rattle.text_grammar.specs.LineWords.{parts, is_word, line_words, EachIsWord, IsLineOf}
+use Rattle.text_grammar.proofs.Parts.{split_none, split_first}
 
 -- ---- the parts of a line have no space
 

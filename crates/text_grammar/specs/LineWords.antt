@@ -2,8 +2,8 @@
 use Rattle.std.specs.Prelude.{◌≡◌, ⊤, ℕ, ◌≤◌, Bool, true, not, ◌&&◌, ◌==◌, nat_le, List, [], ◌∷◌, length, Option, Some, None, if◌then◌else◌}
 use Rattle.std.specs.List.{slice_split, list_all, join_with_byte}
 use Rattle.text_grammar.specs.Cut.{lacks}
-use Rattle.text_file.specs.declared.words.Words.{Words}
-use Rattle.text_file.specs.declared.words.Words.TheVariants.{Two, Three, Four}
+use Rattle.text_grammar.specs.declared.words.Words.{Words}
+use Rattle.text_grammar.specs.declared.words.Words.TheVariants.{Two, Three, Four}
 
 -- what is between the spaces of the line: parts that may be empty, one more than it has spaces
 abbrev pub parts : List ℕ → List (List ℕ)

@@ -1,9 +1,9 @@
 //! The words of a line.
 ghost use Rattle.std.specs.Prelude.{◌≡◌, ◌↔◌, ℕ, List, Some};
 ghost use Rattle.std.specs.Option.{option_map};
-ghost use Rattle.text_file.specs.LineWords.{IsLineOf, line_words, none_empty, word_list};
+ghost use Rattle.text_grammar.specs.LineWords.{IsLineOf, line_words, none_empty, word_list};
 
-use text_grammar::cut;
+use crate::cut;
 
 /// The words of a line that has two to four of them.
 #[derive(Clone, Copy, Debug)]

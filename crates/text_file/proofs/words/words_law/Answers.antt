@@ -1,6 +1,0 @@
--- The law on lists.
-use Rattle.text_file.proofs.LineOfLaws.{words_are}
-use Rattle.text_file.proofs.words.words_law.Goals as goal
-
-pub returns : goal.returns
-returns c = words_are

@@ -1,4 +1,0 @@
-pub mod FileLines
-pub mod LineWords
-pub mod Reading
-pub mod Rows
