@@ -3,6 +3,7 @@ server of p11-kit."""
 import os
 import pathlib
 import signal
+import socket
 import subprocess
 import time
 
@@ -53,10 +54,15 @@ class Server:
         words = ["p11-kit", "server", "--foreground", "--provider", MODULE, "--name", self.path, f"pkcs11:token={self.token.label}"]
         self.process = subprocess.Popen(words, env=os.environ | self.token.variables, stdout=subprocess.DEVNULL, stderr=subprocess.DEVNULL,
                                         start_new_session=True)
-        until = time.monotonic() + 10
-        while not self.path.exists():
+        until = time.monotonic() + 30
+        while not self.listens():
             assert time.monotonic() < until, "p11-kit's server doesn't listen"
             time.sleep(0.02)
+
+    def listens(self):
+        """Whether who comes is taken: its socket is there before."""
+        with socket.socket(socket.AF_UNIX) as one:
+            return one.connect_ex(str(self.path)) == 0
 
     def all(self, how):
         """A signal to the server and to what it made for those who are connected."""

@@ -248,7 +248,7 @@ def test_clients_are_taken_when_their_file_changes_and_one_that_is_none_is_named
     before = service.metric("stir_failed_reloads_total")
     put(f"[four]\n{one.replace('A', 'D')}")
     assert wait_until(lambda: service.metric("stir_failed_reloads_total") > before)
-    assert service.told(r"clients\.toml: four: attest is A, B or C: what was read before stays"), service.text()
+    assert wait_until(lambda: service.told(r"clients\.toml: four: attest is A, B or C: what was read before stays")), service.text()
     assert signs("three") == 200, "what was read before doesn't stay"
     assert wait_until(lambda: "clients.toml: four" in service.ready()[1]), service.ready()
     put(f"[three]\n{one.replace(token('one'), token('three'))}")
@@ -278,7 +278,7 @@ def test_a_token_of_both_files_signs_and_a_file_that_others_may_read_is_told(sta
     path.write_text(f'[one]\ntokens = ["{token("one")}"]\nblocks = ["{world.number(0, 7)}"]\nattest = "C"\n')
     path.chmod(0o644)
     service = started("--signing", files / "blocks.txt", "--signing-clients", path, "--signing-tokens", tmp_path / "tokens")
-    assert service.told(r"clients\.toml: others than its owner may read or write the clients"), service.text()
+    assert wait_until(lambda: service.told(r"clients\.toml: others than its owner may read or write the clients")), service.text()
     for name, place, wanted in (
         ("the-proxy", (1, 7), "A"), ("the-proxy", (0, 7), "A"), ("one", (0, 7), "C"), ("one", (1, 7), BEYOND), ("two", (0, 7), NO_TOKEN),
     ):

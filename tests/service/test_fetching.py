@@ -215,8 +215,8 @@ def test_hostile_servers_fail_in_time_and_are_told_once(started, web, world):
     taken(8, begun)
     assert service.told_of(world.to("here/0", Numbers.next())) == (*VALID, "fetched"), "a redirect to the same host is followed"
     for path, host in hosts.items():
-        lines = service.told(re.escape(f'"{web.at(path, host)}" can\'t be fetched'))
-        assert len(lines) == 1, (path, service.text())
+        line = re.escape(f'"{web.at(path, host)}" can\'t be fetched')
+        assert wait_until(lambda line=line: service.told(line)) and len(service.told(line)) == 1, (path, service.text())
         assert web.asked[f"/{path}"] == 1
     for word in set(HOSTILE.values()):
         assert service.metric(f'stir_fetches_total{{result="{word}"}}') == list(HOSTILE.values()).count(word), word
@@ -327,7 +327,7 @@ def test_a_folder_that_cant_be_written_is_noted(started, web, world, tmp_path):
     assert service.outcome(good(world)) == "valid"
     assert wait_until(lambda: str(folder) in service.ready()[1], 15), service.ready()
     assert service.ready()[0], "calls are judged all the same"
-    assert len(service.told("stay in memory alone")) == 1, service.text()
+    assert wait_until(lambda: service.told("stay in memory alone")) and len(service.told("stay in memory alone")) == 1, service.text()
 
 
 def test_that_all_fetches_fail_is_noted(started, web, world):
@@ -368,7 +368,8 @@ def test_roots_that_change_are_taken_and_what_is_left_out_is_named(started, web,
     assert service.told_of(good(world)) == ("refused", 12, "fetched")
     put(roots, text + leaf.public_bytes(serialization.Encoding.PEM))
     assert wait_until(lambda: service.told_of(good(world)) == (*VALID, "held")), "the entry is opened anew under the new world"
-    assert service.told(r"roots\.pem: certificate 2, .*, is no trust anchor of the profile, and is left out"), service.text()
+    left_out = r"roots\.pem: certificate 2, .*, is no trust anchor of the profile, and is left out"
+    assert wait_until(lambda: service.told(left_out)), service.text()
     put(roots, b"no root")
     assert wait_until(lambda: service.told(r"roots\.pem: no certificates in PEM")), service.text()
     assert service.told_of(good(world)) == (*VALID, "held")

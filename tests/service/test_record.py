@@ -142,7 +142,7 @@ def test_a_full_disk_loses_lines_and_no_call_and_no_line_is_torn(started, world,
         assert outcomes == ["refused"] * 400
         assert wait_until(lambda: service.metric(WRITTEN) + service.metric(LOST) == 400), (service.metric(WRITTEN), service.metric(LOST))
         assert service.metric(LOST) > 100 and len(lines(path)) == service.metric(WRITTEN) > 50
-        assert len(service.told("record can't be written")) == 1, service.text()
+        assert wait_until(lambda: service.told("record can't be written")) and len(service.told("record can't be written")) == 1, service.text()
         # Moved away to where there is room, it goes on.
         shutil.copy(path, tmp_path / "away")
         path.write_bytes(b"")

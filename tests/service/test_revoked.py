@@ -52,6 +52,11 @@ def taken(service, what):
     assert wait_until(lambda: service.metrics(r"stir_(failed_)?reloads_total ") > count, 20), service.text()
 
 
+def isnt_noted(service, name):
+    """Whether nothing is said of this file, once the look is over in which it was taken."""
+    return wait_until(lambda: name not in service.ready()[1])
+
+
 def told(service, world, who, moment=START):
     """What comes of a new call: the rule and the place, and what is said of revocation."""
     said = service.verify(world.call(who, moment, Numbers.next())[1], moment)
@@ -134,11 +139,12 @@ def test_a_list_that_is_refused_stays_what_it_was(start, world):
                        (None, "there is no such file")):
         taken(service, lambda: put(world, data) if data else (world.folder / "list.crl").unlink())
         assert told(service, world, "one") == revoked(1), said
-        ready, text = service.ready()
-        assert ready and said in text and len(service.told(f"list.crl: .*{said}.*; it stays what it was")) == 1, service.text()
+        assert wait_until(lambda said=said: said in service.ready()[1]) and service.ready()[0], service.ready()
+        line = f"list.crl: .*{said}.*; it stays what it was"
+        assert wait_until(lambda line=line: service.told(line)) and len(service.told(line)) == 1, service.text()
     assert service.metric("stir_failed_reloads_total") >= 5
     taken(service, lambda: put(world, crl([], number=8)))
-    assert told(service, world, "one") == VALID and "list.crl" not in service.ready()[1]
+    assert told(service, world, "one") == VALID and isnt_noted(service, "list.crl")
 
 
 def test_signers_change_with_their_lists(start, world):
@@ -150,10 +156,11 @@ def test_signers_change_with_their_lists(start, world):
     taken(service, lambda: put(world, crl([entry(1004, authority=B)], key=other, number=8)))
     assert (told(service, world, "one"), told(service, world, "four")) == (revoked(1), VALID)
     taken(service, lambda: put(world, trusted.pem(world.agency) + certificate, "agency.pem"))
-    assert (told(service, world, "one"), told(service, world, "four")) == (VALID, revoked(1)) and "list.crl" not in service.ready()[1]
+    assert (told(service, world, "one"), told(service, world, "four")) == (VALID, revoked(1)) and isnt_noted(service, "list.crl")
     # A file of signers that has none stays what it was.
     taken(service, lambda: put(world, b"", "agency.pem"))
-    assert told(service, world, "four") == revoked(1) and "agency.pem: it has no certificates in PEM" in service.ready()[1]
+    assert told(service, world, "four") == revoked(1)
+    assert wait_until(lambda: "agency.pem: it has no certificates in PEM" in service.ready()[1]), service.ready()
 
 
 def test_calls_go_on_by_a_list_that_has_ended_or_are_refused_if_that_is_ordered(start, world):
