@@ -76,7 +76,7 @@ fn put_entry(
 }
 
 /// The line of the Identity header field of a call, which has this signature over this text; no line if the call has none.
-#[tactic(auto, using(crate::proofs::MessageLaws::line_absent))]
+#[tactic(auto, using(crate::proofs::MessageLaws::line_absent, crate::proofs::MessageLaws::line_spelled, crate::proofs::MessageLaws::line_short))]
 pub(crate) fn identity_line(
     alloc: Global,
     call: Drawn,
@@ -89,28 +89,9 @@ pub(crate) fn identity_line(
     ensures exact { IfOk result (λ line. line.items ≡ identity_line call) }
     ensures short { IfOk result (λ line. length line.items ≤ 1000) }
 {
-    if call.change.has_identity() {
-        line_with(alloc, call, signing, signature)
-    } else {
-        Ok(Vec::new(alloc))
+    if !call.change.has_identity() {
+        return Ok(Vec::new(alloc));
     }
-}
-
-/// The same of a call that has one.
-#[tactic(auto, using(crate::proofs::MessageLaws::line_spelled, crate::proofs::MessageLaws::line_short))]
-fn line_with(
-    alloc: Global,
-    call: Drawn,
-    signing: &[u8],
-    signature: &[u8; 64],
-) -> Result<Vec<u8>, AllocError>
-    requires signing { signing.now ≡ signing_of call }
-    requires short { length signing.now ≤ 600 }
-    requires signature { signature.now ≡ signature_of call.number }
-    requires has { has_identity call.change ≡ true }
-    ensures exact { IfOk result (λ line. line.items ≡ identity_line call) }
-    ensures short { IfOk result (λ line. length line.items ≤ 1000) }
-{
     let encoded = URL_SAFE_NO_PAD.encode(alloc, signature.as_slice())?;
     line_of(alloc, signing, encoded.as_bytes())
 }
