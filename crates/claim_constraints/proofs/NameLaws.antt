@@ -1,8 +1,8 @@
 -- Names are ASCII.
-use Rattle.std.proofs.Common.{◌≡◌, ℕ, ◌<◌, ◌&&◌, nat_le, Bool, true, false, List, length, IsUtf8, refl, arith}
+use Rattle.std.proofs.Common.{◌≡◌, ℕ, ◌<◌, ◌&&◌, nat_le, true, false, List, length, IsUtf8, arith}
 use Rattle.std.specs.List.{list_all}
 use Rattle.std.specs.Str.{is_utf8}
-use Rattle.std.proofs.lemmas.Bool.{and_parts}
+use Rattle.std.proofs.lemmas.Bool.{and_parts, false_from_ne_true}
 use Rattle.std.proofs.lemmas.Bool.Decides.{nat_tests}
 use Rattle.std.proofs.lemmas.Str.{IsUtf8-from_is_utf8, is_utf8-from_IsUtf8}
 use Rattle.lists.proofs.Bytes.{all_utf8}
@@ -20,9 +20,5 @@ name_utf8 text h =
 pub text_is : (text : List ℕ) → IsUtf8 text → is_utf8 text ≡ true
 text_is = is_utf8-from_IsUtf8
 
-not_by : (text : List ℕ) (t : Bool) → is_utf8 text ≡ t → (IsUtf8 text → ⊥) → is_utf8 text ≡ false
-not_by text true e no_text = absurd (no_text (IsUtf8-from_is_utf8 text e))
-not_by text false e no_text = e
-
 pub text_not : (text : List ℕ) → (IsUtf8 text → ⊥) → is_utf8 text ≡ false
-text_not text no_text = not_by text (is_utf8 text) refl no_text
+text_not text no_text = false_from_ne_true _ (λ is. no_text (IsUtf8-from_is_utf8 text is))
