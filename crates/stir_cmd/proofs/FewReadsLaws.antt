@@ -91,12 +91,12 @@ reads_new settings told service passed left reads now new r =
 
 -- by one that was restored
 pub reads_restored : (settings : Settings) (materials : GoingMaterials) (service : ServiceView) (call moment : ℕ) (left : Option (List ℕ)) (reads now : ℕ)
-    → IsRestored settings (record { chains = materials.judging.chains; anchors = materials.judging.anchors; table = materials.judging.table }) materials.state service
+    → IsRestored settings materials.judging.world materials.state service
     → call ≡ materials.state.call → moment ≡ materials.state.moment → ReadsFirst service.settings service.chains (start call moment) left reads now
-    → ReadsFirst settings materials.judging.chains (start_at materials.state) left reads now
+    → ReadsFirst settings materials.judging.world.chains (start_at materials.state) left reads now
 reads_restored settings materials service call moment left reads now restored number last r =
-    subst (λ (x : Passed). ReadsFirst settings materials.judging.chains x left reads now) (same_start materials.state call moment number last)
-    (subst (λ (x : Settings). ReadsFirst x materials.judging.chains (start call moment) left reads now) restored.settings_are
+    subst (λ (x : Passed). ReadsFirst settings materials.judging.world.chains x left reads now) (same_start materials.state call moment number last)
+    (subst (λ (x : Settings). ReadsFirst x materials.judging.world.chains (start call moment) left reads now) restored.settings_are
     (subst (λ (x : ChainFiles). ReadsFirst service.settings x (start call moment) left reads now) restored.chains r))
 
 -- ---- of the whole run
@@ -119,35 +119,35 @@ few_named_on verifying name before now few = by before.files before.left
     by (Some files) (Some bytes) = inl few
 
 pub few_alone : OneLog → (verifying : VerifyingView) (before now : Outside) (mid : ℕ) (settings : Settings) (materials : Materials) → MaterialsOf before.files verifying.judging materials
-    → mid ≤ before.counts.reads + 4 → settings ≡ settings_by verifying.judging.settings → ReadsFirst settings materials.chains (start 0 0) before.left mid now.counts.reads
+    → mid ≤ before.counts.reads + 4 → settings ≡ settings_by verifying.judging.settings → ReadsFirst settings materials.world.chains (start 0 0) before.left mid now.counts.reads
     → FewReadsFrom verifying None before now
 few_alone law verifying before now mid settings materials stands four given reads = by before.files before.left stands reads
   where
-    by : (files : Option Files) (left : Option (List ℕ)) → MaterialsOf files verifying.judging materials → ReadsFirst settings materials.chains (start 0 0) left mid now.counts.reads
+    by : (files : Option Files) (left : Option (List ℕ)) → MaterialsOf files verifying.judging materials → ReadsFirst settings materials.world.chains (start 0 0) left mid now.counts.reads
         → IfTold files left (ReadsFewFrom verifying None before now)
     by None left stands reads = tt
     by (Some files) None stands reads = tt
     by (Some files) (Some bytes) stands reads = inr (record {
       materials = materials;
       stands = stands;
-      reads = subst (λ (x : Settings). ReadsLog x materials.chains (start 0 0) bytes (before.counts.reads + 4) now.counts.reads) given
-          (log_reads law settings materials.chains (start 0 0) bytes (before.counts.reads + 4) mid now.counts.reads four reads);
+      reads = subst (λ (x : Settings). ReadsLog x materials.world.chains (start 0 0) bytes (before.counts.reads + 4) now.counts.reads) given
+          (log_reads law settings materials.world.chains (start 0 0) bytes (before.counts.reads + 4) mid now.counts.reads four reads);
     })
 
 pub few_on : OneLog → (verifying : VerifyingView) (name : List ℕ) (before now : Outside) (mid : ℕ) (settings : Settings) (materials : GoingMaterials) → GoingOf before.files verifying.judging name materials
-    → mid ≤ before.counts.reads + 5 → settings ≡ settings_by verifying.judging.settings → ReadsFirst settings materials.judging.chains (start_at materials.state) before.left mid now.counts.reads
+    → mid ≤ before.counts.reads + 5 → settings ≡ settings_by verifying.judging.settings → ReadsFirst settings materials.judging.world.chains (start_at materials.state) before.left mid now.counts.reads
     → FewReadsFrom verifying (Some name) before now
 few_on law verifying name before now mid settings materials stands five given reads = by before.files before.left stands reads
   where
-    by : (files : Option Files) (left : Option (List ℕ)) → GoingOf files verifying.judging name materials → ReadsFirst settings materials.judging.chains (start_at materials.state) left mid now.counts.reads
+    by : (files : Option Files) (left : Option (List ℕ)) → GoingOf files verifying.judging name materials → ReadsFirst settings materials.judging.world.chains (start_at materials.state) left mid now.counts.reads
         → IfTold files left (ReadsFewFrom verifying (Some name) before now)
     by None left stands reads = tt
     by (Some files) None stands reads = tt
     by (Some files) (Some bytes) stands reads = inr (record {
       materials = materials;
       stands = stands;
-      reads = subst (λ (x : Settings). ReadsLog x materials.judging.chains (start_at materials.state) bytes (before.counts.reads + 5) now.counts.reads) given
-          (log_reads law settings materials.judging.chains (start_at materials.state) bytes (before.counts.reads + 5) mid now.counts.reads five reads);
+      reads = subst (λ (x : Settings). ReadsLog x materials.judging.world.chains (start_at materials.state) bytes (before.counts.reads + 5) now.counts.reads) given
+          (log_reads law settings materials.judging.world.chains (start_at materials.state) bytes (before.counts.reads + 5) mid now.counts.reads five reads);
     })
 
 -- ---- by the words

@@ -28,17 +28,25 @@ answer_seen : {V : Type 0} (items : V → List ℕ) (place : PlaceView) (hop : H
 answer_seen items place hop bytes readings states out a =
     record { finished = a.finished; no_pass = a.no_pass; exact = a.exact; written = a.written; causes = a.causes; next = a.next; link = a.link }
 
-over_seen : {V : Type 0} (items : V → List ℕ) (place : PlaceView) (told : Option Files) (before now : ℕ) (hop : HopView) (bytes : List ℕ) (out : V)
-    → IsOverChains place told before now hop bytes items (Ok out) → IsOverChains place told before now hop bytes (λ (x : List ℕ). x) (Ok (items out))
-over_seen items place told before now hop bytes out over = record {
+-- whatever is made of the answer, it stands over the same chains
+over_as : {V X : Type 0} (items : V → List ℕ) (seen : X → List ℕ) (place : PlaceView) (told : Option Files) (before now : ℕ) (hop : HopView) (bytes : List ℕ)
+    (result : Result V HopFault) (made : Result X HopFault)
+    → ((readings : List Reading) (states : List State) → IsAnswerOf place hop bytes readings states items result → IsAnswerOf place hop bytes readings states seen made)
+    → IsOverChains place told before now hop bytes items result → IsOverChains place told before now hop bytes seen made
+over_as items seen place told before now hop bytes result made same over = record {
   early = over.early;
   states = over.states;
   counted = over.counted;
   right = over.right;
   unread = over.unread;
   answered = over.answered;
-  answer = answer_seen items place hop bytes _ over.states out over.answer;
+  answer = same _ over.states over.answer;
 }
+
+over_seen : {V : Type 0} (items : V → List ℕ) (place : PlaceView) (told : Option Files) (before now : ℕ) (hop : HopView) (bytes : List ℕ) (out : V)
+    → IsOverChains place told before now hop bytes items (Ok out) → IsOverChains place told before now hop bytes (λ (x : List ℕ). x) (Ok (items out))
+over_seen items place told before now hop bytes out =
+    over_as items (λ (x : List ℕ). x) place told before now hop bytes (Ok out) (Ok (items out)) (λ readings states. answer_seen items place hop bytes readings states out)
 
 fault_seen : {V : Type 0} (items : V → List ℕ) (place : PlaceView) (hop : HopView) (bytes : List ℕ) (readings : List Reading) (states : List State) (fault : HopFault)
     → IsAnswerOf place hop bytes readings states items (Err fault) → IsAnswerOf {X = List ℕ} place hop bytes readings states (λ x. x) (Err fault)
@@ -47,15 +55,8 @@ fault_seen items place hop bytes readings states fault a =
 
 over_fault : {V : Type 0} (items : V → List ℕ) (place : PlaceView) (told : Option Files) (before now : ℕ) (hop : HopView) (bytes : List ℕ) (fault : HopFault)
     → IsOverChains place told before now hop bytes items (Err fault) → IsOverChains {X = List ℕ} place told before now hop bytes (λ x. x) (Err fault)
-over_fault items place told before now hop bytes fault over = record {
-  early = over.early;
-  states = over.states;
-  counted = over.counted;
-  right = over.right;
-  unread = over.unread;
-  answered = over.answered;
-  answer = fault_seen items place hop bytes _ over.states fault over.answer;
-}
+over_fault items place told before now hop bytes fault =
+    over_as items (λ (x : List ℕ). x) place told before now hop bytes (Err fault) (Err fault) (λ readings states. fault_seen items place hop bytes readings states fault)
 
 -- a message that goes on
 pub sends : {V : Type 0} (items : V → List ℕ) (place : PlaceView) (hop : HopView) (told : Option Files) (before now : ℕ) (bytes : List ℕ) (out : V)

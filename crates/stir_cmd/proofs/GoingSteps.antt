@@ -77,7 +77,7 @@ trusts_restored settings told state service files says r = subst (λ (x : Chains
 -- ---- the log was judged by a restored service
 
 same_basis : (settings : Settings) (workers : ℕ) (materials : GoingMaterials) (service : ServiceView)
-    → IsRestored settings (record { chains = materials.judging.chains; anchors = materials.judging.anchors; table = materials.judging.table }) materials.state service
+    → IsRestored settings materials.judging.world materials.state service
     → basis_by service materials.judging.answers workers ≡ basis_of settings workers materials.judging
 same_basis settings workers materials service r = λ i. record {
   settings = r.settings_are i;
@@ -93,13 +93,13 @@ pub same_start : (state : StateView) (call moment : ℕ) → call ≡ state.call
 same_start state call moment number last = λ i. record { number = number i; moment = last i; count = 0; place = 0 }
 
 pub log_on : (settings : Settings) (workers : ℕ) (materials : GoingMaterials) (service : ServiceView) (call moment : ℕ) (before now : Outside) (status : ℕ)
-    → IsRestored settings (record { chains = materials.judging.chains; anchors = materials.judging.anchors; table = materials.judging.table }) materials.state service
+    → IsRestored settings materials.judging.world materials.state service
     → call ≡ materials.state.call → moment ≡ materials.state.moment
     → LogSays (words_on (basis_by service materials.judging.answers workers) before.files (held service.past) (start call moment) before.counts now.counts) (start call moment) (log_in before) (log_in now) status
     → WentOn settings workers materials before now status
 log_on settings workers materials service call moment before now status r number last says =
     let basis = basis_of settings workers materials.judging in
-    let told : Told = record { chains = materials.judging.chains; anchors = materials.judging.anchors; table = materials.judging.table } in
+    let told : Told = materials.judging.world in
     let by_basis = subst (λ (x : JudgeBasis). LogSays (words_on x before.files (held service.past) (start call moment) before.counts now.counts) (start call moment) (log_in before) (log_in now) status)
     (same_basis settings workers materials service r) says in
     let by_past = subst (λ (x : Held). LogSays (words_on basis before.files x (start call moment) before.counts now.counts) (start call moment) (log_in before) (log_in now) status)

@@ -101,26 +101,16 @@ valid_in ticket (row ∷ rows) =
       ]
     ]
 
--- ---- a round
+-- ---- calls that are answered twice, if each ticket is won at one place
 
--- the valid call of a ticket isn't after that of the other answers
-not_after : (rows others : List Row) (ticket : List ℕ) (w : Winner rows ticket) (v : Winner others ticket) → AreOneCalls others rows → FirstWins rows → w.place ≤ v.place
-not_after rows others ticket w v same first =
-    let (row, stands, one) = there others rows same v.place v.winner v.stands in
-    first w.place v.place w.winner row w.stands w.wins stands (record { passes = sym one.passes ∙ v.uses.passes; same = sym one.ticket ∙ v.uses.same ∙ sym w.uses.same })
-
-module _ (held next other_next : Held) (rows others : List Row) (same : AreOneCalls rows others) (mine : Settled held rows next) (yours : Settled held others other_next)
-    (first : FirstWins rows) (first_other : FirstWins others) where
-  one_place : (ticket : List ℕ) (w : Winner rows ticket) (v : Winner others ticket) → w.place ≡ v.place
-  one_place ticket w v =
-      let mine = not_after rows others ticket w v (calls_turned rows others same) first in
-      let yours = not_after others rows ticket v w same first_other in
-      omega (arith, mine, yours)
-
+module _ (held next other_next : Held) (rows others : List Row)
+    (there_too : (place : ℕ) (row : Row) → Stands rows place row → (other : Row) × Stands others place other × IsOneCall row other)
+    (mine : Settled held rows next) (yours : Settled held others other_next)
+    (one_place : (ticket : List ℕ) (w : Winner rows ticket) (v : Winner others ticket) → w.place ≡ v.place) where
   one_number : (ticket : List ℕ) (w : Winner rows ticket) (v : Winner others ticket) → w.winner.number ≡ v.winner.number
   one_number ticket w v =
-      let (row, stands, one) = there rows others same w.place w.winner w.stands in
-      one.number ∙ ap (λ (r : Row). r.number) (one_row others w.place v.place row v.winner (one_place ticket w v) stands v.stands)
+      let (other, stands, one) = there_too w.place w.winner w.stands in
+      one.number ∙ ap (λ (r : Row). r.number) (one_row others w.place v.place other v.winner (one_place ticket w v) stands v.stands)
 
   won : (place : ℕ) (row other : Row) → Stands rows place row → Stands others place other → IsOneCall row other → row.passes ≡ true
       → (w : Winner rows row.ticket) (v : Winner others row.ticket) → (place ≡ w.place) ⊎ (place ≢ w.place) → row.answer ≡ other.answer
@@ -146,10 +136,29 @@ module _ (held next other_next : Held) (rows others : List Row) (same : AreOneCa
       mine.refused place row stands is ∙ sym (yours.refused place other stands_other (sym one.passes ∙ is))
   by_passes place row other stands stands_other one true is = by_held place row other stands stands_other one is (held row.ticket) refl
 
-  pub one_in_round : (place : ℕ) (row other : Row) → Stands rows place row → Stands others place other → row.answer ≡ other.answer
-  one_in_round place row other stands stands_other =
-      let (o, stands_o, one) = there rows others same place row stands in
+  pub one_answer_at : (place : ℕ) (row other : Row) → Stands rows place row → Stands others place other → row.answer ≡ other.answer
+  one_answer_at place row other stands stands_other =
+      let (o, stands_o, one) = there_too place row stands in
       by_passes place row other stands stands_other (subst (λ (x : Row). IsOneCall row x) (same_Some o other (sym stands_o ∙ stands_other)) one) row.passes refl
+
+-- ---- a round
+
+-- the valid call of a ticket isn't after that of the other answers
+not_after : (rows others : List Row) (ticket : List ℕ) (w : Winner rows ticket) (v : Winner others ticket) → AreOneCalls others rows → FirstWins rows → w.place ≤ v.place
+not_after rows others ticket w v same first =
+    let (row, stands, one) = there others rows same v.place v.winner v.stands in
+    first w.place v.place w.winner row w.stands w.wins stands (record { passes = sym one.passes ∙ v.uses.passes; same = sym one.ticket ∙ v.uses.same ∙ sym w.uses.same })
+
+module _ (held next other_next : Held) (rows others : List Row) (same : AreOneCalls rows others) (mine : Settled held rows next) (yours : Settled held others other_next)
+    (first : FirstWins rows) (first_other : FirstWins others) where
+  one_place : (ticket : List ℕ) (w : Winner rows ticket) (v : Winner others ticket) → w.place ≡ v.place
+  one_place ticket w v =
+      let mine = not_after rows others ticket w v (calls_turned rows others same) first in
+      let yours = not_after others rows ticket v w same first_other in
+      omega (arith, mine, yours)
+
+  pub one_in_round : (place : ℕ) (row other : Row) → Stands rows place row → Stands others place other → row.answer ≡ other.answer
+  one_in_round = one_answer_at held next other_next rows others (there rows others same) mine yours one_place
 
   kept_alike : (row other : Row) → IsOneCall row other → kept_of row ≡ kept_of other
   kept_alike row other one = λ i. record { call = one.number i; last = one.last i }

@@ -1,13 +1,13 @@
 -- Calls that are answered in a round, and again with more calls after them, over one past and in each round the first with its ticket first: each of them
 -- has one answer.
-use Rattle.std.proofs.Common.{◌≡◌, ◌≢◌, ◌⊎◌, inl, inr, ℕ, zero, suc, ◌≤◌, Bool, true, false, List, [], ◌∷◌, Option, Some, None, refl, sym, ◌∙◌, ap, subst, arith}
+use Rattle.std.proofs.Common.{◌≡◌, ℕ, zero, suc, ◌≤◌, List, [], ◌∷◌, refl, sym, ◌∙◌, subst, arith}
 use Rattle.std.specs.Prelude.{⊤}
 use Rattle.std.proofs.lemmas.Option.{none-some, same_Some}
-use Rattle.replay_law.specs.Held.{Held, Kept, purged}
+use Rattle.replay_law.specs.Held.{Held, purged}
 use Rattle.replay_law.specs.Round.{Settled, Winner, first_moment}
-use Rattle.replay_law.specs.Row.{Row, Stands, replay}
+use Rattle.replay_law.specs.Row.{Row, Stands}
 use Rattle.replay_law.specs.Turn.{FirstWins}
-use Rattle.stir_cmd.proofs.OneGoingLaws.{IsOneCall, one_row, same_or_other}
+use Rattle.stir_cmd.proofs.OneGoingLaws.{IsOneCall, one_answer_at}
 
 -- the first calls of the other are these, whatever was answered to them
 abbrev pub BeginCalls : List Row → List Row → Type 0
@@ -45,39 +45,8 @@ module _ (held next other_next : Held) (rows others : List Row) (begins : BeginC
       let high = first w.place v.place w.winner row w.stands w.wins stands (record { passes = one.passes ∙ v.uses.passes; same = one.ticket ∙ v.uses.same ∙ sym w.uses.same }) in
       omega (arith, low, high)
 
-  one_number : (ticket : List ℕ) (w : Winner rows ticket) (v : Winner others ticket) → w.winner.number ≡ v.winner.number
-  one_number ticket w v =
-      let (other, stands, one) = there rows others begins w.place w.winner w.stands in
-      one.number ∙ ap (λ (r : Row). r.number) (one_row others w.place v.place other v.winner (one_place ticket w v) stands v.stands)
-
-  won : (place : ℕ) (row other : Row) → Stands rows place row → Stands others place other → IsOneCall row other → row.passes ≡ true
-      → (w : Winner rows row.ticket) (v : Winner others row.ticket) → (place ≡ w.place) ⊎ (place ≢ w.place) → row.answer ≡ other.answer
-  won place row other stands stands_other one passes w v (inl here) =
-      ap (λ (r : Row). r.answer) (one_row rows place w.place row w.winner here stands w.stands) ∙ w.wins
-      ∙ sym (ap (λ (r : Row). r.answer) (one_row others place v.place other v.winner (here ∙ one_place row.ticket w v) stands_other v.stands) ∙ v.wins)
-  won place row other stands stands_other one passes w v (inr elsewhere) =
-      w.others place row stands (record { passes = passes; same = refl }) elsewhere ∙ ap replay (one_number row.ticket w v)
-      ∙ sym (v.others place other stands_other (record { passes = sym one.passes ∙ passes; same = sym one.ticket }) (λ is. elsewhere (is ∙ sym (one_place row.ticket w v))))
-
-  by_held : (place : ℕ) (row other : Row) → Stands rows place row → Stands others place other → IsOneCall row other → row.passes ≡ true → (o : Option Kept)
-      → held row.ticket ≡ o → row.answer ≡ other.answer
-  by_held place row other stands stands_other one passes (Some kept) is =
-      mine.replays place row kept stands passes is ∙ sym (yours.replays place other kept stands_other (sym one.passes ∙ passes) (ap held (sym one.ticket) ∙ is))
-  by_held place row other stands stands_other one passes None is =
-      let w : Winner rows row.ticket = mine.winners place row stands passes is in
-      let v : Winner others row.ticket =
-      subst (Winner others) (sym one.ticket) (yours.winners place other stands_other (sym one.passes ∙ passes) (ap held (sym one.ticket) ∙ is)) in
-      won place row other stands stands_other one passes w v (same_or_other place w.place)
-
-  by_passes : (place : ℕ) (row other : Row) → Stands rows place row → Stands others place other → IsOneCall row other → (t : Bool) → row.passes ≡ t → row.answer ≡ other.answer
-  by_passes place row other stands stands_other one false is =
-      mine.refused place row stands is ∙ sym (yours.refused place other stands_other (sym one.passes ∙ is))
-  by_passes place row other stands stands_other one true is = by_held place row other stands stands_other one is (held row.ticket) refl
-
   one_answer_first : (place : ℕ) (row other : Row) → Stands rows place row → Stands others place other → row.answer ≡ other.answer
-  one_answer_first place row other stands stands_other =
-      let (o, stands_o, one) = there rows others begins place row stands in
-      by_passes place row other stands stands_other (subst (λ (x : Row). IsOneCall row x) (same_Some o other (sym stands_o ∙ stands_other)) one) row.passes refl
+  one_answer_first = one_answer_at held next other_next rows others (there rows others begins) mine yours one_place
 
 -- and so over a past that is purged by the moment of the first call
 pub one_answer : (past next other_next : Held) (rows others : List Row) → BeginCalls rows others → Settled (purged (first_moment rows) past) rows next

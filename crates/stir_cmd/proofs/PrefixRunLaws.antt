@@ -173,7 +173,7 @@ module _ (verifying : VerifyingView) (single : verifying.workers ≡ 1) (files :
   known_on : (name : List ℕ) (counts : Counts) (materials : GoingMaterials) → before.counts.faults ≤ counts.faults → counts.faults ≤ now.counts.faults → GoingOf before.files verifying.judging name materials
       → (batches : List Batch) → IsCut 256 batches → (text : List ℕ)
       → ClosesState (AnswersBy (basis_of (settings_by verifying.judging.settings) verifying.workers materials.judging) before.files) (config_by (settings_by verifying.judging.settings) verifying.workers)
-      materials.judging.chains (kept_by materials.state.kept) (start_at materials.state) (outside_counts counts.faults 0 counts.reads) (outside_counts now.counts.faults 0 now.counts.reads) batches text
+      materials.judging.world.chains (kept_by materials.state.kept) (start_at materials.state) (outside_counts counts.faults 0 counts.reads) (outside_counts now.counts.faults 0 now.counts.reads) batches text
       → LogPart (start_at materials.state) log before now status batches text → Known verifying (Some name) files log before now status
   known_on name counts materials earlier stay stands batches cut text closes part =
       let on = closes.on (record { cut = cut; follow = part.log_is.follow }) in

@@ -48,12 +48,12 @@ one_content files others same named P Q mine yours =
 pub same_says : (files others : Files) → AreOneMap files others → (judging : JudgingView) (mine yours : Materials) → MaterialsOf (Some files) judging mine → MaterialsOf (Some others) judging yours
     → SayTheSame (world_by mine files) (world_by yours others)
 same_says files others same judging mine yours a b = record {
-  chains = one_map b.chains.content mine.chains yours.chains (subst (λ c. MapOf c mine.chains) (one_content files others same (chain_map judging.chains) _ _ a.chains b.chains) a.chains.holds) b.chains.holds;
+  chains = one_map b.chains.content mine.world.chains yours.world.chains (subst (λ c. MapOf c mine.world.chains) (one_content files others same (chain_map judging.chains) _ _ a.chains b.chains) a.chains.holds) b.chains.holds;
   files = same;
   anchors =
-      one_ok mine.anchors yours.anchors _ (subst (λ c. AnchorsOf c mine.anchors) (one_content files others same (anchor_file judging.anchors) _ _ a.anchors b.anchors) a.anchors.holds).read
+      one_ok mine.world.anchors yours.world.anchors _ (subst (λ c. AnchorsOf c mine.world.anchors) (one_content files others same (anchor_file judging.anchors) _ _ a.anchors b.anchors) a.anchors.holds).read
       b.anchors.holds.read;
-  grants = one_table b.table.content mine.table yours.table (subst (λ c. TableOf c mine.table) (one_content files others same (code_table judging.table) _ _ a.table b.table) a.table.holds) b.table.holds;
+  grants = one_table b.table.content mine.world.table yours.world.table (subst (λ c. TableOf c mine.world.table) (one_content files others same (code_table judging.table) _ _ a.table b.table) a.table.holds) b.table.holds;
   says = one_answers b.answers.content mine.answers yours.answers
       (subst (λ c. AnswersOf c mine.answers) (one_content files others same (answers_file judging.answers) _ _ a.answers b.answers) a.answers.holds) b.answers.holds;
 }

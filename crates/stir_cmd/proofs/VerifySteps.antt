@@ -60,7 +60,7 @@ trusts_at_first settings told service files says new = subst (λ (x : Chains). A
 
 -- ---- the log was judged by a new service
 
-same_basis : (settings : Settings) (workers : ℕ) (materials : Materials) (service : ServiceView) → IsNew settings (record { chains = materials.chains; anchors = materials.anchors; table = materials.table }) service
+same_basis : (settings : Settings) (workers : ℕ) (materials : Materials) (service : ServiceView) → IsNew settings materials.world service
     → basis_by service materials.answers workers ≡ basis_of settings workers materials
 same_basis settings workers materials service new = λ i. record {
   settings = new.settings_are i;
@@ -69,7 +69,7 @@ same_basis settings workers materials service new = λ i. record {
   workers = workers;
 }
 
-pub log_by : (settings : Settings) (workers : ℕ) (materials : Materials) (service : ServiceView) (before now : Outside) (status : ℕ) → IsNew settings (record { chains = materials.chains; anchors = materials.anchors; table = materials.table }) service
+pub log_by : (settings : Settings) (workers : ℕ) (materials : Materials) (service : ServiceView) (before now : Outside) (status : ℕ) → IsNew settings materials.world service
     → LogSays (words_by (basis_by service materials.answers workers) before.files (start 0 0) before.counts now.counts) (start 0 0) (log_in before) (log_in now) status → RanBy settings workers materials before now status
 log_by settings workers materials service before now status new says =
     inl (subst (λ (x : JudgeBasis). LogSays (words_by x before.files (start 0 0) before.counts now.counts) (start 0 0) (log_in before) (log_in now) status) (same_basis settings workers materials service new) says)

@@ -29,7 +29,7 @@ use Rattle.stir_cmd.specs.Singly.{answering_course}
 abbrev pub explainer_by : Settings → Materials → ExplainerView
 explainer_by settings materials = record {
   settings = settings;
-  materials = record { chains = materials.chains; anchors = materials.anchors; table = materials.table };
+  materials = materials.world;
   answers = materials.answers;
 }
 

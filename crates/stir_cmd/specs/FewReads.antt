@@ -26,13 +26,13 @@ ReadsLog settings chains passed bytes reads now =
 pub record ReadsFew (verifying : VerifyingView) (files : Files) (bytes : List ℕ) (before now : Outside) : Type 0 where
   pub materials : Materials
   pub stands : MaterialsOf (Some files) verifying.judging materials
-  pub reads : ReadsLog (settings_by verifying.judging.settings) materials.chains (start 0 0) bytes (before.counts.reads + 4) now.counts.reads
+  pub reads : ReadsLog (settings_by verifying.judging.settings) materials.world.chains (start 0 0) bytes (before.counts.reads + 4) now.counts.reads
 
 -- The same of a log that goes on from a state: there is one named file more.
 pub record ReadsFewOn (verifying : VerifyingView) (name : List ℕ) (files : Files) (bytes : List ℕ) (before now : Outside) : Type 0 where
   pub materials : GoingMaterials
   pub stands : GoingOf (Some files) verifying.judging name materials
-  pub reads : ReadsLog (settings_by verifying.judging.settings) materials.judging.chains (start_at materials.state) bytes (before.counts.reads + 5) now.counts.reads
+  pub reads : ReadsLog (settings_by verifying.judging.settings) materials.judging.world.chains (start_at materials.state) bytes (before.counts.reads + 5) now.counts.reads
 
 -- or none but named files were read, each once at most
 abbrev pub ReadsFewFrom : VerifyingView → Option (List ℕ) → Outside → Outside → Files → List ℕ → Type 0

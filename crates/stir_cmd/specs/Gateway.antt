@@ -42,7 +42,7 @@ place_with words world answers leaf = record {
 -- the same, by what was read of five files
 abbrev pub place_by : RetargetingView → RetargetingMaterials → PlaceView
 place_by words materials =
-    place_with words (record { chains = materials.judging.chains; anchors = materials.judging.anchors; table = materials.judging.table }) materials.judging.answers materials.leaf
+    place_with words materials.judging.world materials.judging.answers materials.leaf
 
 -- the certificate of the holder has a list
 abbrev pub IsListed : RetargetingMaterials → Type 0

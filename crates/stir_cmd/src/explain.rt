@@ -6,7 +6,6 @@ ghost use Rattle.stir_words.specs.Seen.{asking_view, judging_view};
 
 use crate::settings::settings_of;
 use crate::verify::end_at;
-use cert_store::World;
 use single_calls::{Asker, Explainer, ask_log, explain_log};
 use std::alloc::Global;
 use std::thread::Threads;
@@ -31,17 +30,7 @@ pub(crate) fn explain<R: Threads + Sync, S: Shelf, I: Source, O: Sink>(
 {
     match read_materials(alloc, shelf, judging) {
         Ok(materials) => {
-            let Materials {
-                chains,
-                anchors,
-                table,
-                answers,
-            } = materials;
-            let world = World {
-                chains,
-                anchors,
-                table,
-            };
+            let Materials { world, answers } = materials;
             let mut explainer = Explainer::new(settings_of(&judging.settings), world, &answers);
             explain_log(rt, alloc, &mut explainer, shelf, input, sink)
         }

@@ -21,7 +21,7 @@ use cert_store::World;
 use retarget::{Hop, HopFault};
 use sip_message::MOST_BYTES;
 use std::alloc::{AllocError, Global};
-use stir_files::{Materials, RetargetingMaterials, read_retargeting};
+use stir_files::{RetargetingMaterials, read_retargeting};
 use stir_outside::{
     Answers, ReadFault, Shelf, Sink, Source, Status, end_with, memory_line, read_up_to,
 };
@@ -48,18 +48,7 @@ pub(crate) fn send_message<S: Shelf, I: Source, O: Sink>(
     match read_retargeting(alloc, shelf, words) {
         Ok(materials) => {
             let RetargetingMaterials { judging, leaf } = materials;
-            let Materials {
-                chains,
-                anchors,
-                table,
-                answers,
-            } = judging;
-            let world = World {
-                chains,
-                anchors,
-                table,
-            };
-            let place = place_for(words, &world, &answers, &leaf);
+            let place = place_for(words, &judging.world, &judging.answers, &leaf);
             send_input(alloc, words, &place, shelf, input, sink)
         }
         Err(stop) => end_at(alloc, &stop, sink),

@@ -98,20 +98,10 @@ fn judge_by<R: Threads + Sync, S: Shelf, I: Source, O: Sink>(
     ensures ran { RanBy settings workers materials
         (outside_of S.Shelf I.Source O.Sink shelf.old input.old sink.old)
         (outside_of S.Shelf I.Source O.Sink shelf.new input.new sink.new) result }
-    ensures reads { ReadsFirst settings materials.chains (start 0 0) (I.left input.old) (S.counts shelf.old).reads (S.counts shelf.new).reads }
+    ensures reads { ReadsFirst settings materials.world.chains (start 0 0) (I.left input.old) (S.counts shelf.old).reads (S.counts shelf.new).reads }
     ensures shelf { ShelfStays S.Shelf shelf.old shelf.new }
 {
-    let Materials {
-        chains,
-        anchors,
-        table,
-        answers,
-    } = materials;
-    let world = World {
-        chains,
-        anchors,
-        table,
-    };
+    let Materials { world, answers } = materials;
     let service = match Service::new(alloc, settings, world) {
         Ok(service) => service,
         Err(_) => return end_with(sink, memory_line(), Status::Memory),
@@ -176,21 +166,11 @@ fn go_on_by<R: Threads + Sync, S: Shelf, I: Source, O: Sink>(
     ensures ran { WentOn settings workers materials
         (outside_of S.Shelf I.Source O.Sink shelf.old input.old sink.old)
         (outside_of S.Shelf I.Source O.Sink shelf.new input.new sink.new) result }
-    ensures reads { ReadsFirst settings materials.judging.chains (start_at materials.state) (I.left input.old) (S.counts shelf.old).reads (S.counts shelf.new).reads }
+    ensures reads { ReadsFirst settings materials.judging.world.chains (start_at materials.state) (I.left input.old) (S.counts shelf.old).reads (S.counts shelf.new).reads }
     ensures shelf { ShelfStays S.Shelf shelf.old shelf.new }
 {
     let GoingMaterials { judging, state } = materials;
-    let Materials {
-        chains,
-        anchors,
-        table,
-        answers,
-    } = judging;
-    let world = World {
-        chains,
-        anchors,
-        table,
-    };
+    let Materials { world, answers } = judging;
     let call = state.call();
     let moment = state.moment();
     let service = match restored(alloc, settings, world, state) {

@@ -13,7 +13,7 @@ files_of judging = chain_map judging.chains ∷ anchor_file judging.anchors ∷ 
 
 -- what was read is what the files say
 pub record MaterialsOf (files : Option Files) (judging : JudgingView) (materials : Materials) : Type 0 where
-  pub chains : ReadOf files (chain_map judging.chains) (λ content. MapOf content materials.chains)
-  pub anchors : ReadOf files (anchor_file judging.anchors) (λ content. AnchorsOf content materials.anchors)
-  pub table : ReadOf files (code_table judging.table) (λ content. TableOf content materials.table)
+  pub chains : ReadOf files (chain_map judging.chains) (λ content. MapOf content materials.world.chains)
+  pub anchors : ReadOf files (anchor_file judging.anchors) (λ content. AnchorsOf content materials.world.anchors)
+  pub table : ReadOf files (code_table judging.table) (λ content. TableOf content materials.world.table)
   pub answers : ReadOf files (answers_file judging.answers) (λ content. AnswersOf content materials.answers)

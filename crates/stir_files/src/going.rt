@@ -11,6 +11,7 @@ use crate::inputs::{Inputs, read_files};
 use crate::materials::Materials;
 use crate::state_file::StateFile;
 use crate::stop::FileError;
+use cert_store::World;
 use state_text::State;
 use std::alloc::Global;
 use stir_outside::Shelf;
@@ -67,9 +68,11 @@ pub fn read_going<'a, S: Shelf>(
     } = read_files(alloc, shelf, &named)?;
     Ok(GoingMaterials {
         judging: Materials {
-            chains: chains.unwrap(),
-            anchors: anchors.unwrap(),
-            table: table.unwrap(),
+            world: World {
+                chains: chains.unwrap(),
+                anchors: anchors.unwrap(),
+                table: table.unwrap(),
+            },
             answers: answers.unwrap(),
         },
         state: state.unwrap(),

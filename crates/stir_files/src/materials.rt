@@ -9,22 +9,16 @@ ghost use Rattle.stir_words.specs.Seen.{judging_view};
 use crate::input_file::InputFile;
 use crate::inputs::{Inputs, read_files};
 use crate::stop::FileError;
-use cert_store::ChainMap;
-use delegation::Anchors;
+use cert_store::World;
 use std::alloc::Global;
 use stir_outside::{Answers, Shelf};
 use stir_words::Judging;
-use tn_auth_list::CodeTable;
 
 /// What calls are judged by: what the four files say.
 #[derive(Drop)]
 pub struct Materials {
-    /// Which file has the chain of which x5u.
-    pub chains: ChainMap,
-    /// The trust anchors.
-    pub anchors: Anchors,
-    /// Which numbers a service provider code stands for.
-    pub table: CodeTable,
+    /// The chain map, the trust anchors and the code table.
+    pub world: World,
     /// The signatures that are good, and those that were made.
     pub answers: Answers,
 }
@@ -64,9 +58,11 @@ pub fn read_materials<'a, S: Shelf>(
         ..
     } = read_files(alloc, shelf, &named)?;
     Ok(Materials {
-        chains: chains.unwrap(),
-        anchors: anchors.unwrap(),
-        table: table.unwrap(),
+        world: World {
+            chains: chains.unwrap(),
+            anchors: anchors.unwrap(),
+            table: table.unwrap(),
+        },
         answers: answers.unwrap(),
     })
 }

@@ -10,6 +10,7 @@ use crate::input_file::InputFile;
 use crate::inputs::{Inputs, read_files};
 use crate::materials::Materials;
 use crate::stop::FileError;
+use cert_store::World;
 use std::alloc::Global;
 use stir_outside::Shelf;
 use stir_words::Retargeting;
@@ -63,9 +64,11 @@ pub fn read_retargeting<'a, S: Shelf>(
     } = read_files(alloc, shelf, &named)?;
     Ok(RetargetingMaterials {
         judging: Materials {
-            chains: chains.unwrap(),
-            anchors: anchors.unwrap(),
-            table: table.unwrap(),
+            world: World {
+                chains: chains.unwrap(),
+                anchors: anchors.unwrap(),
+                table: table.unwrap(),
+            },
             answers: answers.unwrap(),
         },
         leaf: leaf.unwrap(),

@@ -18,7 +18,7 @@ pub returns-clause-ran : goal.returns-clause-ran
 returns-clause-ran g c = log_on c.args.settings c.args.workers c.args.materials c.in-Ok.service _ _ _ _ _ c.in-Ok.ensures c.call-call.ensures c.moment-moment.ensures c.judge_log_on.ensures.says
 
 pub returns-in-Err-clause-reads : goal.returns-in-Err-clause-reads
-returns-in-Err-clause-reads g c = reads_none c.args.settings c.args.materials.judging.chains (start_at c.args.materials.state) _ _
+returns-in-Err-clause-reads g c = reads_none c.args.settings c.args.materials.judging.world.chains (start_at c.args.materials.state) _ _
 
 pub returns-clause-reads : goal.returns-clause-reads
 returns-clause-reads g c = reads_restored c.args.settings c.args.materials c.in-Ok.service _ _ _ _ _ c.in-Ok.ensures c.call-call.ensures c.moment-moment.ensures c.judge_log_on.ensures.reads
