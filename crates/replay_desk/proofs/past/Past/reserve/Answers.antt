@@ -14,12 +14,10 @@ on_err (Err e) P h = h
 pub returns-in_err-reserve-clause-same : goal.returns-in_err-reserve-clause-same
 returns-in_err-reserve-clause-same c = λ ticket.
     let moment = c.self.inside.moment in
-    found_from moment ticket c.reserve.new.self.entries c.reserve.ensures.unique
-    ∙ ap (λ (call : Option Kept). unless_below moment call) (c.reserve.ensures.entries.2 ticket)
-    ∙ sym (found_from moment ticket c.take_out.new.calls.entries c.len.ensures.unique)
-    ∙ ap (λ (es : List Entry). lookup (bytes_eq ticket) (kept_from moment es)) c.take_out.ensures.left
-    ∙ ap (λ (es : List Entry). lookup (bytes_eq ticket) es) (kept_still moment moment c.self.inside.calls.entries (omega arith))
-    ∙ ap (λ (past : PastView). found past ticket) c.self.view_is
+    ap (λ (past : PastView). found past ticket)
+    (ap (λ (es : List Entry). record { entries = kept_from moment es; spare = c.self.inside.spare }) (c.in_err-reserve.ensures.err ∙ c.take_out.ensures.left)
+    ∙ ap (λ (es : List Entry). record { entries = es; spare = c.self.inside.spare }) (kept_still moment moment c.self.inside.calls.entries (omega arith))
+    ∙ c.self.view_is)
 
 pub returns-clause-same : goal.returns-clause-same
 returns-clause-same c = λ ticket.
