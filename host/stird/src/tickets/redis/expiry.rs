@@ -10,15 +10,19 @@ const NEAR: u64 = SLACK;
 /// How long such a ticket is kept at least.
 const LONG: u64 = 3_600;
 
+/// A call's ticket may be claimed so long after its moment: certificates are waited for ten seconds
+/// at most, codes one, and a claim takes half a second.
+const WAITED: u64 = 12;
+
 /// The Redis is believed to be late by so much at most.
 const DAY: u64 = 86_400;
 
 /// How many seconds a key has to stay in the Redis, whose clock shows `theirs`: by that clock, too,
-/// the ticket's last second and the slack must be over.
+/// the ticket's last second and the slack must be over, also for a call that waits meanwhile.
 pub fn life(passed: Passed, moment: u64, now: u64, theirs: u64) -> u64 {
     let fresh = passed.last.saturating_sub(moment);
     let late = moment.saturating_sub(theirs).min(DAY);
-    let life = fresh.saturating_add(late).saturating_add(SLACK + 1);
+    let life = fresh.saturating_add(late).saturating_add(SLACK + 1 + WAITED);
     if moment.abs_diff(now) > NEAR {
         life.max(LONG)
     } else {
@@ -62,16 +66,16 @@ mod tests {
     const T: u64 = 1_800_000_000;
 
     #[test]
-    fn a_key_stays_until_its_last_second_and_the_slack_are_over_by_both_clocks() {
+    fn a_key_stays_until_its_last_second_the_slack_and_the_wait_are_over_by_both_clocks() {
         let passed = Passed { last: T + 60, number: 1 };
         for (moment, now, theirs, seconds, text) in [
-            (T, T, T, 71, "the clocks agree"),
-            (T, T, T + 5, 71, "the Redis is early"),
-            (T, T, T - 5, 76, "the Redis is late"),
-            (T + 60, T + 60, T + 60, 11, "at the last second"),
-            (T, T, T - 3_600, 3_671, "this clock is fast"),
-            (T, T, 0, DAY + 71, "the Redis has no clock"),
-            (T, T + 10, T + 10, 71, "the caller is late"),
+            (T, T, T, 83, "the clocks agree"),
+            (T, T, T + 5, 83, "the Redis is early"),
+            (T, T, T - 5, 88, "the Redis is late"),
+            (T + 60, T + 60, T + 60, 23, "at the last second"),
+            (T, T, T - 3_600, 3_683, "this clock is fast"),
+            (T, T, 0, DAY + 83, "the Redis has no clock"),
+            (T, T + 10, T + 10, 83, "the caller is late"),
             (T, T + 11, T + 11, LONG, "an older call"),
         ] {
             assert_eq!(life(passed, moment, now, theirs), seconds, "{text}");
