@@ -31,7 +31,7 @@ PARTS = {
     'cli': (*SIDE_BY_SIDE, 'tests/cli'),
     'fuzz': ('python3', 'tests/fuzz/run.py', '1', '300', PROGRAM),
     'ctl': ('tests/ctl/try',),
-    'tools': (*SIDE_BY_SIDE, 'tests/tools'),
+    'tools': (*SIDE_BY_SIDE, 'tests/tools', 'tests/simulation'),
     'day': ('examples/carrier/day',),
     'service': ('tests/service/try',),
     'proxy': ('tests/service/proxies', STIRD),

@@ -1,5 +1,6 @@
 """A Redis that a test starts, stops and breaks, and peers that answer as none would."""
 import contextlib
+import os
 import shutil
 import socket
 import subprocess
@@ -13,15 +14,16 @@ MISSING = "redis-server is missing"
 
 
 class Redis:
-    """A Redis server on a port of the loopback."""
+    """A Redis server on a port of the loopback. `variables` are those of its environment beside ours."""
 
-    def __init__(self, folder, *words):
-        self.folder, self.words, self.port = folder, words, free_port()
+    def __init__(self, folder, *words, variables=None):
+        self.folder, self.words, self.port, self.variables = folder, words, free_port(), variables or {}
         self.start()
 
     def start(self):
         self.process = subprocess.Popen(
-            [PROGRAM, "--port", str(self.port), "--save", "", "--appendonly", "no", "--dir", str(self.folder), *self.words], stdout=subprocess.DEVNULL)
+            [PROGRAM, "--port", str(self.port), "--save", "", "--appendonly", "no", "--dir", str(self.folder), *self.words],
+            stdout=subprocess.DEVNULL, env=os.environ | self.variables)
         assert wait_until(lambda: socket.socket().connect_ex(("127.0.0.1", self.port)) == 0), "the Redis doesn't listen"
 
     def stop(self):
