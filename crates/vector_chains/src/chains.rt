@@ -1,4 +1,5 @@
 //! Chain maps and the rules on a chain: the calls of `cert_store`.
+ghost use Rattle.std.specs.Prelude.{◌≤◌, IfOk, length};
 
 use crate::certificates::demanded;
 use crate::judging::{anchors_of, judged, map_of, read_map, table_of};
@@ -123,8 +124,11 @@ impl Case<'_> {
         word(alloc, judged.length())
     }
 
-    /// The key, the digest and the signature of the question for a certificate, or `none`.
-    fn question(self, alloc: Global, words: &[&[u8]]) -> Result<String, Unread> {
+    /// The chain, and at which of its certificates it is asked.
+    fn judged_at(self, alloc: Global, words: &[&[u8]]) -> Result<(Judged, u8), Unread>
+        ensures some { IfOk result (λ at. 1 ≤ at.1) }
+        ensures within { IfOk result (λ at. at.1 ≤ length at.0.certificates) }
+    {
         let [place] = words else {
             return Err(Unread::Call);
         };
@@ -134,6 +138,12 @@ impl Case<'_> {
         if place == 0 || place > judged.length() {
             return Err(Unread::Value);
         }
+        Ok((judged, place))
+    }
+
+    /// The key, the digest and the signature of the question for a certificate, or `none`.
+    fn question(self, alloc: Global, words: &[&[u8]]) -> Result<String, Unread> {
+        let (judged, place) = self.judged_at(alloc, words)?;
         match judged.question(place) {
             Some(question) => put_question(Answer::new(alloc), question).line(),
             None => word(alloc, "none"),
@@ -142,15 +152,7 @@ impl Case<'_> {
 
     /// What a certificate demands of claims, as [`demanded`] gives it.
     fn constraints(self, alloc: Global, words: &[&[u8]]) -> Result<String, Unread> {
-        let [place] = words else {
-            return Err(Unread::Call);
-        };
-        let place = number::<u8>(place)?;
-        let mut provider = self.answers.provider(&[])?;
-        let judged = self.judge(alloc, &mut provider)?;
-        if place == 0 || place > judged.length() {
-            return Err(Unread::Value);
-        }
+        let (judged, place) = self.judged_at(alloc, words)?;
         demanded(alloc, judged.constraints(place))
     }
 }
