@@ -5,6 +5,7 @@
 //!
 //! - [`State::read`] takes a state file, and a [`StateFault`] names the first bad line.
 //! - [`State::new`] makes a state of its parts, and [`State::write`] gives its text.
+//! - [`first_line`] cuts off the first line of a text, with its LF.
 //! - [`Kept`] is what is kept of a ticket: the call that passed, and the last second at which its PASSporT is fresh.
 //!
 //! ```rust
@@ -32,6 +33,7 @@ mod writing;
 
 pub use fault::StateFault;
 pub use kept::Kept;
+pub use lines::first_line;
 pub use state::State;
 /// Memory ran out.
 pub use std::alloc::AllocError as Memory;

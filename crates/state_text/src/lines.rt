@@ -60,7 +60,7 @@ impl<'a> Lines<'a> {
 
 /// The first line of a text with its LF, and what comes after it; None of the empty text.
 #[tactic(auto, using(crate::proofs::LineLaws::first_is, crate::proofs::LineLaws::last_is, crate::proofs::LineLaws::none_is))]
-fn first_line(text: &[u8]) -> Option<(&[u8], &[u8])>
+pub fn first_line(text: &[u8]) -> Option<(&[u8], &[u8])>
     ensures line { MatchOption result (ended_lines text.now ≡ []) (λ found. ended_lines text.now ≡ found.0.now ∷ ended_lines found.1.now) }
     ensures shorter { IfSome result (λ found. length found.1.now < length text.now) }
 {

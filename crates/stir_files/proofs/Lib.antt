@@ -2,6 +2,5 @@ pub mod FileSteps
 pub mod FirstFault
 pub mod LeafSteps
 pub mod StateSteps
-pub mod LineLaws
 pub mod ListSteps
 pub mod RowLaws

@@ -1,13 +1,11 @@
 //! The state of an earlier run.
-ghost use Rattle.std.specs.Prelude.{◌≡◌, ◌≤◌, ◌<◌, ⊤, IfErr, IfOk, IfSome, MatchOption, [], ◌∷◌, length};
-ghost use Rattle.state_text.specs.Lines.{ended_lines};
+ghost use Rattle.std.specs.Prelude.{◌≡◌, ◌≤◌, IfErr, IfOk, length};
 ghost use Rattle.stir_files.specs.Named.{IsRefusal};
 ghost use Rattle.stir_files.specs.StateFile.{StateOf, refusal_by, window_line};
 
 use crate::fault::FileFault;
-use state_text::{State, StateFault};
+use state_text::{State, StateFault, first_line};
 use std::alloc::Global;
-use text_grammar::cut;
 
 /// The most bytes of a state file.
 pub(crate) const MOST_BYTES: usize = 536_870_912;
@@ -54,19 +52,4 @@ fn window_line(content: &[u8]) -> u64
         left = rest;
     }
     0
-}
-
-/// The first line of a text with its LF, and what comes after it; None of the empty text.
-#[tactic(auto, using(crate::proofs::LineLaws::first_is, crate::proofs::LineLaws::last_is, crate::proofs::LineLaws::none_is))]
-fn first_line(text: &[u8]) -> Option<(&[u8], &[u8])>
-    ensures line { MatchOption result (ended_lines text.now ≡ []) (λ found. ended_lines text.now ≡ found.0.now ∷ ended_lines found.1.now) }
-    ensures shorter { IfSome result (λ found. length found.1.now < length text.now) }
-{
-    if text.is_empty() {
-        return None;
-    }
-    match cut(text, b'\n') {
-        Some((front, _)) => Some(text.split_at(front.len() + 1)),
-        None => Some(text.split_at(text.len())),
-    }
 }
