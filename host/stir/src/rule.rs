@@ -33,8 +33,11 @@ const fn rule(
     Rule { number, holds, broken, standard }
 }
 
+/// The number of the last rule that asks for a signature.
+const SIGNATURE: u32 = 16;
+
 /// The rules by their numbers.
-const RULES: [Rule; 19] = [
+const RULES: &[Rule] = &[
     rule(
         1,
         "the message is an INVITE",
@@ -142,10 +145,36 @@ const RULES: [Rule; 19] = [
 ];
 
 impl Rule {
+    /// The number of the rule on replays, which looks at other calls and is tried last.
+    pub const REPLAY: u32 = 18;
+
+    /// All of them, by their numbers, which count from 1.
+    ///
+    /// ```
+    /// use stir::Rule;
+    ///
+    /// assert!(Rule::all().iter().zip(1..).all(|(rule, number)| rule.number == number));
+    /// ```
+    pub fn all() -> &'static [Rule] {
+        RULES
+    }
+
+    /// Those by which a call is judged by itself, in the order in which they are tried.
+    ///
+    /// ```
+    /// use stir::Rule;
+    ///
+    /// assert!(Rule::of_one_call().all(|rule| rule.number != Rule::REPLAY));
+    /// assert_eq!(Rule::of_one_call().count(), Rule::all().len() - 1);
+    /// ```
+    pub fn of_one_call() -> impl Iterator<Item = &'static Rule> {
+        RULES.iter().filter(|rule| rule.number != Rule::REPLAY)
+    }
+
     /// The rule of this number, if there is one.
     ///
     /// ```
-    /// assert_eq!(stir::Rule::of(20), None);
+    /// assert_eq!(stir::Rule::of(0), None);
     /// ```
     pub fn of(number: u32) -> Option<&'static Rule> {
         RULES.iter().find(|rule| rule.number == number)
@@ -164,7 +193,7 @@ impl Refused {
     /// assert!(!Refused { rule: 16, code: 438, field: 1, part: 0 }.is_signed());
     /// ```
     pub fn is_signed(&self) -> bool {
-        matches!(self.rule, 17 | 19)
+        self.rule > SIGNATURE
     }
 }
 

@@ -5,13 +5,11 @@ use crate::metrics::SignerCalls;
 use crate::tickets::Clock;
 use std::collections::{BTreeMap, HashMap};
 use std::sync::{Arc, Mutex};
+use stir::Rule;
 use stir_trust::locks::Held;
 
 /// How many seconds a day has.
 const DAY: u64 = 86_400;
-
-/// The greatest number of a rule (docs/RULES.md).
-const LAST_RULE: u32 = 19;
 
 /// How many signers are counted by themselves: of a day, and since the start.
 pub const MOST_SIGNERS: usize = 1_000;
@@ -109,7 +107,7 @@ impl Day {
     fn count(&mut self, outcome: &Outcome, signer: &SignedBy) {
         self.all.count(outcome);
         let rule = outcome.rule();
-        if (1..=LAST_RULE).contains(&rule) {
+        if Rule::of(rule).is_some() {
             let count = self.rules.entry(rule).or_default();
             *count = count.saturating_add(1);
         }

@@ -18,11 +18,7 @@ use prometheus::{
     Counter, CounterVec, Encoder, Error, Histogram, HistogramOpts, IntCounter, IntCounterVec,
     IntGauge, IntGaugeVec, Opts, Registry, TextEncoder,
 };
-
-/// The greatest number of a rule, and that of the rule on replays, which are counted apart
-/// (docs/RULES.md).
-const LAST_RULE: u32 = 19;
-const REPLAY: u32 = 18;
+use stir::Rule;
 
 /// Upper bounds of the times of requests, in seconds.
 const BOUNDS: [f64; 10] = [0.00025, 0.0005, 0.001, 0.002, 0.005, 0.01, 0.025, 0.1, 0.5, 2.5];
@@ -140,10 +136,10 @@ impl Metrics {
         let calls = IntCounterVec::new(Opts::new("stir_calls_total", help), &["outcome", "rule"])?;
         maker.0.register(Box::new(calls.clone()))?;
         let of = |outcome| calls.with_label_values(&[outcome, ""]);
-        let refused = (1..=LAST_RULE)
-            .map(|rule| match rule {
-                REPLAY => of("replay"),
-                rule => calls.with_label_values(&["refused", &rule.to_string()]),
+        let refused = (Rule::all().iter())
+            .map(|rule| match rule.number {
+                Rule::REPLAY => of("replay"),
+                number => calls.with_label_values(&["refused", &number.to_string()]),
             })
             .collect();
         let help = "Time in the parts of the work on calls.";
@@ -287,11 +283,11 @@ mod tests {
     #[test]
     fn a_refused_call_is_counted_by_its_rule() {
         let metrics = Metrics::new().expect("names that are good");
-        for rule in [1, 17, 19] {
+        for Rule { number: rule, .. } in Rule::of_one_call().copied() {
             metrics.count(&Outcome::Refused { rule, code: 400, field: 0, part: 0 });
         }
         let text = String::from_utf8(metrics.text()).expect("text");
-        for rule in [1, 17, 19] {
+        for Rule { number: rule, .. } in Rule::of_one_call() {
             let line = format!("stir_calls_total{{outcome=\"refused\",rule=\"{rule}\"}} 1\n");
             assert!(text.contains(&line), "{rule}: {text}");
         }

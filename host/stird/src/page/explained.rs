@@ -5,12 +5,6 @@ use crate::judge::Explained;
 use stir::{Refused, Rule, Verdict};
 use stir_trust::revocation::moment;
 
-/// The numbers of the rules in the order in which they are tried. The one on replays asks for the
-/// tickets that passed, so it isn't.
-const ORDER: std::ops::RangeInclusive<u32> = 1..=17;
-const LAST: u32 = 19;
-const REPLAY: u32 = 18;
-
 /// What is told of a call.
 pub(super) struct Told {
     /// The call.
@@ -49,11 +43,11 @@ impl Html {
         self
     }
 
-    /// A row for each rule.
+    /// A row for each rule. The one on replays asks for the tickets that passed, so it isn't tried.
     fn rows(&mut self, hold: &[u32], broken: Option<u32>) -> &mut Html {
         self.markup("<table><tr><th class=\"n\">rule</th><th></th><th>what is asked</th>");
         self.markup("<th>standard</th></tr>\n");
-        for rule in ORDER.chain([LAST, REPLAY]).filter_map(Rule::of) {
+        for rule in Rule::of_one_call().chain(Rule::of(Rule::REPLAY)) {
             let is_broken = broken == Some(rule.number);
             self.markup("<tr><td class=\"n\">").say(rule.number).markup("</td>");
             self.markup(match (is_broken, hold.contains(&rule.number)) {
@@ -102,7 +96,8 @@ mod tests {
 
     #[test]
     fn rules_hold_up_to_the_first_that_is_broken() {
-        for (rule, not_tried) in [(1, 18), (9, 10), (17, 2)] {
+        for rule in [1, 9, 17] {
+            let not_tried = Rule::all().len() - rule as usize;
             let refused = Refused { rule, code: 437, field: 1, part: 0 };
             let text = shown(Verdict::Refused(refused), 1..rule);
             let count = |word: &str| text.matches(&format!(">{word}</td>")).count();
@@ -113,9 +108,10 @@ mod tests {
             assert!(text.contains("<pre>\n&lt;x&gt;</pre>"), "{text}");
         }
         let passes = Verdict::Passes(Passes { ticket: [0; 32], last: 67 });
-        let text = shown(passes, (1..=17).chain([19]));
+        let text = shown(passes, Rule::of_one_call().map(|rule| rule.number));
         let count = |word: &str| text.matches(&format!(">{word}</td>")).count();
-        assert_eq!((count("holds"), count("broken"), count("not tried")), (18, 0, 1), "{text}");
+        let found = (count("holds"), count("broken"), count("not tried"));
+        assert_eq!(found, (Rule::all().len() - 1, 0, 1), "{text}");
         assert!(text.contains("It breaks no rule</span> at 1970-01-01T00:00:07Z (7)."), "{text}");
     }
 
