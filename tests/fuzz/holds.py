@@ -6,12 +6,15 @@ import sys
 
 from given import entries, option
 
-sys.path.insert(0, str(pathlib.Path(__file__).resolve().parent.parent / 'vectors'))
+TESTS = pathlib.Path(__file__).resolve().parent.parent
+sys.path[:0] = [str(TESTS / 'vectors'), str(TESTS)]
 import states  # noqa: E402
 import tickets  # noqa: E402
+from rule_table import CODES  # noqa: E402
 
-CODES = {1: 400, 2: 428, 3: 438, 4: 428, 5: 437, 6: 438, 7: 438, 8: 438, 9: 403, 10: 436, 11: 437, 12: 437, 13: 437, 14: 437, 15: 437, 16: 438, 17: 437, 19: 437}
-LAST = 19
+LAST = [*CODES][-1]
+# The rule that is tried after each, and after the last of a call the first of the next one.
+NEXT = dict(zip([LAST, *CODES], CODES))
 PLACE = r'(?:0|[1-9]\d*)\.(?:0|[1-9]\d*)'
 NAME = r'(?:.|\n)*'
 FAULTS = {
@@ -81,9 +84,9 @@ def explained(text):
     call, rule, valid = 0, LAST, set()
     for one in found:
         if rule == LAST:
-            call, rule = call + 1, 0
+            call += 1
             valid.add(call)
-        rule += 2 if rule == 17 else 1
+        rule = NEXT[rule]
         if (int(one[1]), int(one[2])) != (call, rule):
             raise ValueError(f'{one[0]!r} isn\'t the line of call {call} and rule {rule}')
         if not one[3]:

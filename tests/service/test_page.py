@@ -8,6 +8,7 @@ import shutil
 import time
 
 import pytest
+import rule_table
 import signing
 from browser import Browser
 from pages import Read, asked, explained, form, shown
@@ -68,9 +69,9 @@ def test_an_invite_is_explained_rule_by_rule(service, world, kind, rule):
     message = world.call(0, START, 70, kind)
     before = service.metrics("stir_calls_total"), service.metrics("stir_tickets ")
     page = explained(service, message.decode(), START)
-    tried = [*range(1, 18), 19]
+    tried = [*rule_table.CODES]
     at = tried.index(rule) if rule else len(tried)
-    wanted = dict.fromkeys(tried[:at], "holds") | dict.fromkeys([*tried[at:], 18], "not tried") | ({rule: "broken"} if rule else {})
+    wanted = dict.fromkeys(tried[:at], "holds") | dict.fromkeys([*tried[at:], rule_table.REPLAY], "not tried") | ({rule: "broken"} if rule else {})
     assert page.rules() == wanted, page.text
     value = next((line.split(": ", 1)[1] for line in message.decode().splitlines() if line.startswith("Identity")), None)
     assert page.marks == ([value] if rule and rule != 2 else []), page.marks

@@ -1,6 +1,6 @@
 """The pages that people read: each command that they show is run, in a copy of the tree in which the program stands as the proved one, and what it
-writes is compared; no sentence is too long; man/stir.1 is what dev/man makes; what docs/dev/PROVED.md names is there; docs/dev/REFUSALS.md is what
-dev/refusals makes; and README.md trusts the crates of the kit that dev/trusted lists.
+writes is compared; no sentence is too long; man/stir.1 is what dev/man makes; docs/RULES.md has the numbers and codes of the library's rules; what
+docs/dev/PROVED.md names is there; docs/dev/REFUSALS.md is what dev/refusals makes; and README.md trusts the crates of the kit that dev/trusted lists.
 
     pages.py    counts the long sentences of these pages, and names them
 
@@ -16,7 +16,9 @@ import subprocess
 import sys
 import tempfile
 
-import refusals
+sys.path.insert(0, str(pathlib.Path(__file__).resolve().parent.parent))
+import refusals  # noqa: E402
+import rule_table  # noqa: E402
 
 TOP = pathlib.Path(__file__).resolve().parent.parent.parent
 CRATES = TOP / 'crates'
@@ -157,6 +159,7 @@ def results(program, has_library):
     yield from shown(program, has_library)
     for page in READ:
         yield f'{page}, sentences of more than {MOST_WORDS} words', [], long_sentences((TOP / page).read_text())
+    yield 'docs/RULES.md, rules that the library has otherwise', [], rule_table.other_lists()
     yield 'docs/dev/PROVED.md, names that aren\'t there', [], list(unknown((TOP / 'docs/dev/PROVED.md').read_text()))
     done = subprocess.run([sys.executable, TOP / 'dev' / 'man', '--check'], stderr=subprocess.PIPE, text=True)
     yield 'dev/man --check', (0, ''), (done.returncode, done.stderr)
