@@ -255,9 +255,9 @@ some_broken number refused same = no_text (decimal number) 32 (decimal refused.r
 some_unread : (number : ℕ) (bad : Place) → [] ≡ unread_line number bad → ⊥
 some_unread number bad same = no_text (decimal number) 32 (decimal 10 ++ 32 ∷ behind_ten bad) (same ∙ unread_text_is number bad)
 
--- the lists of the two have different lengths
+-- only one of the two has more than 14 numbers
 not_all : numbers_before FIRST_ON_SIGNATURES ≡ RULES → ⊥
-not_all same = let count : 14 ≡ 18 = ap length same in omega (arith, count)
+not_all same = false_is_not_true (ap (λ (x : List ℕ). nat_lt 14 (length x)) same)
 
 alike_by : (m n : ℕ) (a b : Finding) → m < 4294967296 → n < 4294967296 → FindingFits a → FindingFits b → met_in a ≡ met_in b → end_of m a ≡ end_of n b → AreToldAlike a b
 alike_by m n (Refused a) (Refused b) low high left right met ends = same_broken m n a b low high left.0 right.0 left.1 right.1 ends

@@ -1,16 +1,18 @@
 -- Rules 10 to 17 and 19 of a call with a link more.
-use Rattle.std.proofs.Common.{◌≡◌, ℕ, true, List, [], ◌∷◌, ◌++◌, Option, Some, None, refl, sym, ◌∙◌, ap}
+use Rattle.std.proofs.Common.{◌≡◌, ℕ, true, List, [], ◌∷◌, ◌++◌, map, Option, Some, None, refl, sym, ◌∙◌, ap}
 use Rattle.std.specs.Option.{option_or}
+use Rattle.std.specs.Prelude.{⊤}
 use Rattle.tn_auth_list.specs.declared.entries.Entry.{Entry}
+use Rattle.delegation.specs.Coverage.{Table}
 use Rattle.verify_rules.specs.Call.{Call, Reading, in_call_order}
-use Rattle.verify_rules.specs.Late.{covers_by, covers_kind, covers_leaf, is_signed_by, or_broken, tell}
-use Rattle.verify_rules.specs.Rules.{Holds, each}
+use Rattle.verify_rules.specs.Late.{covers_by, covers_kind, covers_leaf, is_signed_by, or_broken, rules_after, rules_before, tell}
+use Rattle.verify_rules.specs.Rules.{HoldAll, Holds, Rule, each}
 use Rattle.verify_rules.specs.States.{State, have, no_chain, long, unread}
-use Rattle.verify_rules.specs.World.{World, broken_by, forged, forged_by, late_rule, part_at, truth_for, unless_good}
+use Rattle.verify_rules.specs.World.{World, asking_rule, broken_by, forged, forged_by, late_rule, part_at, truth_for, unless_good}
 use Rattle.verify_rules.specs.declared.late.LateRule.{LateRule}
 use Rattle.verify_rules.specs.declared.late.LateRule.TheVariants as late
 use Rattle.verify_rules.specs.declared.refusal.Place.{Place}
-use Rattle.verify_rules.specs.More.{HasGoodChain, HoldsOf, LinkMore}
+use Rattle.verify_rules.specs.More.{AreInDate, HasGoodChain, HoldsOf, LinkMore}
 
 -- each of these and one more
 each_more : (broken : Reading → Option Place) (xs : List Reading) (y : Reading) → each broken xs ≡ None → broken y ≡ None → each broken (xs ++ y ∷ []) ≡ None
@@ -26,65 +28,21 @@ each_more broken (x ∷ xs) y h k = by_first (λ h. each_more broken xs y h k) (
 abbrev Undated : LateRule → Type 0
 Undated rule = (world : World) (moment later : ℕ) (one : Reading) → broken_by world rule moment one ≡ broken_by world rule later one
 
-undated_by : (rule : LateRule) → ((world : World) (moment later : ℕ) (one : Reading) (state : State) → tell rule world.table moment one state ≡ tell rule world.table later one state) → Undated rule
+-- every rule but 13
+abbrev IsUndated : LateRule → Type 0
+IsUndated late.Dates = ⊥
+IsUndated rule = ⊤
+
+same_told : (rule : LateRule) → IsUndated rule → (table : Table) (moment later : ℕ) (one : Reading) (state : State) → tell rule table moment one state ≡ tell rule table later one state
+same_told late.Dates none table moment later one state = absurd none
+same_told rule is table moment later one (have judged) = refl
+same_told rule is table moment later one no_chain = refl
+same_told rule is table moment later one long = refl
+same_told rule is table moment later one unread = refl
+
+undated : (rule : LateRule) → IsUndated rule → Undated rule
 unfolding broken_by
-undated_by rule same world moment later one = ap (part_at one.mark.field) (same world moment later one (truth_for world one))
-
-listed : Undated late.Listed
-listed = undated_by late.Listed same where
-  same : (world : World) (moment later : ℕ) (one : Reading) (state : State) → tell late.Listed world.table moment one state ≡ tell late.Listed world.table later one state
-  same world moment later one (have judged) = refl
-  same world moment later one no_chain = refl
-  same world moment later one long = refl
-  same world moment later one unread = refl
-
-profile : Undated late.Profile
-profile = undated_by late.Profile same where
-  same : (world : World) (moment later : ℕ) (one : Reading) (state : State) → tell late.Profile world.table moment one state ≡ tell late.Profile world.table later one state
-  same world moment later one (have judged) = refl
-  same world moment later one no_chain = refl
-  same world moment later one long = refl
-  same world moment later one unread = refl
-
-shape : Undated late.Shape
-shape = undated_by late.Shape same where
-  same : (world : World) (moment later : ℕ) (one : Reading) (state : State) → tell late.Shape world.table moment one state ≡ tell late.Shape world.table later one state
-  same world moment later one (have judged) = refl
-  same world moment later one no_chain = refl
-  same world moment later one long = refl
-  same world moment later one unread = refl
-
-authority : Undated late.Authority
-authority = undated_by late.Authority same where
-  same : (world : World) (moment later : ℕ) (one : Reading) (state : State) → tell late.Authority world.table moment one state ≡ tell late.Authority world.table later one state
-  same world moment later one (have judged) = refl
-  same world moment later one no_chain = refl
-  same world moment later one long = refl
-  same world moment later one unread = refl
-
-asked : Undated late.Asked
-asked = undated_by late.Asked same where
-  same : (world : World) (moment later : ℕ) (one : Reading) (state : State) → tell late.Asked world.table moment one state ≡ tell late.Asked world.table later one state
-  same world moment later one (have judged) = refl
-  same world moment later one no_chain = refl
-  same world moment later one long = refl
-  same world moment later one unread = refl
-
-covers : Undated late.Covers
-covers = undated_by late.Covers same where
-  same : (world : World) (moment later : ℕ) (one : Reading) (state : State) → tell late.Covers world.table moment one state ≡ tell late.Covers world.table later one state
-  same world moment later one (have judged) = refl
-  same world moment later one no_chain = refl
-  same world moment later one long = refl
-  same world moment later one unread = refl
-
-constraints : Undated late.Constraints
-constraints = undated_by late.Constraints same where
-  same : (world : World) (moment later : ℕ) (one : Reading) (state : State) → tell late.Constraints world.table moment one state ≡ tell late.Constraints world.table later one state
-  same world moment later one (have judged) = refl
-  same world moment later one no_chain = refl
-  same world moment later one long = refl
-  same world moment later one unread = refl
+undated rule is world moment later one = ap (part_at one.mark.field) (same_told rule is world.table moment later one (truth_for world one))
 
 each_undated : (rule : LateRule) → Undated rule → (world : World) (moment later : ℕ) (xs : List Reading) → each (broken_by world rule moment) xs ≡ each (broken_by world rule later) xs
 each_undated rule u world moment later [] = refl
@@ -112,29 +70,26 @@ unfolding forged
 link_genuine world moment link entries g =
     ap (forged_by world link) g.chain ∙ ap (λ l. unless_good link.mark.field (is_signed_by world.says link l)) g.first ∙ ap (unless_good link.mark.field) g.genuine
 
+-- a rule that holds of the call, holds of it with the link
+abbrev Lasts : World → Call → Call → LateRule → Type 0
+Lasts world call out rule = Holds (late_rule world rule) call → Holds (late_rule world rule) out
+
+rule_lasts : (world : World) (call out : Call) (link : Reading) (entries : List Entry) → in_call_order out ≡ in_call_order call ++ link ∷ [] → AreInDate world out
+    → HasGoodChain world out.moment link entries → covers_kind world.table entries link.passport.orig link.passport.kind ≡ true → (rule : LateRule) → Lasts world call out rule
+rule_lasts world call out link entries e dates good covered late.Dates h = dates
+rule_lasts world call out link entries e dates good covered late.Covers h =
+    rule_more late.Covers (undated late.Covers tt) world call out link e h (link_covered world out.moment link entries good covered)
+rule_lasts world call out link entries e dates good covered rule h = rule_more rule (undated rule tt) world call out link e h (good.rules rule tt)
+
+all_last : (world : World) (call out : Call) → ((rule : LateRule) → Lasts world call out rule) → (rules : List LateRule) (later : List Rule) → (HoldAll later call → HoldAll later out)
+    → HoldAll (map (late_rule world) rules ++ later) call → HoldAll (map (late_rule world) rules ++ later) out
+all_last world call out lasts [] later more h = more h
+all_last world call out lasts (rule ∷ rules) later more h = (lasts rule h.0, all_last world call out lasts rules later more h.1)
+
 pub link_more : LinkMore
-link_more world call out link entries e (l, (p, (s, (d, (a, (q, (g, (c, (n, end))))))))) dates good covered = (
-  rule_more late.Listed listed world call out link e l good.listed,
-  (
-    rule_more late.Profile profile world call out link e p good.profile,
-    (
-      rule_more late.Shape shape world call out link e s good.shape,
-      (
-        dates,
-        (
-          rule_more late.Authority authority world call out link e a good.authority,
-          (
-            rule_more late.Asked asked world call out link e q good.asked,
-            (
-              ap (each (forged world)) e ∙ each_more (forged world) (in_call_order call) link g (link_genuine world out.moment link entries good),
-              (
-                rule_more late.Covers covers world call out link e c (link_covered world out.moment link entries good covered),
-                (rule_more late.Constraints constraints world call out link e n good.constraints, end),
-              ),
-            ),
-          ),
-        ),
-      ),
-    ),
-  ),
-)
+link_more world call out link entries e hold dates good covered =
+    let lasts : (rule : LateRule) → Lasts world call out rule = λ rule. rule_lasts world call out link entries e dates good covered rule in
+    let genuine : each (forged world) (in_call_order call) ≡ None → each (forged world) (in_call_order out) ≡ None =
+    λ g. ap (each (forged world)) e ∙ each_more (forged world) (in_call_order call) link g (link_genuine world out.moment link entries good) in
+    all_last world call out lasts rules_before (asking_rule world ∷ map (late_rule world) rules_after)
+    (λ h. (genuine h.0, all_last world call out lasts rules_after [] (λ end. end) h.1)) hold

@@ -1,18 +1,19 @@
 -- What the late rules take of a provider of signatures.
-use Rattle.std.proofs.Common.{◌≡◌, ℕ, Bool, true, false, cond, nat_lt, List, [], ◌∷◌, length, Option, Some, None, refl, ◌∙◌, ap}
+use Rattle.std.proofs.Common.{◌≡◌, ℕ, Bool, true, false, cond, nat_lt, List, [], ◌∷◌, length, map, Option, Some, None, refl, ◌∙◌, ap}
 use Rattle.delegation.specs.Coverage.{Table}
 use Rattle.cert_store.specs.Judged.{JudgedView, judged_of}
 use Rattle.cert_store.specs.Rules.{Says}
 use Rattle.lists.proofs.Options.{or_same}
 use Rattle.verify_rules.specs.Call.{Call, Reading, in_call_order}
-use Rattle.verify_rules.specs.Late.{tell, tell_judged}
+use Rattle.verify_rules.specs.Late.{number, rules_after, tell, tell_judged}
 use Rattle.verify_rules.specs.Rules.{each, first, or_later}
 use Rattle.verify_rules.specs.States.{State, have, long}
-use Rattle.verify_rules.specs.World.{World, broken_by, certificate_rules, content_of, forged, part_at, signature_rules, truth_by, truth_for, truth_of, truths, with_says}
+use Rattle.verify_rules.specs.World.{World, broken_by, certificate_rules, content_of, forged, late_rule, part_at, signature_rules, truth_by, truth_for, truth_of, truths, unsigned_rules, with_says}
 use Rattle.verify_rules.specs.declared.late.LateRule.{LateRule}
 use Rattle.verify_rules.specs.declared.late.LateRule.TheVariants as late
 use Rattle.verify_rules.specs.declared.refusal.Place.{Place}
 use Rattle.verify_rules.specs.declared.refusal.Refusal.{Refusal}
+use Rattle.verify_rules.proofs.ResultLaws.{AskNothing, AsksNothing}
 
 -- ---- one rule more
 
@@ -30,20 +31,9 @@ abbrev IsUnsigned : LateRule → Type 0
 IsUnsigned rule = (table : Table) (moment : ℕ) (one : Reading) (judged other : JudgedView) → judged ≡ record other { asked = judged.asked }
     → tell_judged rule table moment one judged ≡ tell_judged rule table moment one other
 
-listed_unsigned : IsUnsigned late.Listed
-listed_unsigned table moment one judged other same = refl
-
-profile_unsigned : IsUnsigned late.Profile
-profile_unsigned table moment one judged other same = ap (tell_judged late.Profile table moment one) same
-
-shape_unsigned : IsUnsigned late.Shape
-shape_unsigned table moment one judged other same = ap (tell_judged late.Shape table moment one) same
-
-dates_unsigned : IsUnsigned late.Dates
-dates_unsigned table moment one judged other same = ap (tell_judged late.Dates table moment one) same
-
-authority_unsigned : IsUnsigned late.Authority
-authority_unsigned table moment one judged other same = ap (tell_judged late.Authority table moment one) same
+unsigned : (rule : LateRule) → AsksNothing rule → IsUnsigned rule
+unsigned late.Asked nothing table moment one judged other same = absurd nothing
+unsigned rule nothing table moment one judged other same = ap (tell_judged rule table moment one) same
 
 judged_same : (world : World) (other : Says) (bytes : List ℕ)
     → judged_of world.anchors world.table other bytes ≡ record (judged_of world.anchors world.table world.says bytes) { asked = (judged_of world.anchors world.table other bytes).asked }
@@ -73,13 +63,15 @@ unsigned_same world other rule moment [] unsigned = refl
 unsigned_same world other rule moment (one ∷ readings) unsigned =
     or_same _ _ _ _ (ap (part_at one.mark.field) (tells_same world other rule moment one unsigned)) (λ none. unsigned_same world other rule moment readings unsigned)
 
+-- each of these rules
+each_unsigned : (world : World) (other : Says) (call : Call) (rules : List LateRule) → AskNothing rules
+    → first (map (late_rule (with_says world other)) rules) call ≡ first (map (late_rule world) rules) call
+each_unsigned world other call [] nothing = refl
+each_unsigned world other call (rule ∷ rules) nothing =
+    later_same (number rule) _ _ _ _ (unsigned_same world other rule call.moment (in_call_order call) (unsigned rule nothing.0)) (each_unsigned world other call rules nothing.1)
+
 pub certificates_same : (world : World) (other : Says) (call : Call) → first (certificate_rules (with_says world other)) call ≡ first (certificate_rules world) call
-certificates_same world other call =
-    later_same 10 _ _ _ _ (unsigned_same world other late.Listed call.moment (in_call_order call) listed_unsigned)
-    (later_same 11 _ _ _ _ (unsigned_same world other late.Profile call.moment (in_call_order call) profile_unsigned)
-    (later_same 12 _ _ _ _ (unsigned_same world other late.Shape call.moment (in_call_order call) shape_unsigned)
-    (later_same 13 _ _ _ _ (unsigned_same world other late.Dates call.moment (in_call_order call) dates_unsigned)
-    (later_same 14 _ _ _ _ (unsigned_same world other late.Authority call.moment (in_call_order call) authority_unsigned) refl))))
+certificates_same world other call = each_unsigned world other call unsigned_rules (tt, (tt, (tt, (tt, (tt, tt)))))
 
 -- ---- rules over the same chains
 
@@ -98,11 +90,16 @@ chains_same world other rule moment (one ∷ readings) same =
     let rest : truths (with_says world other) readings ≡ truths world readings = tail_same _ _ _ _ same in
     or_same _ _ _ _ (ap (λ (state : State). part_at one.mark.field (tell rule world.table moment one state)) here) (λ none. chains_same world other rule moment readings rest)
 
+-- each of these rules
+each_same : (world : World) (other : Says) (call : Call) (rules : List LateRule) → truths (with_says world other) (in_call_order call) ≡ truths world (in_call_order call)
+    → first (map (late_rule (with_says world other)) rules) call ≡ first (map (late_rule world) rules) call
+each_same world other call [] chains = refl
+each_same world other call (rule ∷ rules) chains =
+    later_same (number rule) _ _ _ _ (chains_same world other rule call.moment (in_call_order call) chains) (each_same world other call rules chains)
+
 pub signatures_same : (world : World) (other : Says) (call : Call) → truths (with_says world other) (in_call_order call) ≡ truths world (in_call_order call)
     → each (forged (with_says world other)) (in_call_order call) ≡ each (forged world) (in_call_order call)
     → first (signature_rules (with_says world other)) call ≡ first (signature_rules world) call
 signatures_same world other call chains own =
     later_same 15 _ _ _ _ (chains_same world other late.Asked call.moment (in_call_order call) chains)
-    (later_same 16 _ _ _ _ own
-    (later_same 17 _ _ _ _ (chains_same world other late.Covers call.moment (in_call_order call) chains)
-    (later_same 19 _ _ _ _ (chains_same world other late.Constraints call.moment (in_call_order call) chains) refl)))
+    (later_same 16 _ _ _ _ own (each_same world other call rules_after chains))

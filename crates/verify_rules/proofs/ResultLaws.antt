@@ -29,14 +29,8 @@ test_definite false = tt
 
 -- every rule but 15
 abbrev pub AsksNothing : LateRule → Type 0
-AsksNothing late.Listed = ⊤
-AsksNothing late.Profile = ⊤
-AsksNothing late.Shape = ⊤
-AsksNothing late.Dates = ⊤
-AsksNothing late.Authority = ⊤
 AsksNothing late.Asked = ⊥
-AsksNothing late.Covers = ⊤
-AsksNothing late.Constraints = ⊤
+AsksNothing rule = ⊤
 
 -- all of these rules
 abbrev pub AskNothing : List LateRule → Type 0

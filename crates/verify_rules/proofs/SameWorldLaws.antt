@@ -1,5 +1,5 @@
 -- In worlds in which the same is said of each thing each call breaks the same rule first.
-use Rattle.std.proofs.Common.{◌≡◌, ◌↔◌, inl, inr, ℕ, Bool, ◌||◌, cond, nat_lt, List, [], ◌∷◌, length, is_some, Option, Some, None, option_and_then, refl, sym, ◌∙◌, ap}
+use Rattle.std.proofs.Common.{◌≡◌, ◌↔◌, inl, inr, ℕ, Bool, ◌||◌, cond, nat_lt, List, [], ◌∷◌, ◌++◌, map, length, is_some, Option, Some, None, option_and_then, refl, sym, ◌∙◌, ap}
 use Rattle.std.specs.Prelude.{IsTrue, ⊤}
 use Rattle.std.specs.List.{list_any, slice_get}
 use Rattle.std.specs.Option.{option_or}
@@ -20,10 +20,10 @@ use Rattle.passport_claims.specs.declared.kind.Attest.TheVariants as levels
 use Rattle.passport_claims.specs.declared.kind.Kind.{Kind}
 use Rattle.passport_claims.specs.declared.kind.Kind.TheVariants as kinds
 use Rattle.verify_rules.specs.Call.{Call, Reading, in_call_order}
-use Rattle.verify_rules.specs.Late.{covers_by, covers_kind, covers_leaf, is_code, is_signed_by, or_broken, tell}
+use Rattle.verify_rules.specs.Late.{covers_by, covers_kind, covers_leaf, is_code, is_signed_by, or_broken, rules_after, rules_before, tell}
 use Rattle.verify_rules.specs.Rules.{Rule, each, early_rules, first, or_later}
 use Rattle.verify_rules.specs.States.{State, have, long, no_chain, unread}
-use Rattle.verify_rules.specs.World.{First, World, broken_by, content_of, forged, forged_by, late_rules, part_at, truth_by, truth_for, truth_of, unless_good}
+use Rattle.verify_rules.specs.World.{First, World, asking_rule, broken_by, content_of, forged, forged_by, late_rule, late_rules, part_at, truth_by, truth_for, truth_of, unless_good}
 use Rattle.verify_rules.specs.declared.late.LateRule.{LateRule}
 use Rattle.verify_rules.specs.declared.late.LateRule.TheVariants as late
 use Rattle.verify_rules.specs.declared.refusal.Place.{Place}
@@ -159,13 +159,7 @@ leaf_same law table other same passport (Some leaf) = list_same law table other 
 tell_same : CoversLaw → (table other : Table) → GrantSame table other → (rule : LateRule) (moment : ℕ) (one : Reading) (state : State)
     → tell rule table moment one state ≡ tell rule other moment one state
 tell_same law table other same late.Covers moment one (have judged) = ap or_broken (leaf_same law table other same one.passport (slice_get judged.certificates 0))
-tell_same law table other same late.Listed moment one (have judged) = refl
-tell_same law table other same late.Profile moment one (have judged) = refl
-tell_same law table other same late.Shape moment one (have judged) = refl
-tell_same law table other same late.Dates moment one (have judged) = refl
-tell_same law table other same late.Authority moment one (have judged) = refl
-tell_same law table other same late.Asked moment one (have judged) = refl
-tell_same law table other same late.Constraints moment one (have judged) = refl
+tell_same law table other same rule moment one (have judged) = refl
 tell_same law table other same rule moment one no_chain = refl
 tell_same law table other same rule moment one long = refl
 tell_same law table other same rule moment one unread = refl
@@ -215,13 +209,19 @@ late_same : CoversLaw → WithinLaw → (world other : World) → SayTheSame wor
 late_same covers within world other same rule call =
     each_same (broken_by world rule call.moment) (broken_by other rule call.moment) (broken_same covers within world other same rule call.moment) (in_call_order call)
 
+chains_alike : CoversLaw → WithinLaw → (world other : World) → SayTheSame world other → (call : Call) → (rules : List LateRule) → (later later_now : List Rule)
+    → AreBrokenAlike later later_now call → AreBrokenAlike (map (late_rule world) rules ++ later) (map (late_rule other) rules ++ later_now) call
+chains_alike covers within world other same call [] later later_now more = more
+chains_alike covers within world other same call (rule ∷ rules) later later_now more =
+    (refl, late_same covers within world other same rule call, chains_alike covers within world other same call rules later later_now more)
+
 all_late_same : CoversLaw → WithinLaw → (world other : World) → SayTheSame world other → (call : Call) → first (late_rules world) call ≡ first (late_rules other) call
 all_late_same covers within world other same call =
-    let says : (rule : LateRule) → each (broken_by world rule call.moment) (in_call_order call) ≡ each (broken_by other rule call.moment) (in_call_order call) =
-    λ rule. late_same covers within world other same rule call in
     let signed = each_same (forged world) (forged other) (forged_same within world other same) (in_call_order call) in
-    first_alike (late_rules world) (late_rules other) call
-    (refl, says late.Listed, (refl, says late.Profile, (refl, says late.Shape, (refl, says late.Dates, (refl, says late.Authority, (refl, says late.Asked, (refl, signed, (refl, says late.Covers, (refl, says late.Constraints, tt)))))))))
+    let after = chains_alike covers within world other same call rules_after [] [] tt in
+    let all = chains_alike covers within world other same call rules_before (asking_rule world ∷ map (late_rule world) rules_after) (asking_rule other ∷ map (late_rule other) rules_after)
+    (refl, signed, after) in
+    first_alike (late_rules world) (late_rules other) call all
 
 pub first_same : CoversLaw → WithinLaw → (world other : World) → SayTheSame world other → (call : Call) → First world call ≡ First other call
 first_same covers within world other same call =

@@ -1,7 +1,9 @@
 -- A refusal by one of rules 10 to 15 doesn't depend on what a provider says of the PASSporTs' own signatures.
-use Rattle.std.proofs.Common.{◌≡◌, ℕ, ◌≤◌, Bool, true, false, List, Option, Some, None, ◌⊎◌, inl, inr, refl, sym, ◌∙◌, ap, arith}
-use Rattle.std.specs.List.{slice_get}
+use Rattle.std.proofs.Common.{◌≡◌, ℕ, ◌≤◌, nat_lt, Bool, true, false, List, [], ◌∷◌, Option, Some, None, ◌⊎◌, inl, inr, refl, sym, ◌∙◌, ap, subst, arith}
+use Rattle.std.specs.List.{list_all, slice_get}
 use Rattle.std.specs.Option.{option_or}
+use Rattle.std.proofs.lemmas.Bool.{and_parts}
+use Rattle.std.proofs.lemmas.Bool.Decides.{nat_tests}
 use Rattle.cert_store.specs.Rules.{Says}
 use Rattle.delegation.specs.Coverage.{Table}
 use Rattle.verify_rules.specs.Call.{Reading}
@@ -11,7 +13,6 @@ use Rattle.verify_rules.specs.States.{State, have, no_chain, long, unread}
 use Rattle.verify_rules.specs.declared.late.Event.{Event}
 use Rattle.verify_rules.specs.declared.late.Event.TheVariants as events
 use Rattle.verify_rules.specs.declared.late.LateRule.{LateRule}
-use Rattle.verify_rules.specs.declared.late.LateRule.TheVariants as late
 use Rattle.verify_rules.specs.declared.late.RuleResult.{RuleResult}
 use Rattle.verify_rules.specs.declared.late.RuleResult.TheVariants as results
 use Rattle.verify_rules.specs.declared.refusal.Refusal.{Refusal}
@@ -62,18 +63,28 @@ or_cases : (a b : Option Event) (e : Event) → option_or a b ≡ Some e → (a 
 or_cases None b e is = inr (refl, is)
 or_cases (Some a) b e is = inl is
 
-after_numbers : (a b : Option Event) (refused : Refusal) → option_or a (option_or b None) ≡ Some (events.Refused refused)
-    → (a ≡ Some (events.Refused refused) → refused.rule ≡ 17) → (b ≡ Some (events.Refused refused) → refused.rule ≡ 19) → 16 ≤ refused.rule
-after_numbers (Some a) b refused e first second = let n = first e in omega (arith, n)
-after_numbers None (Some b) refused e first second = let n = second e in omega (arith, n)
-after_numbers None None refused e first second = absurd (cc)
+-- the numbers of these rules are above 15
+abbrev are_late : List LateRule → Bool
+are_late rules = list_all (λ rule. nat_lt 15 (number rule)) rules
+
+above : (n : ℕ) → nat_lt 15 n ≡ true → 16 ≤ n
+above n less = grind (arith, nat_tests)
+
+after_number : (table : Table) (moment : ℕ) (readings : List Reading) (states : List State) (refused : Refusal) (rules : List LateRule) → are_late rules ≡ true
+    → first_rule rules table moment readings states ≡ Some (events.Refused refused) → 16 ≤ refused.rule
+after_number table moment readings states refused [] late e = absurd (cc)
+after_number table moment readings states refused (rule ∷ rules) late e =
+    let parts = and_parts (nat_lt 15 (number rule)) (are_late rules) late in
+    elim (or_cases (rule_event rule table moment readings states) (first_rule rules table moment readings states) (events.Refused refused) e) [
+      | inl here ↦ subst (λ n. 16 ≤ n) (sym (rule_number rule table moment readings states refused here)) (above (number rule) parts.0)
+      | inr more ↦ after_number table moment readings states refused rules parts.1 more.1
+    ]
 
 late_number : (says : Says) (table : Table) (moment : ℕ) (readings : List Reading) (states : List State) (refused : Refusal) (asked after : Option Event)
     → asked ≡ asking says readings states → after ≡ first_rule rules_after table moment readings states → option_or asked after ≡ Some (events.Refused refused) → 16 ≤ refused.rule
 late_number says table moment readings states refused (Some asked) after is after_is e = let n = asking_number says readings states refused (sym is ∙ e) in omega (arith, n)
 late_number says table moment readings states refused None after is after_is e =
-    after_numbers (rule_event late.Covers table moment readings states) (rule_event late.Constraints table moment readings states) refused (sym after_is ∙ e)
-    (rule_number late.Covers table moment readings states refused) (rule_number late.Constraints table moment readings states refused)
+    after_number table moment readings states refused rules_after refl (sym after_is ∙ e)
 
 by_before : (says other : Says) (table : Table) (moment : ℕ) (readings : List Reading) (states : List State) (refused : Refusal) (before : Option Event) → refused.rule ≤ 15
     → option_or before (option_or (asking says readings states) (first_rule rules_after table moment readings states)) ≡ Some (events.Refused refused)

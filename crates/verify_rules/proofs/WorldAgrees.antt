@@ -42,14 +42,8 @@ judged_event rule table moment one judged = event_of (number rule) one.mark.fiel
 
 judged_agrees : (rule : LateRule) (table : Table) (moment : ℕ) (one : Reading) (truth judged : JudgedView) → JudgedAs truth judged
     → Agrees (judged_event rule table moment one truth) (judged_event rule table moment one judged)
-judged_agrees late.Listed table moment one truth judged j = inl (ap (judged_event late.Listed table moment one) (sym j.same))
-judged_agrees late.Profile table moment one truth judged j = inl (ap (judged_event late.Profile table moment one) (sym j.same))
-judged_agrees late.Shape table moment one truth judged j = inl (ap (judged_event late.Shape table moment one) (sym j.same))
-judged_agrees late.Dates table moment one truth judged j = inl (ap (judged_event late.Dates table moment one) (sym j.same))
-judged_agrees late.Authority table moment one truth judged j = inl (ap (judged_event late.Authority table moment one) (sym j.same))
 judged_agrees late.Asked table moment one truth judged j = answer_agrees one.mark.field truth.asked judged.asked j.so_far
-judged_agrees late.Covers table moment one truth judged j = inl (ap (judged_event late.Covers table moment one) (sym j.same))
-judged_agrees late.Constraints table moment one truth judged j = inl (ap (judged_event late.Constraints table moment one) (sym j.same))
+judged_agrees rule table moment one truth judged j = inl (ap (judged_event rule table moment one) (sym j.same))
 
 pub state_agrees : (world : World) (rule : LateRule) (moment : ℕ) (one : Reading) (state : State) → IsRight world one.passport.x5u state
     → Agrees (at_rule rule world.table moment one (truth_for world one)) (at_rule rule world.table moment one state)

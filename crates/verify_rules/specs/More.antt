@@ -1,5 +1,5 @@
 -- A call with one link more, at its next hop (RFC 8946, section 4): rules 10 to 17 and 19.
-use Rattle.std.specs.Prelude.{◌≡◌, ℕ, true, List, [], ◌∷◌, ◌++◌, None, Some}
+use Rattle.std.specs.Prelude.{◌≡◌, ⊤, ℕ, true, List, [], ◌∷◌, ◌++◌, None, Some}
 use Rattle.std.specs.List.{slice_get}
 use Rattle.tn_auth_list.specs.declared.entries.Entry.{Entry}
 use Rattle.x509_profile.specs.View.{CertView}
@@ -20,15 +20,16 @@ HoldsOf world rule moment one = broken_by world rule moment one ≡ None
 abbrev pub AreInDate : World → Call → Type 0
 AreInDate world call = Holds (late_rule world late.Dates) call
 
--- The chain map lists a chain for the PASSporT, of which rules 10 to 12, 14, 15 and 19 hold; its leaf has this list; and under the leaf's key the
--- signature of the PASSporT is good.
+-- a rule on chains that looks neither at the moment, as rule 13 does, nor at what the leaf covers, as rule 17
+abbrev pub IsOfChain : LateRule → Type 0
+IsOfChain late.Dates = ⊥
+IsOfChain late.Covers = ⊥
+IsOfChain rule = ⊤
+
+-- The chain map lists a chain for the PASSporT, of which each of these rules holds: 10 to 12, 14, 15 and 19. Its leaf has this list, and under the leaf's
+-- key the signature of the PASSporT is good.
 pub record HasGoodChain (world : World) (moment : ℕ) (one : Reading) (entries : List Entry) : Type 0 where
-  pub listed : HoldsOf world late.Listed moment one
-  pub profile : HoldsOf world late.Profile moment one
-  pub shape : HoldsOf world late.Shape moment one
-  pub authority : HoldsOf world late.Authority moment one
-  pub asked : HoldsOf world late.Asked moment one
-  pub constraints : HoldsOf world late.Constraints moment one
+  pub rules : (rule : LateRule) → IsOfChain rule → HoldsOf world rule moment one
   pub judged : JudgedView
   pub chain : truth_for world one ≡ have judged
   pub leaf : CertView
