@@ -31,7 +31,7 @@ use Rattle.verify_rules.specs.declared.settings.Settings.{Settings}
 use Rattle.verify_rules.proofs.PlaceLaws.{each_wrong, each_wrong_of}
 use Rattle.verify_rules.proofs.TokenWords.{ClaimsLaw, FieldLaw, IsJudged, TokenFoundLaw, TokenLaw, are_judged, unreadable_means}
 use Rattle.verify_rules.proofs.TurnSteps.{field_there}
-use Rattle.verify_rules.proofs.WentLaws.{now_of}
+use Rattle.verify_rules.proofs.WentLaws.{called_of}
 use Rattle.verify_rules.proofs.WordSteps.{alg_means, fresh_means, orig_means}
 
 -- a test that decides whether there is a place
@@ -166,11 +166,7 @@ order_by said origin others bad (Ok turn) e h = absurd cc
 order_by said origin others bad (Err fault) e h =
     let at : bad ≡ place (field_at (origin ∷ others) fault.link) fault.kind = cc in
     record {
-      origin = origin;
-      links = others;
-      are = refl;
-      called = called_by said others;
-      now = now_of said others;
+      of = called_of said origin others;
       fault = fault;
       is = e;
       field = λ one there. ap (λ (x : Place). x.field) at ∙ sym (field_there (origin ∷ others) fault.link one there);

@@ -6,7 +6,7 @@ use Rattle.passport_claims.specs.Links.{AreWithin}
 use Rattle.verify_rules.specs.Call.{Call, IdentityField, Reading, called_by, facts, fields_of, in_call_order, in_message, in_turn, judged_fields, links, or_none, originating, passport_in, passports_of, turn_of}
 use Rattle.verify_rules.specs.Rules.{early_rules}
 use Rattle.verify_rules.specs.Screened.{IsScreenedBy, ScreenedView, screened_by, screened_of}
-use Rattle.verify_rules.specs.Went.{AreAt, IsCalledNow, WentSo}
+use Rattle.verify_rules.specs.Went.{AreAt, AreCalled, IsCalledNow, WentSo}
 use Rattle.verify_rules.specs.Words.{AreRead, CallHasOrder, HasOrder, MayOriginate, Means, OfOne, SpeaksOfOrder, SpeaksOfRead}
 use Rattle.verify_rules.specs.declared.facts.Facts.{Facts}
 use Rattle.verify_rules.specs.declared.refusal.ScreenFault.{ScreenFault}
@@ -21,6 +21,9 @@ pub now_of : (said : Facts) (links : List Reading) → IsCalledNow said links (c
 now_of said [] = record { undiverted = λ e. refl; diverted = λ some. absurd (omega (arith, some)) }
 now_of said (link ∷ links) = record { undiverted = λ e. absurd (omega (arith, e)); diverted = λ some. refl }
 
+abbrev pub called_of : (said : Facts) (origin : Reading) (links : List Reading) → AreCalled said (origin ∷ links)
+called_of said origin links = record { origin = origin; links = links; are = refl; called = called_by said links; now = now_of said links }
+
 are_at : (origin : Reading) (others : List Reading) (turn : List ℕ) → AreWithin (length others) turn
     → AreAt (origin ∷ others) turn (map (λ link. slice_index_or (origin ∷ others) link origin) turn)
 are_at origin others [] w = tt
@@ -32,11 +35,7 @@ went_so : OrderLaw → (said : Facts) (origin : Reading) (others : List Reading)
 went_so law said origin others (turn, order) =
     let found : turn_of said (origin ∷ others) ≡ Ok turn = (law origin.passport (passports_of others) (called_by said others) turn).1 order in
     record {
-      origin = origin;
-      links = others;
-      are = refl;
-      called = called_by said others;
-      now = now_of said others;
+      of = called_of said origin others;
       turn = turn;
       order = order;
       later = map (λ link. slice_index_or (origin ∷ others) link origin) turn;

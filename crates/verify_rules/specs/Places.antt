@@ -1,6 +1,6 @@
 -- Where rules 1 to 9 are broken, in words. A place has the number of an Identity field, or 0 for a rule that speaks of none, and a part, which is 0
 -- if the rule gives it none.
-use Rattle.std.specs.Prelude.{◌≡◌, ⊤, ℕ, ◌+◌, ◌<◌, List, ◌∷◌, ◌++◌, length, codes, Option, Some, Result, Ok, Err}
+use Rattle.std.specs.Prelude.{◌≡◌, ⊤, ℕ, ◌+◌, ◌<◌, List, ◌∷◌, ◌++◌, length, codes, Some, Result, Ok, Err}
 use Rattle.std.specs.List.{slice_get}
 use Rattle.identity_header.specs.Read.{read as read_parts}
 use Rattle.identity_header.specs.declared.field.FieldFault.{FieldFault}
@@ -20,7 +20,7 @@ use Rattle.sip_message.specs.declared.fault.FormFault.{FormFault}
 use Rattle.verify_rules.specs.Call.{Call, IdentityField, Reading, facts, fields_of, given_to_compact, in_call_order, in_message, judged_fields, passports_of, values_of}
 use Rattle.verify_rules.specs.Rules.{place}
 use Rattle.verify_rules.specs.Screened.{ScreenedView}
-use Rattle.verify_rules.specs.Went.{IsCalledNow}
+use Rattle.verify_rules.specs.Went.{AreCalled}
 use Rattle.verify_rules.specs.Words.{CanBeRead, Each, IsEs256, IsFieldText, IsFresh, IsFrom}
 use Rattle.verify_rules.specs.declared.facts.Facts.{Facts}
 use Rattle.verify_rules.specs.declared.refusal.Place.{Place}
@@ -58,13 +58,9 @@ pub data IsUnreadableAs (said : Facts) (field : IdentityField) (part : ℕ) : Ty
 
 -- 8: the link that shows the fault, or the originating PASSporT, whose number is 0; and the fault's kind
 pub record NoOrderAt (said : Facts) (readings : List Reading) (bad : Place) : Type 0 where
-  pub origin : Reading
-  pub links : List Reading
-  pub are : readings ≡ origin ∷ links
-  pub called : Option (List ℕ)
-  pub now : IsCalledNow said links called
+  pub of : AreCalled said readings
   pub fault : ChainFault
-  pub is : order_of origin.passport (passports_of links) called ≡ Err fault
+  pub is : order_of of.origin.passport (passports_of of.links) of.called ≡ Err fault
   pub field : (one : Reading) → slice_get readings fault.link ≡ Some one → bad.field ≡ one.mark.field
   pub part : bad.part ≡ fault.kind
 

@@ -11,6 +11,14 @@ pub record IsCalledNow (said : Facts) (links : List Reading) (called : Option (L
   pub undiverted : length links ≡ 0 → called ≡ said.to
   pub diverted : 1 ≤ length links → called ≡ said.target
 
+-- the PASSporTs in the order of the message: the originating one, the links, and the number that is called now
+pub record AreCalled (said : Facts) (readings : List Reading) : Type 0 where
+  pub origin : Reading
+  pub links : List Reading
+  pub are : readings ≡ origin ∷ links
+  pub called : Option (List ℕ)
+  pub now : IsCalledNow said links called
+
 -- the PASSporTs with these numbers, one after another: the originating one has number 0, and links count from 1 in the order of the message
 abbrev pub AreAt : List Reading → List ℕ → List Reading → Type 0
 AreAt readings [] [] = ⊤
@@ -20,15 +28,11 @@ AreAt readings (number ∷ turn) (one ∷ later) = (slice_get readings number �
 
 -- of PASSporTs in the order of the message, these are all in the order in which the call went
 pub record WentSo (said : Facts) (readings went : List Reading) : Type 0 where
-  pub origin : Reading
-  pub links : List Reading
-  pub are : readings ≡ origin ∷ links
+  pub of : AreCalled said readings
   -- the links are in this order, up to the number that is called now
-  pub called : Option (List ℕ)
-  pub now : IsCalledNow said links called
   pub turn : List ℕ
-  pub order : IsOrder origin.passport (passports_of links) called turn
+  pub order : IsOrder of.origin.passport (passports_of of.links) of.called turn
   -- the originating one, and the links in that order
   pub later : List Reading
-  pub first : went ≡ origin ∷ later
+  pub first : went ≡ of.origin ∷ later
   pub each : AreAt readings turn later
