@@ -80,8 +80,8 @@ pub record SentByWords (words : RetargetingView) (before now : Outside) : Type 0
 abbrev pub KeepsToWords : Option OrderView → Outside → Outside → ℕ → Type 0
 KeepsToWords (Some (VerifyBy verifying)) before now status = status ≤ 1 → IfTold before.files before.left (FreshByWords verifying before now)
 KeepsToWords (Some (SignBy words)) before now status =
-    status ≡ 0 → SignedByWords (record { shape = shape_of words.form; key = words.key; x5u = words.x5u; iat = words.iat; local = words.local }) before now
+    status ≡ 0 → SignedByWords (record { shape = shape_of words.form; key = words.signer.key; x5u = words.signer.x5u; iat = words.signer.iat; local = words.signer.local }) before now
 KeepsToWords (Some (DivertBy words)) before now status =
-    status ≡ 0 → SignedByWords (record { shape = shape_of_diversion words.earlier; key = words.key; x5u = words.x5u; iat = words.iat; local = words.local }) before now
+    status ≡ 0 → SignedByWords (record { shape = shape_of_diversion words.earlier; key = words.signer.key; x5u = words.signer.x5u; iat = words.signer.iat; local = words.signer.local }) before now
 KeepsToWords (Some (RetargetBy words)) before now status = status ≡ 0 → SentByWords words before now
 KeepsToWords other before now status = Unit {0}

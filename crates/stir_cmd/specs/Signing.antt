@@ -29,17 +29,17 @@ pub record SignCommand : Type 0 where
 -- the origin of a call, in the form that the words say
 abbrev pub signing_command : SigningView → SignCommand
 signing_command words = record {
-  order = record { shape = shape_of words.form; key = words.key; x5u = words.x5u; iat = words.iat; local = words.local };
-  answers = words.answers;
-  holder = words.holder;
+  order = record { shape = shape_of words.form; key = words.signer.key; x5u = words.signer.x5u; iat = words.signer.iat; local = words.signer.local };
+  answers = words.signer.answers;
+  holder = words.signer.holder;
 }
 
 -- the diversion of a call from the number that the words say
 abbrev pub diverting_command : DivertingView → SignCommand
 diverting_command words = record {
-  order = record { shape = shape_of_diversion words.earlier; key = words.key; x5u = words.x5u; iat = words.iat; local = words.local };
-  answers = words.answers;
-  holder = words.holder;
+  order = record { shape = shape_of_diversion words.earlier; key = words.signer.key; x5u = words.signer.x5u; iat = words.signer.iat; local = words.signer.local };
+  answers = words.signer.answers;
+  holder = words.signer.holder;
 }
 
 abbrev pub files_named : SignCommand → List NamedFile

@@ -256,7 +256,7 @@ abbrev after_keys : SignerView → List OptionRow
 after_keys by = row (codes "answers") (Text by.answers) ∷ (holder_rows by.holder ++ local_rows by.local)
 
 abbrev SignerRows : Given → SignerView → Type 0
-SignerRows given by = EachMeans given (signer_rows by.key by.x5u by.iat by.answers by.holder by.local)
+SignerRows given by = EachMeans given (signer_rows by)
 
 signer_mean : (given : Given) (by : SignerView) → signer_of given ≡ Some by → SignerRows given by
 signer_mean given by h =
@@ -361,16 +361,15 @@ signing_mean : (given : Given) (order : SigningView) → signing_of given ≡ So
 signing_mean given order h =
     let parts = both_parts signing_by (form_of given) (signer_of given) order h in
     subst (λ (x : SigningView). EachMeans given (rows_of (SignBy x))) parts.4
-    (both_mean given (form_rows parts.0) (signer_rows parts.1.key parts.1.x5u parts.1.iat parts.1.answers parts.1.holder parts.1.local) (form_mean given parts.0 parts.2) (signer_mean given parts.1 parts.3))
+    (both_mean given (form_rows parts.0) (signer_rows parts.1) (form_mean given parts.0 parts.2) (signer_mean given parts.1 parts.3))
 
 signing_made : (form : Option Form) (by : Option SignerView) (f : Form) (s : SignerView) → form ≡ Some f → by ≡ Some s → signing_from form by ≡ Some (signing_by f s)
 signing_made form by f s ef es = rw (ef, es) refl
 
 signing_again : (given : Given) (order : SigningView) → EachMeans given (rows_of (SignBy order)) → signing_of given ≡ Some order
 signing_again given order h =
-    let parts = split_mean given (form_rows order.form) (signer_rows order.key order.x5u order.iat order.answers order.holder order.local) h in
-    let by : SignerView = record { key = order.key; x5u = order.x5u; iat = order.iat; local = order.local; answers = order.answers; holder = order.holder } in
-    signing_made (form_of given) (signer_of given) order.form by (form_again given order.form parts.0) (signer_again given by parts.1)
+    let parts = split_mean given (form_rows order.form) (signer_rows order.signer) h in
+    signing_made (form_of given) (signer_of given) order.form order.signer (form_again given order.form parts.0) (signer_again given order.signer parts.1)
 
 diverting_mean : (given : Given) (order : DivertingView) → diverting_of given ≡ Some order → EachMeans given (rows_of (DivertBy order))
 diverting_mean given order h =
@@ -384,8 +383,7 @@ diverting_made earlier by e s ee es = rw (ee, es) refl
 
 diverting_again : (given : Given) (order : DivertingView) → EachMeans given (rows_of (DivertBy order)) → diverting_of given ≡ Some order
 diverting_again given order h =
-    let by : SignerView = record { key = order.key; x5u = order.x5u; iat = order.iat; local = order.local; answers = order.answers; holder = order.holder } in
-    diverting_made (earlier_of given) (signer_of given) order.earlier by (fits_again is_number order.earlier (given (codes "earlier")) h.0) (signer_again given by h.1)
+    diverting_made (earlier_of given) (signer_of given) order.earlier order.signer (fits_again is_number order.earlier (given (codes "earlier")) h.0) (signer_again given order.signer h.1)
 
 -- ---- `retarget`
 
@@ -568,7 +566,7 @@ word_is (DrillBy drilling) = refl
 word_is (OnceBy claiming) = refl
 
 sign_matches : (form : Form) (key x5u : List ℕ) (iat : ℕ) (answers : List ℕ) (holder : Option HolderNames) (l : LocalView)
-    → matches (options_of commands.Sign) (form_rows form ++ signer_rows key x5u iat answers holder l) ≡ true
+    → matches (options_of commands.Sign) (form_rows form ++ signer_rows (record { key = key; x5u = x5u; iat = iat; local = l; answers = answers; holder = holder })) ≡ true
 sign_matches forms.Base key x5u iat answers None l = refl
 sign_matches forms.Base key x5u iat answers (Some names) l = refl
 sign_matches forms.Compact key x5u iat answers None l = refl
@@ -577,7 +575,7 @@ sign_matches (forms.Shaken level origid) key x5u iat answers None l = refl
 sign_matches (forms.Shaken level origid) key x5u iat answers (Some names) l = refl
 
 divert_matches : (earlier key x5u : List ℕ) (iat : ℕ) (answers : List ℕ) (holder : Option HolderNames) (l : LocalView)
-    → matches (options_of commands.Divert) (row (codes "earlier") (TextOf is_number earlier) ∷ signer_rows key x5u iat answers holder l) ≡ true
+    → matches (options_of commands.Divert) (row (codes "earlier") (TextOf is_number earlier) ∷ signer_rows (record { key = key; x5u = x5u; iat = iat; local = l; answers = answers; holder = holder })) ≡ true
 divert_matches earlier key x5u iat answers None l = refl
 divert_matches earlier key x5u iat answers (Some names) l = refl
 
@@ -585,8 +583,8 @@ all_match : (order : OrderView) → matches (options_of (command_of order)) (row
 all_match (VerifyBy verifying) = refl
 all_match (ExplainBy judging) = refl
 all_match (AskBy asking) = refl
-all_match (SignBy order) = sign_matches order.form order.key order.x5u order.iat order.answers order.holder order.local
-all_match (DivertBy order) = divert_matches order.earlier order.key order.x5u order.iat order.answers order.holder order.local
+all_match (SignBy order) = sign_matches order.form order.signer.key order.signer.x5u order.signer.iat order.signer.answers order.signer.holder order.signer.local
+all_match (DivertBy order) = divert_matches order.earlier order.signer.key order.signer.x5u order.signer.iat order.signer.answers order.signer.holder order.signer.local
 all_match (RetargetBy words) = refl
 all_match ShowCertificates = refl
 all_match (DrillBy drilling) = refl

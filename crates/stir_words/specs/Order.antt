@@ -58,22 +58,12 @@ pub record SignerView : Type 0 where
 -- the form of the PASSporT that is signed, and the same
 pub record SigningView : Type 0 where
   pub form : Form
-  pub key : List ℕ
-  pub x5u : List ℕ
-  pub iat : ℕ
-  pub local : LocalView
-  pub answers : List ℕ
-  pub holder : Option HolderNames
+  pub signer : SignerView
 
 -- the number that was called before the diversion, and the same
 pub record DivertingView : Type 0 where
   pub earlier : List ℕ
-  pub key : List ℕ
-  pub x5u : List ℕ
-  pub iat : ℕ
-  pub local : LocalView
-  pub answers : List ℕ
-  pub holder : Option HolderNames
+  pub signer : SignerView
 
 -- by what a call is judged, when it came and where it goes on; under which key and when its diversion is signed, and the file of the key's
 -- certificate
@@ -152,7 +142,7 @@ abbrev pub signer_of : Given → Option SignerView
 signer_of given = signer_from (key_of given) (x5u_of given) (iat_of given) (local_in given) (given (codes "answers")) (holder_of given)
 
 abbrev pub signing_by : Form → SignerView → SigningView
-signing_by form by = record { form = form; key = by.key; x5u = by.x5u; iat = by.iat; local = by.local; answers = by.answers; holder = by.holder }
+signing_by form by = record { form = form; signer = by }
 
 abbrev pub signing_from : Option Form → Option SignerView → Option SigningView
 signing_from form by = option_and_then (λ f. option_map (signing_by f) by) form
@@ -161,8 +151,7 @@ abbrev pub signing_of : Given → Option SigningView
 signing_of given = signing_from (form_of given) (signer_of given)
 
 abbrev pub diverting_by : List ℕ → SignerView → DivertingView
-diverting_by earlier by =
-    record { earlier = earlier; key = by.key; x5u = by.x5u; iat = by.iat; local = by.local; answers = by.answers; holder = by.holder }
+diverting_by earlier by = record { earlier = earlier; signer = by }
 
 abbrev pub diverting_from : Option (List ℕ) → Option SignerView → Option DivertingView
 diverting_from earlier by = option_and_then (λ e. option_map (diverting_by e) by) earlier
@@ -221,12 +210,12 @@ pub record IsSigner (key x5u : List ℕ) (iat : ℕ) : Type 0 where
 
 -- the same, and the identifier of the call, if the form has one, is a UUID in 36 characters
 pub record IsSigning (order : SigningView) : Type 0 where
-  pub by : IsSigner order.key order.x5u order.iat
+  pub by : IsSigner order.signer.key order.signer.x5u order.signer.iat
   pub origid : has_origid (form_kind order.form) ≡ true
 
 -- the same, and what was called before the diversion is a number
 pub record IsDiverting (order : DivertingView) : Type 0 where
-  pub by : IsSigner order.key order.x5u order.iat
+  pub by : IsSigner order.signer.key order.signer.x5u order.signer.iat
   pub number : is_number order.earlier ≡ true
 
 -- the same, and the call came no later than the year 9999

@@ -10,7 +10,7 @@ use Rattle.passport_claims.specs.Origid.{is_origid}
 use Rattle.passport_claims.specs.declared.form.Form.{Form}
 use Rattle.passport_claims.specs.declared.form.Form.TheVariants as forms
 use Rattle.stir_words.specs.Options.{Options, Pair}
-use Rattle.stir_words.specs.Order.{AskBy, AskingView, ClaimingView, DivertBy, DivertingView, DrillBy, DrillingView, ExplainBy, HolderNames, JudgingView, OnceBy, OrderView, RetargetBy, RetargetingView, SettingsView, ShowCertificates, SignBy, SigningView, VerifyBy, VerifyingView}
+use Rattle.stir_words.specs.Order.{AskBy, AskingView, ClaimingView, DivertBy, DivertingView, DrillBy, DrillingView, ExplainBy, HolderNames, JudgingView, OnceBy, OrderView, RetargetBy, RetargetingView, SettingsView, ShowCertificates, SignBy, SignerView, SigningView, VerifyBy, VerifyingView}
 use Rattle.stir_words.specs.Table.{Given, get, given_by}
 use Rattle.stir_words.specs.Values.{is_key}
 
@@ -99,8 +99,8 @@ holder_rows None = row (codes "leaf") (Maybe None) ∷ row (codes "table") (Mayb
 holder_rows (Some names) = row (codes "leaf") (Text names.leaf) ∷ row (codes "table") (Text names.table) ∷ []
 
 -- what `sign` and `divert` have in common
-abbrev pub signer_rows : List ℕ → List ℕ → ℕ → List ℕ → Option HolderNames → LocalView → List OptionRow
-signer_rows key x5u iat answers holder l = key_rows key x5u iat ++ (row (codes "answers") (Text answers) ∷ (holder_rows holder ++ local_rows l))
+abbrev pub signer_rows : SignerView → List OptionRow
+signer_rows by = key_rows by.key by.x5u by.iat ++ (row (codes "answers") (Text by.answers) ∷ (holder_rows by.holder ++ local_rows by.local))
 
 -- the form; an attestation, and a UUID for the call, exactly with `shaken`
 abbrev pub form_rows : Form → List OptionRow
@@ -110,12 +110,10 @@ form_rows (forms.Shaken level origid) =
     row (codes "form") (Text (codes "shaken")) ∷ row (codes "attest") (Text (attest_text level)) ∷ row (codes "origid") (TextOf is_origid origid) ∷ []
 
 abbrev pub signing_rows : SigningView → List OptionRow
-signing_rows signing = form_rows signing.form ++ signer_rows signing.key signing.x5u signing.iat signing.answers signing.holder signing.local
+signing_rows signing = form_rows signing.form ++ signer_rows signing.signer
 
 abbrev pub diverting_rows : DivertingView → List OptionRow
-diverting_rows diverting =
-    row (codes "earlier") (TextOf is_number diverting.earlier)
-    ∷ signer_rows diverting.key diverting.x5u diverting.iat diverting.answers diverting.holder diverting.local
+diverting_rows diverting = row (codes "earlier") (TextOf is_number diverting.earlier) ∷ signer_rows diverting.signer
 
 -- by what a call is judged; the key, and the second of the signature; where the call goes on, the file of the holder's certificate, and when the call came
 abbrev pub retargeting_rows : RetargetingView → List OptionRow

@@ -70,26 +70,10 @@ signer_view signer = record {
 }
 
 abbrev pub signing_view : Signing → SigningView
-signing_view signing = record {
-  form = signing.form;
-  key = signing.signer.key.now;
-  x5u = signing.signer.x5u.now;
-  iat = signing.signer.iat;
-  local = signing.signer.local;
-  answers = signing.signer.answers.now;
-  holder = option_map holder_view signing.signer.holder;
-}
+signing_view signing = record { form = signing.form; signer = signer_view signing.signer }
 
 abbrev pub diverting_view : Diverting → DivertingView
-diverting_view diverting = record {
-  earlier = diverting.earlier;
-  key = diverting.signer.key.now;
-  x5u = diverting.signer.x5u.now;
-  iat = diverting.signer.iat;
-  local = diverting.signer.local;
-  answers = diverting.signer.answers.now;
-  holder = option_map holder_view diverting.signer.holder;
-}
+diverting_view diverting = record { earlier = diverting.earlier; signer = signer_view diverting.signer }
 
 abbrev pub retargeting_view : Retargeting → RetargetingView
 retargeting_view words = record {
