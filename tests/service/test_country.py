@@ -1,5 +1,5 @@
-"""Two services over a Redis and its replica, step by step: what is lost when an answer is lost, when a replica takes over, or when a Redis or a service starts
-anew. The simulation of tests/simulation goes the same steps, and says the same outcomes."""
+"""Two services over a Redis and its replica, step by step: what is lost when an answer is lost, when a replica takes over, or a Redis or a service
+starts anew. The simulation of tests/simulation goes the same steps, and says the same outcomes."""
 import contextlib
 import pathlib
 import signal

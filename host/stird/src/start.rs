@@ -14,7 +14,9 @@ use crate::routes::Service;
 use crate::server::{Acceptor, Doors, Handed, Hands, Places, Server, Times, AT_ONCE};
 use crate::settings::Settings;
 use crate::tending::tend;
-use crate::tickets::{Clock, Latest, Memory, Redis, Sqlite, SystemClock, Tickets};
+use crate::tickets::{
+    Clock, Latest, Memory, Redis, Shards, Sqlite, SystemClock, Tickets, CONNECTIONS,
+};
 use crate::today::Today;
 use crate::tokens::Tokens;
 use anyhow::{bail, Context, Result};
@@ -42,7 +44,7 @@ const AFTER: Duration = Duration::from_secs(10);
 pub async fn run(settings: Settings, log: Log, handed: Handed) -> Result<()> {
     let mut ends = [signal(SignalKind::terminate())?, signal(SignalKind::interrupt())?];
     let hangs_up = signal(SignalKind::hangup())?;
-    allow_descriptors(settings.connections)?;
+    allow_descriptors(settings.connections, settings.redis.len())?;
     let metrics = Arc::new(Metrics::new()?);
     let clock: Arc<dyn Clock> = Arc::new(SystemClock);
     let acceptor = settings.tls.clone().map(Acceptor::read).transpose()?.map(Arc::new);
@@ -184,16 +186,19 @@ fn fetching(settings: &Settings, metrics: &Arc<Metrics>) -> Result<Option<(MayAs
 /// Where tickets are kept.
 fn tickets(settings: &Settings, clock: &Arc<dyn Clock>) -> Result<Arc<dyn Tickets>> {
     let clock = Arc::clone(clock);
-    Ok(match (&settings.redis, &settings.journal) {
-        (Some(address), _) => Arc::new(Redis::new(address, clock)?),
-        (None, Some(path)) => Arc::new(Sqlite::open(path, settings.sync, settings.tickets, clock)?),
-        (None, None) => Arc::new(Memory::new(settings.tickets, clock)),
+    Ok(match (&settings.redis[..], &settings.journal) {
+        ([address], _) => Arc::new(Redis::new(address, clock)?),
+        ([], Some(path)) => Arc::new(Sqlite::open(path, settings.sync, settings.tickets, clock)?),
+        ([], None) => Arc::new(Memory::new(settings.tickets, clock)),
+        (addresses, _) => Arc::new(Shards::new(addresses, &clock)?),
     })
 }
 
-/// Has the system allow a descriptor for each connection, and for each that is on its way out.
-fn allow_descriptors(connections: usize) -> Result<()> {
-    let wanted = (2 * connections + AT_ONCE) as u64 + OTHERS;
+/// Has the system allow a descriptor for each connection, and for each that is on its way out, and
+/// for those to all Redis servers. Those to one are among the others.
+fn allow_descriptors(connections: usize, servers: usize) -> Result<()> {
+    let to_servers = servers.saturating_sub(1) * CONNECTIONS;
+    let wanted = (2 * connections + AT_ONCE + to_servers) as u64 + OTHERS;
     let mut limit = getrlimit(Resource::Nofile);
     if limit.current.is_none_or(|current| current >= wanted) {
         return Ok(());

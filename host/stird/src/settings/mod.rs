@@ -9,6 +9,7 @@ use crate::fetching;
 use crate::files::{Anchors, Codes, Ended, HostFiles, ListFiles, Sources};
 use crate::judge::Verstat;
 use crate::record;
+use crate::tickets::MOST_SHARDS;
 use clap::parser::ValueSource;
 use clap::{CommandFactory, FromArgMatches};
 use std::ffi::OsString;
@@ -59,8 +60,8 @@ pub struct Settings {
     pub journal: Option<PathBuf>,
     /// Whether a call is answered after its ticket is on the disk.
     pub sync: bool,
-    /// The Redis in which tickets are kept.
-    pub redis: Option<String>,
+    /// The Redis servers in which tickets are kept.
+    pub redis: Vec<String>,
     /// How many tickets are held at most.
     pub tickets: usize,
     /// How many answers are kept at most.
@@ -134,6 +135,9 @@ pub enum SettingsError {
     /// Numbers are to be hashed, and there is no key.
     #[error("--record-key is missing, by which numbers are hashed")]
     NoRecordKey,
+    /// There are more Redis servers than tickets are shared out among.
+    #[error("--redis may be given {MOST_SHARDS} times at most")]
+    ManyRedis,
 }
 
 /// What these words order, and the file of settings that they name.
@@ -219,6 +223,9 @@ impl Settings {
     fn of(words: Words) -> Result<Settings, SettingsError> {
         let (fetch, revocation) = (fetch(&words), revocation(&words));
         let record = record(&words)?;
+        if words.redis.len() > MOST_SHARDS {
+            return Err(SettingsError::ManyRedis);
+        }
         let anchors = match (words.anchors, words.roots) {
             (Some(path), _) => Anchors::Der(path),
             (None, Some(path)) => Anchors::Pem(path),
@@ -445,6 +452,7 @@ mod tests {
             (&format!("{three} --request 0"), "--request"),
             (&format!("{three} --chains a"), "--chains"),
             (&format!("{three} --journal j --redis r"), "--redis"),
+            (&format!("{three}{}", " --redis r".repeat(65)), "--redis"),
             (&format!("{three} --sync maybe"), "maybe"),
             (&format!("{three} --listen"), "--listen"),
             (&format!("{three} --listen nowhere"), "HOST:PORT"),

@@ -138,9 +138,10 @@ pub(super) struct Words {
     #[arg(long, value_name = "WHETHER", default_value = "yes")]
     pub sync: Choice,
 
-    /// Keep tickets in a Redis, so that several hosts are one service: HOST:PORT or a URL
+    /// Keep tickets in a Redis, so that several hosts are one service: HOST:PORT or a URL. May be
+    /// given several times: each then has a part of the tickets
     #[arg(long, value_name = "ADDRESS")]
-    pub redis: Option<String>,
+    pub redis: Vec<String>,
 
     /// How many tickets are held in memory at most
     #[arg(long, value_name = "COUNT", default_value = "2000000",

@@ -1,6 +1,6 @@
 //! The tickets of the calls that passed. A ticket passes once, and where it is kept decides how
 //! long that holds: in [`Memory`], in a file over restarts ([`Sqlite`]), or in a [`Redis`] for
-//! several hosts.
+//! several hosts, or in several of them ([`Shards`]).
 //!
 //! # When a ticket is forgotten
 //!
@@ -22,6 +22,7 @@ mod error;
 mod latest;
 mod memory;
 mod redis;
+mod shards;
 mod sqlite;
 mod stretches;
 mod table;
@@ -30,7 +31,8 @@ pub use clock::{Clock, SystemClock};
 pub use error::TicketsError;
 pub use latest::Latest;
 pub use memory::Memory;
-pub use redis::{AddressFault, Redis};
+pub use redis::{AddressFault, Redis, MOST as CONNECTIONS};
+pub use shards::{Shards, MOST as MOST_SHARDS};
 pub use sqlite::Sqlite;
 
 /// A digest that two calls share exactly if one is a replay of the other.
