@@ -10,7 +10,7 @@ use Rattle.call_log.specs.declared.fault.LogFault.TheVariants.{Grammar, Backward
 use Rattle.log_run.specs.Batch.{Batch, texts_in}
 use Rattle.log_run.specs.Ending.{CloseRan, EndedSo, EndsAt, EndsBehind, EndsHalted, EndsRefused, EndsStopped, FailsIn, LogRan, MayBeShort, MayEnd, MayStand, failed_line, refused_line, report_status, unread_line}
 use Rattle.log_run.specs.Reading.{FaultyAt, ReadBehind, SourceFailed}
-use Rattle.log_run.specs.Running.{At, RunsOut, StopsNext}
+use Rattle.log_run.specs.Running.{At, RunEnd, RunsOut, StopsNext}
 use Rattle.log_run.specs.Streams.{BehindBy, SourceRose, Streams}
 use Rattle.log_run.specs.declared.ends.RunError.{RunError}
 use Rattle.log_run.specs.declared.ends.RunError.TheVariants as error
@@ -123,67 +123,64 @@ rose_still s t u Drained (Some (Many place)) same r = tt
 rose_still s t u Drained (Some Source) same r = subst (λ (x : ℕ). SourceFailed s.read_faults x Drained) (sym same) r
 rose_still s t u Drained (Some WantOfMemory) same r = tt
 
+-- the text was written whole, and then the end came
+pub whole_text : (Short : Type 0) (Closed : List ℕ → Type 0) (written between now : Option (List ℕ)) (writes writes_between writes_now status : ℕ) (good : Bool) (fault : Option LogFault) (text sent : List ℕ) → sent ≡ text
+    → Closed text → Appends written between sent → writes ≤ writes_between → EndsAt between now writes_between writes_now status good fault → CloseRan Short Closed written now writes writes_now status good fault
+whole_text Short Closed written between now writes writes_between writes_now status good fault text sent same closed wrote stay ends = inr (record {
+  text = text;
+  closed = closed;
+  wrote = inl (record { between = between; writes_between = writes_between; wrote = subst (λ (x : List ℕ). Appends written between x) same wrote; stay = stay; ends = ends });
+})
+
 -- ---- the whole
+
+-- a run whose batches were read, and which ended in one of these ways
+ran_so : (most : ℕ) (Answered Known : List Batch → Type 0) (Halted Stopped : List Batch → List Entry → AnswerError → Type 0) (Closed : List Batch → List ℕ → Type 0) (a b : At) (s t u : Streams) (ended : RunEnd) (status : ℕ)
+    → u.read_faults ≡ t.read_faults → (r : RunsOut most Answered Halted a b s t ended)
+    → EndedSo (Known r.batches) (Stopped r.batches) (Closed r.batches) r.mid (b.left ≡ b.source) b.left (texts_in r.batches) s u status
+    → LogRan most Known Stopped Closed a (b.left ≡ b.source) b.left s u status
+ran_so most Answered Known Halted Stopped Closed a b s t u ended status reads r so = record {
+  batches = r.batches;
+  mid = r.mid;
+  cut = r.cut;
+  read = r.read;
+  good_so = r.good_so;
+  stay = let low = r.stay.read_faults in omega (arith, reads, low);
+  so = so;
+}
 
 -- the log ended, and the report was closed, or memory ran out for that
 pub log_closed : (most : ℕ) (Answered Known : List Batch → Type 0) (Halted Stopped : List Batch → List Entry → AnswerError → Type 0) (Closed : List Batch → List ℕ → Type 0) (Short : Type 0) (Closes : List ℕ → Type 0) (a b : At) (s t u : Streams)
     (good : Bool) (fault : Option LogFault) (status : ℕ) → ((batches : List Batch) (text : List ℕ) → Answered batches → Closes text → Closed batches text)
     → ((batches : List Batch) → Answered batches → Short → Stopped batches [] Memory) → good ≡ b.good → u.read_faults ≡ t.read_faults → RunsOut most Answered Halted a b s t (Ok fault)
     → CloseRan Short Closes t.written u.written t.write_faults u.write_faults status good fault → LogRan most Known Stopped Closed a (b.left ≡ b.source) b.left s u status
-log_closed most Answered Known Halted Stopped Closed Short Closes a b s t u good fault status to_closed to_short same reads r close = record {
-  batches = r.batches;
-  mid = r.mid;
-  cut = r.cut;
-  read = r.read;
-  good_so = r.good_so;
-  stay = let low = r.stay.read_faults in omega (arith, reads, low);
-  so = by_close close;
-} where
-  by_close : CloseRan Short Closes t.written u.written t.write_faults u.write_faults status good fault → EndedSo (Known r.batches) (Stopped r.batches) (Closed r.batches) r.mid (b.left ≡ b.source) b.left (texts_in r.batches) s u status
-  by_close (inl wanting) =
-      let stops : StopsNext (Stopped r.batches) r.mid Memory = record { calls = []; next = record { mid = r.mid.passed; mid_left = r.mid.left; read = read_nothing r.mid.passed r.mid.left }; stopped = to_short r.batches r.ends.0 wanting.0 } in
-      memory (Known r.batches) (Stopped r.batches) (Closed r.batches) r.mid (b.left ≡ b.source) b.left (texts_in r.batches) s t u status r.stay.write_faults r.ends.4
-      (inr (inl (record { stop = Memory; stops = stops; says = refl }))) (inr (inl ((Memory, stops), refl))) wanting.1
-  by_close (inr closed) =
-      closed_by (Known r.batches) (Stopped r.batches) (Closed r.batches) r.mid (b.left ≡ b.source) b.left (texts_in r.batches) s t u status r.stay.write_faults r.ends.4 closed.text good fault
-      (to_closed r.batches closed.text r.ends.0 closed.closed) (same ∙ r.ends.2) r.ends.1 (rose_still s t u (b.left ≡ b.source) fault reads r.ends.3) closed.wrote
+log_closed most Answered Known Halted Stopped Closed Short Closes a b s t u good fault status to_closed to_short same reads r close =
+    ran_so most Answered Known Halted Stopped Closed a b s t u (Ok fault) status reads r (by_close close) where
+      by_close : CloseRan Short Closes t.written u.written t.write_faults u.write_faults status good fault → EndedSo (Known r.batches) (Stopped r.batches) (Closed r.batches) r.mid (b.left ≡ b.source) b.left (texts_in r.batches) s u status
+      by_close (inl wanting) =
+          let stops : StopsNext (Stopped r.batches) r.mid Memory = record { calls = []; next = record { mid = r.mid.passed; mid_left = r.mid.left; read = read_nothing r.mid.passed r.mid.left }; stopped = to_short r.batches r.ends.0 wanting.0 } in
+          memory (Known r.batches) (Stopped r.batches) (Closed r.batches) r.mid (b.left ≡ b.source) b.left (texts_in r.batches) s t u status r.stay.write_faults r.ends.4
+          (inr (inl (record { stop = Memory; stops = stops; says = refl }))) (inr (inl ((Memory, stops), refl))) wanting.1
+      by_close (inr closed) =
+          closed_by (Known r.batches) (Stopped r.batches) (Closed r.batches) r.mid (b.left ≡ b.source) b.left (texts_in r.batches) s t u status r.stay.write_faults r.ends.4 closed.text good fault
+          (to_closed r.batches closed.text r.ends.0 closed.closed) (same ∙ r.ends.2) r.ends.1 (rose_still s t u (b.left ≡ b.source) fault reads r.ends.3) closed.wrote
 
 -- it was stopped before the log ended
 pub log_halted : (most : ℕ) (Known : List Batch → Type 0) (Stopped : List Batch → List Entry → AnswerError → Type 0) (Closed : List Batch → List ℕ → Type 0) (a b : At) (s t u : Streams) (stopped : RunError) (status : ℕ)
     → u.read_faults ≡ t.read_faults → RunsOut most Known Stopped a b s t (Err stopped) → EndsHalted t.written u.written t.write_faults u.write_faults status stopped → LogRan most Known Stopped Closed a (b.left ≡ b.source) b.left s u status
-log_halted most Known Stopped Closed a b s t u error.Sink status reads r e = record {
-  batches = r.batches;
-  mid = r.mid;
-  cut = r.cut;
-  read = r.read;
-  good_so = r.good_so;
-  stay = let low = r.stay.read_faults in omega (arith, reads, low);
-  so = inr (inr (inr (inr (inr (record {
-    line = [];
-    may = inl (r.ends.0, inl refl);
-    rose = subst (Rose s.write_faults) (sym e.same_writes) r.ends.1;
-    front = subst (AppendsFront s.written u.written) (sym (append-nil (texts_in r.batches))) (subst (λ (x : Option (List ℕ)). AppendsFront s.written x (texts_in r.batches)) (sym e.same_written) r.ends.2);
-    said = e.answered;
-  })))));
-}
-log_halted most Known Stopped Closed a b s t u error.Memory status reads r e = record {
-  batches = r.batches;
-  mid = r.mid;
-  cut = r.cut;
-  read = r.read;
-  good_so = r.good_so;
-  stay = let low = r.stay.read_faults in omega (arith, reads, low);
-  so = memory (Known r.batches) (Stopped r.batches) (Closed r.batches) r.mid (b.left ≡ b.source) b.left (texts_in r.batches) s t u status r.stay.write_faults r.ends.1 (inl (r.ends.0, inr refl)) (inl (r.ends.0, refl)) e;
-}
-log_halted most Known Stopped Closed a b s t u (error.Stopped stop) status reads r e = record {
-  batches = r.batches;
-  mid = r.mid;
-  cut = r.cut;
-  read = r.read;
-  good_so = r.good_so;
-  stay = let low = r.stay.read_faults in omega (arith, reads, low);
-  so = stopped_by (Known r.batches) (Stopped r.batches) (Closed r.batches) r.mid (b.left ≡ b.source) b.left (texts_in r.batches) s t u status r.stay.write_faults r.ends.1 stop r.ends.0 e;
-}
+log_halted most Known Stopped Closed a b s t u error.Sink status reads r e = ran_so most Known Known Stopped Stopped Closed a b s t u (Err error.Sink) status reads r (inr (inr (inr (inr (inr (record {
+  line = [];
+  may = inl (r.ends.0, inl refl);
+  rose = subst (Rose s.write_faults) (sym e.same_writes) r.ends.1;
+  front = subst (AppendsFront s.written u.written) (sym (append-nil (texts_in r.batches))) (subst (λ (x : Option (List ℕ)). AppendsFront s.written x (texts_in r.batches)) (sym e.same_written) r.ends.2);
+  said = e.answered;
+}))))))
+log_halted most Known Stopped Closed a b s t u error.Memory status reads r e =
+    ran_so most Known Known Stopped Stopped Closed a b s t u (Err error.Memory) status reads r
+    (memory (Known r.batches) (Stopped r.batches) (Closed r.batches) r.mid (b.left ≡ b.source) b.left (texts_in r.batches) s t u status r.stay.write_faults r.ends.1 (inl (r.ends.0, inr refl)) (inl (r.ends.0, refl)) e)
+log_halted most Known Stopped Closed a b s t u (error.Stopped stop) status reads r e =
+    ran_so most Known Known Stopped Stopped Closed a b s t u (Err (error.Stopped stop)) status reads r
+    (stopped_by (Known r.batches) (Stopped r.batches) (Closed r.batches) r.mid (b.left ≡ b.source) b.left (texts_in r.batches) s t u status r.stay.write_faults r.ends.1 stop r.ends.0 e)
 
 -- ---- what the source has left, if the log ended or the source failed, is all that is left to the reader
 

@@ -15,7 +15,7 @@ use Rattle.log_run.specs.Reading.{FaultyAt, IsFaulty, ReadBehind, ReadCalls}
 use Rattle.log_run.specs.Running.{At, StopsNext, at}
 use Rattle.log_run.specs.Speaks.{AreBatches, Speaks}
 use Rattle.log_run.specs.Streams.{Streams}
-use Rattle.log_run.specs.Words.{DoneReport, FailedReport, FirstBatches, FrontReport, LogSays, MayComeAfter, MayEndWith, PartLog, PartReport, RunState, ShortReport, StoppedReport, StopsWith, TakenLog, Words, run_state}
+use Rattle.log_run.specs.Words.{AnswersFaulty, AnswersWhole, DoneReport, FailedReport, FirstBatches, FrontReport, LogSays, MayComeAfter, MayEndWith, NeverStops, PartLog, PartReport, RunState, ShortReport, StoppedReport, StopsWith, TakenLog, Words, run_state}
 use Rattle.log_run.specs.declared.stop.AnswerError.{AnswerError}
 use Rattle.log_run.specs.declared.stop.AnswerError.TheVariants.{Unread, Memory}
 use Rattle.log_run.proofs.ReadLaws.{read_both}
@@ -215,6 +215,24 @@ module _ (words : Words) (Known : List Batch → Type 0) (Stopped : List Batch �
   abbrev Ended : Type 0
   Ended = EndedSo (Known batches) (Stopped batches) (Closed batches) mid Drained left_now (texts_in batches) s t status
 
+  -- a run that didn't end with a whole report, by its status
+  says_else : (n : ℕ) → status ≡ n → 3 ≤ n → n ≤ 6 → (n ≡ 3 → FailedReport words passed before now ⊎ StoppedReport words passed before now) → (n ≡ 4 → FrontReport words passed before now)
+      → (n ≡ 5 → PartReport words passed before now) → (n ≡ 6 → ShortReport words passed before now) → AnswersWhole words passed before now status → AnswersFaulty words passed before now status
+      → LogSays words passed before now status
+  says_else n said least most fails fronts refuses shorts whole faulty = record {
+    known = omega (arith, said, most);
+    no_words = λ two. omega (arith, said, least, two);
+    stay = stay;
+    done = λ low. absurd (omega (arith, said, least, low));
+    ended = λ low. absurd (omega (arith, said, least, low));
+    fails = λ three. fails (sym said ∙ three);
+    sink_failed = λ four. fronts (sym said ∙ four);
+    refuses = λ five. refuses (sym said ∙ five);
+    short = λ six. shorts (sym said ∙ six);
+    answers_whole = whole;
+    answers_faulty = faulty;
+  }
+
   says_by : OneLog → Ended → LogSays words passed before now status
   says_by law (inl e) = record {
     known = omega (arith, e.said, low_status mid.good);
@@ -229,71 +247,24 @@ module _ (words : Words) (Known : List Batch → Type 0) (Stopped : List Batch �
     answers_whole = λ bytes calls is whole reads writes never. inl (omega (arith, e.said, low_status mid.good));
     answers_faulty = λ bytes rest calls is part some reads writes never. absurd (not_whole law bytes rest calls is part some e.behind);
   }
-  says_by law (inr (inl e)) = record {
-    known = omega (arith, e.said);
-    no_words = λ two. omega (arith, e.said, two);
-    stay = stay;
-    done = λ low. absurd (omega (arith, e.said, low));
-    ended = λ low. absurd (omega (arith, e.said, low));
-    fails = λ three. absurd (omega (arith, e.said, three));
-    sink_failed = λ four. absurd (omega (arith, e.said, four));
-    refuses = λ five. refused_of e;
-    short = λ six. absurd (omega (arith, e.said, six));
-    answers_whole = λ bytes calls is whole reads writes never. absurd (not_faulty law bytes calls e.place is whole e.faulty);
-    answers_faulty = λ bytes rest calls is part some reads writes never. inl e.said;
-  }
-  says_by law (inr (inr (inl e))) = record {
-    known = omega (arith, e.said);
-    no_words = λ two. omega (arith, e.said, two);
-    stay = stay;
-    done = λ low. absurd (omega (arith, e.said, low));
-    ended = λ low. absurd (omega (arith, e.said, low));
-    fails = λ three. inl (failed_of e);
-    sink_failed = λ four. absurd (omega (arith, e.said, four));
-    refuses = λ five. absurd (omega (arith, e.said, five));
-    short = λ six. absurd (omega (arith, e.said, six));
-    answers_whole = λ bytes calls is whole reads writes never. absurd (not_rose s.read_faults t.read_faults reads e.failed.rose);
-    answers_faulty = λ bytes rest calls is part some reads writes never. absurd (not_rose s.read_faults t.read_faults reads e.failed.rose);
-  }
-  says_by law (inr (inr (inr (inl e)))) = record {
-    known = omega (arith, e.said);
-    no_words = λ two. omega (arith, e.said, two);
-    stay = stay;
-    done = λ low. absurd (omega (arith, e.said, low));
-    ended = λ low. absurd (omega (arith, e.said, low));
-    fails = λ three. inr (stopped_of e);
-    sink_failed = λ four. absurd (omega (arith, e.said, four));
-    refuses = λ five. absurd (omega (arith, e.said, five));
-    short = λ six. absurd (omega (arith, e.said, six));
-    answers_whole = λ bytes calls is whole reads writes never. absurd (never batches e.stops.calls (string_bytes e.text) (string_bytes e.name) (speaks.stops batches e.stops.calls e.text e.name e.stops.stopped));
-    answers_faulty = λ bytes rest calls is part some reads writes never. absurd (never batches e.stops.calls (string_bytes e.text) (string_bytes e.name) (speaks.stops batches e.stops.calls e.text e.name e.stops.stopped));
-  }
-  says_by law (inr (inr (inr (inr (inl e))))) = record {
-    known = omega (arith, e.said);
-    no_words = λ two. omega (arith, e.said, two);
-    stay = stay;
-    done = λ low. absurd (omega (arith, e.said, low));
-    ended = λ low. absurd (omega (arith, e.said, low));
-    fails = λ three. absurd (omega (arith, e.said, three));
-    sink_failed = λ four. absurd (omega (arith, e.said, four));
-    refuses = λ five. absurd (omega (arith, e.said, five));
-    short = λ six. short_of e;
-    answers_whole = λ bytes calls is whole reads writes never. inr e.said;
-    answers_faulty = λ bytes rest calls is part some reads writes never. inr e.said;
-  }
-  says_by law (inr (inr (inr (inr (inr e))))) = record {
-    known = omega (arith, e.said);
-    no_words = λ two. omega (arith, e.said, two);
-    stay = stay;
-    done = λ low. absurd (omega (arith, e.said, low));
-    ended = λ low. absurd (omega (arith, e.said, low));
-    fails = λ three. absurd (omega (arith, e.said, three));
-    sink_failed = λ four. front_of e;
-    refuses = λ five. absurd (omega (arith, e.said, five));
-    short = λ six. absurd (omega (arith, e.said, six));
-    answers_whole = λ bytes calls is whole reads writes never. absurd (not_rose s.write_faults t.write_faults writes e.rose);
-    answers_faulty = λ bytes rest calls is part some reads writes never. absurd (not_rose s.write_faults t.write_faults writes e.rose);
-  }
+  says_by law (inr (inl e)) =
+      says_else 5 e.said (omega arith) (omega arith) (λ is. absurd (omega (arith, is))) (λ is. absurd (omega (arith, is))) (λ five. refused_of e) (λ is. absurd (omega (arith, is)))
+      (λ bytes calls is whole reads writes never. absurd (not_faulty law bytes calls e.place is whole e.faulty)) (λ bytes rest calls is part some reads writes never. inl e.said)
+  says_by law (inr (inr (inl e))) =
+      says_else 3 e.said (omega arith) (omega arith) (λ three. inl (failed_of e)) (λ is. absurd (omega (arith, is))) (λ is. absurd (omega (arith, is))) (λ is. absurd (omega (arith, is)))
+      (λ bytes calls is whole reads writes never. absurd (not_rose s.read_faults t.read_faults reads e.failed.rose))
+      (λ bytes rest calls is part some reads writes never. absurd (not_rose s.read_faults t.read_faults reads e.failed.rose))
+  says_by law (inr (inr (inr (inl e)))) =
+      let stops : NeverStops words → ⊥ = λ never. never batches e.stops.calls (string_bytes e.text) (string_bytes e.name) (speaks.stops batches e.stops.calls e.text e.name e.stops.stopped) in
+      says_else 3 e.said (omega arith) (omega arith) (λ three. inr (stopped_of e)) (λ is. absurd (omega (arith, is))) (λ is. absurd (omega (arith, is))) (λ is. absurd (omega (arith, is)))
+      (λ bytes calls is whole reads writes never. absurd (stops never)) (λ bytes rest calls is part some reads writes never. absurd (stops never))
+  says_by law (inr (inr (inr (inr (inl e))))) =
+      says_else 6 e.said (omega arith) (omega arith) (λ is. absurd (omega (arith, is))) (λ is. absurd (omega (arith, is))) (λ is. absurd (omega (arith, is))) (λ six. short_of e)
+      (λ bytes calls is whole reads writes never. inr e.said) (λ bytes rest calls is part some reads writes never. inr e.said)
+  says_by law (inr (inr (inr (inr (inr e))))) =
+      says_else 4 e.said (omega arith) (omega arith) (λ is. absurd (omega (arith, is))) (λ four. front_of e) (λ is. absurd (omega (arith, is))) (λ is. absurd (omega (arith, is)))
+      (λ bytes calls is whole reads writes never. absurd (not_rose s.write_faults t.write_faults writes e.rose))
+      (λ bytes rest calls is part some reads writes never. absurd (not_rose s.write_faults t.write_faults writes e.rose))
 
 -- ---- the whole
 

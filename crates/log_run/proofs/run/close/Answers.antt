@@ -1,7 +1,7 @@
 -- The text was written, and then the end came; or the sink failed in it.
-use Rattle.std.proofs.Common.{List, ℕ, inl, inr, refl, subst}
-use Rattle.std.specs.Io.KnownBytes.{Appends}
+use Rattle.std.proofs.Common.{List, ℕ, inr, refl, subst}
 use Rattle.stir_outside.specs.Told.{AppendsFront}
+use Rattle.log_run.proofs.EndLaws.{whole_text}
 use Rattle.log_run.proofs.run.close.Goals as goal
 
 pub returns-in-Err-write_whole : goal.returns-in-Err-write_whole
@@ -16,27 +16,10 @@ returns-in-Err-write_whole g c = inr (record {
 })
 
 pub returns-in-None : goal.returns-in-None
-returns-in-None g c = rw c.in-None.is (inr (record {
-  text = c.in-Ok.text.items;
-  closed = c.in-Ok.ensures.closed;
-  wrote = inl (record {
-    between = g.O.Sink.written c.write_whole.new.sink;
-    writes_between = g.O.Sink.faults c.write_whole.new.sink;
-    wrote = subst (λ (x : List ℕ). Appends (g.O.Sink.written c.args.sink.now) (g.O.Sink.written c.write_whole.new.sink) x) c.deref.ensures.value c.in-Ok-write_whole.ensures.whole;
-    stay = c.in-Ok-write_whole.ensures.cause.never_falls;
-    ends = record { answered = c.report_status.ensures; same_written = refl; same_writes = refl };
-  });
-}))
+returns-in-None g c = rw c.in-None.is
+    (whole_text _ _ _ _ _ _ _ _ _ _ _ c.in-Ok.text.items _ c.deref.ensures.value c.in-Ok.ensures.closed c.in-Ok-write_whole.ensures.whole c.in-Ok-write_whole.ensures.cause.never_falls
+    (record { answered = c.report_status.ensures; same_written = refl; same_writes = refl }))
 
 pub returns : goal.returns
-returns g c = rw c.in-Some.is (inr (record {
-  text = c.in-Ok.text.items;
-  closed = c.in-Ok.ensures.closed;
-  wrote = inl (record {
-    between = g.O.Sink.written c.write_whole.new.sink;
-    writes_between = g.O.Sink.faults c.write_whole.new.sink;
-    wrote = subst (λ (x : List ℕ). Appends (g.O.Sink.written c.args.sink.now) (g.O.Sink.written c.write_whole.new.sink) x) c.deref.ensures.value c.in-Ok-write_whole.ensures.whole;
-    stay = c.in-Ok-write_whole.ensures.cause.never_falls;
-    ends = c.end_at.ensures;
-  });
-}))
+returns g c = rw c.in-Some.is
+    (whole_text _ _ _ _ _ _ _ _ _ _ _ c.in-Ok.text.items _ c.deref.ensures.value c.in-Ok.ensures.closed c.in-Ok-write_whole.ensures.whole c.in-Ok-write_whole.ensures.cause.never_falls c.end_at.ensures)
