@@ -27,12 +27,7 @@ use Rattle.verify_service.specs.declared.screening.ReadyCall.{ReadyCall}
 use Rattle.verify_service.specs.declared.screening.Screening.{Screening}
 use Rattle.verify_service.specs.declared.screening.Screening.TheVariants as screenings
 use Rattle.verify_service.proofs.ListLaws.{map_at}
-
-false_is_not_true : false ≡ true → ⊥
-false_is_not_true e = cc
-
-same_text : (a b : List ℕ) → bytes_eq a b ≡ true → a ≡ b
-same_text a b e = (bytes_decides a b).0 e
+use Rattle.verify_service.proofs.TestLaws.{false_is_not_true, same_text}
 
 -- ---- the text at a place
 

@@ -43,9 +43,7 @@ use Rattle.verify_service.specs.declared.outcome.Outcome.{Outcome}
 use Rattle.verify_service.specs.declared.outcome.Outcome.TheVariants as outcomes
 use Rattle.verify_service.specs.declared.screening.ReadyCall.{ReadyCall}
 use Rattle.call_judging.proofs.ReadLaws.{right_unlisted}
-
-false_is_not_true : false ≡ true → ⊥
-false_is_not_true e = cc
+use Rattle.verify_service.proofs.TestLaws.{false_is_not_true, or_left, or_right}
 
 -- ---- the chains of a call are right
 
@@ -79,13 +77,6 @@ right_by told materials says x5u kept held None None law e f right there =
 right_for : (told : Option ShelfFiles) (materials : Materials) (says : Says) (x5u : List ℕ) (kept : Kept) (held : Chains) → UnlistedLaw
     → AreRightHeld told materials says held kept → IsThere materials.chains held kept x5u → IsRightWhere told materials says x5u (state_for kept held x5u)
 right_for told materials says x5u kept held law right there = right_by told materials says x5u kept held (kept_state x5u kept) (chain_of x5u held) law refl refl right there
-
-or_left : (b c : Bool) → b ≡ true → (b || c) ≡ true
-or_left b c is = ap (λ t. t || c) is
-
-or_right : (b c : Bool) → c ≡ true → (b || c) ≡ true
-or_right true c is = refl
-or_right false c is = is
 
 are_right : (files : ShelfFiles) (materials : Materials) (says : Says) (kept : Kept) (held : Chains) (readings : List Reading) → UnlistedLaw
     → AreRightHeld (Some files) materials says held kept → AreThere materials.chains held kept (x5us readings)

@@ -133,3 +133,16 @@ asked_later told materials other texts same reads reads_now count asks mid now p
   counted = has.counted;
   asked = λ w less. let first = has.asked w less in let second = later w less in omega (arith, first, second);
 }
+
+-- the texts may be said otherwise
+pub asked_as : (told : Option Files) (materials : Materials) (texts same : List (List ℕ)) (reads reads_now count : ℕ) (asks now : ℕ → ℕ) → texts ≡ same
+    → HasContents told materials texts reads reads_now (λ contents. (w : ℕ) → w < count → AsksFew w count 0 (asks w) (now w) contents)
+    → HasContents told materials same reads reads_now (λ contents. (w : ℕ) → w < count → AsksFew w count 0 (asks w) (now w) contents)
+asked_as told materials texts same reads reads_now count asks now are has = asked_later told materials materials texts same reads reads_now count asks now now (λ w. 0) refl are (λ w less. omega arith) has
+
+-- and nothing be asked later
+pub asked_still : (told : Option Files) (materials : Materials) (texts same : List (List ℕ)) (reads reads_now count : ℕ) (asks mid now : ℕ → ℕ) → texts ≡ same → ((w : ℕ) → w < count → now w ≡ mid w)
+    → HasContents told materials texts reads reads_now (λ contents. (w : ℕ) → w < count → AsksFew w count 0 (asks w) (mid w) contents)
+    → HasContents told materials same reads reads_now (λ contents. (w : ℕ) → w < count → AsksFew w count 0 (asks w) (now w) contents)
+asked_still told materials texts same reads reads_now count asks mid now are still has =
+    asked_later told materials materials texts same reads reads_now count asks mid now (λ w. 0) refl are (λ w less. let e = still w less in omega (arith, e)) has

@@ -18,9 +18,7 @@ use Rattle.verify_service.specs.declared.screening.ReadyCall.{ReadyCall}
 use Rattle.verify_service.specs.declared.screening.Screening.{Screening}
 use Rattle.verify_service.specs.declared.screening.Screening.TheVariants as screenings
 use Rattle.verify_service.proofs.CallRowLaws.{ScreenedLaws, ticket_is}
-
-false_is_not_true : false ≡ true → ⊥
-false_is_not_true e = cc
+use Rattle.verify_service.proofs.TestLaws.{false_is_not_true}
 
 -- ---- what is at an index
 

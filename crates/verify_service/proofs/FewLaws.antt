@@ -11,12 +11,7 @@ use Rattle.verify_service.specs.Causes.{joined}
 use Rattle.cert_store.specs.Using.{IsOnce, has}
 use Rattle.verify_service.specs.Needed.{is_needed, needed, once}
 use Rattle.verify_service.specs.RightChains.{held_count}
-
-false_is_not_true : false ≡ true → ⊥
-false_is_not_true e = cc
-
-pub same_text : (a b : List ℕ) → bytes_eq a b ≡ true → a ≡ b
-same_text a b e = (bytes_decides a b).0 e
+use Rattle.verify_service.proofs.TestLaws.{false_is_not_true, same_text}
 
 -- ---- one more, unless it is one of them, before all others or after them
 

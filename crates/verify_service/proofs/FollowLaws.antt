@@ -6,6 +6,7 @@ use Rattle.std.proofs.lemmas.List.{drop_more}
 use Rattle.call_log.specs.Entry.{Entry}
 use Rattle.text_grammar.specs.Moment.{last_second}
 use Rattle.verify_service.specs.Service.{EachFollows, Follow, Follows, all_follow, follows_on}
+use Rattle.verify_service.proofs.TestLaws.{false_is_not_true}
 
 follows_said : (number moment : ℕ) (entry : Entry) → follows_on number moment entry ≡ true → Follows number moment entry
 follows_said number moment entry is =
@@ -46,9 +47,6 @@ follow_means number moment entries answer is some few = (
   λ so. record { some = some; few = few; each = all_said number moment entries (sym is ∙ so) },
   λ follow. is ∙ says_all number moment entries follow.each,
 )
-
-false_is_not_true : false ≡ true → ⊥
-false_is_not_true e = cc
 
 -- none or more than 256 don't
 pub follow_none : (number moment : ℕ) (entries : List Entry) → length entries ≡ 0 → IsTrue false ↔ Follow number moment entries

@@ -10,16 +10,7 @@ use Rattle.verify_rules.specs.States.{State, have, long, no_chain, unread}
 use Rattle.verify_service.specs.Reads.{certificates_in}
 use Rattle.verify_service.specs.RoundRead.{all_certificates, is_judged}
 use Rattle.verify_service.proofs.StoreAllLaws.{IsPair}
-
-false_is_not_true : false ≡ true → ⊥
-false_is_not_true e = cc
-
-same_text : (a b : List ℕ) → bytes_eq a b ≡ true → a ≡ b
-same_text a b e = (bytes_decides a b).0 e
-
-or_right : (b c : Bool) → c ≡ true → (b || c) ≡ true
-or_right true c is = refl
-or_right false c is = is
+use Rattle.verify_service.proofs.TestLaws.{false_is_not_true, or_right, same_text}
 
 or_step : (b c d : Bool) → (c ≡ true → d ≡ true) → (b || c) ≡ true → (b || d) ≡ true
 or_step true c d law is = refl

@@ -1,3 +1,4 @@
+pub mod TestLaws
 pub mod CountLaws
 pub mod FollowLaws
 pub mod CallLaws

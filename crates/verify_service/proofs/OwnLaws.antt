@@ -21,13 +21,7 @@ use Rattle.verify_service.specs.declared.screening.Screening.TheVariants.{Open, 
 use Rattle.verify_service.proofs.JudgedChainLaws.{judged_chains, judged_first}
 use Rattle.call_judging.proofs.ListLaws.{mapped_length}
 use Rattle.verify_service.proofs.StoreAllLaws.{IsPair}
-
-false_is_not_true : false ≡ true → ⊥
-false_is_not_true e = cc
-
-or_right : (b c : Bool) → c ≡ true → (b || c) ≡ true
-or_right true c is = refl
-or_right false c is = is
+use Rattle.verify_service.proofs.TestLaws.{false_is_not_true, or_right}
 
 or_none : (b c : Bool) → b ≡ false → c ≡ false → (b || c) ≡ false
 or_none b c one two = ap (λ t. t || c) one ∙ two

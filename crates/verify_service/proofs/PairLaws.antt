@@ -23,9 +23,7 @@ use Rattle.verify_service.specs.declared.screening.ReadyCall.{ReadyCall}
 use Rattle.verify_service.proofs.CallRowLaws.{apart_passed, ticket_is}
 use Rattle.verify_service.proofs.EntryClassLaws.{Beside, ClassedCall, are_classes, beside, class_at, of_log, out_some, some_at, some_out}
 use Rattle.verify_service.proofs.CarriedLaws.{IsCarried, carried_settled, first_wins}
-
-false_is_not_true : false ≡ true → ⊥
-false_is_not_true e = cc
+use Rattle.verify_service.proofs.TestLaws.{false_is_not_true}
 
 -- what isn't held isn't found
 none_kept : (o : Option Passed) → option_map kept_of_past o ≡ None → o ≡ None

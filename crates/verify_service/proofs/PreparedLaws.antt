@@ -15,13 +15,7 @@ use Rattle.verify_service.specs.Service.{ServiceView}
 use Rattle.verify_service.specs.declared.screening.ReadyCall.{ReadyCall}
 use Rattle.verify_service.specs.declared.screening.Screening.{Screening}
 use Rattle.verify_service.specs.declared.screening.Screening.TheVariants.{Open, Refused, Passed}
-
-or_left : (b c : Bool) → b ≡ true → (b || c) ≡ true
-or_left b c is = ap (λ t. t || c) is
-
-or_right : (b c : Bool) → c ≡ true → (b || c) ≡ true
-or_right true c is = refl
-or_right false c is = is
+use Rattle.verify_service.proofs.TestLaws.{or_left, or_right}
 
 has_both : (x : List ℕ) (xs ys : List (List ℕ)) → has x (xs ++ ys) ≡ (has x xs || has x ys)
 has_both x [] ys = refl

@@ -28,9 +28,7 @@ use Rattle.verify_service.proofs.FewLaws.{once_each}
 use Rattle.verify_service.proofs.JudgedChainLaws.{judged_chains, judged_pair}
 use Rattle.verify_service.proofs.OwnLaws.{has_itself, none_own, once_some, own_each, own_open_is, own_pair, pair_among, some_among}
 use Rattle.verify_service.proofs.StoreAllLaws.{IsPair, picked, picked_count, picked_has, round_kept}
-
-false_is_not_true : false ≡ true → ⊥
-false_is_not_true e = cc
+use Rattle.verify_service.proofs.TestLaws.{false_is_not_true, or_right}
 
 abbrev pub NoMoreLaw : Type 0
 NoMoreLaw = (texts others : List (List ℕ)) → IsOnce texts → AreAmong texts others → length texts ≤ length others
@@ -65,10 +63,6 @@ pair_any p x s [] states pair is = absurd pair
 pair_any p x s (t ∷ ts) [] pair is = absurd pair
 pair_any p x s (t ∷ ts) (u ∷ us) (inl here) is = ap (λ b. b || list_any p us) (sym (ap p here.1) ∙ is)
 pair_any p x s (t ∷ ts) (u ∷ us) (inr later) is = or_right (p u) (list_any p us) (pair_any p x s ts us later is)
-  where
-    or_right : (b c : Bool) → c ≡ true → (b || c) ≡ true
-    or_right true c so = refl
-    or_right false c so = so
 
 none_filter : (p : Outcome → Bool) (outs : List Outcome) → ((at : ℕ) → at < length outs → p (out_at outs at) ≡ false) → length (filter p outs) ≡ 0
 none_filter p [] none = refl

@@ -29,13 +29,7 @@ use Rattle.verify_service.proofs.RoundThereLaws.{TheseLaw}
 use Rattle.verify_service.proofs.StoreAllLaws.{all_capacity, pair_known}
 use Rattle.verify_service.proofs.TouchLaws.{HeldAreUsed, SameLaw, TouchedOthersLaw, all_unless, needed_named, needed_parts, pair_held, touch_chains, touch_stays}
 use Rattle.verify_service.proofs.UnheldLaws.{CacheLaws, all_few}
-
-or_left : (b c : Bool) → b ≡ true → (b || c) ≡ true
-or_left b c is = ap (λ t. t || c) is
-
-or_right : (b c : Bool) → c ≡ true → (b || c) ≡ true
-or_right true c is = refl
-or_right false c is = is
+use Rattle.verify_service.proofs.TestLaws.{or_left, or_right}
 
 abbrev pub NamedLaw : Type 0
 NamedLaw = (settings : Settings) (entries : List Entry) (calls : List ReadyCall) → EachPair (IsReady settings) entries calls → all_named calls ≡ named settings entries

@@ -6,7 +6,8 @@ use Rattle.cert_store.specs.Files.{Files}
 use Rattle.cert_store.specs.Holding.{Chains}
 use Rattle.cert_store.specs.Using.{has}
 use Rattle.verify_service.specs.Needed.{BeginsWith, is_needed, needed, once, round_texts}
-use Rattle.verify_service.proofs.FewLaws.{has_more, same_text}
+use Rattle.verify_service.proofs.FewLaws.{has_more}
+use Rattle.verify_service.proofs.TestLaws.{same_text}
 use Rattle.verify_service.proofs.NeededLaws.{filter_more, once_more}
 
 -- ---- the same texts

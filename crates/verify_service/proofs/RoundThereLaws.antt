@@ -18,9 +18,7 @@ use Rattle.verify_service.specs.declared.screening.ReadyCall.{ReadyCall}
 use Rattle.verify_service.proofs.ReadyChainLaws.{right_same}
 use Rattle.verify_service.proofs.StoreAllLaws.{HereLaw, OthersLaw, RightLaw, all_capacity, all_here, all_others, all_right}
 use Rattle.verify_service.proofs.TouchLaws.{SameLaw, TouchedLaw, TouchedOthersLaw, named_needed, needed_named, touch_chains, touch_here}
-
-false_is_not_true : false ≡ true → ⊥
-false_is_not_true e = cc
+use Rattle.verify_service.proofs.TestLaws.{false_is_not_true}
 
 -- ---- the chains are right, and there
 

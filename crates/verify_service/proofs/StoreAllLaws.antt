@@ -16,12 +16,7 @@ use Rattle.verify_service.specs.Judging.{EachPair}
 use Rattle.verify_service.specs.Kept.{KeepsChain, Kept, StoresChain, StoresJudged, kept_state}
 use Rattle.verify_service.specs.RightChains.{AreRightHeld, FailAtQuestions, IsThereUnless}
 use Rattle.verify_service.specs.RoundRead.{IsKnownRight, StoresAll, StoresFirst}
-
-false_is_not_true : false ≡ true → ⊥
-false_is_not_true e = cc
-
-same_text : (a b : List ℕ) → bytes_eq a b ≡ true → a ≡ b
-same_text a b e = (bytes_decides a b).0 e
+use Rattle.verify_service.proofs.TestLaws.{false_is_not_true, or_right, same_text}
 
 -- ---- the capacity stays
 
@@ -93,10 +88,6 @@ OthersLaw = (used : List (List ℕ)) (x5u other : List ℕ) (state : State) (hel
 
 first_among : (used : List (List ℕ)) (x : List ℕ) (xs : List (List ℕ)) → AreAmong (x ∷ xs) used → has x used ≡ true
 first_among used x xs among = among x (ap (λ b. b || has x xs) (nat_list_eq_equiv.refl x))
-
-or_right : (b c : Bool) → c ≡ true → (b || c) ≡ true
-or_right true c is = refl
-or_right false c is = is
 
 others_among : (used : List (List ℕ)) (x : List ℕ) (xs : List (List ℕ)) → AreAmong (x ∷ xs) used → AreAmong xs used
 others_among used x xs among z is = among z (or_right (bytes_eq z x) (has z xs) is)

@@ -10,6 +10,7 @@ use Rattle.cert_store.specs.Using.{HeldUnless, IsHeldSince, IsOnce, has, names}
 use Rattle.verify_rules.specs.States.{State, have, long, no_chain, unread}
 use Rattle.verify_service.specs.Kept.{HoldsChain, KeepsChain, Kept, StoresChain, StoresJudged, kept_state}
 use Rattle.verify_service.specs.RightChains.{IsThere, IsThereUnless}
+use Rattle.verify_service.proofs.TestLaws.{or_left, or_right}
 
 abbrev pub PutLaw : Type 0
 PutLaw = (used : List (List ℕ)) (x5u : List ℕ) (judged : JudgedView) (holding : Holding) → IsHeldSince used x5u (put_in x5u judged holding)
@@ -25,13 +26,6 @@ FewLaw = (capacity : ℕ) (used : List (List ℕ)) (x5u : List ℕ) (entries : C
 some_step : (b : Bool) (state : State) (o : Option State) → is_some o ≡ true → is_some (cond b (Some state) o) ≡ true
 some_step true state o is = refl
 some_step false state o is = is
-
-or_left : (b c : Bool) → b ≡ true → (b || c) ≡ true
-or_left b c is = ap (λ t. t || c) is
-
-or_right : (b c : Bool) → c ≡ true → (b || c) ≡ true
-or_right true c is = refl
-or_right false c is = is
 
 -- ---- it is kept
 

@@ -150,6 +150,30 @@ pub record Steps {W : Type 0} (seat_of : W → Option Holder) (outs_in : W → L
       → HasClaimed past calls (length seated) w (seat_of (get_or seated w d)) (seat_of (get_or worked w d)) (outs_in (get_or worked w d))
   pub same_outs : (w : ℕ) (d : W) → w < length worked → outs_in (get_or left w d) ≡ outs_in (get_or worked w d)
 
+pub steps_are : {W : Type 0} {seat_of : W → Option Holder} {outs_in : W → List Outcome} {past : PastView} {calls : List ReadyCall} {desk : DeskId} {seats : List Holder} {before seated worked left : List W}
+    → 0 < length before → length seats ≡ length before → length seated ≡ length before → length worked ≡ length seated → length left ≡ length worked
+    → ((w : ℕ) (d : W) → w < length before → seat_of (get_or seated w d) ≡ slice_get seats w) → HaveSeats desk seats
+    → ((w : ℕ) (d : W) → w < length seated → HasClaimed past calls (length seated) w (seat_of (get_or seated w d)) (seat_of (get_or worked w d)) (outs_in (get_or worked w d)))
+    → ((w : ℕ) (d : W) → w < length worked → outs_in (get_or left w d) ≡ outs_in (get_or worked w d)) → Steps seat_of outs_in past calls desk seats before seated worked left
+steps_are some many many_seated many_worked many_left given have claimed same_outs = record {
+  some = some;
+  many = many;
+  many_seated = many_seated;
+  many_worked = many_worked;
+  many_left = many_left;
+  given = given;
+  have = have;
+  claimed = claimed;
+  same_outs = same_outs;
+}
+
+-- What the one seat has to which those of all workers are joined.
+pub record Joined {W : Type 0} (outs_in : W → List Outcome) (past : PastView) (calls : List ReadyCall) (desk : DeskId) (before left : List W) (all : Holder) : Type 0 where
+  pub claims : (d : W) (outs : List Outcome) → AreGathered (λ w. outs_in (get_or left w d)) (length before) (length calls) outs → HasClaims past calls outs all
+  pub share : all.share ≡ whole
+  pub own : all.desk ≡ desk
+  pub turn : (d : W) (outs : List Outcome) → length before ≡ 1 → AreGathered (λ w. outs_in (get_or left w d)) (length before) (length calls) outs → IsInTurn past calls outs
+
 module _ {W : Type 0} (seat_of : W → Option Holder) (outs_in : W → List Outcome) (past : PastView) (calls : List ReadyCall) (desk : DeskId) (seats : List Holder)
     (before seated worked left : List W) (s : Steps seat_of outs_in past calls desk seats before seated worked left) where
   abbrev seats_then : List (Option Holder)
@@ -195,10 +219,10 @@ module _ {W : Type 0} (seat_of : W → Option Holder) (outs_in : W → List Outc
       let m = s.many in
       shares_given seats seats_then (many_then ∙ sym s.many) (λ w within. given_at (head_of before s.some) w (omega arith)) ∙ s.have.all
 
-  pub desk_is : (all : Holder) → joined_from None seats_now ≡ Some all → all.desk ≡ desk
+  desk_is : (all : Holder) → joined_from None seats_now ≡ Some all → all.desk ≡ desk
   desk_is all joined = subst (IsOfDesk desk) joined (desk_from desk None seats_now tt (λ w within. desk_at (head_of before s.some) w (let m = many_now in omega arith)))
 
-  pub share_is : (all : Holder) → joined_from None seats_now ≡ Some all → all.share ≡ whole
+  share_is : (all : Holder) → joined_from None seats_now ≡ Some all → all.share ≡ whole
   share_is all joined =
       let d = head_of before s.some in
       let m = many_then in
@@ -207,7 +231,7 @@ module _ {W : Type 0} (seat_of : W → Option Holder) (outs_in : W → List Outc
       (λ w within. same_share past calls (length before) w (get_or seats_then w None) (get_or seats_now w None) (outs_in (get_or left w d)) (claimed_at d w (omega arith)))
       ∙ all_given
 
-  pub claims_are : (all : Holder) → joined_from None seats_now ≡ Some all → (d : W) (outs : List Outcome) → AreGathered (λ w. outs_in (get_or left w d)) (length before) (length calls) outs
+  claims_are : (all : Holder) → joined_from None seats_now ≡ Some all → (d : W) (outs : List Outcome) → AreGathered (λ w. outs_in (get_or left w d)) (length before) (length calls) outs
       → HasClaims past calls outs all
   claims_are all joined d outs gathered =
       claims_of_all past calls (length before) s.some outs (λ w. outs_in (get_or left w d)) (λ w. unwrap_or (get_or seats_then w None) all) (λ w. unwrap_or (get_or seats_now w None) all)
@@ -241,10 +265,13 @@ module _ {W : Type 0} (seat_of : W → Option Holder) (outs_in : W → List Outc
         valid = same win.at (let b = win.below in omega arith) ∙ win.valid;
       }
 
-  pub turn_is : length before ≡ 1 → (d : W) (outs : List Outcome) → AreGathered (λ w. outs_in (get_or left w d)) (length before) (length calls) outs → IsInTurn past calls outs
+  turn_is : length before ≡ 1 → (d : W) (outs : List Outcome) → AreGathered (λ w. outs_in (get_or left w d)) (length before) (length calls) outs → IsInTurn past calls outs
   turn_is one d outs gathered =
       turn_by (outs_in (get_or left 0 d)) outs (get_or seats_then 0 None) (get_or seats_now 0 None) one (claimed_at d 0 s.some) (one_share seats_then (many_then ∙ one) all_given)
       (λ at below. gathered at below ∙ ap (λ w. out_at (outs_in (get_or left w d)) at) (all_its_own (length before) at s.some one))
+
+  pub joined_is : (all : Holder) → joined_from None seats_now ≡ Some all → Joined outs_in past calls desk before left all
+  joined_is all joined = record { claims = claims_are all joined; share = share_is all joined; own = desk_is all joined; turn = λ d outs one gathered. turn_is one d outs gathered }
 
 -- ---- what each answered, and what its provider says
 

@@ -14,16 +14,7 @@ use Rattle.verify_service.specs.Needed.{is_needed, needed, touch_all}
 use Rattle.verify_service.specs.RoundRead.{StoresAll}
 use Rattle.verify_service.proofs.StoreAllLaws.{IsPair, one_capacity}
 use Rattle.verify_service.proofs.UnheldLaws.{CacheLaws}
-
-false_is_not_true : false ≡ true → ⊥
-false_is_not_true e = cc
-
-same_text : (a b : List ℕ) → bytes_eq a b ≡ true → a ≡ b
-same_text a b e = (bytes_decides a b).0 e
-
-or_right : (b c : Bool) → c ≡ true → (b || c) ≡ true
-or_right true c is = refl
-or_right false c is = is
+use Rattle.verify_service.proofs.TestLaws.{false_is_not_true, or_right, same_text}
 
 -- ---- used
 

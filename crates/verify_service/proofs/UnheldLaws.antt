@@ -13,12 +13,7 @@ use Rattle.verify_service.specs.Kept.{KeepsChain, Kept, StoresChain, StoresJudge
 use Rattle.verify_service.specs.Reads.{unheld}
 use Rattle.verify_service.specs.RoundRead.{StoresAll, is_judged}
 use Rattle.verify_service.proofs.StoreAllLaws.{one_capacity}
-
-false_is_not_true : false ≡ true → ⊥
-false_is_not_true e = cc
-
-same_text : (a b : List ℕ) → bytes_eq a b ≡ true → a ≡ b
-same_text a b e = (bytes_decides a b).0 e
+use Rattle.verify_service.proofs.TestLaws.{false_is_not_true, or_right, same_text}
 
 -- ---- counted
 
@@ -201,10 +196,6 @@ one_none laws z x long held now kept kept_now one other none = kept_none z x lon
 one_none laws z x unread held now kept kept_now one other none = kept_none z x unread held now kept kept_now one none
 
 -- ---- all of them in turn
-
-or_right : (b c : Bool) → c ≡ true → (b || c) ≡ true
-or_right true c is = refl
-or_right false c is = is
 
 or_none : (b c : Bool) → (b || c) ≡ false → (b ≡ false) × (c ≡ false)
 or_none true c none = absurd (false_is_not_true (sym none))

@@ -73,37 +73,14 @@ pub(crate) fn store_chain(
 {
     let x5u = Vec::from_slice(alloc, x5u)?;
     match chain {
-        ChainStatus::Judged(judged) => store_judged(x5u, judged, cache, kept),
+        ChainStatus::Judged(judged) => match judged.asked() {
+            Asked::Failed { .. } => kept.keep(x5u, ChainStatus::Judged(judged)),
+            Asked::NotAsked => cache.put(x5u, judged),
+            Asked::Yes => cache.put(x5u, judged),
+            Asked::No { .. } => cache.put(x5u, judged),
+        },
         ChainStatus::Missing => kept.keep(x5u, ChainStatus::Missing),
         ChainStatus::TooLong => kept.keep(x5u, ChainStatus::TooLong),
         ChainStatus::Unread => kept.keep(x5u, ChainStatus::Unread),
-    }
-}
-
-/// The same of a chain that was judged.
-fn store_judged(
-    x5u: Vec<u8>,
-    judged: Judged,
-    cache: &mut Cache,
-    kept: &mut KeptChains,
-) -> Result<(), AllocError>
-    ensures stored { OnOk result (StoresChain x5u.items (have judged) cache.old cache.new kept.old kept.new) }
-    ensures refused { OnErr result (cache.new ≡ cache.old) }
-{
-    if is_failed(judged.asked()) {
-        return kept.keep(x5u, ChainStatus::Judged(judged));
-    }
-    cache.put(x5u, judged)
-}
-
-/// Whether the provider failed at a question.
-fn is_failed(asked: Asked) -> bool
-    ensures { result ≡ is_failed asked }
-{
-    match asked {
-        Asked::Failed { .. } => true,
-        Asked::NotAsked => false,
-        Asked::Yes => false,
-        Asked::No { .. } => false,
     }
 }

@@ -44,30 +44,30 @@
 #![tactic(auto)]
 
 mod carried;
-mod carrying;
-mod claiming;
-mod classing;
-mod closing;
-mod fetching;
-mod handing;
+mod carry;
+mod chain_files;
+mod handover;
+mod judge;
 mod kept;
 mod laws;
 mod outcome;
 mod prepare;
 mod prepared;
-mod preparing;
 mod ready;
 mod report;
 mod round;
 mod round_chains;
+mod round_end;
+mod round_needs;
 mod screening;
-mod seating;
+mod seats;
 mod service;
-mod storing;
+mod stored_chains;
 mod texts;
+mod tickets;
 mod worker;
+mod worker_calls;
 mod worker_chains;
-mod working;
 
 pub use call_log::{Call, LogFault, LogReader};
 pub use carried::Carried;

@@ -1,4 +1,7 @@
 //! What comes of a call.
+ghost use Rattle.std.specs.Prelude.{◌≡◌};
+ghost use Rattle.verify_service.specs.Adding.{is_valid};
+
 use verify_rules::{Place, Refusal};
 
 /// What comes of a call in a round.
@@ -19,4 +22,19 @@ pub enum Outcome {
     /// It is set aside: the provider failed at a signature. It is that of a certificate, whose number the part is, or of the PASSporT if
     /// the part is 0.
     Unasked(Place),
+}
+
+impl Outcome {
+    /// The call is valid.
+    pub fn is_valid(&self) -> bool
+        ensures { result ≡ is_valid self.now }
+    {
+        match self {
+            Outcome::Valid => true,
+            Outcome::Refused(_) => false,
+            Outcome::Replay { .. } => false,
+            Outcome::Unread(_) => false,
+            Outcome::Unasked(_) => false,
+        }
+    }
 }

@@ -16,15 +16,15 @@ ghost use Rattle.verify_service.specs.Screening.{IsReady};
 ghost use Rattle.verify_service.specs.Service.{AreOfRound, Follow, HoldsRight, IsPurged, IsSameConfig, last_moment_of, last_number, materials_of, texts_in};
 ghost use Rattle.verify_service.specs.Workers.{EachWorker, SayTheSame};
 
-use crate::classing::class_calls;
 use crate::laws::{stored_law, texts_law};
 use crate::outcome::Outcome;
 use crate::prepared::Prepared;
-use crate::preparing::{ready_calls, ready_chains};
 use crate::ready::Round;
-use crate::screening::{ReadyCall, screening_threads};
-use crate::seating::desk_for;
+use crate::round_needs::{ready_calls, ready_chains};
+use crate::screening::ReadyCall;
+use crate::seats::desk_for;
 use crate::service::Service;
+use crate::tickets::class_calls;
 use crate::worker::Worker;
 use call_log::Call;
 use cert_store::{Cache, World, cache_law, use_law};
@@ -95,7 +95,7 @@ impl Service {
         ensures provider { EachWorker workers.old workers.new (λ _ before now. ProviderStays P.Provider before.provider now.provider) }
     {
         self.begin(calls);
-        let alloc = self.alloc();
+        let alloc = *self.places.allocator();
         let ready = self.screened(rt, alloc, workers.len(), calls)?;
         self.past.reserve(calls.len())?;
         let prepared = prepare_round(
@@ -149,7 +149,8 @@ impl Service {
         ensures same { self.new ≡ self.old }
     {
         let places = mem::replace(&mut self.places, Vec::new(alloc));
-        let threads = screening_threads(workers);
+        // Twice as many threads as workers, so that less is left to do if one of them begins late.
+        let threads = if workers == 1 { 1 } else { 2 * workers };
         let ready = ready_calls(rt, alloc, &self.settings, calls, threads, places)?;
         Ok(ready)
     }

@@ -31,7 +31,9 @@ pub fn said(alloc: Global, outcome: &Outcome) -> Result<String, AllocError>
         Outcome::Valid => String::from_str(alloc, "valid - - -"),
         Outcome::Refused(refusal) => refused(alloc, refusal),
         Outcome::Replay { winner } => format!(in alloc; "replay 438 18 {winner}"),
-        Outcome::Unread(place) => unread(alloc, place),
+        Outcome::Unread(Place { field, part }) => {
+            format!(in alloc; "unread - 10 {field}.{part}")
+        }
         Outcome::Unasked(place) => unasked(alloc, place),
     }
 }
@@ -45,15 +47,6 @@ fn refused(alloc: Global, refusal: &Refusal) -> Result<String, AllocError>
     let field = refusal.place.field;
     let part = refusal.place.part;
     format!(in alloc; "refused {code} {rule} {field}.{part}")
-}
-
-/// What it says of a call whose certificates couldn't be read.
-fn unread(alloc: Global, place: &Place) -> Result<String, AllocError>
-    ensures { IfOk result (λ said. string_bytes said ≡ codes "unread - 10 " ++ place_text place.now) }
-{
-    let field = place.field;
-    let part = place.part;
-    format!(in alloc; "unread - 10 {field}.{part}")
 }
 
 /// What it says of a call at a signature of which the provider failed.

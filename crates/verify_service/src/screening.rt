@@ -34,16 +34,6 @@ pub struct ReadyCall {
     pub(crate) class: Option<u32>,
 }
 
-/// In how many threads the calls of a round are screened for so many workers: twice as many, so that less is left to do when one of them begins late; but
-/// one for one worker.
-pub(crate) fn screening_threads(workers: usize) -> usize
-    requires some { 0 < workers }
-    requires few { workers ≤ 8 }
-    ensures { 0 < result }
-{
-    if workers == 1 { 1 } else { 2 * workers }
-}
-
 /// Screens each call into its own place, in at most this many threads. A place is open then only if memory ran out. What the places held before is
 /// given back by these threads.
 pub(crate) fn screen_all<R: Threads + Sync>(

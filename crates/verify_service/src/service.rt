@@ -77,11 +77,6 @@ impl Service {
         })
     }
 
-    /// The allocator of its collections.
-    pub(crate) fn alloc(&self) -> Global {
-        *self.places.allocator()
-    }
-
     /// Whether these calls may be handed in as a round: they are 1 to 256; their numbers rise, from above that of the last call that was
     /// handed in, and are below 4,294,967,295; and their moments never fall, and none is after the year 9999.
     #[tactic(auto, using(crate::proofs::FollowLaws::follow_means, crate::proofs::FollowLaws::follow_none, crate::proofs::FollowLaws::follow_many))]

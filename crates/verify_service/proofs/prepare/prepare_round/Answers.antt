@@ -1,14 +1,12 @@
 -- A round is prepared: its calls are screened and classed, and its chains at hand.
 use Rattle.std.proofs.Common.{◌<◌, ℕ, List, get_or, length, refl, ap, ◌∙◌, subst, arith}
-use Rattle.verify_service.specs.Classes.{AreGivenClasses}
-use Rattle.verify_service.specs.Needed.{all_named, round_texts}
+use Rattle.verify_service.specs.Needed.{all_named}
 use Rattle.verify_service.specs.RightChains.{AreThere}
-use Rattle.verify_service.specs.RoundRead.{HasAskedOwn, RoundReads, texts_of}
+use Rattle.verify_service.specs.RoundRead.{HasAskedOwn, RoundReads}
 use Rattle.verify_service.specs.declared.screening.ReadyCall.{ReadyCall}
-use Rattle.verify_service.proofs.ContentLaws.{asked_later, nothing_read}
+use Rattle.verify_service.proofs.ContentLaws.{asked_as, nothing_read}
 use Rattle.verify_service.proofs.ListLaws.{each_length}
-use Rattle.verify_service.proofs.PrepareLaws.{placed_classes, placed_named, placed_prepared, placed_ready, placed_room, placed_words}
-use Rattle.verify_service.proofs.ReadyLaws.{written_back}
+use Rattle.verify_service.proofs.PrepareLaws.{placed_classes, placed_named, placed_prepared, placed_ready, placed_room, placed_texts, placed_words}
 use Rattle.verify_service.proofs.RoundThereLaws.{are_there, right_now}
 use Rattle.verify_service.proofs.TogetherLaws.{head_of}
 use Rattle.verify_service.proofs.StoreAllLaws.{kept_questions}
@@ -22,50 +20,30 @@ class_calls-requires g c =
 
 pub returns-in_err-kept-clause-most : goal.returns-in_err-kept-clause-most
 returns-in_err-kept-clause-most g c =
-    let olds = c.args.ready.items in
-    let now = c.class_calls.new.calls in
-    let back = written_back olds now c.args.ready.len c.args.ready.ok.0 (c.in_ok-classes.ensures.counted ∙ ap length c.deref_mut.ensures.value) in
-    let given = subst (λ (cs : List ReadyCall). AreGivenClasses c.in_ok-classes.classes cs c.class_calls.new.calls) c.deref_mut.ensures.value c.in_ok-classes.ensures.classes in
     let most = c.ready_chains.ensures.most in
-    let texts = ap (λ (cs : List ReadyCall). length (texts_of c.args.world.now c.args.cache.now.entries cs)) c.deref.ensures.value in
-    let names = ap (λ ts. length (round_texts c.args.world.now.chains c.args.cache.now.entries ts))
-    (c.texts_law.ensures.named c.args.settings.now c.args.calls.now _ (placed_ready c.args.settings.now c.args.calls.now c.in_ok-classes.classes olds now _ back c.requires.ready given)) in
+    let texts = ap length (placed_texts c.args.settings.now c.args.calls.now _ _ _ _ _ c.args.ready.ok.0 c.deref_mut.ensures.value c.in_ok-classes.ensures.counted c.requires.ready c.in_ok-classes.ensures.classes
+    c.texts_law.ensures.named c.args.world.now c.args.cache.now.entries _ c.deref.ensures.value) in
     omega arith
 
 pub returns-clause-most : goal.returns-clause-most
 returns-clause-most g c =
-    let olds = c.args.ready.items in
-    let now = c.class_calls.new.calls in
-    let back = written_back olds now c.args.ready.len c.args.ready.ok.0 (c.in_ok-classes.ensures.counted ∙ ap length c.deref_mut.ensures.value) in
-    let given = subst (λ (cs : List ReadyCall). AreGivenClasses c.in_ok-classes.classes cs c.class_calls.new.calls) c.deref_mut.ensures.value c.in_ok-classes.ensures.classes in
     let most = c.ready_chains.ensures.most in
-    let texts = ap (λ (cs : List ReadyCall). length (texts_of c.args.world.now c.args.cache.now.entries cs)) c.deref.ensures.value in
-    let names = ap (λ ts. length (round_texts c.args.world.now.chains c.args.cache.now.entries ts))
-    (c.texts_law.ensures.named c.args.settings.now c.args.calls.now _ (placed_ready c.args.settings.now c.args.calls.now c.in_ok-classes.classes olds now _ back c.requires.ready given)) in
+    let texts = ap length (placed_texts c.args.settings.now c.args.calls.now _ _ _ _ _ c.args.ready.ok.0 c.deref_mut.ensures.value c.in_ok-classes.ensures.counted c.requires.ready c.in_ok-classes.ensures.classes
+    c.texts_law.ensures.named c.args.world.now c.args.cache.now.entries _ c.deref.ensures.value) in
     omega arith
 
 pub returns-in_err-kept-clause-tries : goal.returns-in_err-kept-clause-tries
 returns-in_err-kept-clause-tries g c =
-    let olds = c.args.ready.items in
-    let now = c.class_calls.new.calls in
-    let back = written_back olds now c.args.ready.len c.args.ready.ok.0 (c.in_ok-classes.ensures.counted ∙ ap length c.deref_mut.ensures.value) in
-    let given = subst (λ (cs : List ReadyCall). AreGivenClasses c.in_ok-classes.classes cs c.class_calls.new.calls) c.deref_mut.ensures.value c.in_ok-classes.ensures.classes in
     let tries = c.ready_chains.ensures.tries in
-    let texts = ap (λ (cs : List ReadyCall). length (texts_of c.args.world.now c.args.cache.now.entries cs)) c.deref.ensures.value in
-    let names = ap (λ ts. length (round_texts c.args.world.now.chains c.args.cache.now.entries ts))
-    (c.texts_law.ensures.named c.args.settings.now c.args.calls.now _ (placed_ready c.args.settings.now c.args.calls.now c.in_ok-classes.classes olds now _ back c.requires.ready given)) in
+    let texts = ap length (placed_texts c.args.settings.now c.args.calls.now _ _ _ _ _ c.args.ready.ok.0 c.deref_mut.ensures.value c.in_ok-classes.ensures.counted c.requires.ready c.in_ok-classes.ensures.classes
+    c.texts_law.ensures.named c.args.world.now c.args.cache.now.entries _ c.deref.ensures.value) in
     omega arith
 
 pub returns-clause-tries : goal.returns-clause-tries
 returns-clause-tries g c =
-    let olds = c.args.ready.items in
-    let now = c.class_calls.new.calls in
-    let back = written_back olds now c.args.ready.len c.args.ready.ok.0 (c.in_ok-classes.ensures.counted ∙ ap length c.deref_mut.ensures.value) in
-    let given = subst (λ (cs : List ReadyCall). AreGivenClasses c.in_ok-classes.classes cs c.class_calls.new.calls) c.deref_mut.ensures.value c.in_ok-classes.ensures.classes in
     let tries = c.ready_chains.ensures.tries in
-    let texts = ap (λ (cs : List ReadyCall). length (texts_of c.args.world.now c.args.cache.now.entries cs)) c.deref.ensures.value in
-    let names = ap (λ ts. length (round_texts c.args.world.now.chains c.args.cache.now.entries ts))
-    (c.texts_law.ensures.named c.args.settings.now c.args.calls.now _ (placed_ready c.args.settings.now c.args.calls.now c.in_ok-classes.classes olds now _ back c.requires.ready given)) in
+    let texts = ap length (placed_texts c.args.settings.now c.args.calls.now _ _ _ _ _ c.args.ready.ok.0 c.deref_mut.ensures.value c.in_ok-classes.ensures.counted c.requires.ready c.in_ok-classes.ensures.classes
+    c.texts_law.ensures.named c.args.world.now c.args.cache.now.entries _ c.deref.ensures.value) in
     omega arith
 
 pub returns-in_err-classes-clause-asks : goal.returns-in_err-classes-clause-asks
@@ -85,71 +63,41 @@ returns-in_err-outcomes-clause-asks g c = λ d.
 
 pub returns-in_err-kept-clause-asks : goal.returns-in_err-kept-clause-asks
 returns-in_err-kept-clause-asks g c = λ d.
-    let olds = c.args.ready.items in
-    let now = c.class_calls.new.calls in
-    let back = written_back olds now c.args.ready.len c.args.ready.ok.0 (c.in_ok-classes.ensures.counted ∙ ap length c.deref_mut.ensures.value) in
-    let given = subst (λ (cs : List ReadyCall). AreGivenClasses c.in_ok-classes.classes cs c.class_calls.new.calls) c.deref_mut.ensures.value c.in_ok-classes.ensures.classes in
-    asked_later (g.S.Shelf.files c.args.shelf.now) c.args.world.now c.args.world.now _ _ _ _ (length c.args.workers.now)
-    (λ w. g.P.Provider.asks (get_or c.args.workers.now w d).provider) (λ w. g.P.Provider.asks (get_or c.ready_chains.new.workers w d).provider)
-    (λ w. g.P.Provider.asks (get_or c.ready_chains.new.workers w d).provider) (λ w. 0) refl
-    (ap (λ (cs : List ReadyCall). texts_of c.args.world.now c.args.cache.now.entries cs) c.deref.ensures.value
-    ∙ ap (λ ts. round_texts c.args.world.now.chains c.args.cache.now.entries ts)
-    (c.texts_law.ensures.named c.args.settings.now c.args.calls.now _ (placed_ready c.args.settings.now c.args.calls.now c.in_ok-classes.classes olds now _ back c.requires.ready given)))
-    (λ w less. omega arith) (c.ready_chains.ensures.asks d)
+    asked_as (g.S.Shelf.files c.args.shelf.now) c.args.world.now _ _ _ _ (length c.args.workers.now) (λ w. g.P.Provider.asks (get_or c.args.workers.now w d).provider)
+    (λ w. g.P.Provider.asks (get_or c.ready_chains.new.workers w d).provider)
+    (placed_texts c.args.settings.now c.args.calls.now _ _ _ _ _ c.args.ready.ok.0 c.deref_mut.ensures.value c.in_ok-classes.ensures.counted c.requires.ready c.in_ok-classes.ensures.classes
+    c.texts_law.ensures.named c.args.world.now c.args.cache.now.entries _ c.deref.ensures.value) (c.ready_chains.ensures.asks d)
 
 pub returns-clause-asks : goal.returns-clause-asks
 returns-clause-asks g c = λ d.
-    let olds = c.args.ready.items in
-    let now = c.class_calls.new.calls in
-    let back = written_back olds now c.args.ready.len c.args.ready.ok.0 (c.in_ok-classes.ensures.counted ∙ ap length c.deref_mut.ensures.value) in
-    let given = subst (λ (cs : List ReadyCall). AreGivenClasses c.in_ok-classes.classes cs c.class_calls.new.calls) c.deref_mut.ensures.value c.in_ok-classes.ensures.classes in
-    asked_later (g.S.Shelf.files c.args.shelf.now) c.args.world.now c.args.world.now _ _ _ _ (length c.args.workers.now)
-    (λ w. g.P.Provider.asks (get_or c.args.workers.now w d).provider) (λ w. g.P.Provider.asks (get_or c.ready_chains.new.workers w d).provider)
-    (λ w. g.P.Provider.asks (get_or c.ready_chains.new.workers w d).provider) (λ w. 0) refl
-    (ap (λ (cs : List ReadyCall). texts_of c.args.world.now c.args.cache.now.entries cs) c.deref.ensures.value
-    ∙ ap (λ ts. round_texts c.args.world.now.chains c.args.cache.now.entries ts)
-    (c.texts_law.ensures.named c.args.settings.now c.args.calls.now _ (placed_ready c.args.settings.now c.args.calls.now c.in_ok-classes.classes olds now _ back c.requires.ready given)))
-    (λ w less. omega arith) (c.ready_chains.ensures.asks d)
+    asked_as (g.S.Shelf.files c.args.shelf.now) c.args.world.now _ _ _ _ (length c.args.workers.now) (λ w. g.P.Provider.asks (get_or c.args.workers.now w d).provider)
+    (λ w. g.P.Provider.asks (get_or c.ready_chains.new.workers w d).provider)
+    (placed_texts c.args.settings.now c.args.calls.now _ _ _ _ _ c.args.ready.ok.0 c.deref_mut.ensures.value c.in_ok-classes.ensures.counted c.requires.ready c.in_ok-classes.ensures.classes
+    c.texts_law.ensures.named c.args.world.now c.args.cache.now.entries _ c.deref.ensures.value) (c.ready_chains.ensures.asks d)
 
 pub invariant_of-result : goal.invariant_of-result
 invariant_of-result g c =
-    let olds = c.args.ready.items in
-    let now = c.class_calls.new.calls in
-    let back = written_back olds now c.args.ready.len c.args.ready.ok.0 (c.in_ok-classes.ensures.counted ∙ ap length c.deref_mut.ensures.value) in
-    let given = subst (λ (cs : List ReadyCall). AreGivenClasses c.in_ok-classes.classes cs c.class_calls.new.calls) c.deref_mut.ensures.value c.in_ok-classes.ensures.classes in
     let d = head_of c.args.workers.now c.requires.some in
     let reads = c.in_ok-kept.ensures.reads d in (
-      (let size = each_length _ c.args.calls.now olds c.requires.ready in
+      (let size = each_length _ c.args.calls.now c.args.ready.items c.requires.ready in
           let len = c.in_ok-outcomes.ensures.len in
           let ok = c.args.ready.ok.0 in omega arith),
-      placed_prepared c.args.settings.now c.args.calls.now c.in_ok-classes.classes olds now _ back c.requires.ready given c.in_ok-desk.desk c.in_ok-desk.seats.items c.in_ok-kept.kept
+      placed_prepared c.args.settings.now c.args.calls.now _ _ _ _ _ c.args.ready.ok.0 c.deref_mut.ensures.value c.in_ok-classes.ensures.counted c.requires.ready c.in_ok-classes.ensures.classes c.in_ok-desk.desk c.in_ok-desk.seats.items c.in_ok-kept.kept
           c.requires.follow c.in_ok-desk.ensures.classes c.in_ok-desk.ensures.words
           (kept_questions _ _ _ _ reads.states _ c.ready_chains.new.cache c.in_ok-kept.kept reads.known.knows.right reads.stores) c.in_ok-desk.ensures.seats,
     )
 
 pub returns-clause-calls : goal.returns-clause-calls
 returns-clause-calls g c =
-    let olds = c.args.ready.items in
-    let now = c.class_calls.new.calls in
-    let back = written_back olds now c.args.ready.len c.args.ready.ok.0 (c.in_ok-classes.ensures.counted ∙ ap length c.deref_mut.ensures.value) in
-    let given = subst (λ (cs : List ReadyCall). AreGivenClasses c.in_ok-classes.classes cs c.class_calls.new.calls) c.deref_mut.ensures.value c.in_ok-classes.ensures.classes in
-    placed_ready c.args.settings.now c.args.calls.now c.in_ok-classes.classes olds now _ back c.requires.ready given
+    placed_ready c.args.settings.now c.args.calls.now _ _ _ _ _ c.args.ready.ok.0 c.deref_mut.ensures.value c.in_ok-classes.ensures.counted c.requires.ready c.in_ok-classes.ensures.classes
 
 pub returns-clause-room : goal.returns-clause-room
 returns-clause-room g c =
-    let olds = c.args.ready.items in
-    let now = c.class_calls.new.calls in
-    let back = written_back olds now c.args.ready.len c.args.ready.ok.0 (c.in_ok-classes.ensures.counted ∙ ap length c.deref_mut.ensures.value) in
-    let given = subst (λ (cs : List ReadyCall). AreGivenClasses c.in_ok-classes.classes cs c.class_calls.new.calls) c.deref_mut.ensures.value c.in_ok-classes.ensures.classes in
-    placed_room c.args.settings.now c.args.calls.now c.in_ok-classes.classes olds now _ back c.requires.ready given
+    placed_room c.args.settings.now c.args.calls.now _ _ _ _ _ c.args.ready.ok.0 c.deref_mut.ensures.value c.in_ok-classes.ensures.counted c.requires.ready c.in_ok-classes.ensures.classes
 
 pub returns-clause-there : goal.returns-clause-there
 returns-clause-there g c =
-    let olds = c.args.ready.items in
-    let now = c.class_calls.new.calls in
-    let back = written_back olds now c.args.ready.len c.args.ready.ok.0 (c.in_ok-classes.ensures.counted ∙ ap length c.deref_mut.ensures.value) in
-    let given = subst (λ (cs : List ReadyCall). AreGivenClasses c.in_ok-classes.classes cs c.class_calls.new.calls) c.deref_mut.ensures.value c.in_ok-classes.ensures.classes in
-    let few = placed_named c.args.settings.now c.args.calls.now c.in_ok-classes.classes olds now _ back c.requires.ready given c.requires.follow.follow.few in
+    let few = placed_named c.args.settings.now c.args.calls.now _ _ _ _ _ c.args.ready.ok.0 c.deref_mut.ensures.value c.in_ok-classes.ensures.counted c.requires.ready c.in_ok-classes.ensures.classes c.requires.follow.follow.few in
     let capacity = c.requires.capacity in
     let size = ap (λ (cs : List ReadyCall). length (all_named cs)) c.deref.ensures.value in
     let reads = c.in_ok-kept.ensures.reads (head_of c.args.workers.now c.requires.some) in
@@ -173,17 +121,9 @@ returns-clause-known g c = λ d right.
 
 pub returns-clause-classes : goal.returns-clause-classes
 returns-clause-classes g c =
-    let olds = c.args.ready.items in
-    let now = c.class_calls.new.calls in
-    let back = written_back olds now c.args.ready.len c.args.ready.ok.0 (c.in_ok-classes.ensures.counted ∙ ap length c.deref_mut.ensures.value) in
-    let given = subst (λ (cs : List ReadyCall). AreGivenClasses c.in_ok-classes.classes cs c.class_calls.new.calls) c.deref_mut.ensures.value c.in_ok-classes.ensures.classes in
-    placed_classes c.args.settings.now c.args.calls.now c.in_ok-classes.classes olds now _ back c.requires.ready given
+    placed_classes c.args.settings.now c.args.calls.now _ _ _ _ _ c.args.ready.ok.0 c.deref_mut.ensures.value c.in_ok-classes.ensures.counted c.requires.ready c.in_ok-classes.ensures.classes
     (record { ticket = c.screened_law.ensures.ticket; last = c.screened_law.ensures.last }) c.in_ok-desk.desk c.requires.follow c.in_ok-desk.ensures.classes c.in_ok-desk.ensures.words
 
 pub returns-clause-words : goal.returns-clause-words
 returns-clause-words g c =
-    let olds = c.args.ready.items in
-    let now = c.class_calls.new.calls in
-    let back = written_back olds now c.args.ready.len c.args.ready.ok.0 (c.in_ok-classes.ensures.counted ∙ ap length c.deref_mut.ensures.value) in
-    let given = subst (λ (cs : List ReadyCall). AreGivenClasses c.in_ok-classes.classes cs c.class_calls.new.calls) c.deref_mut.ensures.value c.in_ok-classes.ensures.classes in
-    placed_words c.args.settings.now c.args.calls.now c.in_ok-classes.classes olds now _ back c.requires.ready given c.in_ok-desk.desk c.in_ok-desk.ensures.exact
+    placed_words c.args.settings.now c.args.calls.now _ _ _ _ _ c.args.ready.ok.0 c.deref_mut.ensures.value c.in_ok-classes.ensures.counted c.requires.ready c.in_ok-classes.ensures.classes c.in_ok-desk.desk c.in_ok-desk.ensures.exact
