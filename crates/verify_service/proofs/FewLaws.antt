@@ -1,7 +1,7 @@
 -- How many texts there are at most: each of them once among others, those that a round reads, and those that it uses.
 use Rattle.std.proofs.Common.{◌≡◌, ℕ, suc, ◌+◌, ◌≤◌, Bool, true, false, cond, not, ◌||◌, ◌&&◌, List, [], ◌∷◌, ◌++◌, filter, length, is_some, refl, sym, ap, ◌∙◌, subst, arith}
 use Rattle.std.proofs.Math.Bool.{or-false}
-use Rattle.std.specs.Cmp.Lexicographic.{bytes_decides, nat_list_eq_equiv}
+use Rattle.std.specs.Cmp.Lexicographic.{nat_list_eq_equiv}
 use Rattle.std.specs.List.{list_any}
 use Rattle.std.specs.Str.{bytes_eq}
 use Rattle.cert_store.specs.ChainMap.{listed}
@@ -11,7 +11,7 @@ use Rattle.verify_service.specs.Causes.{joined}
 use Rattle.cert_store.specs.Using.{IsOnce, has}
 use Rattle.verify_service.specs.Needed.{is_needed, needed, once}
 use Rattle.verify_service.specs.RightChains.{held_count}
-use Rattle.verify_service.proofs.TestLaws.{false_is_not_true, same_text}
+use Rattle.verify_service.proofs.TestLaws.{false_is_not_true}
 
 -- ---- one more, unless it is one of them, before all others or after them
 

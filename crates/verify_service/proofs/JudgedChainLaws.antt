@@ -1,7 +1,6 @@
 -- The chains that a round judged, from what is known of its texts.
 use Rattle.std.proofs.Common.{◌≡◌, ℕ, ◌||◌, inl, inr, Bool, true, false, cond, List, [], ◌∷◌, filter, length, Option, Some, None, refl, sym, ap, ◌∙◌, arith}
 use Rattle.std.proofs.lemmas.Option.{same_Some}
-use Rattle.std.specs.Cmp.Lexicographic.{bytes_decides}
 use Rattle.std.specs.Str.{bytes_eq}
 use Rattle.cert_store.specs.Holding.{Chains, chain_of}
 use Rattle.cert_store.specs.Judged.{JudgedView}

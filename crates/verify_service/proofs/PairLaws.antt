@@ -1,5 +1,5 @@
 -- The seat of a round that was carried out, and the classes of its calls, as those see them who know the calls of the log.
-use Rattle.std.proofs.Common.{◌≡◌, ℕ, zero, suc, ◌<◌, ◌⊎◌, inl, inr, true, false, List, [], ◌∷◌, length, map, unwrap_or, Option, Some, None, refl, sym, ap, ◌∙◌, subst, arith}
+use Rattle.std.proofs.Common.{◌≡◌, ℕ, zero, suc, ◌<◌, ◌⊎◌, inl, inr, true, List, [], ◌∷◌, length, map, unwrap_or, Option, Some, None, refl, sym, ap, ◌∙◌, subst, arith}
 use Rattle.std.proofs.lemmas.Option.{same_Some}
 use Rattle.std.specs.List.{slice_get}
 use Rattle.call_log.specs.Entry.{Entry}
@@ -23,7 +23,6 @@ use Rattle.verify_service.specs.declared.screening.ReadyCall.{ReadyCall}
 use Rattle.verify_service.proofs.CallRowLaws.{apart_passed, ticket_is}
 use Rattle.verify_service.proofs.EntryClassLaws.{Beside, ClassedCall, are_classes, beside, class_at, of_log, out_some, some_at, some_out}
 use Rattle.verify_service.proofs.CarriedLaws.{IsCarried, carried_settled, first_wins}
-use Rattle.verify_service.proofs.TestLaws.{false_is_not_true}
 
 -- what isn't held isn't found
 none_kept : (o : Option Passed) → option_map kept_of_past o ≡ None → o ≡ None

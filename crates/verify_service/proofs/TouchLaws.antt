@@ -1,6 +1,6 @@
 -- What is held when a round has used it, and what becomes of it when others are stored.
 use Rattle.std.proofs.Common.{◌≡◌, ℕ, ◌||◌, inl, inr, Bool, true, false, cond, not, ◌&&◌, List, [], ◌∷◌, is_some, refl, sym, ap, ◌∙◌, subst}
-use Rattle.std.specs.Cmp.Lexicographic.{bytes_decides, nat_list_eq_equiv}
+use Rattle.std.specs.Cmp.Lexicographic.{nat_list_eq_equiv}
 use Rattle.std.specs.Str.{bytes_eq}
 use Rattle.cert_store.specs.Asking.{is_failed}
 use Rattle.cert_store.specs.ChainMap.{listed}

@@ -1,5 +1,5 @@
 -- A round that is prepared is the newest of its service.
-use Rattle.std.proofs.Common.{◌≡◌, ◌<◌, ℕ, [], get_or, length, refl, sym, ap, ◌∙◌, subst, arith}
+use Rattle.std.proofs.Common.{◌<◌, ℕ, [], get_or, length, refl, sym, ap, ◌∙◌, subst, arith}
 use Rattle.cert_store.specs.Holding.{Holding}
 use Rattle.cert_store.specs.declared.world.World.{World as Materials}
 use Rattle.verify_rules.specs.declared.settings.Settings.{Settings}
