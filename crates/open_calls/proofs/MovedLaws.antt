@@ -1,12 +1,14 @@
 -- What comes of an open call, from what the gateway answers.
-use Rattle.std.proofs.Common.{◌≡◌, ℕ, Bool, true, false, ◌==◌, List, length, Option, Some, None, Ok, if◌then◌else◌, inl, inr, refl, sym, ◌∙◌, ap, subst, arith}
-use Rattle.std.specs.Prelude.{⊤}
-use Rattle.std.proofs.lemmas.Bool.Decides.{nat_tests}
+use Rattle.std.proofs.Common.{◌≡◌, ℕ, List, length, map, Option, Some, None, Ok, inl, inr, refl, sym, ◌∙◌, ap, subst, arith}
+use Rattle.std.specs.Prelude.{⊤, IsTrue}
 use Rattle.std.proofs.lemmas.List.{length-map}
 use Rattle.open_calls.specs.OpenCalls.{CallView, IsEarly, call_in, judged_in, unless_refused}
 use Rattle.open_calls.specs.OpenChains.{ChainView, state_or_none, states_of}
-use Rattle.open_calls.specs.Confirmed.{says_by}
+use Rattle.open_calls.specs.Confirmed.{ConfirmedView, confirmed, says_by}
+use Rattle.open_calls.specs.OwnQuestions.{own_asked}
+use Rattle.cert_store.specs.Questions.{seen}
 use Rattle.cert_store.specs.Rules.{QuestionView}
+use Rattle.cert_store.specs.declared.judged.Question.{Question}
 use Rattle.delegation.specs.Coverage.{Table}
 use Rattle.tn_values.specs.Local.{LocalView}
 use Rattle.x509_profile.specs.View.{CertView}
@@ -14,7 +16,7 @@ use Rattle.open_calls.specs.Key.{HasNoHolder, IsHolderOf}
 use Rattle.open_calls.specs.Signing.{signature_in, signs_of}
 use Rattle.open_calls.specs.declared.unsigned.Unread.TheVariants as unread
 use Rattle.auth_service.specs.Order.{HolderView}
-use Rattle.retarget.specs.Hop.{HopView}
+use Rattle.retarget.specs.Hop.{HopView, is_hop}
 use Rattle.retarget.specs.declared.fault.HopFault.{HopFault}
 use Rattle.retarget.specs.declared.fault.HopFault.TheVariants as faults
 use Rattle.verify_rules.specs.Call.{in_call_order}
@@ -22,8 +24,9 @@ use Rattle.verify_rules.specs.Screened.{ScreenedView, screened_by}
 use Rattle.verify_rules.specs.declared.refusal.Refusal.{Refusal}
 use Rattle.verify_rules.specs.declared.verdict.Verdict.{Verdict}
 use Rattle.verify_rules.specs.declared.verdict.Verdict.TheVariants as verdicts
-use Rattle.open_calls.specs.Going.{Given, Going, IsGoing, IsHopOf, confirmed_in, going_by}
-use Rattle.open_calls.specs.Onward.{IsHeld}
+use Rattle.open_calls.proofs.SigningLaws.{is_made, not_sized}
+use Rattle.open_calls.specs.Going.{Given, Going, IsGoing, going_by, hop_by}
+use Rattle.open_calls.specs.Onward.{IsHeld, IsOnward}
 use Rattle.open_calls.specs.Unmoved.{IsHeldBy, IsMovedBy, IsNamed, IsUnmovedFor, IsUnmovedWith, unmoved_of}
 use Rattle.open_calls.specs.declared.unmoved.Unmoved.{Unmoved}
 use Rattle.open_calls.specs.declared.unmoved.Unmoved.TheVariants as unmoved
@@ -54,18 +57,36 @@ holder_as leaf table other local numbering holder same_table same_local is =
     subst (λ (l : LocalView). IsHolderOf (record { leaf = leaf; table = other; local = l }) holder) same_local
     (subst (λ (t : Table). IsHolderOf (record { leaf = leaf; table = t; local = local }) holder) same_table is)
 
-pub is_going : (given : Given) (screened : ScreenedView) (bytes : List ℕ) (moment : ℕ) (good : List QuestionView) (hop : HopView) (holder : HolderView)
-    → IsEarly (call_in given.call) (Ok screened) → bytes ≡ given.call.message → moment ≡ given.call.moment → good ≡ confirmed_in given → IsHopOf given hop holder
-    → IsGoing given (going_by bytes moment screened.readings (states_of given.chains) good hop holder)
-is_going given screened bytes moment good hop holder early bytes_are moment_is good_is by = record {
-  early = early.0;
-  bytes_are = bytes_are;
-  moment_is = moment_is;
-  readings_are = readings_are given.call screened early;
-  states_are = refl;
-  says_is = ap says_by good_is;
-  by = by;
-}
+-- the gateway goes by what was handed in
+pub is_going : (given : Given) (screened : ScreenedView) (bytes : List ℕ) (moment : ℕ) (host : ConfirmedView) (questions asked : List Question) (made : Option (List ℕ)) (table : Table)
+    (local : LocalView) (hop : HopView) (holder : HolderView) → IsEarly (call_in given.call) (Ok screened) → bytes ≡ given.call.message → moment ≡ given.call.moment
+    → host ≡ record { good = confirmed (map seen questions) given.good; made = made; asks = 0 } → questions ≡ asked
+    → map seen asked ≡ own_asked given.world.table (states_of given.chains) (call_in given.call) → table ≡ given.world.table → local ≡ given.call.settings.local
+    → hop ≡ hop_by given.target local → IsTrue (is_hop hop) → IsHolderOf (record { leaf = given.target.leaf; table = table; local = local }) holder
+    → IsGoing given (going_by bytes moment screened.readings (states_of given.chains) host.good hop holder)
+is_going given screened bytes moment host questions asked made table local hop holder early bytes_are moment_is host_is questions_are asked_are table_is local_is hop_is valid holder_is =
+    record {
+      early = early.0;
+      bytes_are = bytes_are;
+      moment_is = moment_is;
+      readings_are = readings_are given.call screened early;
+      states_are = refl;
+      says_is = ap says_by (ap (λ (v : ConfirmedView). v.good) host_is ∙ ap (λ (q : List Question). confirmed (map seen q) given.good) questions_are
+          ∙ ap (λ (q : List QuestionView). confirmed q given.good) asked_are);
+      by = record {
+        hop_is = hop_is ∙ ap (hop_by given.target) local_is;
+        valid = valid;
+        holder_is = holder_as given.target.leaf table given.world.table local given.call.settings.local holder table_is local_is holder_is;
+      };
+    }
+
+-- who has this signature or none has the one that was handed in
+
+pub onward_as : (going : Going) (made other : Option (List ℕ)) (out : List ℕ) → made ≡ other → IsOnward going (signs_of made) out → IsOnward going (signs_of other) out
+onward_as going made other out same is = subst (λ (m : Option (List ℕ)). IsOnward going (signs_of m) out) same is
+
+pub held_as : (going : Going) (made other : Option (List ℕ)) (fault : HopFault) → made ≡ other → IsHeld going (signs_of made) fault → IsHeld going (signs_of other) fault
+held_as going made other fault same is = subst (λ (m : Option (List ℕ)). IsHeld going (signs_of m) fault) same is
 
 -- ---- without a signature nothing goes on
 
@@ -103,19 +124,8 @@ unmoved_by given going made faults.Memory is held named = tt
 
 -- ---- with the bytes of a signature
 
-true_is_not_false : true ≡ false → ⊥
-true_is_not_false e = cc
-
-some_if : (t : Bool) (bytes made : List ℕ) → ◌≡◌ {A = Option (List ℕ)} (Some made) (if t then Some bytes else None) → (made ≡ bytes) × (t ≡ true)
-some_if true bytes made is = (let same : ◌≡◌ {A = Option (List ℕ)} (Some made) (Some bytes) = is in cc, refl)
-some_if false bytes made is = let none : ◌≡◌ {A = Option (List ℕ)} (Some made) None = is in absurd (cc)
-
-none_if : (t : Bool) (bytes : List ℕ) → ◌≡◌ {A = Option (List ℕ)} None (if t then Some bytes else None) → t ≡ false
-none_if true bytes is = let some : ◌≡◌ {A = Option (List ℕ)} None (Some bytes) = is in absurd (cc)
-none_if false bytes is = refl
-
 pub moved_with : (given : Given) (signature made out : List ℕ) → Some made ≡ signature_in signature → IsMovedBy given (Some made) out → IsMovedBy given (Some signature) out
-moved_with given signature made out is by = subst (λ (m : List ℕ). IsMovedBy given (Some m) out) (some_if (length signature == 64) signature made is).0 by
+moved_with given signature made out is by = subst (λ (m : List ℕ). IsMovedBy given (Some m) out) (is_made signature made is).0 by
 
 -- all but a digest
 abbrev pub IsNoDigest : Unmoved → Type 0
@@ -130,22 +140,14 @@ with_made given made (unmoved.Refused refused) long other is = is
 with_made given made (unmoved.Held number) long other is = is
 with_made given made (unmoved.Digest digest) long other is = absurd other
 
-sized : (signature made : List ℕ) → Some made ≡ signature_in signature → length signature ≡ 64
-sized signature made is =
-    let both = some_if (length signature == 64) signature made is in
-    grind (arith, nat_tests, both.1)
-
 pub unmoved_with : (given : Given) (signature made : List ℕ) (came : Unmoved) → Some made ≡ signature_in signature → IsNoDigest came → IsUnmovedFor given (Some made) came
     → IsUnmovedWith given signature came
 unmoved_with given signature made came is digest by =
-    let both = some_if (length signature == 64) signature made is in
-    with_made given signature came (sized signature made is) digest (subst (λ (m : List ℕ). IsUnmovedFor given (Some m) came) both.0 by)
+    let both = is_made signature made is in
+    with_made given signature came both.1 digest (subst (λ (m : List ℕ). IsUnmovedFor given (Some m) came) both.0 by)
 
 pub no_memory_with : (given : Given) (signature : List ℕ) → IsUnmovedWith given signature (unmoved.Input unread.Memory)
 no_memory_with given signature = inr (inr refl)
 
 pub no_signature : (given : Given) (signature : List ℕ) → None ≡ signature_in signature → IsUnmovedWith given signature (unmoved.Input unread.Signature)
-no_signature given signature is = inl (
-  refl,
-  λ (e : length signature ≡ 64). true_is_not_false (sym (subst (λ n. n == 64 ≡ true) (sym e) refl) ∙ none_if (length signature == 64) signature is),
-)
+no_signature given signature is = inl (refl, not_sized signature is)

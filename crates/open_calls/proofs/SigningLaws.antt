@@ -83,10 +83,19 @@ none_if : (t : Bool) (bytes : List ℕ) → ◌≡◌ {A = Option (List ℕ)} No
 none_if true bytes is = let some : ◌≡◌ {A = Option (List ℕ)} None (Some bytes) = is in absurd (cc)
 none_if false bytes is = refl
 
+-- the signature that bytes are is these bytes, and they are 64
+pub is_made : (signature made : List ℕ) → Some made ≡ signature_in signature → (made ≡ signature) × (length signature ≡ 64)
+is_made signature made is =
+    let both = some_if (length signature == 64) signature made is in
+    (both.0, grind (arith, nat_tests, both.1))
+
+-- bytes that are none aren't 64
+pub not_sized : (signature : List ℕ) → None ≡ signature_in signature → length signature ≡ 64 → ⊥
+not_sized signature is size = true_is_not_false (sym (subst (λ n. n == 64 ≡ true) (sym size) refl) ∙ none_if (length signature == 64) signature is)
+
 pub signed_with : (key : KeyView) (given : Given) (message signature made out : List ℕ) → Some made ≡ signature_in signature → IsSignedBy key given message (Some made) out
     → IsSignedBy key given message (Some signature) out
-signed_with key given message signature made out is by =
-    subst (λ (m : List ℕ). IsSignedBy key given message (Some m) out) (some_if (length signature == 64) signature made is).0 by
+signed_with key given message signature made out is by = subst (λ (m : List ℕ). IsSignedBy key given message (Some m) out) (is_made signature made is).0 by
 
 with_made : (key : KeyView) (given : Given) (message made : List ℕ) (came : Unsigned) → length made ≡ 64 → IsUnsignedFor key given message (Some made) came
     → IsUnsignedWith key given message made came
@@ -97,13 +106,9 @@ with_made key given message made (unsigned.Digest digest) long is = let none : �
 pub unsigned_with : (key : KeyView) (given : Given) (message signature made : List ℕ) (came : Unsigned) → Some made ≡ signature_in signature
     → IsUnsignedFor key given message (Some made) came → IsUnsignedWith key given message signature came
 unsigned_with key given message signature made came is by =
-    let both = some_if (length signature == 64) signature made is in
-    let long : length signature ≡ 64 = grind (arith, nat_tests, both.1) in
-    with_made key given message signature came long (subst (λ (m : List ℕ). IsUnsignedFor key given message (Some m) came) both.0 by)
+    let both = is_made signature made is in
+    with_made key given message signature came both.1 (subst (λ (m : List ℕ). IsUnsignedFor key given message (Some m) came) both.0 by)
 
 pub no_signature : (key : KeyView) (given : Given) (message signature : List ℕ) → None ≡ signature_in signature
     → IsUnsignedWith key given message signature (unsigned.Input unread.Signature)
-no_signature key given message signature is = inl (
-  refl,
-  λ (e : length signature ≡ 64). true_is_not_false (sym (subst (λ n. n == 64 ≡ true) (sym e) refl) ∙ none_if (length signature == 64) signature is),
-)
+no_signature key given message signature is = inl (refl, not_sized signature is)

@@ -45,7 +45,8 @@ is_this_at key digest signature good (Some asked) = good && is_this key digest s
 abbrev pub was_confirmed : List Question → List ℕ → ℕ → List ℕ → List ℕ → List ℕ → Bool
 was_confirmed questions good at key digest signature = is_this_at key digest signature (is_yes (slice_get good at)) (slice_get questions at)
 
--- what is confirmed, and how often it was asked
+-- what is confirmed, the signature that is made, if there is one, and how often it was asked
 pub record ConfirmedView : Type 0 where
   pub good : List QuestionView
+  pub made : Option (List ℕ)
   pub asks : ℕ

@@ -44,7 +44,7 @@ impl OpenChain {
     pub fn open(alloc: Global, world: &OpenWorld, bytes: &[u8]) -> Result<OpenChain, AllocError>
         ensures { IfOk result (IsChainOf world.now bytes.now []) }
     {
-        let mut provider = Confirmed::new(&[], &[]);
+        let mut provider = Confirmed::new(&[], &[], None);
         let chain = OpenChain::judged(alloc, world, bytes, &mut provider)?;
         Ok(chain)
     }
@@ -79,7 +79,7 @@ impl OpenChain {
         ensures opened { (bytes before : List ℕ) → IsChainOf world.now bytes before self.now → IfOk result (IsChainOf world.now bytes good.now) }
     {
         let questions = self.questions(alloc)?;
-        let mut provider = Confirmed::new(questions.as_slice(), good);
+        let mut provider = Confirmed::new(questions.as_slice(), good, None);
         let chain = OpenChain::judged(alloc, world, &self.bytes, &mut provider)?;
         Ok(chain)
     }

@@ -1,5 +1,5 @@
 //! A provider of signatures that confirms what was confirmed beforehand.
-ghost use Rattle.std.specs.Prelude.{◌≡◌, ℕ, true, List, None, map};
+ghost use Rattle.std.specs.Prelude.{◌≡◌, ℕ, true, List, map};
 ghost use Rattle.std.specs.List.{slice_get};
 ghost use Rattle.cert_store.specs.Questions.{seen};
 ghost use Rattle.cert_store.specs.Rules.{QuestionView, question};
@@ -9,12 +9,13 @@ use cert_store::Question;
 use std::marker::Model;
 use stir_outside::{Failed, Provider};
 
-/// A provider of signatures that says yes to those questions that were confirmed and to nothing else, makes none and never fails. A contract sees
-/// what was confirmed, and how often it was asked.
+/// A provider of signatures that says yes to those questions that were confirmed and to nothing else, and has one signature for whatever it is asked to sign,
+/// or none. It never fails. A contract sees what was confirmed, that signature, and how often it was asked.
 #[derive(Drop)]
-pub struct Confirmed<'a> {
+pub(crate) struct Confirmed<'a> {
     questions: &'a [Question<'a>],
     good: &'a [u8],
+    made: Option<[u8; 64]>,
     asks: u64,
 }
 
@@ -25,13 +26,17 @@ impl<'a> Model for Confirmed<'a> {
 
     ghost Value = { ConfirmedView };
 
-    ghost view = { λ p. record { good = confirmed (map seen p.questions.now) p.good.now; asks = p.asks } };
+    ghost view = { λ p. record { good = confirmed (map seen p.questions.now) p.good.now; made = p.made; asks = p.asks } };
 }
 
 impl<'a> Confirmed<'a> {
-    /// Of these questions those are confirmed whose byte isn't 0. One without a byte isn't.
-    pub fn new(questions: &'a [Question<'a>], good: &'a [u8]) -> Confirmed<'a>
-        ensures exact { result ≡ record { good = confirmed (map seen questions.now) good.now; asks = 0 } }
+    /// Of these questions those are confirmed whose byte isn't 0. One without a byte isn't. This signature is made, or none.
+    pub(crate) fn new(
+        questions: &'a [Question<'a>],
+        good: &'a [u8],
+        made: Option<[u8; 64]>,
+    ) -> Confirmed<'a>
+        ensures exact { result ≡ record { good = confirmed (map seen questions.now) good.now; made = made; asks = 0 } }
 
         // It says yes to a question exactly if that was confirmed: it stands at a place, and the byte of that place isn't 0.
         ensures yes { (asked : QuestionView) → IsConfirmed (map seen questions.now) good.now asked → says_by result.good asked.key asked.digest asked.signature ≡ true }
@@ -41,22 +46,16 @@ impl<'a> Confirmed<'a> {
         Confirmed {
             questions,
             good,
+            made,
             asks: 0,
         }
-    }
-
-    /// How often it was asked.
-    pub fn asks(&self) -> u64
-        ensures { result ≡ self.now.asks }
-    {
-        self.asks
     }
 }
 
 impl<'a> Provider for Confirmed<'a> {
     ghost says = { λ p. says_by p.good };
 
-    ghost signs = { λ _ _ _. None };
+    ghost signs = { λ p _ _. p.made };
 
     ghost asks = { λ p. p.asks };
 
@@ -76,7 +75,7 @@ impl<'a> Provider for Confirmed<'a> {
 
     fn sign(&mut self, _name: &[u8], _digest: &[u8; 32]) -> Result<Option<[u8; 64]>, Failed> {
         self.asks = self.asks.saturating_add(1);
-        Ok(None)
+        Ok(self.made)
     }
 }
 

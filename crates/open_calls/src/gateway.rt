@@ -13,7 +13,6 @@ ghost use Rattle.open_calls.specs.Unmoved.{IsMovedBy, IsNamed, IsUnmovedFor, IsU
 use crate::call::OpenCall;
 use crate::chains::OpenChains;
 use crate::confirmed::Confirmed;
-use crate::host::Host;
 use crate::key::Key;
 use crate::signing::signature_in;
 use crate::target::Target;
@@ -111,11 +110,7 @@ fn move_by(
         Ok(asked) => asked,
         Err(_) => return Err(Unmoved::Input(Unread::Memory)),
     };
-    let host = Host {
-        confirmed: Confirmed::new(asked.questions.as_slice(), good),
-        made,
-        asks: 0,
-    };
+    let mut host = Confirmed::new(asked.questions.as_slice(), good, made);
     match onward(
         alloc,
         call.message(),
@@ -124,7 +119,7 @@ fn move_by(
         call.moment(),
         &hop,
         &holder,
-        host,
+        &mut host,
     ) {
         Ok(out) => Ok(out),
         Err(fault) => Err(why(fault)),
@@ -141,20 +136,17 @@ fn onward(
     moment: u64,
     hop: &Hop<'_>,
     holder: &Holder<'_>,
-    host: Host<'_>,
+    host: &mut Confirmed<'_>,
 ) -> Result<Vec<u8>, HopFault>
     requires screened { IsScreenedFor bytes.now moment hop.now.local screened.now }
     requires one_each { length (states_of chains.now) ≡ length screened.now.readings }
     requires hop { IsTrue (is_hop (hop_of hop.now)) }
-    ensures onward { IfOk result (λ out. IsOnward (going_by bytes.now moment screened.now.readings (states_of chains.now) host.entry.confirmed.good (hop_of hop.now) (holder_of holder.now)) (signs_of host.entry.made) out.items) }
-    ensures held { IfErr result (IsHeld (going_by bytes.now moment screened.now.readings (states_of chains.now) host.entry.confirmed.good (hop_of hop.now) (holder_of holder.now)) (signs_of host.entry.made)) }
+    ensures onward { IfOk result (λ out. IsOnward (going_by bytes.now moment screened.now.readings (states_of chains.now) host.old.good (hop_of hop.now) (holder_of holder.now)) (signs_of host.old.made) out.items) }
+    ensures held { IfErr result (IsHeld (going_by bytes.now moment screened.now.readings (states_of chains.now) host.old.good (hop_of hop.now) (holder_of holder.now)) (signs_of host.old.made)) }
     ensures named { IfErr result IsNamed }
 {
     chains.known();
-    let mut host = host;
-    match retarget(
-        alloc, bytes, screened, chains, moment, hop, holder, &mut host,
-    ) {
+    match retarget(alloc, bytes, screened, chains, moment, hop, holder, host) {
         Ok(out) => Ok(out),
         Err(fault) => Err(fault),
     }

@@ -108,7 +108,7 @@ impl OpenCall {
         judged_law();
         questions_law();
         let asked = self.ask(alloc, world, chains)?;
-        let mut provider = Confirmed::new(asked.questions.as_slice(), good);
+        let mut provider = Confirmed::new(asked.questions.as_slice(), good, None);
         let found = self.finish(world, chains, &mut provider);
         Ok(found)
     }

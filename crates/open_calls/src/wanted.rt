@@ -6,7 +6,7 @@ ghost use Rattle.auth_service.specs.Promise.{IsPromised};
 ghost use Rattle.open_calls.specs.Order.{wanted_of};
 ghost use Rattle.open_calls.specs.Signing.{GivesMessage, IsUnsignedBy, signs_of, why_of};
 
-use crate::signer::Signer;
+use crate::confirmed::Confirmed;
 use crate::unsigned::{Unread, Unsigned};
 use auth_service::{DivertOrder, Holder, SignFault, SignOrder, divert, sign};
 use std::alloc::Global;
@@ -63,7 +63,7 @@ impl Wanted<'_> {
         ensures promised { IsPromised (λ out. out.items) message.now (wanted_of self.now) (Some (holder_of holder.now)) (signs_of made) result }
         ensures steady { IfErr result (λ fault. is_provider fault ≡ false) }
     {
-        let mut signer = Signer { made, asks: 0 };
+        let mut signer = Confirmed::new(&[], &[], made);
         match self {
             Wanted::Origin(order) => sign(alloc, message, order, Some(holder), &mut signer),
             Wanted::Diversion(order) => divert(alloc, message, order, Some(holder), &mut signer),
