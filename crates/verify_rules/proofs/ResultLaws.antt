@@ -1,6 +1,8 @@
 -- What a rule on chains says if it leaves nothing open: it holds or is broken, so no event of it sets a call aside.
-use Rattle.std.proofs.Common.{ℕ, Bool, true, false, List, [], ◌∷◌, Option, Some, None}
+use Rattle.std.proofs.Common.{◌≡◌, ℕ, Bool, true, false, List, [], ◌∷◌, Option, Some, None}
+use Rattle.std.specs.List.{list_all}
 use Rattle.std.specs.Prelude.{⊤}
+use Rattle.std.proofs.lemmas.Bool.{and_parts}
 use Rattle.cert_store.specs.Judged.{JudgedView}
 use Rattle.delegation.specs.Coverage.{Table}
 use Rattle.verify_rules.specs.Call.{Reading}
@@ -36,6 +38,19 @@ AsksNothing rule = ⊤
 abbrev pub AskNothing : List LateRule → Type 0
 AskNothing [] = ⊤
 AskNothing (rule ∷ rules) = AsksNothing rule × AskNothing rules
+
+abbrev is_other : LateRule → Bool
+is_other late.Asked = false
+is_other rule = true
+
+asks_nothing : (rule : LateRule) → is_other rule ≡ true → AsksNothing rule
+asks_nothing late.Asked e = absurd cc
+asks_nothing rule e = tt
+
+pub ask_nothing : (rules : List LateRule) → list_all is_other rules ≡ true → AskNothing rules
+ask_nothing [] all = tt
+ask_nothing (rule ∷ rules) all =
+    let parts = and_parts (is_other rule) (list_all is_other rules) all in (asks_nothing rule parts.0, ask_nothing rules parts.1)
 
 -- of a chain that was judged
 pub judged_definite : (rule : LateRule) (table : Table) (moment : ℕ) (one : Reading) (judged : JudgedView) → AsksNothing rule → IsDefinite (tell_judged rule table moment one judged)

@@ -21,7 +21,7 @@ use Rattle.verify_rules.specs.declared.refusal.Place.{Place}
 use Rattle.verify_rules.specs.declared.verdict.Verdict.{Verdict}
 use Rattle.verify_rules.specs.declared.verdict.Verdict.TheVariants.{Passed, Refused, Unread, Unasked}
 use Rattle.verify_rules.proofs.FirstOf.{both_none, found, none_at}
-use Rattle.verify_rules.proofs.ResultLaws.{AskNothing, AsksNothing, IsSetAside, definite_event, judged_definite, unjudged_definite}
+use Rattle.verify_rules.proofs.ResultLaws.{AskNothing, AsksNothing, IsSetAside, ask_nothing, definite_event, judged_definite, unjudged_definite}
 
 -- ---- what a rule leaves open of a chain: nothing, unless it asks for the chain's signatures, or the chain isn't known
 
@@ -214,7 +214,7 @@ after_by says table moment readings states faults now (events.Refused refused) n
 after_by says table moment readings states faults now (events.Unread bad) none signed h =
     let r = rule_of rules_after table moment readings states (events.Unread bad) h in
     absurd (rule_event_known r.0 table moment readings states bad (listed_holds table moment readings states none) r.1)
-after_by says table moment readings states faults now (events.Unasked bad) none signed h = absurd (rules_answered rules_after table moment readings states bad (tt, (tt, tt)) h)
+after_by says table moment readings states faults now (events.Unasked bad) none signed h = absurd (rules_answered rules_after table moment readings states bad (ask_nothing rules_after refl) h)
 
 pub by_before : (says : Says) (table : Table) (moment : ℕ) (readings : List Reading) (states : List State) (faults now : ℕ) (event : Event) (o : Option Event) (v : Verdict)
     → o ≡ first_rule rules_before table moment readings states → o ≡ Some event → v ≡ verdict_of event → IsVerdict says table moment readings states faults now v
