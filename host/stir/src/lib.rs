@@ -3,7 +3,8 @@
 //!
 //! A [`World`] is what every call goes by: settings, trust anchors and a code table. A [`Chain`]
 //! has the certificates to which an x5u leads, judged once under a world. A [`Call`] is an INVITE,
-//! read once. What the library says of them is proved (docs/dev/PROVED.md); this crate hands it bytes.
+//! read once. What the library says of them is proved (docs/dev/PROVED.md); this crate hands it
+//! bytes.
 //!
 //! ```
 #![doc = include_str!("../tests/given/hidden.md")]
