@@ -16,7 +16,6 @@ use crate::owner::{HeldCall, Owner};
 use crate::said::Said;
 use open_calls::{OpenCall, OpenChain, OpenWorld};
 use std::alloc::{AllocError, Global};
-use std::mem;
 use std::sync::Arc;
 
 /// A handle of a call that was just opened, and what is said of it.
@@ -43,8 +42,7 @@ pub extern "C" fn stir_call_open(
     ensures closed { result.kind ≡ 5 → world_held world.old ≡ None }
     ensures as_was { 3 ≤ result.kind → call_held out.new ≡ call_held out.old }
 {
-    let held = mem::replace(world, WorldHandle::empty(alloc));
-    let owner = match held.take() {
+    let owner = match world.take(alloc) {
         Some(owner) => owner,
         None => return Said::closed(),
     };
@@ -101,8 +99,7 @@ pub extern "C" fn stir_call_chain(
         Ok(given) => given,
         Err(_) => return Said::no_memory(),
     };
-    let held = mem::replace(call, CallHandle::empty(alloc));
-    let mut owner = match held.take() {
+    let mut owner = match call.take(alloc) {
         Some(owner) => owner,
         None => return Said::closed(),
     };
@@ -143,8 +140,7 @@ fn share(
     ensures stays { chain_held chain.new ≡ chain_held chain.old }
     ensures shared { IfOk result (λ given. option_map arc_value given ≡ option_map chain_in (chain_held chain.old)) }
 {
-    let held = mem::replace(chain, ChainHandle::empty(alloc));
-    let owner = match held.take() {
+    let owner = match chain.take(alloc) {
         Some(owner) => owner,
         None => return Ok(None),
     };

@@ -18,7 +18,6 @@ use crate::said::Said;
 use crate::writing::{Text, told_text};
 use open_calls::{OpenChain, OpenWorld};
 use std::alloc::{AllocError, Global};
-use std::mem;
 use std::sync::Arc;
 
 /// Opens a chain under a world: its certificates one after another in DER, the leaf first. Kind 0: it is in `out`, judged by rules 11, 12 and 14, and none
@@ -36,8 +35,7 @@ pub extern "C" fn stir_chain_open(
     ensures closed { result.kind ≡ 5 → world_held world.old ≡ None }
     ensures as_was { 3 ≤ result.kind → chain_held out.new ≡ chain_held out.old }
 {
-    let held = mem::replace(world, WorldHandle::empty(alloc));
-    let owner = match held.take() {
+    let owner = match world.take(alloc) {
         Some(owner) => owner,
         None => return Said::closed(),
     };
@@ -80,8 +78,7 @@ pub extern "C" fn stir_chain_questions(
     ensures closed { result.kind ≡ 5 → chain_held chain.old ≡ None }
     ensures as_was { 1 ≤ result.kind → room.new ≡ room.old }
 {
-    let held = mem::replace(chain, ChainHandle::empty(alloc));
-    let owner = match held.take() {
+    let owner = match chain.take(alloc) {
         Some(owner) => owner,
         None => return Said::closed(),
     };
@@ -121,8 +118,7 @@ pub extern "C" fn stir_chain_confirm(alloc: Global, chain: &mut ChainHandle, goo
     ensures closed { result.kind ≡ 5 → chain_held chain.old ≡ None }
     ensures as_was { 3 ≤ result.kind → chain_held chain.new ≡ chain_held chain.old }
 {
-    let held = mem::replace(chain, ChainHandle::empty(alloc));
-    let owner = match held.take() {
+    let owner = match chain.take(alloc) {
         Some(owner) => owner,
         None => return Said::closed(),
     };
@@ -164,8 +160,7 @@ pub extern "C" fn stir_chain_share(
     ensures closed { result.kind ≡ 5 → chain_held chain.old ≡ None }
     ensures as_was { 3 ≤ result.kind → chain_held out.new ≡ chain_held out.old }
 {
-    let held = mem::replace(chain, ChainHandle::empty(alloc));
-    let owner = match held.take() {
+    let owner = match chain.take(alloc) {
         Some(owner) => owner,
         None => return Said::closed(),
     };

@@ -21,7 +21,6 @@ use crate::judging::{
 };
 use crate::said::Said;
 use std::alloc::Global;
-use std::mem;
 
 /// Writes the x5u of the PASSporT at an index (RFC 8225, section 4.3), in the order in which the call went. Kind 4: there is no room for it. Kind 5: the
 /// handle is closed. Kind 6: there is no PASSporT at this index.
@@ -38,8 +37,7 @@ pub extern "C" fn stir_call_x5u(
     ensures closed { result.kind ≡ 5 → call_held call.old ≡ None }
     ensures as_was { 1 ≤ result.kind → room.new ≡ room.old }
 {
-    let held = mem::replace(call, CallHandle::empty(alloc));
-    let owner = match held.take() {
+    let owner = match call.take(alloc) {
         Some(owner) => owner,
         None => return Said::closed(),
     };
@@ -65,8 +63,7 @@ pub extern "C" fn stir_call_header(
     ensures closed { result.kind ≡ 5 → call_held call.old ≡ None }
     ensures as_was { 1 ≤ result.kind → room.new ≡ room.old }
 {
-    let held = mem::replace(call, CallHandle::empty(alloc));
-    let owner = match held.take() {
+    let owner = match call.take(alloc) {
         Some(owner) => owner,
         None => return Said::closed(),
     };
@@ -89,8 +86,7 @@ pub extern "C" fn stir_call_claims(alloc: Global, call: &mut CallHandle, room: &
     // No line end is in what is written of a payload.
     ensures one_line { (one : Reading) → IsOneLine (said_text (payload_of one)) }
 {
-    let held = mem::replace(call, CallHandle::empty(alloc));
-    let owner = match held.take() {
+    let owner = match call.take(alloc) {
         Some(owner) => owner,
         None => return Said::closed(),
     };
@@ -109,8 +105,7 @@ pub extern "C" fn stir_call_questions(alloc: Global, call: &mut CallHandle, room
     ensures closed { result.kind ≡ 5 → call_held call.old ≡ None }
     ensures as_was { 2 ≤ result.kind → room.new ≡ room.old }
 {
-    let held = mem::replace(call, CallHandle::empty(alloc));
-    let owner = match held.take() {
+    let owner = match call.take(alloc) {
         Some(owner) => owner,
         None => return Said::closed(),
     };
@@ -134,8 +129,7 @@ pub extern "C" fn stir_call_judge(alloc: Global, call: &mut CallHandle, good: &[
     ensures right { (rules : World) (files : List (Option GivenChain)) → result.kind ≤ 1 → IfSome (call_held call.old) (λ held. IsRightFor rules files held good.now result) }
     ensures closed { result.kind ≡ 5 → call_held call.old ≡ None }
 {
-    let held = mem::replace(call, CallHandle::empty(alloc));
-    let owner = match held.take() {
+    let owner = match call.take(alloc) {
         Some(owner) => owner,
         None => return Said::closed(),
     };
@@ -160,8 +154,7 @@ pub extern "C" fn stir_call_explain(
     ensures closed { result.kind ≡ 5 → call_held call.old ≡ None }
     ensures as_was { 2 ≤ result.kind → room.new ≡ room.old }
 {
-    let held = mem::replace(call, CallHandle::empty(alloc));
-    let owner = match held.take() {
+    let owner = match call.take(alloc) {
         Some(owner) => owner,
         None => return Said::closed(),
     };
@@ -181,8 +174,7 @@ pub extern "C" fn stir_call_lines(alloc: Global, call: &mut CallHandle, room: &m
     ensures closed { result.kind ≡ 5 → call_held call.old ≡ None }
     ensures as_was { 1 ≤ result.kind → room.new ≡ room.old }
 {
-    let held = mem::replace(call, CallHandle::empty(alloc));
-    let owner = match held.take() {
+    let owner = match call.take(alloc) {
         Some(owner) => owner,
         None => return Said::closed(),
     };

@@ -12,7 +12,6 @@ use crate::parts::chain_part;
 use crate::said::Said;
 use crate::writing::{Text, told_text};
 use std::alloc::{AllocError, Global};
-use std::mem;
 
 /// Writes a part of a certificate of the chain, for who asks whether it is revoked (RFC 5280). Certificates count from 1, the leaf's. Parts: 1 the content of
 /// the serial number, 2 the subject and 3 the issuer, whole elements, 4 the service provider codes, each with an LF, 5 the SHA-256 of the signed part, 6 the
@@ -32,8 +31,7 @@ pub extern "C" fn stir_chain_part(
     ensures closed { result.kind ≡ 5 → chain_held chain.old ≡ None }
     ensures as_was { 1 ≤ result.kind → room.new ≡ room.old }
 {
-    let held = mem::replace(chain, ChainHandle::empty(alloc));
-    let owner = match held.take() {
+    let owner = match chain.take(alloc) {
         Some(owner) => owner,
         None => return Said::closed(),
     };

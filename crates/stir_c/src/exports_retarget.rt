@@ -8,7 +8,6 @@ use crate::handles::{CallHandle, ChainHandle};
 use crate::moving::{Moving, moved_text, told_moved, told_unmoved};
 use crate::said::Said;
 use std::alloc::Global;
-use std::mem;
 
 /// Tells what has to be signed so that a call goes on to a target (RFC 8946, section 4): the call is judged over the chains that were handed in, by `good` as
 /// of `stir_call_judge`. Kind 0: it passes and may go on there; `ticket` is the digest to be signed. Kind 1: it breaks `rule` first, at `field` and
@@ -33,13 +32,11 @@ pub extern "C" fn stir_to_retarget(
         (λ held by. ToldUnmoved (IsUnmovedFor (given_on held by good.now target.now x5u.now iat) None) result) result }
     ensures closed { result.kind ≡ 5 → (call_held call.old ≡ None) ⊎ (chain_held key.old ≡ None) }
 {
-    let held = mem::replace(call, CallHandle::empty(alloc));
-    let owner = match held.take() {
+    let owner = match call.take(alloc) {
         Some(owner) => owner,
         None => return Said::closed(),
     };
-    let by = mem::replace(key, ChainHandle::empty(alloc));
-    let signer = match by.take() {
+    let signer = match key.take(alloc) {
         Some(signer) => signer,
         None => {
             *call = CallHandle::of(owner);
@@ -84,13 +81,11 @@ pub extern "C" fn stir_retargeted(
     ensures closed { result.kind ≡ 5 → (call_held call.old ≡ None) ⊎ (chain_held key.old ≡ None) }
     ensures as_was { 1 ≤ result.kind → room.new ≡ room.old }
 {
-    let held = mem::replace(call, CallHandle::empty(alloc));
-    let owner = match held.take() {
+    let owner = match call.take(alloc) {
         Some(owner) => owner,
         None => return Said::closed(),
     };
-    let by = mem::replace(key, ChainHandle::empty(alloc));
-    let signer = match by.take() {
+    let signer = match key.take(alloc) {
         Some(signer) => signer,
         None => {
             *call = CallHandle::of(owner);

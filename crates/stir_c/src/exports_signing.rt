@@ -14,7 +14,6 @@ use crate::said::Said;
 use crate::told_signing::told_message;
 use open_calls::Order;
 use std::alloc::Global;
-use std::mem;
 
 /// What is to be signed of where a call comes from: C's `stir_order`.
 #[repr(C)]
@@ -51,8 +50,7 @@ pub extern "C" fn stir_to_sign(
         → OnKey given bytes (HasFault (origin_given order.now x5u.now) result.input) }
     ensures closed { result.kind ≡ 5 → chain_held key.old ≡ None }
 {
-    let held = mem::replace(key, ChainHandle::empty(alloc));
-    let owner = match held.take() {
+    let owner = match key.take(alloc) {
         Some(owner) => owner,
         None => return Said::closed(),
     };
@@ -95,8 +93,7 @@ pub extern "C" fn stir_signed(
     ensures closed { result.kind ≡ 5 → chain_held key.old ≡ None }
     ensures as_was { 1 ≤ result.kind → room.new ≡ room.old }
 {
-    let held = mem::replace(key, ChainHandle::empty(alloc));
-    let owner = match held.take() {
+    let owner = match key.take(alloc) {
         Some(owner) => owner,
         None => return Said::closed(),
     };
@@ -134,8 +131,7 @@ pub extern "C" fn stir_to_divert(
         → OnKey given bytes (HasFault (diversion iat earlier.now x5u.now) result.input) }
     ensures closed { result.kind ≡ 5 → chain_held key.old ≡ None }
 {
-    let held = mem::replace(key, ChainHandle::empty(alloc));
-    let owner = match held.take() {
+    let owner = match key.take(alloc) {
         Some(owner) => owner,
         None => return Said::closed(),
     };
@@ -173,8 +169,7 @@ pub extern "C" fn stir_diverted(
     ensures closed { result.kind ≡ 5 → chain_held key.old ≡ None }
     ensures as_was { 1 ≤ result.kind → room.new ≡ room.old }
 {
-    let held = mem::replace(key, ChainHandle::empty(alloc));
-    let owner = match held.take() {
+    let owner = match key.take(alloc) {
         Some(owner) => owner,
         None => return Said::closed(),
     };

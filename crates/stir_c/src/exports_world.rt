@@ -12,7 +12,6 @@ use crate::handles::WorldHandle;
 use crate::said::Said;
 use open_calls::{OpenWorld, WorldFault, WorldSetting};
 use std::alloc::{AllocError, Global};
-use std::mem;
 use std::sync::Arc;
 
 /// How calls are judged: C's `stir_settings`.
@@ -114,8 +113,7 @@ pub extern "C" fn stir_world_share(
     ensures closed { result.kind ≡ 5 → world_held world.old ≡ None }
     ensures as_was { 3 ≤ result.kind → world_held out.new ≡ world_held out.old }
 {
-    let held = mem::replace(world, WorldHandle::empty(alloc));
-    let owner = match held.take() {
+    let owner = match world.take(alloc) {
         Some(owner) => owner,
         None => return Said::closed(),
     };

@@ -12,6 +12,7 @@ use crate::handles::{CallHandle, ChainHandle, WorldHandle};
 use crate::owner::{HeldCall, HeldChain, Owner};
 use open_calls::{OpenCall, OpenChain, OpenWorld};
 use std::alloc::{AllocError, Global};
+use std::mem;
 use std::sync::Arc;
 
 impl WorldHandle {
@@ -45,12 +46,13 @@ impl WorldHandle {
         Ok(WorldHandle::of(owner))
     }
 
-    /// What it owns, or `None` if it is closed.
-    pub(crate) fn take(self) -> Option<Box<Owner, Global>>
+    /// What it owns, or `None` if it is closed. It is closed from then on.
+    pub(crate) fn take(&mut self, alloc: Global) -> Option<Box<Owner, Global>>
         ensures kind { IfSome result (λ owner. is_world owner.value ≡ true) }
-        ensures held { option_and_then (λ owner. owned_world owner.value) result ≡ world_held self }
+        ensures held { option_and_then (λ owner. owned_world owner.value) result ≡ world_held self.old }
+        ensures closed { world_held self.new ≡ None }
     {
-        let WorldHandle { handle } = self;
+        let WorldHandle { handle } = mem::replace(self, WorldHandle::empty(alloc));
         handle.take()
     }
 }
@@ -87,12 +89,13 @@ impl ChainHandle {
         Ok(ChainHandle::of(owner))
     }
 
-    /// What it owns, or `None` if it is closed.
-    pub(crate) fn take(self) -> Option<Box<Owner, Global>>
+    /// What it owns, or `None` if it is closed. It is closed from then on.
+    pub(crate) fn take(&mut self, alloc: Global) -> Option<Box<Owner, Global>>
         ensures kind { IfSome result (λ owner. is_chain owner.value ≡ true) }
-        ensures held { option_and_then (λ owner. owned_chain owner.value) result ≡ chain_held self }
+        ensures held { option_and_then (λ owner. owned_chain owner.value) result ≡ chain_held self.old }
+        ensures closed { chain_held self.new ≡ None }
     {
-        let ChainHandle { handle } = self;
+        let ChainHandle { handle } = mem::replace(self, ChainHandle::empty(alloc));
         handle.take()
     }
 }
@@ -138,12 +141,13 @@ impl CallHandle {
         Ok(CallHandle::of(owner))
     }
 
-    /// What it owns, or `None` if it is closed.
-    pub(crate) fn take(self) -> Option<Box<Owner, Global>>
+    /// What it owns, or `None` if it is closed. It is closed from then on.
+    pub(crate) fn take(&mut self, alloc: Global) -> Option<Box<Owner, Global>>
         ensures kind { IfSome result (λ owner. is_call owner.value ≡ true) }
-        ensures held { option_and_then (λ owner. owned_call owner.value) result ≡ call_held self }
+        ensures held { option_and_then (λ owner. owned_call owner.value) result ≡ call_held self.old }
+        ensures closed { call_held self.new ≡ None }
     {
-        let CallHandle { handle } = self;
+        let CallHandle { handle } = mem::replace(self, CallHandle::empty(alloc));
         handle.take()
     }
 }
