@@ -3,7 +3,8 @@ use Rattle.std.proofs.Common.{◌≡◌, ℕ, ◌+◌, ◌<◌, ◌≤◌, Bool,
 use Rattle.stir_outside.specs.Count.{last_count, one_more}
 use Rattle.verify_service.specs.declared.outcome.Outcome.{Outcome}
 use Rattle.drill.specs.Counts.{more_if, no_counts, summary_of, with_all, with_one}
-use Rattle.drill.specs.Summary.{as_one, count_as, is_refused, is_replay, is_valid, summary}
+use Rattle.drill.specs.Summary.{as_one, count_as, is_refused, is_replay, summary}
+use Rattle.verify_service.specs.Adding.{is_valid}
 use Rattle.drill.specs.declared.counts.Counts.{Counts}
 
 -- more calls after those that were counted

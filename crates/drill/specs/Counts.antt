@@ -2,7 +2,8 @@
 use Rattle.std.specs.Prelude.{ℕ, Bool, true, false, List, [], ◌∷◌, ◌++◌, codes}
 use Rattle.stir_outside.specs.Count.{one_more}
 use Rattle.verify_service.specs.declared.outcome.Outcome.{Outcome}
-use Rattle.drill.specs.Summary.{count_line, is_refused, is_replay, is_valid}
+use Rattle.drill.specs.Summary.{count_line, is_refused, is_replay}
+use Rattle.verify_service.specs.Adding.{is_valid}
 use Rattle.drill.specs.declared.counts.Counts.{Counts}
 
 abbrev pub no_counts : Counts

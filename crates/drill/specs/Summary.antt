@@ -7,6 +7,7 @@ use Rattle.replay_law.specs.Round.{Round}
 use Rattle.verify_rules.specs.World.{World}
 use Rattle.verify_rules.specs.declared.settings.Settings.{Settings}
 use Rattle.verify_rules.specs.Code.{code_of}
+use Rattle.verify_service.specs.Adding.{is_valid}
 use Rattle.verify_service.specs.Causes.{NoneUnasked, NoneUnread}
 use Rattle.verify_service.specs.Judging.{EachJudged}
 use Rattle.verify_service.specs.Rows.{rows_of}
@@ -15,13 +16,6 @@ use Rattle.verify_service.specs.declared.outcome.Outcome.TheVariants.{Valid, Ref
 use Rattle.drill.specs.Winners.{all_rows}
 
 -- ---- what a call counts for
-
-abbrev pub is_valid : Outcome → Bool
-is_valid Valid = true
-is_valid (Refused refused) = false
-is_valid (Replay winner) = false
-is_valid (Unread bad) = false
-is_valid (Unasked bad) = false
 
 abbrev pub is_replay : Outcome → Bool
 is_replay Valid = false

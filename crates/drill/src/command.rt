@@ -9,7 +9,7 @@ use crate::count_laws::count_law;
 use crate::counts::Counts;
 use call_log::Call;
 use log_rounds::LogVerifier;
-use log_run::{AnswerError, BatchAnswer, LogCommand};
+use log_run::{AnswerError, Answered, BatchAnswer, LogCommand};
 use replay_law::more_rounds;
 use std::alloc::{AllocError, Global};
 use std::thread::Threads;
@@ -34,7 +34,7 @@ impl<'a> DrillCommand<'a> {
         alloc: Global,
         shelf: &mut S,
         calls: &[Call],
-    ) -> Result<BatchAnswer, AnswerError>
+    ) -> Answered
         requires follow { Follow self.old.verifier.service.number self.old.verifier.service.moment calls.now }
         requires trusts { TrustsHeld self.old.verifier (S.files shelf.old) }
         ensures counted { IfOk result (λ answer. (answer.text ≡ []) × (answer.well ≡ true) × OneCounted (AnswersBy (basis_of self.old.verifier) (S.files shelf.old)) (config_of (basis_of self.old.verifier)) self.old.verifier.service.chains (state_of self.old.verifier (S.counts shelf.old)) (state_of self.new.verifier (S.counts shelf.new)) self.old.counts self.new.counts calls.now) }
@@ -75,13 +75,11 @@ impl<'a> LogCommand for DrillCommand<'a> {
         256
     }
 
-    fn answer<R: Threads + Sync, S: Shelf>(
-        &mut self,
-        rt: &R,
-        alloc: Global,
-        shelf: &mut S,
-        calls: &[Call],
-    ) -> Result<BatchAnswer, AnswerError> {
+    fn answer<R, S>(&mut self, rt: &R, alloc: Global, shelf: &mut S, calls: &[Call]) -> Answered
+    where
+        R: Threads + Sync,
+        S: Shelf,
+    {
         more_rounds();
         count_law();
         self.count_round(rt, alloc, shelf, calls)

@@ -1,7 +1,7 @@
 //! The counts of a drill.
 ghost use Rattle.std.specs.Prelude.{◌≡◌, ◌++◌, OnOk, IfOk};
 ghost use Rattle.drill.specs.Counts.{more_if, no_counts, summary_of, with_all, with_one};
-ghost use Rattle.drill.specs.Summary.{count_line, is_refused, is_replay, is_valid};
+ghost use Rattle.drill.specs.Summary.{count_line, is_refused, is_replay};
 
 use itoa::Buffer;
 use std::alloc::{AllocError, Global};
@@ -58,7 +58,7 @@ impl Counts {
     {
         Counts {
             calls: self.calls.saturating_add(1),
-            valid: more_if(is_valid(outcome), self.valid),
+            valid: more_if(outcome.is_valid(), self.valid),
             replays: more_if(is_replay(outcome), self.replays),
             refused_403: more_if(is_refused(403, outcome), self.refused_403),
             refused_428: more_if(is_refused(428, outcome), self.refused_428),
@@ -91,19 +91,6 @@ fn more_if(counts: bool, count: u64) -> u64
         count.saturating_add(1)
     } else {
         count
-    }
-}
-
-/// The call is valid.
-fn is_valid(outcome: &Outcome) -> bool
-    ensures { result ≡ is_valid outcome.now }
-{
-    match outcome {
-        Outcome::Valid => true,
-        Outcome::Refused(_) => false,
-        Outcome::Replay { .. } => false,
-        Outcome::Unread(_) => false,
-        Outcome::Unasked(_) => false,
     }
 }
 

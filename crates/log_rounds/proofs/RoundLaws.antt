@@ -2,7 +2,8 @@
 use Rattle.std.proofs.Common.{◌≡◌, ◌+◌, ◌≤◌, Bool, true, false, ◌&&◌, ◌||◌, List, [], ◌∷◌, ◌++◌, length, refl, sym, ◌∙◌, ap, arith, append_assoc, length-append, inl, subst}
 use Rattle.std.specs.List.{list_any}
 use Rattle.call_log.specs.Entry.{Entry}
-use Rattle.log_rounds.specs.AllValid.{all_valid, is_valid}
+use Rattle.log_rounds.specs.AllValid.{all_valid}
+use Rattle.verify_service.specs.Adding.{is_valid}
 use Rattle.log_rounds.specs.Judge.{JudgeConfig, OutsideCounts}
 use Rattle.log_rounds.specs.Judged.{SetAside}
 use Rattle.log_rounds.specs.Rounds.{AllInOrder, InEach, Round, calls_in, outcomes_in, row_round, row_rounds, unread_pairs}

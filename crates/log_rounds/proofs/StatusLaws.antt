@@ -1,6 +1,7 @@
 -- The status of a whole report is 0 exactly if each call is valid.
 use Rattle.std.proofs.Common.{◌≡◌, Bool, true, false, ◌&&◌, List, [], ◌∷◌, refl, ap, ◌∙◌, arith}
-use Rattle.log_rounds.specs.AllValid.{AreValid, all_valid, is_valid}
+use Rattle.log_rounds.specs.AllValid.{AreValid, all_valid}
+use Rattle.verify_service.specs.Adding.{is_valid}
 use Rattle.log_run.specs.Ending.{report_status}
 use Rattle.verify_service.specs.declared.outcome.Outcome.{Outcome}
 use Rattle.verify_service.specs.declared.outcome.Outcome.TheVariants.{Valid, Refused, Replay, Unread, Unasked}

@@ -10,7 +10,7 @@ ghost use Rattle.stir_outside.specs.Stays.{ShelfStays};
 
 use crate::verifier::LogVerifier;
 use call_log::{Call, LogReader, one_log};
-use log_run::{AnswerError, BatchAnswer, LogCommand, run_log};
+use log_run::{Answered, LogCommand, run_log};
 use replay_law::more_rounds;
 use std::alloc::{AllocError, Global};
 use std::thread::Threads;
@@ -42,13 +42,11 @@ impl<'a> LogCommand for HandingVerifier<'a> {
         256
     }
 
-    fn answer<R: Threads + Sync, S: Shelf>(
-        &mut self,
-        rt: &R,
-        alloc: Global,
-        shelf: &mut S,
-        calls: &[Call],
-    ) -> Result<BatchAnswer, AnswerError> {
+    fn answer<R, S>(&mut self, rt: &R, alloc: Global, shelf: &mut S, calls: &[Call]) -> Answered
+    where
+        R: Threads + Sync,
+        S: Shelf,
+    {
         more_rounds();
         self.verifier.answer_round(rt, alloc, shelf, calls)
     }

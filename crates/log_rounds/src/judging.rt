@@ -1,7 +1,8 @@
 //! What judges the calls of a log, round by round.
 ghost use Rattle.std.specs.Prelude.{◌≡◌, ◌+◌, ◌<◌, ◌≤◌, length, IfOk, IfErr};
-ghost use Rattle.log_rounds.specs.Batches.{OneRound};
+ghost use Rattle.log_rounds.specs.Batches.{OneRound, RoundsStand};
 ghost use Rattle.log_rounds.specs.Judge.{Moves, RoundJudged};
+ghost use Rattle.log_run.specs.Commands.{Follow as Next};
 ghost use Rattle.log_rounds.specs.Verifier.{AnswersBy, TrustsHeld, basis_of, config_of, state_of};
 ghost use Rattle.stir_outside.specs.Stays.{ShelfStays};
 ghost use Rattle.verify_service.specs.Handing.{IsStateOf};
@@ -11,7 +12,7 @@ use crate::report::{all_valid, first_number, lines_of};
 use crate::verifier::LogVerifier;
 use crate::workers::workers_of;
 use call_log::Call;
-use log_run::{AnswerError, BatchAnswer, LogCommand};
+use log_run::{AnswerError, Answered, BatchAnswer, LogCommand};
 use replay_law::more_rounds;
 use std::alloc::{AllocError, Global};
 use std::thread::Threads;
@@ -60,9 +61,10 @@ impl<'a> LogVerifier<'a> {
         alloc: Global,
         shelf: &mut S,
         calls: &[Call],
-    ) -> Result<BatchAnswer, AnswerError>
-        requires follow { Follow self.old.service.number self.old.service.moment calls.now }
-        requires trusts { TrustsHeld self.old (S.files shelf.old) }
+    ) -> Answered
+        requires some { 0 < length calls.now }
+        requires few { length calls.now ≤ 256 }
+        requires follow { Next (RoundsStand self.old (S.files shelf.old)) calls.now }
         ensures judged { IfOk result (OneRound (AnswersBy (basis_of self.old) (S.files shelf.old)) (config_of (basis_of self.old)) self.old.service.chains (state_of self.old (S.counts shelf.old)) (state_of self.new (S.counts shelf.new)) calls.now) }
         ensures memory { IfErr result (λ stop. stop ≡ AnswerError.Memory) }
         ensures most { (S.counts shelf.new).reads ≤ (S.counts shelf.old).reads + length (texts_in self.old.service calls.now) }
@@ -100,13 +102,11 @@ impl<'a> LogCommand for LogVerifier<'a> {
         256
     }
 
-    fn answer<R: Threads + Sync, S: Shelf>(
-        &mut self,
-        rt: &R,
-        alloc: Global,
-        shelf: &mut S,
-        calls: &[Call],
-    ) -> Result<BatchAnswer, AnswerError> {
+    fn answer<R, S>(&mut self, rt: &R, alloc: Global, shelf: &mut S, calls: &[Call]) -> Answered
+    where
+        R: Threads + Sync,
+        S: Shelf,
+    {
         more_rounds();
         self.answer_round(rt, alloc, shelf, calls)
     }

@@ -1,6 +1,6 @@
 //! The lines of a round.
 ghost use Rattle.std.specs.Prelude.{◌≡◌, ◌+◌, ◌&&◌, ◌<◌, ◌^◌, length, IfOk};
-ghost use Rattle.log_rounds.specs.AllValid.{all_valid, is_valid};
+ghost use Rattle.log_rounds.specs.AllValid.{all_valid};
 ghost use Rattle.log_rounds.specs.Batches.{first_number};
 ghost use Rattle.verify_service.specs.Report.{report};
 
@@ -42,18 +42,5 @@ pub(crate) fn lines_of(
 pub(crate) fn all_valid(outcomes: &[Outcome]) -> bool
     ensures { result ≡ all_valid outcomes.now }
 {
-    outcomes.iter().all(|outcome| is_valid(outcome))
-}
-
-/// The call is valid.
-fn is_valid(outcome: &Outcome) -> bool
-    ensures { result ≡ is_valid outcome.now }
-{
-    match outcome {
-        Outcome::Valid => true,
-        Outcome::Refused(_) => false,
-        Outcome::Replay { .. } => false,
-        Outcome::Unread(_) => false,
-        Outcome::Unasked(_) => false,
-    }
+    outcomes.iter().all(|outcome| outcome.is_valid())
 }

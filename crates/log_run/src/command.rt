@@ -8,6 +8,9 @@ use std::alloc::{AllocError, Global};
 use std::thread::Threads;
 use stir_outside::Shelf;
 
+/// What comes of a batch of calls: the answer, or why there is none.
+pub type Answered = Result<BatchAnswer, AnswerError>;
+
 /// A command over the calls of a log, which are handed to it in batches.
 ///
 /// `behind` says which batches may have been answered from one state on up to another, `stopped` where the run may then stop, and `closed` by what
@@ -39,13 +42,10 @@ pub trait LogCommand {
         ensures some { 0 < result };
 
     /// Answers a batch of calls.
-    fn answer<R: Threads + Sync, S: Shelf>(
-        &mut self,
-        rt: &R,
-        alloc: Global,
-        shelf: &mut S,
-        calls: &[Call],
-    ) -> Result<BatchAnswer, AnswerError>
+    fn answer<R, S>(&mut self, rt: &R, alloc: Global, shelf: &mut S, calls: &[Call]) -> Answered
+    where
+        R: Threads + Sync,
+        S: Shelf,
         requires shared { IsSync R.row }
         requires some { 0 < length calls.now }
         requires few { length calls.now ≤ most self.old }

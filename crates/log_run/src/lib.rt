@@ -44,7 +44,7 @@ mod run;
 mod stop;
 
 pub use answer::BatchAnswer;
-pub use command::LogCommand;
+pub use command::{Answered, LogCommand};
 pub use ends::RunError;
 pub use laws::batch_law;
 pub use run::run_log;

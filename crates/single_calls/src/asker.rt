@@ -17,7 +17,7 @@ use crate::written::Written;
 use call_judging::{AlwaysYes, CallChains, asks_own, call_questions_law};
 use call_log::Call;
 use cert_store::World;
-use log_run::{AnswerError, BatchAnswer, LogCommand};
+use log_run::{AnswerError, Answered, BatchAnswer, LogCommand};
 use std::alloc::{AllocError, Global};
 use std::marker::Model;
 use std::thread::Threads;
@@ -57,12 +57,7 @@ impl Asker {
     }
 
     /// Asks for a call, and keeps what was asked.
-    fn ask<S: Shelf>(
-        &mut self,
-        alloc: Global,
-        shelf: &mut S,
-        call: &Call,
-    ) -> Result<BatchAnswer, AnswerError>
+    fn ask<S: Shelf>(&mut self, alloc: Global, shelf: &mut S, call: &Call) -> Answered
         ensures asked { IfOk result (OneAnswer (BehindAsked self.old (S.files shelf.old)) (BehindAsked self.new (S.files shelf.old)) (AskedBy self.old (S.files shelf.old)) (S.counts shelf.old).faults (S.counts shelf.new).faults call.now) }
         ensures stopped { IfErr result (StopsBy (BehindAsked self.old (S.files shelf.old)) (StopsAsking self.old (S.files shelf.old)) call.now (S.counts shelf.old).faults (S.counts shelf.new).faults) }
         ensures same { self.new ≡ record self.old { written = self.new.written } }
@@ -105,13 +100,11 @@ impl LogCommand for Asker {
         1
     }
 
-    fn answer<R: Threads + Sync, S: Shelf>(
-        &mut self,
-        rt: &R,
-        alloc: Global,
-        shelf: &mut S,
-        calls: &[Call],
-    ) -> Result<BatchAnswer, AnswerError> {
+    fn answer<R, S>(&mut self, rt: &R, alloc: Global, shelf: &mut S, calls: &[Call]) -> Answered
+    where
+        R: Threads + Sync,
+        S: Shelf,
+    {
         let _ = rt;
         match calls {
             [call] => self.ask(alloc, shelf, call),

@@ -8,7 +8,7 @@ ghost use Rattle.single_calls.specs.Singly.{OneAnswer};
 use call_judging::{CallChains, Finding, explain_law, explained, judge_call};
 use call_log::Call;
 use cert_store::World;
-use log_run::{AnswerError, BatchAnswer, LogCommand};
+use log_run::{AnswerError, Answered, BatchAnswer, LogCommand};
 use std::alloc::{AllocError, Global};
 use std::marker::Model;
 use std::thread::Threads;
@@ -115,13 +115,11 @@ impl<'a> LogCommand for Explainer<'a> {
         1
     }
 
-    fn answer<R: Threads + Sync, S: Shelf>(
-        &mut self,
-        rt: &R,
-        alloc: Global,
-        shelf: &mut S,
-        calls: &[Call],
-    ) -> Result<BatchAnswer, AnswerError> {
+    fn answer<R, S>(&mut self, rt: &R, alloc: Global, shelf: &mut S, calls: &[Call]) -> Answered
+    where
+        R: Threads + Sync,
+        S: Shelf,
+    {
         let _ = rt;
         match calls {
             [call] => match self.explain(alloc, shelf, call) {

@@ -1,13 +1,7 @@
 -- One round more was judged.
-use Rattle.log_rounds.proofs.BatchesLaws.{follows, if_err, if_ok, stands_on}
+use Rattle.log_rounds.proofs.BatchesLaws.{if_err, if_ok, stands_on}
 use Rattle.log_rounds.proofs.HandedLaws.{hands_more, hands_stopped}
 use Rattle.log_rounds.proofs.handing.HandingVerifierLogCommand.answer.Goals as goal
-
-pub answer_round-requires-clause-follow : goal.answer_round-requires-clause-follow
-answer_round-requires-clause-follow g c κs within = follows _ _ _ c.requires.some c.requires.few c.requires.follow
-
-pub answer_round-requires-clause-trusts : goal.answer_round-requires-clause-trusts
-answer_round-requires-clause-trusts g c κs within = c.requires.follow.stands.trusts
 
 pub returns-clause-adds : goal.returns-clause-adds
 returns-clause-adds g c =

@@ -1,12 +1,6 @@
 -- One round more was judged.
-use Rattle.log_rounds.proofs.BatchesLaws.{adds, follows, if_err, if_ok, stands_on, stopped}
+use Rattle.log_rounds.proofs.BatchesLaws.{adds, if_err, if_ok, stands_on, stopped}
 use Rattle.log_rounds.proofs.judging.LogVerifierLogCommand.answer.Goals as goal
-
-pub answer_round-requires-clause-follow : goal.answer_round-requires-clause-follow
-answer_round-requires-clause-follow g c κs within = follows _ _ _ c.requires.some c.requires.few c.requires.follow
-
-pub answer_round-requires-clause-trusts : goal.answer_round-requires-clause-trusts
-answer_round-requires-clause-trusts g c κs within = c.requires.follow.stands.trusts
 
 pub returns-clause-adds : goal.returns-clause-adds
 returns-clause-adds g c =
