@@ -110,7 +110,7 @@ enum {
 typedef struct stir_said {
     uint32_t kind;
     uint32_t input;     /* STIR_BAD_INPUT: which */
-    uint32_t rule;      /* STIR_REFUSED: the first rule that is broken, 1 to 17 or 19 (docs/RULES.md); or why nothing may be signed, a stir_withheld, or why
+    uint32_t rule;      /* STIR_REFUSED: the first rule that is broken (docs/RULES.md); or why nothing may be signed, a stir_withheld, or why
                            the call can't go on there, a stir_held; */
     uint32_t code;      /* the rule's response code (RFC 8224, section 6.2.2), */
     uint32_t field;     /* the Identity header field in which it is broken, counted from 1; 0 if in none, */
@@ -220,9 +220,9 @@ typedef struct stir_call {
 } stir_call;
 
 /*
- * Opens a call under a world: reads its message and tries rules 1 to 9. STIR_PASSES: it breaks none of them; `size` is how many PASSporTs are judged, at
- * most nine, and the ticket and its last second are said. STIR_REFUSED: it breaks one, and no chain and no signature changes that. Either way the call
- * is open, and in `out`; else `out` stays as it was.
+ * Opens a call under a world: reads its message and tries the rules of the call. STIR_PASSES: it breaks none of them; `size` is how many PASSporTs
+ * are judged, at most nine, and the ticket and its last second are said. STIR_REFUSED: it breaks one, and no chain and no signature changes that.
+ * Either way the call is open, and in `out`; else `out` stays as it was.
  *
  * moment   when the call came, in Unix seconds
  * message  the INVITE; one of more than 65,535 bytes breaks rule 1
@@ -278,8 +278,8 @@ stir_said stir_call_header(stir_call *call, const uint8_t *name, size_t name_siz
 stir_said stir_call_questions(stir_call *call, uint8_t *room, size_t room_size);
 
 /*
- * Judges the call by rules 1 to 17 and 19, over the chains that were handed in. `good` has a byte for each question of stir_call_questions. STIR_PASSES
- * with a ticket and its last second, or STIR_REFUSED with the first rule that is broken.
+ * Judges the call by the rules of the call and the chains, over the chains that were handed in. `good` has a byte for each question of
+ * stir_call_questions. STIR_PASSES with a ticket and its last second, or STIR_REFUSED with the first rule that is broken.
  */
 stir_said stir_call_judge(stir_call *call, const uint8_t *good, size_t good_size);
 

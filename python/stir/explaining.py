@@ -35,21 +35,21 @@ def world_of(settings: Settings) -> library.World:
 
 
 def given(call: Call, settings: Settings) -> library.Call:
-    """A call as it is read by rules 1 to 9."""
+    """A call as it is read by the rules of the call."""
     checks.instance("call", call, Call)
     return library.Call(world_of(checks.instance("settings", settings, Settings)), call.moment, call.message)
 
 
 def x5us(call: Call, settings: Settings = Settings()) -> Tuple[str, ...]:
     """The x5us of the PASSporTs that are judged, at most nine, in the order in which the call went; one may come twice. None if the call breaks one of
-    rules 1 to 9: then no certificates are looked at. Raises OutOfMemory."""
+    the rules of the call: then no certificates are looked at. Raises OutOfMemory."""
     return tuple(x5u.decode("ascii") for x5u in given(call, settings).x5us())
 
 
 def claims(call: Call, settings: Settings = Settings()) -> List[Dict[str, Any]]:
     """What the PASSporTs of a call say: a dict for each that is judged, at most nine, in the order in which the call went. `field` is the number of its
     Identity header field, counted from 1, and `payload` the claims that were signed (RFC 8225, section 5), or None if a number in them is no integer of
-    64 bits. Empty if the call breaks one of rules 1 to 9. No certificate and no signature is looked at: what is said is worth what `verify` says of the
+    64 bits. Empty if the call breaks one of the rules of the call. No certificate and no signature is looked at: what is said is worth what `verify` says of the
     call. Raises OutOfMemory."""
     return [said_by(line) for line in given(call, settings).claims().decode().split("\n")[:-1]]
 

@@ -223,7 +223,7 @@ class Chain:
 
 
 class Call:
-    """An open call, which one thread uses. `said` is what comes of it by rules 1 to 9."""
+    """An open call, which one thread uses. `said` is what comes of it by the rules of the call."""
 
     def __init__(self, world: World, moment: int, message: bytes) -> None:
         self.handle = CallHandle()

@@ -88,7 +88,7 @@ def claimed(world):
         message = world.invite(caller, called, 1, world.field("shaken", text, world.x5u(1), world.keys[1]))
         assert stir.claims(stir.Call(START, message)) == [{"field": 1, "payload": wanted}], f"the claims with {more} aren't those that were signed"
     for call in stir.Call(START + 61, message), stir.Call(START, world.call(0, START, 1, "unsigned")):
-        assert stir.claims(call) == [], "a call that breaks one of rules 1 to 9 says something"
+        assert stir.claims(call) == [], "a call that breaks one of the rules of the call says something"
 
 
 def shown(world):

@@ -24,8 +24,8 @@ SUBJECTS = (
     ("a byte found", r"split::cut|contains"),
     ("the log read, the report", r"call_log|log_run|log_rounds|report|fmt"),
     ("the message and its numbers", r"sip_message|numbers::Number|identity_header|short_text|text_grammar|address"),
-    ("tokens, claims, rules 1 to 9", r"early|passports|readings|passport_json|passport_claims|uuid"),
-    ("rules 10 to 17 and 19", r"verify_rules|delegation::coverage|tn_values|claim_constraints|table::CodeTable"),
+    ("tokens, claims, the rules of the call", r"early|passports|readings|passport_json|passport_claims|uuid"),
+    ("the rules of the chains", r"verify_rules|delegation::coverage|tn_values|claim_constraints|table::CodeTable"),
     ("certificates read, chains judged and held", r"x509_profile|der_reader|tn_auth_list|delegation|cert_store|lru"),
     ("rounds, the desk, the past, answers", r"verify_service|replay_desk|stir_outside|thread"),
 )

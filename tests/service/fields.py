@@ -44,7 +44,7 @@ COMPACT = {
 
 
 def opened_call(stir, opened, message):
-    """A call of this message, whatever rules 1 to 9 say of it."""
+    """A call of this message, whatever the rules of the call say of it."""
     call = Handle()
     assert stir.stir_call_open(ctypes.byref(opened), ctypes.c_uint64(START), *bytes_of(message), ctypes.byref(call)).kind in (0, 1)
     return call

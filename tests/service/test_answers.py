@@ -10,7 +10,7 @@ from stird import Stird
 from world import START
 
 CALLED = "13105550100"
-# How a call of each kind ends, and what its answer has: `claims` if it keeps rules 1 to 9, `signer` if its signatures are good.
+# How a call of each kind ends, and what its answer has: `claims` if it keeps the rules of the call, `signer` if its signatures are good.
 KINDS = {
     "good": ("valid", 0, {"claims", "signer", "ticket"}),
     "outside": ("refused", 17, {"claims", "signer"}),

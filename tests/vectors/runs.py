@@ -12,7 +12,7 @@ command:
 - A read of the input that fails: the status is 3, and the line `read fault input` comes after the lines of the calls whose entries were whole before.
   `sign`, `divert` and `show` write that line alone.
 - A read of a named file that fails: the status is 3, and `read fault NAME` is all that is written.
-- A read of a chain's file that fails: the call is `unread` at that PASSporT, for `explain` after the lines of rules 1 to 9, and the status is 1. `ask`
+- A read of a chain's file that fails: the call is `unread` at that PASSporT, for `explain` after the lines of the rules of the call, and the status is 1. `ask`
   writes `read fault NAME` after the lines of the chains before, with status 3.
 """
 

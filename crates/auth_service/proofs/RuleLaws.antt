@@ -1,4 +1,4 @@
--- A message that was signed breaks none of rules 1 to 9 at its next hop, and not rule 16 if its signature is confirmed.
+-- A message that was signed breaks none of the rules of the call at its next hop, and not rule 16 if its signature is confirmed.
 use Rattle.std.proofs.Common.{◌≡◌, ℕ, ◌+◌, ◌≤◌, nat_lt, true, false, List, [], ◌∷◌, ◌++◌, codes, Option, Some, None, Ok, refl, sym, ap, subst, ◌∙◌, arith}
 use Rattle.std.specs.Option.{option_or}
 use Rattle.std.proofs.lemmas.Bool.Decides.{nat_tests}

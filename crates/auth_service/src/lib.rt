@@ -23,7 +23,7 @@
 //! # What is proved
 //!
 //! The bytes are exactly those of one definition, or the first of four faults, each with its cause in the message, the order and the holder. What
-//! comes out is read back as the PASSporT that was signed, and breaks none of rules 1 to 9 at the next hop ([`signed_rules_law`],
+//! comes out is read back as the PASSporT that was signed, and breaks none of the rules of the call at the next hop ([`signed_rules_law`],
 //! [`diverted_rules_law`]). `docs/SIGNING.md` tells how, and `docs/dev/PROVED.md`, "Signing", has the clauses.
 //!
 //! # Cases

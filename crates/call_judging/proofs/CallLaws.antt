@@ -15,7 +15,7 @@ use Rattle.call_judging.specs.Verdicts.{asks_own}
 use Rattle.call_judging.proofs.StateLaws.{AllAlike, all_alike, chains_same, owns_same}
 use Rattle.call_judging.proofs.VerdictLaws.{asks_own_where}
 
--- ---- a call that rules 1 to 9 refuse
+-- ---- a call that the rules of the call refuse
 
 pub refused_asks : (world : World) (call : Call) (refused : Refusal) → first early_rules call ≡ Some refused → call_questions world call ≡ []
 unfolding call_questions

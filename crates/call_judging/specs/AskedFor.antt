@@ -38,7 +38,7 @@ pub record AsksOwn (world : World) (asked : QuestionView) (one : Reading) : Type
   pub first : slice_get judged.certificates 0 ≡ Some leaf
   pub asks : asked ≡ question leaf.key one.mark.digest one.mark.signature
 
--- of a call that breaks none of rules 1 to 9 the first, and of one that breaks none of rules 1 to 14 the second too
+-- of a call that breaks none of the rules of the call the first, and of one that breaks none of rules 1 to 14 the second too
 pub data IsAskedFor (world : World) (call : Call) (asked : QuestionView) : Type 0 where
   of_chain : HoldAll early_rules call → SomeOf (AsksChain world asked) (in_call_order call) → IsAskedFor world call asked
   of_passport : HoldAll early_rules call → HoldAll (certificate_rules world) call → SomeOf (AsksOwn world asked) (in_call_order call) → IsAskedFor world call asked

@@ -59,7 +59,7 @@ questions_over own readings states = chains_questions states ++ (if own then own
 abbrev pub late_questions : World → Bool → List Reading → List QuestionView
 late_questions world own readings = questions_over own readings (truths world readings)
 
--- Of a call that breaks none of rules 1 to 9, those of the chains of its PASSporTs, in call order; and if it breaks none of rules 1 to
+-- Of a call that breaks none of the rules of the call, those of the chains of its PASSporTs, in call order; and if it breaks none of rules 1 to
 -- 14, those of the PASSporTs themselves.
 unfoldable pub call_questions : World → Call → List QuestionView
 call_questions world call =

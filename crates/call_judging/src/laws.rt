@@ -51,7 +51,7 @@ pub fn chains_law()
     right_law();
 }
 
-/// A call that breaks none of rules 1 to 9 is known again up to the `iat` of its last PASSporT plus `past`.
+/// A call that breaks none of the rules of the call is known again up to the `iat` of its last PASSporT plus `past`.
 pub fn fresh_law()
     ensures { (call : Call) → first early_rules call ≡ None → IsLastSecond call (last_second call) }
 {
@@ -70,7 +70,7 @@ pub fn rule_numbers_law()
 pub fn explain_law()
     ensures met { (world : World) (number : ℕ) (call : Call) → First world call ≡ None → Explain world number call ≡ met_text number }
     ensures broken { (world : World) (number : ℕ) (call : Call) (refused : Refusal) → First world call ≡ Some refused → Explain world number call ≡ broken_text number refused }
-    // Before an unread file come the lines of rules 1 to 9; and if a signature is left open, those of rules 1 to 14 come alone.
+    // Before an unread file come the lines of the rules of the call; and if a signature is left open, those of rules 1 to 14 come alone.
     ensures unread { (world : World) (number : ℕ) (call : Call) (bad : Place) → MayBeUnread world call bad
         → explained number (Unread bad) ≡ explain_rules number early_rules call ++ unread_line number bad }
     ensures unasked { (world : World) (number : ℕ) (call : Call) (bad : Place) → MayBeUnasked world call bad
@@ -89,8 +89,8 @@ pub fn lines_law()
     code_law();
 }
 
-/// Which questions are asked for a call: exactly those that a PASSporT of it asks, and none if rules 1 to 9 refuse it. Over chains that are right and
-/// of which all is known they are those of the chains, and by the verdict those of the PASSporTs.
+/// Which questions are asked for a call: exactly those that a PASSporT of it asks, and none if the rules of the call refuse it. Over chains that are
+/// right and of which all is known they are those of the chains, and by the verdict those of the PASSporTs.
 pub fn call_questions_law()
     ensures asked { (world : World) (call : Call) (asked : QuestionView) → IsAmong asked (call_questions world call) ↔ IsAskedFor world call asked }
     ensures refused { (world : World) (call : Call) (refused : Refusal) → first early_rules call ≡ Some refused → call_questions world call ≡ [] }

@@ -4,13 +4,13 @@
 //!
 //! ```text
 //! a message and its moment
-//!    | verify_rules::screen   rules 1 to 9
+//!    | verify_rules::screen   the rules of the call
 //!    v
 //! Screened
 //!    | read_chains            for each PASSporT: x5u -> chain map -> file -> judged chain, as far as there is one: a ChainStatus
 //!    v
 //! CallChains
-//!    | verify_rules::finish   rules 10 to 17 and 19
+//!    | verify_rules::finish   the rules of the chains
 //!    v
 //! Finding                     Passes(pass), Refused(refusal), Unread(place) or Unasked(place)
 //! ```

@@ -20,12 +20,13 @@ abbrev pub IsFound : World → Call → Found → Type 0
 IsFound world call (Refused refused) = First world call ≡ Some refused
 IsFound world call (Passes pass) = (First world call ≡ None) × IsKnownBy call pass.ticket pass.last
 
--- by rules 1 to 9 alone
+-- by the rules of the call alone
 abbrev pub IsFoundEarly : Call → Found → Type 0
 IsFoundEarly call (Refused refused) = first early_rules call ≡ Some refused
 IsFoundEarly call (Passes pass) = (first early_rules call ≡ None) × IsKnownBy call pass.ticket pass.last
 
--- by a provider, over what is known of the chains of its PASSporTs: refused by rules 1 to 9, or else by rules 10 to 17 and 19 (RFC 8224, section 6.2)
+-- by a provider, over what is known of the chains of its PASSporTs: refused by the rules of the call, or else by the rules of the chains (RFC 8224,
+-- section 6.2)
 abbrev pub IsFoundOver : Says → Table → List State → Call → Found → Type 0
 IsFoundOver says table states call (Refused refused) =
     (first early_rules call ≡ Some refused)

@@ -80,7 +80,7 @@ pub record IsHopOf (given : Given) (hop : HopView) (holder : HolderView) : Type 
   pub valid : IsTrue (is_hop hop)
   pub holder_is : IsHolderOf (key_in given) holder
 
--- What is handed in comes to this: no rule of 1 to 9 is broken, and the rest is taken as it is.
+-- What is handed in comes to this: none of the rules of the call is broken, and the rest is taken as it is.
 pub record IsGoing (given : Given) (going : Going) : Type 0 where
   pub early : first early_rules (call_in given.call) ≡ None
   pub bytes_are : going.bytes ≡ given.call.message

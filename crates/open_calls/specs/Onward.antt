@@ -9,7 +9,7 @@ use Rattle.verify_rules.specs.declared.verdict.Verdict.{Verdict}
 use Rattle.verify_rules.specs.declared.verdict.Verdict.TheVariants.{Passed}
 use Rattle.open_calls.specs.Going.{Going}
 
--- rules 10 to 17 and 19 come to this verdict
+-- the rules of the chains come to this verdict
 abbrev pub Comes : Going → Verdict → Type 0
 Comes going verdict = IsFinished going.says going.holder.table going.moment going.readings going.states 0 0 verdict
 
@@ -17,8 +17,8 @@ Comes going verdict = IsFinished going.says going.holder.table going.moment goin
 abbrev pub Gives : Going → (List ℕ → List ℕ → Option (List ℕ)) → Result (List ℕ) HopFault → Type 0
 Gives going signs result = GivesOnward {X = List ℕ} (λ (out : List ℕ). out) going.bytes going.readings going.hop going.holder signs result
 
--- The call passed. What goes on is the message with the other request URI and one more Identity field. At the next hop it breaks no rule of 1 to 17 and 19,
--- if the conditions hold, and its last PASSporT tells of the diversion.
+-- The call passed. What goes on is the message with the other request URI and one more Identity field. At the next hop it breaks none of the rules of
+-- the call and the chains, if the conditions hold, and its last PASSporT tells of the diversion.
 pub record IsOnward (going : Going) (signs : List ℕ → List ℕ → Option (List ℕ)) (out : List ℕ) : Type 0 where
   pub passed : Comes going Passed
   pub exact : Gives going signs (Ok out)

@@ -1,4 +1,4 @@
--- A call that was opened: read once, and screened by rules 1 to 9.
+-- A call that was opened: read once, and screened by the rules of the call.
 use Rattle.std.specs.Borrow.{Bor}
 use Rattle.std.specs.Prelude.{◌≡◌, ℕ, List, [], Option, Some, None, Result, Ok, Err}
 use Rattle.sip_message.specs.FieldValue.{IsFieldValue, field_value}
@@ -21,7 +21,7 @@ pub record CallView : Type 0 where
 abbrev pub call_in : CallView → Call
 call_in call = call_of call.settings call.moment call.message
 
--- the rule of 1 to 9 that it breaks first
+-- the one of the rules of the call that it breaks first
 abbrev pub refused_early : CallView → Option Refusal
 refused_early call = first early_rules (call_in call)
 
@@ -29,7 +29,7 @@ abbrev pub unless_refused : Option Refusal → List Reading → List Reading
 unless_refused None readings = readings
 unless_refused (Some refused) readings = []
 
--- the PASSporTs that are judged, in the order in which the call went; none if rules 1 to 9 refuse it
+-- the PASSporTs that are judged, in the order in which the call went; none if the rules of the call refuse it
 abbrev pub judged_in : CallView → List Reading
 judged_in call = unless_refused (refused_early call) (in_call_order (call_in call))
 
@@ -56,7 +56,7 @@ pub record IsHeaderValue (call : CallView) (name : List ℕ) (i : ℕ) (value : 
 
 -- ---- how it is kept
 
--- screened if no rule of 1 to 9 is broken, else refused by the first that is
+-- screened if none of the rules of the call is broken, else refused by the first that is
 abbrev pub IsEarly : Call → Result ScreenedView Refusal → Type 0
 IsEarly call (Ok screened) = (first early_rules call ≡ None) × (screened ≡ screened_of call)
 IsEarly call (Err refused) = first early_rules call ≡ Some refused

@@ -69,7 +69,7 @@ pub record IsHeldBy (given : Given) (made : Option (List ℕ)) (fault : HopFault
   pub going_is : IsGoing given going
   pub held : IsHeld going (signs_of made) fault
 
--- the call breaks this rule first: one of 1 to 9, or by the gateway's verdict one of 10 to 17 and 19
+-- the call breaks this rule first: one of the rules of the call, or by the gateway's verdict one of the rules of the chains
 pub record IsRefusedEarly (given : Given) (refused : Refusal) : Type 0 where
   pub hop : HopView
   pub holder : HolderView

@@ -17,7 +17,8 @@ use std::alloc::{AllocError, Global};
 use std::marker::Model;
 use verify_rules::{Refusal, ScreenFault, Screened, Settings, screen};
 
-/// A call: its message and the moment at which it came, under the settings of a world. It is screened by rules 1 to 9, and open too if they refuse it.
+/// A call: its message and the moment at which it came, under the settings of a world. It is screened by the rules of the call, and open too if they
+/// refuse it.
 #[derive(Drop)]
 pub struct OpenCall {
     pub(crate) settings: Settings,
@@ -57,7 +58,7 @@ impl OpenCall {
         })
     }
 
-    /// What comes of it by rules 1 to 9 alone: refused, or by what it is known again if no later rule is broken.
+    /// What comes of it by the rules of the call alone: refused, or by what it is known again if no later rule is broken.
     pub fn early(&self) -> Found
         ensures { IsFoundEarly (call_in self.now) result }
     {
@@ -67,7 +68,7 @@ impl OpenCall {
         }
     }
 
-    /// How many PASSporTs are judged, at most nine; 0 if rules 1 to 9 refuse it.
+    /// How many PASSporTs are judged, at most nine; 0 if the rules of the call refuse it.
     pub fn count(&self) -> usize
         ensures exact { result ≡ length (judged_in self.now) }
         ensures few { result ≤ 9 }
@@ -88,8 +89,8 @@ impl OpenCall {
         }
     }
 
-    /// What its PASSporTs say, a line each: the number of the Identity field, and the payload that was signed. None if rules 1 to 9 refuse it. `AllocError`
-    /// is the only error.
+    /// What its PASSporTs say, a line each: the number of the Identity field, and the payload that was signed. None if the rules of the call refuse
+    /// it. `AllocError` is the only error.
     pub fn claims(&self, alloc: Global) -> Result<Vec<u8>, AllocError>
         ensures { IfOk result (λ lines. lines.items ≡ claims_lines (judged_in self.now)) }
     {
@@ -119,7 +120,7 @@ impl OpenCall {
         }
     }
 
-    /// The call as rules 1 to 9 leave it: screened, or refused by the first that it breaks.
+    /// The call as the rules of the call leave it: screened, or refused by the first that it breaks.
     pub fn screened(&self) -> Result<&Screened, Refusal>
         ensures { IsEarlyLent (call_in self.now) result }
     {
@@ -151,7 +152,7 @@ impl OpenCall {
     }
 }
 
-/// A call as rules 1 to 9 leave it. `AllocError` is the only error.
+/// A call as the rules of the call leave it. `AllocError` is the only error.
 fn screened(
     alloc: Global,
     settings: &Settings,

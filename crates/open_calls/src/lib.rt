@@ -6,7 +6,7 @@
 //! ```text
 //! settings, anchors, code table --OpenWorld::read-->  OpenWorld    what every call goes by
 //! the bytes of a chain ----------OpenChain::open-->   OpenChain    judged once; its questions; and, once they are confirmed, all that is known of it
-//! a message and its moment ------OpenCall::open-->    OpenCall     read once and screened by rules 1 to 9: its x5us, what its PASSporTs say
+//! a message and its moment ------OpenCall::open-->    OpenCall     read once and screened by the rules of the call: its x5us, what its PASSporTs say
 //!    | questions                                                   the signatures of its PASSporTs, under the leaves' keys
 //!    v judge, over OpenChains                                      Found: no rule is broken, or the first that is
 //! a Key, an Order, a message ----to_sign-->           a digest     to be signed by the host, or Unsigned: why there is none

@@ -42,7 +42,7 @@ take_seven call (one, (two, (three, (four, (five, (six, (seven, later))))))) = (
 abbrev pub call_with : Settings → ℕ → Result MessageView FormFault → Call
 call_with settings moment message = record { settings = settings; moment = moment; message = message }
 
--- it was judged by settings that number so, at this moment; it breaks none of rules 1 to 9; and these are its PASSporTs
+-- it was judged by settings that number so, at this moment; it breaks none of the rules of the call; and these are its PASSporTs
 pub record Stands (message : MessageView) (local : LocalView) (readings : List Reading) (settings : Settings) (moment : ℕ) : Type 0 where
   pub numbering : settings.local ≡ local
   pub hold : HoldAll early_rules (read_call settings moment message)

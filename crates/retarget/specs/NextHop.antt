@@ -26,7 +26,7 @@ pub record IsNextHop (out : List ℕ) (hop : HopView) (holder : HolderView) (say
   pub last : last_of (in_call_order (call_of settings later out)) ≡ Some link
   pub good : HasGoodChain world later link holder.entries
 
--- what goes on breaks none of rules 1 to 17 and 19 there
+-- what goes on breaks none of the rules of the call and the chains there
 abbrev pub BreaksNone : List ℕ → HopView → HolderView → Says → List Reading → List State → Type 0
 BreaksNone out hop holder says readings states = (settings : Settings) (world : World) (later : ℕ)
     → IsNextHop out hop holder says readings states settings world later → First world (call_of settings later out) ≡ None

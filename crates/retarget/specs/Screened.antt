@@ -1,4 +1,4 @@
--- What the gateway is handed of a call: what rules 1 to 9 gave for its bytes.
+-- What the gateway is handed of a call: what the rules of the call gave for its bytes.
 use Rattle.std.specs.Prelude.{◌≡◌, ℕ, List, Ok}
 use Rattle.tn_values.specs.Local.{LocalView}
 use Rattle.verify_rules.specs.Call.{call_of}

@@ -1,4 +1,4 @@
--- What rules 10 to 17 and 19 say when the gateway answers: of a call that goes on, or for which one of the faults 21 to 27 comes, that they hold.
+-- What the rules of the chains say when the gateway answers: of a call that goes on, or for which one of the faults 21 to 27 comes, that they hold.
 use Rattle.std.specs.Prelude.{◌≡◌, ⊤, ℕ, List, Result, Ok, Err}
 use Rattle.cert_store.specs.Rules.{Says}
 use Rattle.delegation.specs.Coverage.{Table}
@@ -40,7 +40,7 @@ NamesNoPass (faults.NoSignature digest) = ⊤
 NamesNoPass faults.Provider = ⊤
 NamesNoPass faults.Memory = ⊤
 
--- what rules 10 to 17 and 19 give over the chains, of PASSporTs judged at this moment by these codes and signatures
+-- what the rules of the chains give over the chains, of PASSporTs judged at this moment by these codes and signatures
 pub record IsFinished (says : Says) (table : Table) (moment : ℕ) (readings : List Reading) (states : List State) (faults_before faults_now : ℕ) (verdict : Verdict) : Type 0 where
   -- exactly
   pub is : IsVerdict says table moment readings states faults_before faults_now verdict

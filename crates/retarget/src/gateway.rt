@@ -24,9 +24,9 @@ use std::alloc::Global;
 use stir_outside::Provider;
 use verify_rules::{Chains, Screened, Verdict, finish};
 
-/// Sends a call on (RFC 8946, section 4). It tries rules 10 to 17 and 19 on it over the chains of its PASSporTs. It gives the message with the hop's
-/// request URI and one more Identity field, in the last line of the head. That field holds a PASSporT of the type `div`, from the calling number to the
-/// target's. Its diverted number is the one that was called before, and it is signed by the hop's key.
+/// Sends a call on (RFC 8946, section 4). It tries the rules of the chains on it over the chains of its PASSporTs. It gives the message with the
+/// hop's request URI and one more Identity field, in the last line of the head. That field holds a PASSporT of the type `div`, from the calling
+/// number to the target's. Its diverted number is the one that was called before, and it is signed by the hop's key.
 ///
 /// The call is what [`screen`](verify_rules::screen) gave for these bytes at this moment, by settings that number as the hop does; there is one chain for
 /// each of its PASSporTs; and the hop is one that [`Hop::is_valid`] takes.
@@ -47,7 +47,7 @@ pub fn retarget<C: Chains, P: Provider>(
     requires one_each { length (C.states chains.now) ≡ length screened.now.readings }
     requires hop { IsTrue (is_hop (hop_of hop.now)) }
 
-    // What rules 10 to 17 and 19 give, and in each world that judges the call so: the verdict that is answered, and else that they hold.
+    // What the rules of the chains give, and in each world that judges the call so: the verdict that is answered, and else that they hold.
     ensures finished { IsFinished (P.says provider.old) holder.now.table.now moment screened.now.readings (C.states chains.now) (P.faults provider.old) (P.faults provider.new) (verdict_of result) }
     ensures no_pass { IfErr result NamesNoPass }
 
@@ -60,7 +60,7 @@ pub fn retarget<C: Chains, P: Provider>(
     // Each fault in the words of what shows it.
     ensures causes { IfErr result (λ fault. CausedOnward bytes.now screened.now.readings (hop_of hop.now) (holder_of holder.now) (P.signs provider.old) fault) }
 
-    // At the next hop it breaks none of rules 1 to 17 and 19, in each world and at each moment for which the conditions hold.
+    // At the next hop it breaks none of the rules of the call and the chains, in each world and at each moment for which the conditions hold.
     ensures next { IfOk result (λ out. BreaksNone out.items (hop_of hop.now) (holder_of holder.now) (P.says provider.old) screened.now.readings (C.states chains.now)) }
 
     // In every case its last PASSporT has the call's orig, the earlier number as div and the target's number as its one dest.
@@ -91,7 +91,7 @@ pub fn retarget<C: Chains, P: Provider>(
     }
 }
 
-/// The same, of a call of which rules 10 to 17 and 19 hold.
+/// The same, of a call of which the rules of the chains hold.
 fn pass_on<P: Provider>(
     alloc: Global,
     bytes: &[u8],

@@ -4,7 +4,7 @@
 //!
 //! ```text
 //! the bytes of an INVITE, and what `verify_rules::screen` gave for them
-//!    | finish                     rules 10 to 17 and 19, over the chains of the PASSporTs
+//!    | finish                     the rules of the chains, over the chains of the PASSporTs
 //!    | the number of the Hop      where the call goes on; one at which it hasn't been
 //!    | with_target, divert        the request URI, and one more Identity field of the type `div`
 //!    v
@@ -27,8 +27,8 @@
 //! # What is proved
 //!
 //! What it writes is the message with the other request URI and with one more field, whose PASSporT goes from the calling number and the earlier
-//! called one to the new one. At the next hop it breaks none of rules 1 to 17 and 19, if the conditions hold that [`retarget`] names. Each fault comes just if
-//! its cause is there and those before it aren't. `docs/dev/PROVED.md`, "The retarget gateway", has the clauses.
+//! called one to the new one. At the next hop it breaks none of the rules of the call and the chains, if the conditions hold that [`retarget`] names.
+//! Each fault comes just if its cause is there and those before it aren't. `docs/dev/PROVED.md`, "The retarget gateway", has the clauses.
 //!
 //! # Cases
 //!

@@ -33,7 +33,7 @@ abbrev pub JudgedOn : Type 0
 JudgedOn = (world : World) (call : Call) (table : Table) (says : Says) (moment : ℕ) (screened : ScreenedView) → IsScreenedBy early_rules call (Ok screened)
     → moment ≡ call.moment → table ≡ world.table → says ≡ world.says → IsJudgedBy world call table says moment screened.readings
 
--- and of what is asked: of a call that rules 1 to 9 refuse, over chains, and over chains by a verdict
+-- and of what is asked: of a call that the rules of the call refuse, over chains, and over chains by a verdict
 abbrev pub RefusedAsks : Type 0
 RefusedAsks = (world : World) (call : Call) (refused : Refusal) → first early_rules call ≡ Some refused → call_questions world call ≡ []
 
@@ -46,7 +46,7 @@ WholeAsks = (world : World) (call : Call) (readings : List Reading) (states : Li
     → readings ≡ in_call_order call → AreRight world readings states → list_any is_unread states ≡ false → VerdictOf world call verdict
     → IsCaused readings states faults faults_now verdict → questions_over (asks_own verdict) readings states ≡ call_questions world call
 
--- ---- a call that rules 1 to 9 refuse
+-- ---- a call that the rules of the call refuse
 
 pub writes_refused : RefusedAsks → (told : Option Files) (materials : Materials) (call : Call) (refused : Refusal) (before : Lines) → first early_rules call ≡ Some refused
     → WritesCall told materials call before before

@@ -56,7 +56,7 @@ pub record AskedBatches (asker now : AskerView) (told : Option Files) (faults fa
 
 -- ---- a stop
 
--- The call breaks none of rules 1 to 9; the file is listed for a PASSporT of it; and the lines are those of what is asked for the chains of
+-- The call breaks none of the rules of the call; the file is listed for a PASSporT of it; and the lines are those of what is asked for the chains of
 -- the PASSporTs before.
 pub record StopsAt (world : World) (settings : Settings) (before : List Entry) (entry : Entry) (text name : List ℕ) : Type 0 where
   pub early : first early_rules (call_in settings entry) ≡ None

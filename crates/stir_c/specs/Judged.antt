@@ -17,7 +17,7 @@ use Rattle.stir_c.specs.Saying.{ToldBeside, said_found}
 use Rattle.stir_c.specs.Told.{plain}
 use Rattle.stir_c.specs.declared.said.Said.{Said}
 
--- ---- by rules 1 to 9
+-- ---- by the rules of the call
 
 -- What is found of it by these rules is said, and how many PASSporTs are judged.
 pub record IsEarlyTold (call : CallView) (said : Said) : Type 0 where

@@ -26,7 +26,7 @@ no_room size = record { kind = 4; input = 0; rule = 0; code = 0; field = 0; part
 
 -- ---- what they tell of a call
 
--- it breaks none of rules 1 to 17 and 19, and is known again by this ticket up to this second
+-- it breaks none of the rules of the call and the chains, and is known again by this ticket up to this second
 pub record Passed (world : World) (call : Call) (said : Said) : Type 0 where
   pub none : First world call ≡ None
   pub known : IsKnownBy call said.ticket said.last

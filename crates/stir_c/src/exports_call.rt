@@ -25,8 +25,9 @@ pub(crate) struct Opened {
     pub(crate) said: Said,
 }
 
-/// Opens a call under a world: reads its message, and tries rules 1 to 9. Kind 0: it breaks none of them; `size` is how many PASSporTs are judged, and
-/// `ticket` and `last` tell how it is known again. Kind 1: it breaks `rule` first. Either way it is in `out`. Kind 5: the world's handle is closed.
+/// Opens a call under a world: reads its message, and tries the rules of the call. Kind 0: it breaks none of them; `size` is how many PASSporTs are
+/// judged, and `ticket` and `last` tell how it is known again. Kind 1: it breaks `rule` first. Either way it is in `out`. Kind 5: the world's handle
+/// is closed.
 #[unsafe(no_mangle)]
 pub extern "C" fn stir_call_open(
     alloc: Global,

@@ -114,9 +114,9 @@ pub extern "C" fn stir_call_questions(alloc: Global, call: &mut CallHandle, room
     said
 }
 
-/// Judges the call by rules 1 to 17 and 19 (RFC 8224, section 6.2), over the chains that were handed in: `good` has a byte for each question of
-/// `stir_call_questions`, 0 if it isn't confirmed. Kind 0: it breaks none, and `ticket` and `last` tell how it is known again. Kind 1: it breaks `rule`
-/// first, at `field` and `part`. Kind 5: the handle is closed.
+/// Judges the call by the rules of the call and the chains (RFC 8224, section 6.2), over the chains that were handed in: `good` has a byte for each
+/// question of `stir_call_questions`, 0 if it isn't confirmed. Kind 0: it breaks none, and `ticket` and `last` tell how it is known again. Kind 1: it
+/// breaks `rule` first, at `field` and `part`. Kind 5: the handle is closed.
 #[unsafe(no_mangle)]
 pub extern "C" fn stir_call_judge(alloc: Global, call: &mut CallHandle, good: &[u8]) -> Said
     ensures kinds { result.kind ≤ 5 }
@@ -138,8 +138,9 @@ pub extern "C" fn stir_call_judge(alloc: Global, call: &mut CallHandle, good: &[
     said
 }
 
-/// Explains the call, as `stir_call_judge` judges it: writes a line for each of rules 1 to 17 and 19 in their order, up to the first that is broken. The
-/// lines begin with `number`. It tells what `stir_call_judge` tells, but `size`. Kind 4: there is no room for the lines. Kind 5: the handle is closed.
+/// Explains the call, as `stir_call_judge` judges it: writes a line for each of the rules of the call and the chains in their order, up to the first
+/// that is broken. The lines begin with `number`. It tells what `stir_call_judge` tells, but `size`. Kind 4: there is no room for the lines. Kind 5:
+/// the handle is closed.
 #[unsafe(no_mangle)]
 pub extern "C" fn stir_call_explain(
     alloc: Global,

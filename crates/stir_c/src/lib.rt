@@ -6,7 +6,7 @@
 //! settings, trust anchors, code table --stir_world_open-->  a world
 //! a world, the bytes of a chain       --stir_chain_open-->  a chain, judged once
 //!    | stir_chain_questions, stir_chain_confirm              what the host has to confirm of it, and which of it he confirmed
-//! a world, a message, a moment        --stir_call_open-->   a call, screened by rules 1 to 9
+//! a world, a message, a moment        --stir_call_open-->   a call, screened by the rules of the call
 //!    | stir_call_x5u, stir_call_chain                        which chains it asks for, and which are handed in
 //!    | stir_call_questions                                   its PASSporTs' own signatures, and what holds if all are confirmed
 //!    | stir_call_judge                                       the verdict by those that are; stir_call_explain, with a line for each rule

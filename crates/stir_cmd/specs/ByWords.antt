@@ -61,8 +61,8 @@ pub record SignedByWords (order : SignOrder) (before now : Outside) : Type 0 whe
   pub reported : Appends before.written now.written text
   pub signed : IsSignedBy order bytes text
 
--- The message that the input is breaks none of rules 1 to 9 at the moment of the words, by their seconds. What was written is this message with the
--- target of the words as its request URI, and its diversion signed with their key at their second.
+-- The message that the input is breaks none of the rules of the call at the moment of the words, by their seconds. What was written is this message
+-- with the target of the words as its request URI, and its diversion signed with their key at their second.
 pub record SentByWords (words : RetargetingView) (before now : Outside) : Type 0 where
   pub bytes : List ℕ
   pub taken : Consumes before.left now.left bytes

@@ -110,7 +110,7 @@ pub record HeldFor (key : List ℕ) (fault : HopFault) (text : List ℕ) (status
 
 -- ---- what the command answers to a message
 
--- Rules 1 to 9 refuse the bytes, and the line of that is written.
+-- The rules of the call refuse the bytes, and the line of that is written.
 pub record ScreensOut (place : PlaceView) (bytes text : List ℕ) (status : ℕ) : Type 0 where
   pub said : status ≡ 1
   pub refused : Refusal

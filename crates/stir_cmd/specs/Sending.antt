@@ -48,7 +48,7 @@ call_at place bytes = call_of place.settings place.moment bytes
 abbrev pub holder_at : PlaceView → HolderView
 holder_at place = record { entries = place.entries; table = place.materials.table }
 
--- rules 1 to 9 refuse the bytes, and so it is answered
+-- the rules of the call refuse the bytes, and so it is answered
 pub record IsScreenedOut {X : Type 0} (place : PlaceView) (bytes : List ℕ) (result : Result X HopFault) : Type 0 where
   pub refused : Refusal
   pub first : first early_rules (call_at place bytes) ≡ Some refused
@@ -75,7 +75,7 @@ pub record IsOverChains {X : Type 0} (place : PlaceView) (told : Option Files) (
   pub answered : list_any is_unasked states ≡ false
   pub answer : IsAnswerOf place hop bytes (in_call_order (call_at place bytes)) states seen result
 
--- of bytes of which rules 1 to 9 hold: the answer of the gateway, or out of memory
+-- of bytes of which the rules of the call hold: the answer of the gateway, or out of memory
 abbrev pub IsSentScreened : {X : Type 0} → PlaceView → Option Files → ℕ → ℕ → HopView → List ℕ → (X → List ℕ) → Result X HopFault → Type 0
 IsSentScreened place told faults_before faults_now hop bytes seen result = IsOverChains place told faults_before faults_now hop bytes seen result ⊎ (result ≡ Err faults.Memory)
 

@@ -107,7 +107,7 @@ pub fn run<R: Threads + Sync, S: Shelf, I: Source, O: Sink>(
 
     // The values of the words under their names. Of `verify`: no PASSporT of a valid call is older than `--past` says, nor ahead by more than `--future`
     // says. What `sign` and `divert` write is signed with `--key` at `--iat`, with `--x5u`; so is what `retarget` writes, which goes on to `--target`, of a
-    // message of which rules 1 to 9 hold at `--moment`.
+    // message of which the rules of the call hold at `--moment`.
     ensures by_words { KeepsToWords (order_of (texts words.now))
         (outside_of S.Shelf I.Source O.Sink shelf.old input.old sink.old)
         (outside_of S.Shelf I.Source O.Sink shelf.new input.new sink.new) result }

@@ -32,7 +32,7 @@ pub(crate) struct Place<'a> {
 }
 
 /// Screens a message, reads the chains of its PASSporTs from the shelf, and sends it on: it gives the message that goes on, or why there is none. What
-/// rules 1 to 9 refuse comes as [`HopFault::Verdict`] too. `Unasked` and `Provider` never come, since an answers file never fails.
+/// the rules of the call refuse comes as [`HopFault::Verdict`] too. `Unasked` and `Provider` never come, since an answers file never fails.
 ///
 /// The hop is one that [`Hop::is_valid`] takes, and numbers as the settings do.
 pub(crate) fn send_on<S: Shelf>(

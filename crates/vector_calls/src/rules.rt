@@ -1,4 +1,4 @@
-//! Calls judged by rules 1 to 9: the calls of `verify_rules`.
+//! Calls judged by the rules of the call: the calls of `verify_rules`.
 
 use std::alloc::Global;
 use vector_table::{Answer, Unread, joined, local_of, number, word};

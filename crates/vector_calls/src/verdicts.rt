@@ -1,4 +1,4 @@
-//! Calls judged by rules 10 to 17 and 19 over the chains of their PASSporTs: `screen` and then `finish` of `verify_rules`.
+//! Calls judged by the rules of the chains over the chains of their PASSporTs: `screen` and then `finish` of `verify_rules`.
 ghost use Rattle.std.specs.Prelude.{◌≡◌};
 ghost use Rattle.verify_rules.specs.States.{seen};
 ghost use Rattle.vector_calls.specs.Known.{known_seen};
@@ -21,7 +21,7 @@ pub fn answer(alloc: Global, call: &str, words: &[&[u8]]) -> Result<String, Unre
     }
 }
 
-/// What rules 10 to 17 and 19 come to at a moment, when some calls of the provider fail.
+/// What the rules of the chains come to at a moment, when some calls of the provider fail.
 fn finish_answer(alloc: Global, words: &[&[u8]]) -> Result<String, Unread> {
     let [
         moment,
@@ -53,7 +53,8 @@ fn finish_answer(alloc: Global, words: &[&[u8]]) -> Result<String, Unread> {
         .line()
 }
 
-/// A call that breaks none of the rules 1 to 9, with country 1, national numbers of ten digits, and PASSporTs that may be 60 seconds old and 5 ahead.
+/// A call that breaks none of the rules of the call, with country 1, national numbers of ten digits, and PASSporTs that may be 60 seconds old and 5
+/// ahead.
 fn screened(alloc: Global, message: &[u8], moment: u64) -> Result<Screened, Unread> {
     let local = local_of(b"1", b"10")?;
     let settings = Settings {
@@ -122,7 +123,7 @@ struct Case<'a> {
 }
 
 impl<'a> Case<'a> {
-    /// What rules 10 to 17 and 19 come to.
+    /// What the rules of the chains come to.
     fn judge(
         self,
         alloc: Global,

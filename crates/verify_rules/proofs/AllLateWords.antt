@@ -1,4 +1,4 @@
--- A verdict of a world says of each of rules 10 to 17 and 19 what it means.
+-- A verdict of a world says of each of the rules of the chains what it means.
 use Rattle.std.proofs.Common.{◌≡◌, ◌↔◌, [], ◌∷◌, None, sym, ◌∙◌, arith}
 use Rattle.verify_rules.specs.Call.{Call, in_call_order}
 use Rattle.verify_rules.specs.LateWords.{HasAuthority, IsAllowed, IsAnchored, IsCertified, IsCovered, IsGenuine, IsInDate, IsInProfile, IsListed, SaysLateWords}
@@ -18,7 +18,7 @@ use Rattle.verify_rules.proofs.WorldVerdict.{first_late}
 
 -- ---- each rule on all PASSporTs, if those before it hold
 
--- a rule of 10 to 17 or 19 holds
+-- one of the rules of the chains holds
 abbrev pub Keeps : World → Call → LateRule → Type 0
 Keeps world call rule = each (broken_by world rule call.moment) (in_call_order call) ≡ None
 

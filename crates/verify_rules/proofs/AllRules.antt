@@ -29,7 +29,7 @@ LateWordsLaw = (world : World) (call : Call) (verdict : Verdict) → HoldsBytes 
 abbrev pub LatePlacesLaw : Type 0
 LatePlacesLaw = (world : World) (call : Call) (verdict : Verdict) → HoldsBytes world → first early_rules call ≡ None → VerdictOf world call verdict → SpeaksOfLatePlace world call verdict
 
--- what rules 1 to 9 come to says of each what it means
+-- what the rules of the call come to says of each what it means
 abbrev WordsLaw : List ℕ → Call → Type 0
 WordsLaw bytes call = (result : Result ScreenedView ScreenFault) → IsScreenedBy early_rules call result → SaysWords bytes call result
 

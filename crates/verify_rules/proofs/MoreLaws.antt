@@ -1,4 +1,4 @@
--- Rules 10 to 17 and 19 of a call with a link more.
+-- The rules of the chains of a call with a link more.
 use Rattle.std.proofs.Common.{◌≡◌, ℕ, true, List, [], ◌∷◌, ◌++◌, map, Option, Some, None, refl, sym, ◌∙◌, ap}
 use Rattle.std.specs.Option.{option_or}
 use Rattle.std.specs.Prelude.{⊤}

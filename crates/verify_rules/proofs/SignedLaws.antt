@@ -1,4 +1,4 @@
--- A call by which rules 1 to 9 hold is known again by what was signed as its last PASSporT.
+-- A call by which the rules of the call hold is known again by what was signed as its last PASSporT.
 use Rattle.std.proofs.Common.{◌≡◌, ◌⊎◌, inl, inr, ℕ, zero, suc, ◌+◌, ◌-◌, List, [], ◌∷◌, length, map, get_or, Option, Some, None, refl, sym, ◌∙◌, ap, subst, arith, le-leb}
 use Rattle.std.specs.Prelude.{option_and_then, unwrap_or}
 use Rattle.std.specs.List.{slice_get}

@@ -154,7 +154,7 @@ both_refused : (a b : Option Refusal) → option_or (refused_event a) (refused_e
 both_refused None b = refl
 both_refused (Some refused) b = refl
 
--- the first event over what there is to know is the first broken rule of 10 to 17 and 19
+-- the first event over what there is to know is the first broken one of the rules of the chains
 pub late_first : AnsweredLaw → (world : World) (call : Call)
     → first_event world.says world.table call.moment (in_call_order call) (truths world (in_call_order call)) ≡ refused_event (first (late_rules world) call)
 late_first law world call =

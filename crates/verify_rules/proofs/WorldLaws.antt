@@ -1,4 +1,4 @@
--- What rules 1 to 9 say in a world, and what is right of a chain.
+-- What the rules of the call say in a world, and what is right of a chain.
 use Rattle.std.proofs.Common.{◌≡◌, ℕ, suc, ◌≤◌, nat_lt, true, false, cond, List, [], ◌∷◌, ◌++◌, length, Option, Some, None, option_and_then, Ok, refl, ◌∙◌, ap, arith}
 use Rattle.std.specs.List.{slice_get}
 use Rattle.std.specs.Option.{option_map}

@@ -42,7 +42,7 @@ some_refused None given (inr aside) = absurd aside
 some_refused (Some refused) given (inl same) = cc
 some_refused (Some refused) given (inr aside) = absurd aside
 
--- the first broken rule of 10 to 17 and 19 agrees with the event over what is known of the chains
+-- the first broken one of the rules of the chains agrees with the event over what is known of the chains
 late_agrees : AnsweredLaw → (world : World) (call : Call) (states : List State) (event : Option Event) → AreRight world (in_call_order call) states
     → first_event world.says world.table call.moment (in_call_order call) states ≡ event → Agrees (refused_event (first (late_rules world) call)) event
 late_agrees law world call states event right is =

@@ -13,14 +13,14 @@ use Rattle.verify_rules.specs.declared.refusal.ScreenFault.TheVariants as answer
 use Rattle.verify_rules.specs.declared.verdict.Verdict.{Verdict}
 use Rattle.verify_rules.specs.declared.verdict.Verdict.TheVariants.{Passed, Refused, Unread, Unasked}
 
--- what a verdict tells of rules 1 to 9: a call that it refuses is refused, by whichever rule, and any other is screened
+-- what a verdict tells of the rules of the call: a call that it refuses is refused, by whichever rule, and any other is screened
 abbrev pub early_answer : Call → Verdict → Result ScreenedView ScreenFault
 early_answer call Passed = Ok (screened_of call)
 early_answer call (Refused refused) = Err (answers.Refused refused)
 early_answer call (Unread bad) = Ok (screened_of call)
 early_answer call (Unasked bad) = Ok (screened_of call)
 
--- each of rules 1 to 9; and each of rules 10 to 17 and 19, of a call that breaks none of those
+-- each of the rules of the call; and each of the rules of the chains, of a call that breaks none of those
 pub record SaysRules (world : World) (bytes : List ℕ) (call : Call) (verdict : Verdict) : Type 0 where
   pub early : SaysWords bytes call (early_answer call verdict)
   pub late : first early_rules call ≡ None → SaysLateWords world call verdict

@@ -1,4 +1,5 @@
--- Rules 10 to 17 and 19: what the certificate chains of a call's PASSporTs say. Each is asked of a PASSporT and of what is known of its chain, in
+-- The rules of the chains, 10 to 17 and 19: what the certificate chains of a call's PASSporTs say.
+-- Each is asked of a PASSporT and of what is known of its chain, in
 -- the order in which the call went. A rule is stated only if those before it hold; what its definition gives otherwise is never looked at.
 use Rattle.std.specs.Prelude.{ℕ, Bool, true, false, ◌||◌, List, [], ◌∷◌, Option, Some, None}
 use Rattle.std.specs.List.{list_any, slice_get}

@@ -1,5 +1,5 @@
--- Where rules 10 to 17 and 19 are broken, in words: at the first PASSporT, in the order in which the call went, of which the rule doesn't hold; and in it at
--- the first certificate, if the rule speaks of certificates. And at what a call is set aside.
+-- Where the rules of the chains are broken, in words: at the first PASSporT, in the order in which the call went, of which the rule doesn't hold; and
+-- in it at the first certificate, if the rule speaks of certificates. And at what a call is set aside.
 use Rattle.std.specs.Prelude.{◌≡◌, ⊤, ◌⊎◌, ℕ, ◌<◌, ◌≤◌, List, length, take, Option, Some}
 use Rattle.std.specs.List.{slice_get}
 use Rattle.x509_profile.specs.View.{CertView}

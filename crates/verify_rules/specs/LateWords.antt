@@ -1,4 +1,4 @@
--- Rules 10 to 17 and 19 in their own words: what holds, in a world, of the certificates of a PASSporT if a rule holds, and which rule is the
+-- The rules of the chains in their own words: what holds, in a world, of the certificates of a PASSporT if a rule holds, and which rule is the
 -- first that doesn't.
 use Rattle.std.specs.Prelude.{◌≡◌, ⊤, ◌⊎◌, ℕ, ◌<◌, ◌≤◌, true, List, length, Option, Some}
 use Rattle.std.specs.List.{slice_get}
@@ -129,7 +129,7 @@ MeansLate number P (Refused refused) = (refused.rule ≡ number → P → ⊥) �
 MeansLate number P (Unread bad) = ⊤
 MeansLate number P (Unasked bad) = number < 15 → P
 
--- each of rules 10 to 17 and 19, of each PASSporT in the order in which the call went
+-- each of the rules of the chains, of each PASSporT in the order in which the call went
 pub record SaysLateWords (world : World) (call : Call) (verdict : Verdict) : Type 0 where
   pub files : MeansLate 10 (Each (IsListed world) (in_call_order call)) verdict
   pub profile : MeansLate 11 (Each (IsInProfile world) (in_call_order call)) verdict

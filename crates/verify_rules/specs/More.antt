@@ -1,4 +1,4 @@
--- A call with one link more, at its next hop (RFC 8946, section 4): rules 10 to 17 and 19.
+-- A call with one link more, at its next hop (RFC 8946, section 4): the rules of the chains.
 use Rattle.std.specs.Prelude.{◌≡◌, ⊤, ℕ, true, List, [], ◌∷◌, ◌++◌, None, Some}
 use Rattle.std.specs.List.{slice_get}
 use Rattle.tn_auth_list.specs.declared.entries.Entry.{Entry}
@@ -37,8 +37,8 @@ pub record HasGoodChain (world : World) (moment : ℕ) (one : Reading) (entries 
   pub list : leaf.list ≡ Some entries
   pub genuine : world.says leaf.key one.mark.digest one.mark.signature ≡ true
 
--- Rules 10 to 17 and 19 hold of a call, and so they hold of it with a link more after the others: one whose chain is good and whose leaf covers what it
--- vouches for, at a moment at which all certificates are valid.
+-- The rules of the chains hold of a call, and so they hold of it with a link more after the others: one whose chain is good and whose leaf covers
+-- what it vouches for, at a moment at which all certificates are valid.
 abbrev pub LinkMore : Type 0
 LinkMore = (world : World) (call out : Call) (link : Reading) (entries : List Entry) → in_call_order out ≡ in_call_order call ++ link ∷ []
     → HoldAll (late_rules world) call → AreInDate world out → HasGoodChain world out.moment link entries

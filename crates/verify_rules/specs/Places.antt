@@ -1,5 +1,5 @@
--- Where rules 1 to 9 are broken, in words. A place has the number of an Identity field, or 0 for a rule that speaks of none, and a part, which is 0
--- if the rule gives it none.
+-- Where the rules of the call are broken, in words. A place has the number of an Identity field, or 0 for a rule that speaks of none, and a part,
+-- which is 0 if the rule gives it none.
 use Rattle.std.specs.Prelude.{◌≡◌, ⊤, ℕ, ◌+◌, ◌<◌, List, ◌∷◌, ◌++◌, length, codes, Some, Result, Ok, Err}
 use Rattle.std.specs.List.{slice_get}
 use Rattle.identity_header.specs.Read.{read as read_parts}

@@ -149,6 +149,7 @@ chain_rules = rule_7 ∷ rule_8 ∷ rule_9 ∷ []
 abbrev pub field_rules : List Rule
 field_rules = rule_4 ∷ rule_5 ∷ rule_6 ∷ chain_rules
 
+-- the rules of the call, 1 to 9: what it says itself, before any certificate is looked at
 abbrev pub early_rules : List Rule
 early_rules = rule_1 ∷ rule_2 ∷ rule_3 ∷ field_rules
 

@@ -1,4 +1,4 @@
--- What rules 10 to 17 and 19 come to over the chains that were handed in.
+-- What the rules of the chains come to over the chains that were handed in.
 use Rattle.std.specs.Prelude.{◌≡◌, ◌≢◌, ⊤, ◌⊎◌, ℕ, List, take, Some, None, IsSome}
 use Rattle.std.specs.List.{slice_get}
 use Rattle.stir_outside.specs.Count.{Rose, last_count}
@@ -41,7 +41,7 @@ pub record IsOpenAt (says : Says) (readings : List Reading) (states : List State
   pub asked : HasLeaf state
   pub before : asking says (take at readings) (take at states) ≡ None
 
--- Passed if rules 10 to 17 and 19 hold; refused by the first that is broken, before anything is left open; unread if rule 10 is tried on a chain
+-- Passed if the rules of the chains hold; refused by the first that is broken, before anything is left open; unread if rule 10 is tried on a chain
 -- that isn't known; and unasked if rule 15 meets a signature whose question failed, or a question of rule 16 failed in this call
 abbrev pub IsVerdict : Says → Table → ℕ → List Reading → List State → ℕ → ℕ → Verdict → Type 0
 IsVerdict says table moment readings states faults faults_now Passed = first_event says table moment readings states ≡ None

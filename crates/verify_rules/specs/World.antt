@@ -68,7 +68,7 @@ part_at field (results.Broken part) = Some (place field part)
 part_at field results.Unknown = None
 part_at field (results.Unasked part) = None
 
--- where a PASSporT breaks one of rules 10 to 15, 17 or 19
+-- where a PASSporT breaks one of the rules of the chains but 16
 unfoldable pub broken_by : World → LateRule → ℕ → Reading → Option Place
 broken_by world rule moment one = part_at one.mark.field (tell rule world.table moment one (truth_for world one))
 
@@ -100,11 +100,11 @@ unsigned_rules = late.Listed ∷ late.Profile ∷ late.Shape ∷ late.Dates ∷ 
 abbrev pub certificate_rules : World → List Rule
 certificate_rules world = map (late_rule world) unsigned_rules
 
--- rules 15 to 17 and 19: those that ask for signatures, and the two after them
+-- the rules from 15 on: those that ask for signatures, and the two after them
 abbrev pub signature_rules : World → List Rule
 signature_rules world = late_rule world late.Asked ∷ asking_rule world ∷ map (late_rule world) rules_after
 
--- rules 10 to 17 and 19
+-- the rules of the chains
 abbrev pub late_rules : World → List Rule
 late_rules world = map (late_rule world) rules_before ++ asking_rule world ∷ map (late_rule world) rules_after
 
@@ -128,7 +128,7 @@ AreRight world [] (state ∷ states) = ⊥
 AreRight world (one ∷ others) [] = ⊥
 AreRight world (one ∷ others) (state ∷ states) = IsRight world one.passport.x5u state × AreRight world others states
 
--- The call breaks none of rules 1 to 9; these are its PASSporTs and its moment; and the codes and the signatures are those of the world.
+-- The call breaks none of the rules of the call; these are its PASSporTs and its moment; and the codes and the signatures are those of the world.
 pub record IsJudgedBy (world : World) (call : Call) (table : Table) (says : Says) (moment : ℕ) (readings : List Reading) : Type 0 where
   pub early : first early_rules call ≡ None
   pub in_order : readings ≡ in_call_order call
@@ -138,7 +138,7 @@ pub record IsJudgedBy (world : World) (call : Call) (table : Table) (says : Says
 
 -- ---- what sets a call aside
 
--- Rules 1 to 9 hold; the place is that of a PASSporT for whose x5u a file is listed; and rule 10 holds for each before it.
+-- The rules of the call hold; the place is that of a PASSporT for whose x5u a file is listed; and rule 10 holds for each before it.
 pub record MayBeUnread (world : World) (call : Call) (bad : Place) : Type 0 where
   pub early : HoldAll early_rules call
   pub at : ℕ

@@ -1,4 +1,4 @@
-//! Rules 1 to 9, tried in their order.
+//! The rules of the call, tried in their order.
 ghost use Rattle.std.specs.Prelude.{◌≡◌, ◌≤◌, List, map, IfOk};
 ghost use Rattle.verify_rules.specs.Call.{call_of, fields_of, read_call};
 ghost use Rattle.verify_rules.specs.Places.{SpeaksOfPlace};
@@ -21,7 +21,7 @@ use passport_json::{token_found_law, token_law};
 use sip_message::{Message, MessageFault, head_law};
 use std::alloc::Global;
 
-/// Tries rules 1 to 9 (RFC 8224, section 6.2) on the bytes of a message that came at a moment, in Unix seconds. The first that is broken
+/// Tries the rules of the call (RFC 8224, section 6.2) on the bytes of a message that came at a moment, in Unix seconds. The first that is broken
 /// refuses the call; a call that breaks none is screened.
 #[tactic(auto, using(crate::proofs::FirstLaws::least, crate::proofs::FirstLaws::first_before, crate::proofs::FreshLaws::still_fresh))]
 pub fn screen(

@@ -1,4 +1,4 @@
-//! Rules 10 to 15, 17 and 19, each asked of one PASSporT and of what is known of its chain.
+//! The rules of the chains but 16, each asked of one PASSporT and of what is known of its chain.
 ghost use Rattle.std.specs.Prelude.{◌≡◌};
 ghost use Rattle.verify_rules.specs.Late.{by_answer, by_part, number, or_broken, tell, tell_judged, tell_long, tell_missing};
 ghost use Rattle.verify_rules.specs.Screened.{judged_seen};

@@ -41,8 +41,8 @@ use passport_json::{token_found_law, token_law};
 use sip_message::head_law;
 use x509_profile::chain_law;
 
-/// What rules 1 to 9 make of a call, in every world. If they refuse it, so does the first broken rule of all; else it is judged on by the codes and
-/// signatures of the world. Its ticket is the digest of its last PASSporT, and it is fresh up to this one's iat plus `past`.
+/// What the rules of the call make of a call, in every world. If they refuse it, so does the first broken rule of all; else it is judged on by the
+/// codes and signatures of the world. Its ticket is the digest of its last PASSporT, and it is fresh up to this one's iat plus `past`.
 pub fn screened_law()
     ensures refused { (world : World) (call : Call) (refused : Refusal) → IsScreenedBy early_rules call (Err (Refused refused)) → First world call ≡ Some refused }
     ensures judged { (world : World) (call : Call) (table : Table) (says : Says) (moment : ℕ) (screened : ScreenedView) → IsScreenedBy early_rules call (Ok screened)
@@ -51,8 +51,8 @@ pub fn screened_law()
     ensures last { (call : Call) (screened : ScreenedView) → IsScreenedBy early_rules call (Ok screened) → screened.last ≡ last_of_call call }
 {}
 
-/// What the first broken rule of all says of rules 10 to 17 and 19 in their own words, and what it says of a call that may be set aside. The files of
-/// the world hold bytes, and the call breaks none of the rules before.
+/// What the first broken rule of all says of the rules of the chains in their own words, and what it says of a call that may be set aside. The files
+/// of the world hold bytes, and the call breaks none of the rules before.
 pub fn late_words_law()
     ensures { (world : World) (call : Call) (verdict : Verdict) → HoldsBytes world → first early_rules call ≡ None → VerdictOf world call verdict → SaysLateWords world call verdict }
 {
@@ -62,8 +62,8 @@ pub fn late_words_law()
     constraints_law();
 }
 
-/// What the first broken rule of all says of where it is broken, if it is one of rules 10 to 17 and 19; and what holds before the place at which a call
-/// may be set aside. The files of the world hold bytes.
+/// What the first broken rule of all says of where it is broken, if it is one of the rules of the chains; and what holds before the place at which a
+/// call may be set aside. The files of the world hold bytes.
 pub(crate) fn late_places_law()
     ensures { (world : World) (call : Call) (verdict : Verdict) → HoldsBytes world → first early_rules call ≡ None → VerdictOf world call verdict
         → SpeaksOfLatePlace world call verdict }
@@ -105,7 +105,7 @@ pub fn right_law()
         → AreRight world readings states }
 {}
 
-/// A call that breaks none of rules 1 to 9 has a last PASSporT, and is known again by what was signed as it.
+/// A call that breaks none of the rules of the call has a last PASSporT, and is known again by what was signed as it.
 pub fn signed_law()
     ensures { (call : Call) → first early_rules call ≡ None → IsKnownAgain call }
 {
@@ -132,7 +132,7 @@ pub fn words_law()
     late_places_law();
 }
 
-/// Rules 10 to 14 depend on no provider of signatures. Rules 15 to 17 and 19 say the same by two of them, if both make the same of each chain of the
+/// Rules 10 to 14 depend on no provider of signatures. The rules from 15 on say the same by two of them, if both make the same of each chain of the
 /// call and of the signatures of its PASSporTs.
 pub fn provider_law()
     ensures certificates { (world : World) (other : Says) (call : Call) → first (certificate_rules (with_says world other)) call ≡ first (certificate_rules world) call }
@@ -158,7 +158,7 @@ pub fn code_law()
     ensures { (rule : ℕ) → HasCode rule (code_of rule) }
 {}
 
-/// A call that breaks none of rules 1 to 9 is fresh up to the `iat` of its last PASSporT plus `past`.
+/// A call that breaks none of the rules of the call is fresh up to the `iat` of its last PASSporT plus `past`.
 pub fn last_second_law()
     ensures { (call : Call) → first early_rules call ≡ None → IsLastSecond call (last_of_call call) }
 {

@@ -1,13 +1,13 @@
-//! The rules by which a verification service judges a call (RFC 8224, section 6.2), without replay: rules 1 to 17 and 19 of the report.
+//! The rules by which a verification service judges a call (RFC 8224, section 6.2), without replay: the rules of the call and the chains.
 //!
 //! # The way through
 //!
 //! ```text
 //! the bytes of a message
-//!    | screen                     rules 1 to 9: what the call itself says, before any certificate is looked at
+//!    | screen                     the rules of the call: what the call itself says, before any certificate is looked at
 //!    v
 //! Screened                        the PASSporTs in the order in which the call went, their digests, the ticket of the last
-//!    | finish, over Chains        rules 10 to 17 and 19: what is known of the chain of each PASSporT, as a ChainState
+//!    | finish, over Chains        the rules of the chains: what is known of the chain of each PASSporT, as a ChainState
 //!    v
 //! Verdict                         Passed, Refused with the first broken rule and its place, Unread or Unasked
 //! ```

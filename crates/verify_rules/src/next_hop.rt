@@ -9,7 +9,7 @@ pub fn moved_law()
     ensures holds { HoldsMoved }
 {}
 
-/// Rules 10 to 17 and 19 hold of a call with one link more, if they hold of the call and of the link.
+/// The rules of the chains hold of a call with one link more, if they hold of the call and of the link.
 pub fn more_law()
     ensures { LinkMore }
 {}

@@ -15,7 +15,7 @@ use passport_claims::{Order, Passport};
 use serde_json::Value;
 use std::marker::Model;
 
-/// A call that breaks none of the rules 1 to 9: its judged PASSporTs in the order in which the call went, the originating one first,
+/// A call that breaks none of the rules of the call: its judged PASSporTs in the order in which the call went, the originating one first,
 /// and the last second at which the last of them is fresh. In contracts it is the record of these two.
 #[derive(Drop)]
 pub struct Screened {

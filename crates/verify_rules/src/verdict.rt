@@ -1,4 +1,4 @@
-//! Rules 10 to 17 and 19, tried in their order.
+//! The rules of the chains, tried in their order.
 ghost use Rattle.stir_outside.specs.Stays.{ProviderStays};
 ghost use Rattle.std.specs.Prelude.{◌≡◌, ◌+◌, ◌≤◌, length};
 ghost use Rattle.verify_rules.specs.Call.{Call};
@@ -20,7 +20,7 @@ use cert_store::judged_law;
 use stir_outside::Provider;
 use tn_auth_list::CodeTable;
 
-/// What rules 10 to 17 and 19 come to.
+/// What the rules of the chains come to.
 #[derive(Clone, Copy, Debug, PartialEq, Eq)]
 pub enum Verdict {
     /// They hold.
@@ -47,7 +47,7 @@ const BEFORE: [LateRule; 6] = [
 /// Those that are tried after them.
 const AFTER: [LateRule; 2] = [LateRule::Covers, LateRule::Constraints];
 
-/// Tries rules 10 to 17 and then 19 (RFC 8224, section 6.2) on a call that was screened and came at this moment, in Unix seconds. It judges by what is
+/// Tries the rules of the chains (RFC 8224, section 6.2) on a call that was screened and came at this moment, in Unix seconds. It judges by what is
 /// known of the chains of the call's PASSporTs: one state for each, in the order in which the call went.
 ///
 /// The provider is asked for the signatures of the PASSporTs alone (rule 16), and only if rules 10 to 15 hold; what it says of the certificates' is in
@@ -70,8 +70,8 @@ pub fn finish<C: Chains, P: Provider>(
     ensures right { (world : World) (call : Call) → IsJudgedBy world call table.now (P.says provider.old) moment screened.now.readings
         → AreRight world screened.now.readings (C.states chains.now) → VerdictOf world call result }
 
-    // Each of rules 10 to 17 and 19 in its own words, if the files of that world hold bytes: it holds of a call that passes; if it refuses, it doesn't
-    // hold, and those before it do.
+    // Each of the rules of the chains in its own words, if the files of that world hold bytes: it holds of a call that passes; if it refuses, it
+    // doesn't hold, and those before it do.
     ensures words { (world : World) (call : Call) → HoldsBytes world → IsJudgedBy world call table.now (P.says provider.old) moment screened.now.readings
         → AreRight world screened.now.readings (C.states chains.now) → SaysLateWords world call result }
 

@@ -265,7 +265,7 @@ module _ (settings : Settings) (entries : List Entry) (calls : List ReadyCall) (
               let below = w.below in
               omega arith
 
--- rules 1 to 9 refuse no valid call, its ticket isn't held, and no two valid calls have one
+-- the rules of the call refuse no valid call, its ticket isn't held, and no two valid calls have one
 pub once_valid : (past : PastView) (calls : List ReadyCall) (outs : List Outcome) (all : Holder) → HasClaims past calls outs all → SeatSettled all → AreClassed calls → AreNumbered calls
     → ((at : ℕ) (call : ReadyCall) → slice_get calls at ≡ Some call → passes (out_at outs at) ≡ true → is_passed call.screening ≡ true) → IsOnceValid past calls outs
 once_valid past calls outs all claims seat classed numbered passed = record {

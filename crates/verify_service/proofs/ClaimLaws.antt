@@ -129,7 +129,7 @@ module _ (on : Basis) (by : Provided) (moment : ℕ) (screened : ScreenedView) (
       (right world seen (judged world seen on.materials.table by.says moment screened passed now refl refl)
       (are_right files on.materials by.says on.kept on.held screened.readings unlisted are there)))
 
-  -- what rules 10 to 17 come to is answered
+  -- what the rules of the chains come to is answered
   pub answer_by : UnlistedLaw → ScreenedLaw → SignedLaw → RightLaw → AreThere on.materials.chains on.held on.kept (x5us screened.readings)
       → IsVerdict by.says on.materials.table moment screened.readings states by.faults by.faults_now verdict
       → IsCaused screened.readings states by.faults by.faults_now verdict → IsAnswer on by moment screened outcome

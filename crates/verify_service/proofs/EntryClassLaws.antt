@@ -84,7 +84,7 @@ none_class class is = ap is_some is
 abbrev pub ClassedCall : ReadyCall → Type 0
 ClassedCall call = is_some call.class ≡ is_passed call.screening
 
--- rules 1 to 9 refuse it or don't
+-- the rules of the call refuse it or don't
 passed_first : (call : Call) (one : Screening) → is_passed one ≡ true → IsScreening call one → first early_rules call ≡ None
 passed_first call screenings.Open passed is = absurd (false_is_not_true passed)
 passed_first call (screenings.Refused refused) passed is = absurd (false_is_not_true passed)

@@ -74,7 +74,7 @@ module _ (settings : Settings) (entries : List Entry) (count : ℕ) (olds lent n
         own = own;
       })
 
-  -- a call has no class exactly if rules 1 to 9 refuse it, and two others have one class exactly if they have one ticket
+  -- a call has no class exactly if the rules of the call refuse it, and two others have one class exactly if they have one ticket
   pub placed_classes : ScreenedLaws → (desk : DeskId) → AreOfRound entries → count ≤ desk.words → 1 ≤ desk.words → AreClasses settings entries (classes_of placed)
   placed_classes laws desk round many some =
       let own = have_class settings round.number round.moment count desk entries olds now round.follow.each each given many some in

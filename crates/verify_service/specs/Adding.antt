@@ -26,7 +26,7 @@ valid_upto outs (suc n) = one_if (is_valid (out_at outs n)) + valid_upto outs n
 abbrev pub kept_as : ReadyCall → Passing
 kept_as call = record { call = call.number; last = last_in call.screening }
 
--- Rules 1 to 9 refuse no valid call, the past hasn't its ticket, and no two valid calls have one.
+-- The rules of the call refuse no valid call, the past hasn't its ticket, and no two valid calls have one.
 pub record IsOnceValid (past : PastView) (calls : List ReadyCall) (outs : List Outcome) : Type 0 where
   pub passed : (at : ℕ) (call : ReadyCall) → slice_get calls at ≡ Some call → out_at outs at ≡ Valid → is_passed call.screening ≡ true
   pub free : (at : ℕ) (call : ReadyCall) → slice_get calls at ≡ Some call → out_at outs at ≡ Valid → found past (ticket_in call.screening) ≡ None

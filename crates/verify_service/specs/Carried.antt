@@ -20,14 +20,15 @@ use Rattle.verify_service.specs.Rows.{EachOwed, held, rows_of}
 use Rattle.verify_service.specs.declared.outcome.Outcome.{Outcome}
 use Rattle.verify_service.specs.declared.outcome.Outcome.TheVariants.{Valid, Replay}
 
--- what comes of each call; the class of its ticket, if rules 1 to 9 don't refuse it; and the desk on which the calls claimed, with its one seat
+-- what comes of each call; the class of its ticket, if the rules of the call don't refuse it; and the desk on which the calls claimed, with its one
+-- seat
 pub record CarriedView : Type 0 where
   pub outcomes : List Outcome
   pub classes : List (Option ℕ)
   pub desk : DeskId
   pub seat : Holder
 
--- A call has no class exactly if rules 1 to 9 refuse it. Two calls that they don't refuse have one class exactly if they have one ticket.
+-- A call has no class exactly if the rules of the call refuse it. Two calls that they don't refuse have one class exactly if they have one ticket.
 pub record AreClasses (settings : Settings) (entries : List Entry) (classes : List (Option ℕ)) : Type 0 where
   pub refused : (at : ℕ) (entry : Entry) → slice_get entries at ≡ Some entry → (slice_get classes at ≡ Some None) ↔ (first early_rules (call_in settings entry) ≢ None)
   pub same : (at other : ℕ) (entry second : Entry) → slice_get entries at ≡ Some entry → slice_get entries other ≡ Some second → first early_rules (call_in settings entry) ≡ None

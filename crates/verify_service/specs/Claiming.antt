@@ -26,7 +26,7 @@ use Rattle.verify_service.specs.declared.screening.Screening.TheVariants as scre
 
 -- ---- what is answered
 
--- what rules 10 to 17 and 19 came to if this is answered
+-- what the rules of the chains came to if this is answered
 abbrev pub verdict_of : Outcome → Verdict
 verdict_of outcomes.Valid = verdicts.Passed
 verdict_of (outcomes.Refused refused) = verdicts.Refused refused
@@ -34,12 +34,12 @@ verdict_of (outcomes.Replay winner) = verdicts.Passed
 verdict_of (outcomes.Unread bad) = verdicts.Unread bad
 verdict_of (outcomes.Unasked bad) = verdicts.Unasked bad
 
--- it is what rules 10 to 17 and 19 give first of these PASSporTs, over the chains that the round has
+-- it is what the rules of the chains give first of these PASSporTs, over the chains that the round has
 abbrev pub IsLateAnswer : Basis → Provided → ℕ → List Reading → Outcome → Type 0
 IsLateAnswer on by moment readings outcome =
     IsVerdict by.says on.materials.table moment readings (states_for on.kept on.held readings) by.faults by.faults_now (verdict_of outcome)
 
--- the refusal by rules 1 to 9, and else what rules 10 to 17 and 19 give first
+-- the refusal by the rules of the call, and else what the rules of the chains give first
 abbrev pub IsRuled : Basis → Provided → ℕ → Screening → Outcome → Type 0
 IsRuled on by moment screenings.Open outcome = ⊤
 IsRuled on by moment (screenings.Refused refused) outcome = outcome ≡ outcomes.Refused refused
@@ -56,7 +56,7 @@ pub record OutcomeSays (on : Basis) (by : Provided) (call : ReadyCall) (outcome 
   pub passed : passes outcome ≡ true → is_passed call.screening ≡ true
   pub aside : IsAsideFor (readings_in call.screening) on.kept on.held outcome
 
--- The same of one that rules 1 to 9 don't refuse.
+-- The same of one that the rules of the call don't refuse.
 pub record IsAnswer (on : Basis) (by : Provided) (moment : ℕ) (screened : ScreenedView) (outcome : Outcome) : Type 0 where
   pub ruled : IsLateAnswer on by moment screened.readings outcome
   pub judged : (seen : Call) → IsScreenedBy early_rules seen (Ok screened) → moment ≡ seen.moment → (told : Option Files)

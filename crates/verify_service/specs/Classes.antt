@@ -7,13 +7,14 @@ use Rattle.verify_service.specs.declared.screening.ReadyCall.{ReadyCall}
 use Rattle.verify_service.specs.declared.screening.Screening.{Screening}
 use Rattle.verify_service.specs.declared.screening.Screening.TheVariants.{Open, Refused, Passed}
 
--- its ticket, if rules 1 to 9 don't refuse it
+-- its ticket, if the rules of the call don't refuse it
 abbrev pub tickets_in : Screening → List (List ℕ)
 tickets_in Open = []
 tickets_in (Refused refused) = []
 tickets_in (Passed screened) = ticket_by screened.readings ∷ []
 
--- The call is given the class of its ticket, which is the index of this among the tickets, if rules 1 to 9 don't refuse it; all else of it stays.
+-- The call is given the class of its ticket, which is the index of this among the tickets, if the rules of the call don't refuse it; all else of it
+-- stays.
 pub record IsGivenClass (tickets : List (List ℕ)) (old new : ReadyCall) : Type 0 where
   pub number : new.number ≡ old.number
   pub moment : new.moment ≡ old.moment
@@ -21,7 +22,7 @@ pub record IsGivenClass (tickets : List (List ℕ)) (old new : ReadyCall) : Type
   pub some : is_some new.class ≡ is_passed new.screening
   pub ticket : is_passed new.screening ≡ true → slice_get tickets (class_in new) ≡ Some (ticket_in new.screening)
 
--- the ticket is that of one of the first calls, if rules 1 to 9 don't refuse it
+-- the ticket is that of one of the first calls, if the rules of the call don't refuse it
 abbrev pub IsTicketOf : ℕ → List ReadyCall → List ℕ → Type 0
 IsTicketOf count calls ticket = (at : ℕ) × (at < count) × ((d : ReadyCall) → (is_passed (get_or calls at d).screening ≡ true) × (ticket_in (get_or calls at d).screening ≡ ticket))
 

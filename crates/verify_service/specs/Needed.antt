@@ -28,7 +28,7 @@ abbrev pub named_unless : Option Refusal → Call → List (List ℕ)
 named_unless None call = x5us (in_call_order call)
 named_unless (Some refused) call = []
 
--- those of the PASSporTs of a call that rules 1 to 9 don't refuse, in the order in which it went
+-- those of the PASSporTs of a call that the rules of the call don't refuse, in the order in which it went
 unfoldable pub named_in : Call → List (List ℕ)
 named_in call = named_unless (first early_rules call) call
 

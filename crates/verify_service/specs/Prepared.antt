@@ -13,8 +13,8 @@ use Rattle.verify_service.specs.Screening.{IsReady, is_open}
 use Rattle.verify_service.specs.Service.{ServiceView, materials_of}
 use Rattle.verify_service.specs.declared.screening.ReadyCall.{ReadyCall}
 
--- its calls, with what rules 1 to 9 say of each; the chains that it keeps beside those that the service holds; its desk; and those of its seats that
--- weren't taken out
+-- its calls, with what the rules of the call say of each; the chains that it keeps beside those that the service holds; its desk; and those of its
+-- seats that weren't taken out
 pub record PreparedView : Type 0 where
   pub calls : List ReadyCall
   pub kept : Kept
@@ -38,7 +38,7 @@ pub record HasWords (desk : DeskId) (classes : List (Option ℕ)) : Type 0 where
 
 -- ---- what holds of each
 
--- A call that was screened has a class of this desk exactly if rules 1 to 9 don't refuse it. Its number leaves room for one more.
+-- A call that was screened has a class of this desk exactly if the rules of the call don't refuse it. Its number leaves room for one more.
 pub record HasClass (desk : DeskId) (call : ReadyCall) : Type 0 where
   pub known : is_open call.screening ≡ false
   pub classed : is_some call.class ≡ is_passed call.screening

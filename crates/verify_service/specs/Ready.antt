@@ -52,7 +52,7 @@ provided provider before now = record {
 
 -- ---- a call that was screened
 
--- rules 1 to 9 don't refuse it
+-- the rules of the call don't refuse it
 abbrev pub is_passed : Screening → Bool
 is_passed Open = false
 is_passed (Refused refused) = false
@@ -71,8 +71,8 @@ class_in call = unwrap_or call.class 0
 
 -- ---- a call that is ready
 
--- It was screened. It has a class exactly if rules 1 to 9 don't refuse it, and one of this desk. Its number leaves room for one more. And each of
--- its chains is held or kept, if a file is listed for it.
+-- It was screened. It has a class exactly if the rules of the call don't refuse it, and one of this desk. Its number leaves room for one more. And
+-- each of its chains is held or kept, if a file is listed for it.
 pub record CallReady (on : Basis) (desk : DeskId) (call : ReadyCall) : Type 0 where
   pub known : is_open call.screening ≡ false
   pub classed : is_some call.class ≡ is_passed call.screening
@@ -83,7 +83,7 @@ pub record CallReady (on : Basis) (desk : DeskId) (call : ReadyCall) : Type 0 wh
 abbrev pub AreAllReady : Basis → DeskId → List ReadyCall → Type 0
 AreAllReady on desk calls = (at : ℕ) (call : ReadyCall) → slice_get calls at ≡ Some call → CallReady on desk call
 
--- Two calls that rules 1 to 9 don't refuse have one class exactly if they have one ticket.
+-- Two calls that the rules of the call don't refuse have one class exactly if they have one ticket.
 pub record AreClassed (calls : List ReadyCall) : Type 0 where
   pub one_ticket : (at other : ℕ) (call second : ReadyCall) → slice_get calls at ≡ Some call → slice_get calls other ≡ Some second → is_passed call.screening ≡ true
       → is_passed second.screening ≡ true → class_in call ≡ class_in second → ticket_in call.screening ≡ ticket_in second.screening
@@ -94,7 +94,7 @@ pub record AreClassed (calls : List ReadyCall) : Type 0 where
 abbrev pub AreNumbered : List ReadyCall → Type 0
 AreNumbered calls = (at other : ℕ) (call second : ReadyCall) → slice_get calls at ≡ Some call → slice_get calls other ≡ Some second → call.number ≡ second.number → at ≡ other
 
--- There is a class for each call that rules 1 to 9 don't refuse, and room for as many more calls in the past as there are classes.
+-- There is a class for each call that the rules of the call don't refuse, and room for as many more calls in the past as there are classes.
 pub record HasRoom (calls : List ReadyCall) (spare : ℕ) : Type 0 where
   pub classes : ℕ
   pub each : (at : ℕ) (call : ReadyCall) → slice_get calls at ≡ Some call → is_passed call.screening ≡ true → class_in call < classes

@@ -1,4 +1,4 @@
--- What rules 1 to 9 say of a call, as a round keeps it.
+-- What the rules of the call say of a call, as a round keeps it.
 use Rattle.std.specs.Prelude.{◌≡◌, ◌<◌, ◌≤◌, ⊤, ℕ, Bool, true, false, List, [], length, slice_index_or, Ok, Err}
 use Rattle.call_log.specs.Entry.{Entry}
 use Rattle.verify_rules.specs.Call.{Call, Reading}
@@ -11,13 +11,13 @@ use Rattle.verify_service.specs.declared.screening.ReadyCall.{ReadyCall}
 use Rattle.verify_service.specs.declared.screening.Screening.{Screening}
 use Rattle.verify_service.specs.declared.screening.Screening.TheVariants.{Open, Refused, Passed}
 
--- it isn't known, or it is what rules 1 to 9 say of the call
+-- it isn't known, or it is what the rules of the call say of the call
 abbrev pub IsScreening : Call → Screening → Type 0
 IsScreening call Open = ⊤
 IsScreening call (Refused refused) = IsScreenedBy early_rules call (Err (faults.Refused refused))
 IsScreening call (Passed screened) = IsScreenedBy early_rules call (Ok screened)
 
--- its PASSporTs, in the order in which it went, if rules 1 to 9 don't refuse it
+-- its PASSporTs, in the order in which it went, if the rules of the call don't refuse it
 abbrev pub readings_in : Screening → List Reading
 readings_in Open = []
 readings_in (Refused refused) = []

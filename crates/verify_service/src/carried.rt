@@ -39,8 +39,8 @@ impl Carried {
         &self.outcomes
     }
 
-    /// The class of the call at this index: of its ticket, the digest of what was signed as its last PASSporT. There is none exactly if rules 1 to 9
-    /// refuse the call.
+    /// The class of the call at this index: of its ticket, the digest of what was signed as its last PASSporT. There is none exactly if the rules of
+    /// the call refuse the call.
     #[tactic(auto, using(call_judging::proofs::ListLaws::mapped_at))]
     pub fn class(&self, index: usize) -> Option<u32>
         requires { index < length self.now.outcomes }

@@ -121,7 +121,7 @@ pub(crate) fn judge_ready<P: Provider, G: Gate>(
     outcome
 }
 
-/// Judges a call that rules 1 to 9 don't refuse.
+/// Judges a call that the rules of the call don't refuse.
 fn judge_screened<P: Provider>(
     lent: &Lent<'_>,
     moment: u64,

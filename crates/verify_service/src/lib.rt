@@ -4,10 +4,10 @@
 //!
 //! ```text
 //! the calls of a round, 1 to 256
-//!    | Service::prepare     rules 1 to 9; a class for each ticket; the chains that are needed, read and judged once; all that takes memory
+//!    | Service::prepare     the rules of the call; a class for each ticket; the chains that are needed, read and judged once; all that takes memory
 //!    v
 //! Prepared
-//!    | Service::carry       1 to 8 workers, in threads of their own: rules 10 to 17 and 19, then the past, then a claim on the desk
+//!    | Service::carry       1 to 8 workers, in threads of their own: the rules of the chains, then the past, then a claim on the desk
 //!    v
 //! Carried                   an Outcome for each call   --report_line-->   the lines of the report
 //! ```

@@ -54,9 +54,9 @@ impl Service {
         requires follow { Follow self.old.number self.old.moment calls.now }
         requires right { (d : _) → HoldsRight (S.files shelf.old) (P.says (slice_index_or workers.old 0 d).provider) self.old }
 
-        // It is the newest round of the service: these calls, screened. A call has no class exactly if rules 1 to 9 refuse it, and two others have one
-        // class exactly if they have one ticket. There is a seat of the desk for each worker, and all together have the whole share. The desk has one
-        // word for each class, and one if there is no class.
+        // It is the newest round of the service: these calls, screened. A call has no class exactly if the rules of the call refuse it, and two
+        // others have one class exactly if they have one ticket. There is a seat of the desk for each worker, and all together have the whole share.
+        // The desk has one word for each class, and one if there is no class.
         ensures calls { IfOk result (λ prepared. EachPair (IsReady self.old.settings) calls.now prepared.calls) }
         ensures newest { IfOk result (λ prepared. IsNewest self.new prepared) }
         ensures classes { IfOk result (λ prepared. AreClasses self.old.settings calls.now (classes_of prepared.calls)) }

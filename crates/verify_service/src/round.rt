@@ -62,8 +62,8 @@ impl Service {
         ensures settled { IfOk result (λ carried. RoundSettled (held self.old.past) (round_of (rows_of self.old.settings calls.now carried.outcomes)) (held self.new.past)) }
         ensures first { length workers.old ≡ 1 → IfOk result (λ carried. FirstWins (rows_of self.old.settings calls.now carried.outcomes)) }
 
-        // A call has no class exactly if rules 1 to 9 refuse it, and two others have one class exactly if they have one ticket. The seat has exactly the
-        // wins of the valid calls, and the losses of the replays whose ticket the purged past hasn't.
+        // A call has no class exactly if the rules of the call refuse it, and two others have one class exactly if they have one ticket. The seat has
+        // exactly the wins of the valid calls, and the losses of the replays whose ticket the purged past hasn't.
         ensures classes { IfOk result (λ carried. AreClasses self.old.settings calls.now carried.classes) }
         ensures pairs { IfOk result (λ carried. HasPairs self.old.settings (purged (first_moment_of calls.now) (held self.old.past)) calls.now carried.classes
             carried.outcomes carried.seat) }

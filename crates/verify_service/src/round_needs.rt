@@ -60,14 +60,14 @@ fn open_place() -> ReadyCall
     }
 }
 
-/// Of some call it isn't known what rules 1 to 9 say.
+/// Of some call it isn't known what the rules of the call say.
 fn any_open(calls: &[ReadyCall]) -> bool
     ensures { result ≡ list_any (λ call. is_open call.screening) calls.now }
 {
     calls.iter().any(|call| is_open(call))
 }
 
-/// It isn't known what rules 1 to 9 say of the call.
+/// It isn't known what the rules of the call say of the call.
 fn is_open(call: &ReadyCall) -> bool
     ensures { result ≡ is_open call.now.screening }
 {

@@ -1,4 +1,4 @@
-//! Screening the calls of a round: what rules 1 to 9 say of each, tried in several threads.
+//! Screening the calls of a round: what the rules of the call say of each, tried in several threads.
 ghost use Rattle.std.specs.Prelude.{◌≡◌, ◌<◌, ◌≤◌, ℕ, length, slice_index_or};
 ghost use Rattle.verify_rules.specs.Screened.{screened_by};
 ghost use Rattle.verify_service.specs.Judging.{call_in};
@@ -12,7 +12,7 @@ use std::thread;
 use std::thread::Threads;
 use verify_rules::{Refusal, ScreenFault, Screened, Settings, screen};
 
-/// What rules 1 to 9 say of a call.
+/// What the rules of the call say of a call.
 #[derive(Drop)]
 pub enum Screening {
     /// It isn't known: the call wasn't screened yet, or memory ran out when it was.
@@ -30,7 +30,7 @@ pub struct ReadyCall {
     /// Unix time, in seconds.
     pub(crate) moment: u64,
     pub(crate) screening: Screening,
-    /// The class of its ticket, if it breaks none of rules 1 to 9.
+    /// The class of its ticket, if it breaks none of the rules of the call.
     pub(crate) class: Option<u32>,
 }
 

@@ -95,7 +95,7 @@ pub(crate) fn gather_calls(
     Ok(())
 }
 
-/// The same of one call, which needs no chain unless it passed rules 1 to 9.
+/// The same of one call, which needs no chain unless it passed the rules of the call.
 fn gather_call(
     alloc: Global,
     chains: &ChainMap,

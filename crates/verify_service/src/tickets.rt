@@ -52,7 +52,8 @@ impl Tickets {
     }
 }
 
-/// Gives each call that rules 1 to 9 don't refuse the class of its ticket, and says how many classes there are. `AllocError` is the only error.
+/// Gives each call that the rules of the call don't refuse the class of its ticket, and says how many classes there are. `AllocError` is the only
+/// error.
 pub(crate) fn class_calls(alloc: Global, calls: &mut [ReadyCall]) -> Result<u32, AllocError>
     requires few { length calls.old ≤ 256 }
     ensures counted { length calls.new ≡ length calls.old }
@@ -66,7 +67,7 @@ pub(crate) fn class_calls(alloc: Global, calls: &mut [ReadyCall]) -> Result<u32,
     Ok(tickets.count() as u32)
 }
 
-/// The class of the ticket of a call that was screened so, if rules 1 to 9 don't refuse it. `AllocError` is the only error.
+/// The class of the ticket of a call that was screened so, if the rules of the call don't refuse it. `AllocError` is the only error.
 fn class_of(tickets: &mut Tickets, screening: &Screening) -> Result<Option<u32>, AllocError>
     requires few { length tickets.old < 256 }
     ensures some { IfOk result (λ class. is_some class ≡ is_passed screening.now) }

@@ -164,7 +164,7 @@ extern "C" {
     /// Closes this handle.
     pub fn stir_chain_close(chain: *mut stir_chain);
 
-    /// Opens a call under a world, and tries rules 1 to 9.
+    /// Opens a call under a world, and tries the rules of the call.
     pub fn stir_call_open(
         world: *mut stir_world,
         moment: u64,

@@ -109,8 +109,8 @@ impl Call {
         Ok(Call { world: world.clone(), handle: call, early, count, size })
     }
 
-    /// What comes of it by rules 1 to 9. If one of them is broken, no chain and no signature
-    /// changes that.
+    /// What comes of it by the rules of the call. If one of them is broken, no chain and no
+    /// signature changes that.
     ///
     /// ```
     #[doc = include_str!("../tests/given/hidden.md")]
@@ -124,7 +124,7 @@ impl Call {
         self.early
     }
 
-    /// How many PASSporTs are judged, at most nine; none if one of rules 1 to 9 is broken.
+    /// How many PASSporTs are judged, at most nine; none if one of the rules of the call is broken.
     ///
     /// ```
     #[doc = include_str!("../tests/given/hidden.md")]
@@ -259,8 +259,9 @@ impl Call {
         self.hand_in(number, &mut closed)
     }
 
-    /// What its PASSporTs say, in the order in which the call went; nothing if one of rules 1 to 9
-    /// is broken. It was claimed by whoever sent the call, and is worth what the verdict is.
+    /// What its PASSporTs say, in the order in which the call went; nothing if one of the rules of
+    /// the call is broken. It was claimed by whoever sent the call, and is worth what the verdict
+    /// is.
     ///
     /// # Errors
     ///
@@ -308,8 +309,9 @@ impl Call {
         Ok(Asked { questions, if_all: Verdict::of(&told)? })
     }
 
-    /// What comes of it by rules 1 to 17 and 19, over the chains that were handed in, if these of
-    /// its questions were confirmed and no others. A question without an answer wasn't.
+    /// What comes of it by the rules of the call and the chains, over the chains that were handed
+    /// in, if these of its questions were confirmed and no others. A question without an answer
+    /// wasn't.
     ///
     /// # Errors
     ///

@@ -61,7 +61,7 @@ pub struct Passes {
 /// ```
 #[derive(Clone, Copy, Debug, PartialEq, Eq)]
 pub struct Refused {
-    /// The number of the rule, 1 to 17 or 19.
+    /// The number of the rule, one of the call or the chains.
     pub rule: u32,
     /// The rule's response code (RFC 8224, section 6.2.2).
     pub code: u32,

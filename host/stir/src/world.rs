@@ -144,7 +144,7 @@ impl World {
         self.lent(|world| Chain::open(self, world, der))
     }
 
-    /// Reads an INVITE that came at this moment, in Unix seconds, and tries rules 1 to 9.
+    /// Reads an INVITE that came at this moment, in Unix seconds, and tries the rules of the call.
     ///
     /// # Errors
     ///

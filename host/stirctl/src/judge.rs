@@ -1,4 +1,4 @@
-//! Calls judged by themselves, any number at once: by rules 1 to 17 and 19.
+//! Calls judged by themselves, any number at once: by the rules of the call and the chains.
 
 use crate::chains::{Chains, Found, Known};
 use crate::fetched::Fetching;
@@ -74,7 +74,7 @@ pub(crate) struct About {
     pub to: String,
     /// The claims of the PASSporT that speaks for the caller.
     pub claims: Claims,
-    /// The PASSporTs, that one first; none if the call breaks one of rules 1 to 9.
+    /// The PASSporTs, that one first; none if the call breaks one of the rules of the call.
     pub passports: Vec<Passport>,
 }
 
@@ -149,7 +149,7 @@ impl Judge {
     }
 
     /// Fetches the certificates of these calls that the chain map hasn't got, those of an x5u once
-    /// a run; of calls alone that break none of rules 1 to 9. Whether some are there then.
+    /// a run; of calls alone that break none of the rules of the call. Whether some are there then.
     pub fn fetch_for(&self, calls: &[Came<'_>]) -> Result<bool, Fault> {
         match &self.fetching {
             Some(_) => self.fetch(&self.x5us(calls)?),
@@ -167,7 +167,7 @@ impl Judge {
         Ok(unlisted.iter().any(|x5u| self.chains.has(x5u)))
     }
 
-    /// The x5us of these calls, of those alone that break none of rules 1 to 9.
+    /// The x5us of these calls, of those alone that break none of the rules of the call.
     pub fn x5us(&self, calls: &[Came<'_>]) -> Result<Vec<Vec<u8>>, Fault> {
         let x5us = |(_, moment, message): &Came<'_>| -> Result<Vec<Vec<u8>>, Fault> {
             let mut call = self.world.call(*moment, message)?;

@@ -36,7 +36,7 @@ pub struct Passport {
 #[derive(Clone, Debug, Default, PartialEq, Eq)]
 pub struct About {
     /// Its PASSporTs in the order in which it went: the originating one is the first. There are
-    /// none if it breaks one of rules 1 to 9.
+    /// none if it breaks one of the rules of the call.
     pub passports: Vec<Passport>,
     /// Its Call-ID, if calls are recorded.
     pub call_id: Option<Vec<u8>>,

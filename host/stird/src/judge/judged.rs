@@ -52,7 +52,7 @@ impl Judged {
         }
     }
 
-    /// The PASSporT of the call's origin, if the call keeps rules 1 to 9.
+    /// The PASSporT of the call's origin, if the call keeps the rules of the call.
     pub fn passport(&self) -> Option<&Passport> {
         self.about.passports.first()
     }

@@ -48,7 +48,8 @@ struct Said {
 
 impl Judge {
     /// What the rules say of a message, and how its certificates came. It waits for certificates
-    /// that are to be fetched, of a call that keeps rules 1 to 9; the files may change meanwhile.
+    /// that are to be fetched, of a call that keeps the rules of the call; the files may change
+    /// meanwhile.
     pub(super) async fn reached(
         &self,
         case: Case<'_>,

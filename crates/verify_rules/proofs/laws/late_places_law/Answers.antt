@@ -1,4 +1,4 @@
--- The places of rules 10 to 17 and 19 by the laws of the crates below.
+-- The places of the rules of the chains by the laws of the crates below.
 use Rattle.verify_rules.proofs.LatePlaces.{late_places}
 use Rattle.verify_rules.proofs.ChainMeans.{chain_laws}
 use Rattle.verify_rules.proofs.laws.late_places_law.Goals as goal

@@ -1,4 +1,4 @@
--- The words of rules 10 to 17 and 19 by the laws of the crates below.
+-- The words of the rules of the chains by the laws of the crates below.
 use Rattle.verify_rules.proofs.AllLateWords.{late_words}
 use Rattle.verify_rules.proofs.ChainMeans.{chain_laws}
 use Rattle.verify_rules.proofs.laws.late_words_law.Goals as goal

@@ -1,4 +1,4 @@
--- What rules 1 to 9 say in every world.
+-- What the rules of the call say in every world.
 use Rattle.verify_rules.proofs.WorldLaws.{judged_by, last_is, ticket_is}
 use Rattle.verify_rules.proofs.WorldVerdict.{first_early}
 use Rattle.verify_rules.proofs.laws.screened_law.Goals as goal

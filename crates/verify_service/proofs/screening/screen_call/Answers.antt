@@ -1,4 +1,4 @@
--- What rules 1 to 9 say of the message at its moment, they say of the call.
+-- What the rules of the call say of the message at its moment, they say of the call.
 use Rattle.std.proofs.Common.{Ok, Err, subst}
 use Rattle.verify_rules.specs.Call.{call_of}
 use Rattle.verify_rules.specs.Rules.{early_rules}
