@@ -66,7 +66,8 @@ impl Tickets for Shards {
 
     async fn look(&self) {
         let mut looks = JoinSet::new();
-        for redis in self.all.iter().cloned() {
+        for redis in &self.all {
+            let redis = Arc::clone(redis);
             looks.spawn(async move { redis.look().await });
         }
         while looks.join_next().await.is_some() {}
