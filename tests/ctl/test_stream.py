@@ -137,6 +137,12 @@ SETTLED = [
     (['--late=1'], [('a', 100, 160, 1), ('b', 161, 200, 2), ('c', 150, 160, 1)], [('valid', None), ('valid', None), ('replay', 'a')]),
     (['--id=moment'], [('a', 100, 160, 1), ('b', 110, 160, 1)], [('valid', None), ('replay', 100)]),
     (['--id=other'], [('a', 100, 160, 1), ('b', 110, 160, 1)], [('valid', None), ('replay', 1)]),
+    # A call that comes twice, between them a replay of it.
+    ([], [('a', 100, 160, 1), ('b', 110, 160, 1), ('a', 100, 160, 1)], [('valid', None), ('replay', 'a'), ('replay', 'a')]),
+    (['--again'], [('a', 100, 160, 1), ('b', 110, 160, 1), ('a', 100, 160, 1), ('b', 110, 160, 1)],
+     [('valid', None), ('replay', 'a'), ('valid', None), ('replay', 'a')]),
+    (['--again', '--id=other'], [('a', 100, 160, 1), ('a', 100, 160, 1)], [('valid', None), ('replay', 1)]),
+    (['--again'], [('a', 100, 160, 1), ('b', 161, 200, 2), ('a', 100, 160, 1)], [('valid', None), ('valid', None), ('fault', None)]),
 ]
 
 

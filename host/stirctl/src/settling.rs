@@ -17,7 +17,7 @@ const FEW: usize = 4_096;
 /// Settles the lines of the inputs. The status is 0 once all are settled, whatever comes of them.
 pub(crate) fn settle(words: &Settle) -> Ended {
     let mut out = Sink::open(STDOUT)?;
-    let mut held = Held { late: words.late, latest: 0, tickets: HashMap::new(), most: FEW };
+    let mut held = Held::new(words);
     let mut number = 0;
     each_lines(&words.files, |lines| {
         out.put(|out| {
@@ -92,6 +92,8 @@ fn ticket_of(answer: &Map<String, Value>) -> Option<([u8; 32], u64)> {
 struct Held {
     /// How many seconds a call may come after a later one.
     late: u64,
+    /// Whether a valid call may come again.
+    again: bool,
     /// The latest moment that came.
     latest: u64,
     tickets: HashMap<[u8; 32], (Value, u64)>,
@@ -99,6 +101,11 @@ struct Held {
 }
 
 impl Held {
+    fn new(words: &Settle) -> Held {
+        let (late, again) = (words.late, words.again);
+        Held { late, again, latest: 0, tickets: HashMap::new(), most: FEW }
+    }
+
     /// The name of the call that is valid with this ticket, if it is another one; nothing at all if
     /// the ticket may be forgotten.
     fn winner(
@@ -119,7 +126,8 @@ impl Held {
             self.most = FEW.max(2 * self.tickets.len());
         }
         if let Some((winner, _)) = self.tickets.get(&ticket) {
-            return Some(Some(winner.clone()));
+            let is_same = self.again && *winner == name;
+            return Some((!is_same).then(|| winner.clone()));
         }
         self.tickets.insert(ticket, (name, last));
         Some(None)

@@ -151,6 +151,10 @@ pub struct Settle {
     /// How many seconds a call may come after a later one; tickets are remembered so much longer
     #[arg(long, value_name = "SECONDS", default_value = "0", value_parser = seconds)]
     pub late: u64,
+    /// A call that is valid may come again, as from a stream that hands on lines at least once. It
+    /// is known by that member, which no caller may choose, and is valid each time
+    #[arg(long)]
+    pub again: bool,
     /// Files of lines; the standard input if none is named
     #[arg(value_name = "FILE", default_value = "-")]
     pub files: Vec<String>,
