@@ -10,6 +10,7 @@ import pytest
 TESTS = pathlib.Path(__file__).resolve().parent.parent
 sys.path.append(str(TESTS / 'performance'))
 import logs  # noqa: E402
+from cut_streams import line_of  # noqa: E402
 
 CALLS = 3_000
 BY = ['--chains=chains', '--anchors=anchors', '--table=table', '--answers=answers', '--codes=listed']
@@ -43,13 +44,6 @@ def judged(ctl, folder, lines):
     return piped(ctl, folder, ['judge', '--stream', *BY, '-'], lines)
 
 
-def line_of(answer):
-    """The line of a report that an answer is (docs/FORMATS.md, "Report")."""
-    told = answer['stir']
-    words = [told['answer'], *(told.get(name, '-') for name in ('response', 'rule')), told.get('of', told.get('place', '-'))]
-    return f'{answer["id"]} {" ".join(map(str, words))}\n'
-
-
 @pytest.mark.parametrize('parts', [1, 4, 16])
 def test_a_stream_in_parts_by_tickets_has_the_outcomes_of_one_log(ctl, world, parts):
     folder, lines, report = world
@@ -60,7 +54,7 @@ def test_a_stream_in_parts_by_tickets_has_the_outcomes_of_one_log(ctl, world, pa
         by_ticket[int(json.loads(answer)['stir'].get('ticket', '0')[:8], 16) % parts].append(answer)
     settled = [json.loads(answer) for part in by_ticket for answer in piped(ctl, folder, ['settle'], part)]
     settled.sort(key=lambda answer: answer['id'])
-    assert ''.join(map(line_of, settled)) == report
+    assert ''.join(line_of(answer) + '\n' for answer in settled) == report
     assert not any('message' in name for answer in settled for name in answer)
 
 
