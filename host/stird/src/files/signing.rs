@@ -94,10 +94,10 @@ impl Blocks {
         }
     }
 
-    /// Keys that didn't sign the last time haven't signed since.
+    /// Keys of before that didn't sign the last time are known as such, until they sign.
     fn go_on_from(&self, before: &Blocks) {
-        let failures = before.all().filter_map(|block| block.signer.key.failure()).collect();
-        self.all().for_each(|block| block.signer.key.go_on_from(&failures));
+        let failing = before.all().map(|block| block.signer.key.failing()).collect();
+        self.all().for_each(|block| block.signer.key.go_on_from(&failing));
     }
 
     fn fill(&mut self, sources: &Sources, path: &Path) -> Result<(), FileFault> {

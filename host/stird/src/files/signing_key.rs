@@ -3,10 +3,11 @@ use super::fault::Why;
 use super::several::Files;
 use super::signing_line::BlockFault;
 use crate::lines::split;
+use arc_swap::ArcSwap;
 use std::collections::HashMap;
 use std::ffi::OsString;
 use std::path::{Path, PathBuf};
-use std::sync::Mutex;
+use std::sync::{Arc, Mutex};
 use stir_trust::locks::Held;
 use stir_trust::{HsmFault, Key, KeyFault, KeyUri, SignFault};
 
@@ -30,6 +31,9 @@ pub(super) enum Secret {
     Password,
 }
 
+/// Why a key didn't sign the last time, if it didn't.
+pub(super) type Failing = Mutex<Option<SignFault>>;
+
 /// A key of a line.
 pub(super) struct SigningKey {
     key: Key,
@@ -37,8 +41,9 @@ pub(super) struct SigningKey {
     name: String,
     /// What of it others may read or change.
     pub open: Vec<(PathBuf, Secret)>,
-    /// Why it didn't sign the last time.
-    failing: Mutex<Option<SignFault>>,
+    /// One for all readings of the key: calls may be signed with the one of before until this one
+    /// takes its place.
+    failing: ArcSwap<Failing>,
 }
 
 impl SigningKey {
@@ -50,7 +55,7 @@ impl SigningKey {
             true => read.hsm(name)?,
             false => read.pem(Path::new(name))?,
         };
-        let (name, open, failing) = (name.into(), read.open, Mutex::default());
+        let (name, open, failing) = (name.into(), read.open, ArcSwap::default());
         Ok(SigningKey { key, name, open, failing })
     }
 
@@ -67,7 +72,8 @@ impl SigningKey {
     /// The signature over a digest. For an HSM is waited.
     pub(super) fn sign(&self, digest: &[u8; 32]) -> Result<[u8; 64], SignFault> {
         let made = self.key.sign(digest);
-        let mut failing = self.failing.lock().held();
+        let failing = self.failing.load();
+        let mut failing = failing.lock().held();
         match &made {
             Ok(_) => {
                 if failing.take().is_some() {
@@ -84,22 +90,22 @@ impl SigningKey {
         made
     }
 
-    /// Its name, and why it didn't sign the last time, if it didn't.
-    pub(super) fn failure(&self) -> Option<(&str, SignFault)> {
-        let failing = self.failing.lock().held();
-        failing.as_ref().map(|fault| (self.name.as_str(), fault.clone()))
+    /// Its name, and why it didn't sign the last time, if it didn't: now, and from now on.
+    pub(super) fn failing(&self) -> (&str, Arc<Failing>) {
+        (&self.name, self.failing.load_full())
     }
 
-    /// It is the key of which one of these failures is told, read anew: it hasn't signed since.
-    pub(super) fn go_on_from(&self, failures: &HashMap<&str, SignFault>) {
-        if let Some(fault) = failures.get(self.name.as_str()) {
-            *self.failing.lock().held() = Some(fault.clone());
+    /// It may be one of these keys, read anew. What a call says of either holds for both then.
+    pub(super) fn go_on_from(&self, before: &HashMap<&str, Arc<Failing>>) {
+        if let Some(failing) = before.get(self.name.as_str()) {
+            self.failing.store(Arc::clone(failing));
         }
     }
 
     /// What is to be told of it, if it didn't sign the last time.
     pub(super) fn note(&self) -> Option<String> {
-        let failing = self.failing.lock().held();
+        let failing = self.failing.load();
+        let failing = failing.lock().held();
         failing
             .as_ref()
             .map(|fault| format!("{}: it didn't sign the last time: {fault}", self.name))
@@ -166,4 +172,28 @@ impl Read<'_> {
 
 fn unread(file: &Path, why: Why) -> BlockFault {
     BlockFault::File { file: file.into(), why: Box::new(why) }
+}
+
+#[cfg(test)]
+mod tests {
+    use super::*;
+    use openssl::ec::{EcGroup, EcKey};
+    use openssl::nid::Nid;
+
+    #[test]
+    fn a_key_that_is_read_anew_signs_again_as_soon_as_the_one_of_before_does() {
+        let path = std::env::temp_dir().join(format!("stird-key-{}", std::process::id()));
+        let curve = EcGroup::from_curve_name(Nid::X9_62_PRIME256V1).expect("a curve");
+        let pem = EcKey::generate(&curve).and_then(|key| key.private_key_to_pem());
+        std::fs::write(&path, pem.expect("a key")).expect("a file");
+        let name = path.to_str().expect("text");
+        let read = || SigningKey::read(name, &mut Files::default()).ok().expect("it is a key");
+        let (old, new) = (read(), read());
+        *old.failing().1.lock().held() = Some(SignFault::Late);
+        new.go_on_from(&HashMap::from([old.failing()]));
+        assert!(new.note().is_some_and(|note| note.ends_with("gave no answer in time")));
+        assert!(old.sign(&[7; 32]).is_ok());
+        assert_eq!((old.note(), new.note()), (None, None));
+        std::fs::remove_file(&path).expect("it is removed");
+    }
 }
