@@ -1,11 +1,14 @@
 //! A line of the record.
 use super::Numbers;
+use crate::answers::LINE;
 use crate::judge::{Judged, Spent};
 use crate::told::Told;
-use bytes::Bytes;
 use serde::Serialize;
 use std::borrow::Cow;
 use std::time::Duration;
+
+/// How many bytes the rest of a line mostly has at most.
+const MORE: usize = 256;
 
 /// What a line has beside what is told of the call.
 #[derive(Serialize)]
@@ -39,29 +42,38 @@ impl Microseconds {
     }
 }
 
-/// Writes the line of a call that came at this moment into an empty room: what is told of it, and
-/// then the rest. What is told is given by itself too, with an LF.
-pub(super) fn write(
-    judged: &Judged,
-    moment: u64,
-    numbers: &Numbers,
-    line: &mut Vec<u8>,
-) -> serde_json::Result<Bytes> {
-    serde_json::to_writer(&mut *line, &Told::of(judged, numbers))?;
-    let mut told = Vec::with_capacity(line.len() + 1);
-    told.extend_from_slice(line);
-    told.push(b'\n');
-    let call_id = judged.about.call_id.as_deref().map(String::from_utf8_lossy);
-    let microseconds = Microseconds::of(&judged.spent);
-    // The second object goes on where the first one ends.
-    line.pop();
-    let at = line.len();
-    serde_json::to_writer(&mut *line, &More { call_id, microseconds, moment })?;
-    if let Some(begins) = line.get_mut(at) {
-        *begins = b',';
+/// A line in two parts, so that nothing is copied of what an answer says too.
+pub(super) struct Line {
+    /// What is told of the call, as an answer has it: an object, and an LF.
+    pub told: Vec<u8>,
+    /// An object with the rest, and an LF.
+    more: Vec<u8>,
+}
+
+impl Line {
+    /// The line of a call that came at this moment.
+    pub fn of(judged: &Judged, moment: u64, numbers: &Numbers) -> serde_json::Result<Line> {
+        let call_id = judged.about.call_id.as_deref().map(String::from_utf8_lossy);
+        let microseconds = Microseconds::of(&judged.spent);
+        Ok(Line {
+            told: written(&Told::of(judged, numbers), LINE)?,
+            more: written(&More { call_id, microseconds, moment }, MORE)?,
+        })
     }
-    line.push(b'\n');
-    Ok(told.into())
+
+    /// Its bytes: the second object goes on where the first one ends.
+    pub fn parts(&self) -> [&[u8]; 3] {
+        let told = self.told.strip_suffix(b"}\n").unwrap_or_default();
+        [told, b",", self.more.get(1..).unwrap_or_default()]
+    }
+}
+
+/// A value in JSON, with an LF, in a room that is mostly enough.
+fn written(value: &impl Serialize, room: usize) -> serde_json::Result<Vec<u8>> {
+    let mut bytes = Vec::with_capacity(room);
+    serde_json::to_writer(&mut bytes, value)?;
+    bytes.push(b'\n');
+    Ok(bytes)
 }
 
 #[cfg(test)]
@@ -74,12 +86,11 @@ mod tests {
         let spent = Spent { confirm: Duration::from_nanos(1_999), ..Spent::default() };
         let about = About { call_id: Some(b"a\"b".to_vec()), ..About::default() };
         let judged = Judged { spent, about, ..Judged::new(7, Outcome::Valid) };
-        let mut line = Vec::new();
-        let told = write(&judged, 5, &Numbers::Whole, &mut line).expect("it is written");
-        let told = std::str::from_utf8(&told).expect("text").trim_end().trim_end_matches('}');
+        let line = Line::of(&judged, 5, &Numbers::Whole).expect("it is written");
+        let told = std::str::from_utf8(&line.told).expect("text").trim_end().trim_end_matches('}');
         let more = r#","call_id":"a\"b","microseconds":{"ask":0,"claim":0,"confirm":1,"#;
         let wanted = format!("{told}{more}\"judge\":0,\"wait\":0}},\"moment\":5}}\n");
-        assert_eq!(String::from_utf8_lossy(&line), wanted);
+        assert_eq!(String::from_utf8_lossy(&line.parts().concat()), wanted);
         assert!(told.starts_with(r#"{"call":7,"code":0,"#), "{told}");
     }
 }

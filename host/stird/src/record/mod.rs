@@ -8,11 +8,11 @@ mod sink;
 
 pub use numbers::{Form, Numbers};
 
-use crate::answers::LINE;
 use crate::files::FileFault;
 use crate::judge::Judged;
 use crate::metrics::Metrics;
 use bytes::Bytes;
+use line::Line;
 use queue::Queue;
 use sink::Sink;
 use std::io;
@@ -84,14 +84,13 @@ impl Record {
     /// Records a call that came at this moment. If its numbers are whole, what is told of it is
     /// given too, with an LF: it is written once for both.
     pub fn put(&self, judged: &Judged, moment: u64) -> Option<Bytes> {
-        let mut line = Vec::with_capacity(LINE);
-        let Ok(told) = line::write(judged, moment, &self.numbers, &mut line) else {
+        let Ok(line) = Line::of(judged, moment, &self.numbers) else {
             self.queue.lose();
             return None;
         };
-        self.queue.put(&line);
+        self.queue.put(&line.parts());
         match self.numbers {
-            Numbers::Whole => Some(told),
+            Numbers::Whole => Some(line.told.into()),
             Numbers::Short | Numbers::Hashed(_) => None,
         }
     }

@@ -12,7 +12,7 @@ use stir_trust::locks::Held;
 const MOST: usize = 16 << 20;
 
 /// From how many bytes on they don't wait for others, and how long they do else.
-const MANY: usize = 64 << 10;
+const MANY: usize = 256 << 10;
 const TOGETHER: Duration = Duration::from_millis(100);
 
 /// How long the last lines may take to be written.
@@ -41,6 +41,8 @@ struct Room {
     ends: Vec<SyncSender<()>>,
     /// Whether nobody puts lines any more.
     is_left: bool,
+    /// Whether the thread sleeps until something comes: nothing did for a while.
+    is_asleep: bool,
 }
 
 impl Room {
@@ -64,8 +66,8 @@ impl Queue {
         Ok(Queue { shared })
     }
 
-    /// Puts a line, with its LF, if there is room for it.
-    pub fn put(&self, line: &[u8]) {
+    /// Puts a line of these parts, with its LF, if there is room for it.
+    pub fn put(&self, line: &[&[u8]]) {
         self.shared.put(line);
     }
 
@@ -99,32 +101,41 @@ impl Drop for Queue {
 }
 
 impl Shared {
-    fn put(&self, line: &[u8]) {
+    fn put(&self, line: &[&[u8]]) {
+        let size: usize = line.iter().map(|part| part.len()).sum();
         let mut room = self.room.lock().held();
         let before = room.lines.len();
-        if before + line.len() > self.most {
+        if before + size > self.most {
             drop(room);
             self.metrics.records.lost.inc();
             return;
         }
-        room.lines.extend_from_slice(line);
+        line.iter().for_each(|part| room.lines.extend_from_slice(part));
         room.count += 1;
-        let is_woken = before == 0 || (before < MANY && room.lines.len() >= MANY);
+        let is_woken = (before == 0 && room.is_asleep) || (before < MANY && before + size >= MANY);
         drop(room);
         if is_woken {
             self.came.notify_one();
         }
     }
 
-    /// What waits, as soon as there is something; room for the next lines is left.
+    /// What came for a while, or until there is much or something urgent; room for the next lines
+    /// is left. If nothing came it sleeps first. As long as lines come, none of them wakes it.
     fn taken(&self, room_left: Vec<u8>) -> Room {
-        let idle = |room: &mut Room| room.is_idle();
-        let room = self.came.wait_while(self.room.lock().held(), idle).held();
-        let quiet = |room: &mut Room| !room.is_urgent();
-        let mut room: MutexGuard<'_, Room> =
-            self.came.wait_timeout_while(room, TOGETHER, quiet).held().0;
+        let mut room = self.gathered(self.room.lock().held());
+        if room.is_idle() {
+            room.is_asleep = true;
+            let mut woken = self.came.wait_while(room, |room| room.is_idle()).held();
+            woken.is_asleep = false;
+            room = self.gathered(woken);
+        }
         let next = Room { lines: room_left, is_left: room.is_left, ..Room::default() };
         std::mem::replace(&mut *room, next)
+    }
+
+    fn gathered<'a>(&'a self, room: MutexGuard<'a, Room>) -> MutexGuard<'a, Room> {
+        let quiet = |room: &mut Room| !room.is_urgent();
+        self.came.wait_timeout_while(room, TOGETHER, quiet).held().0
     }
 
     fn tell(&self, written: Written) {
@@ -136,7 +147,8 @@ impl Shared {
     fn write_all(&self, mut sink: Sink) {
         let mut room_left = Vec::new();
         loop {
-            let Room { mut lines, count, reopens, ends, is_left } = self.taken(room_left);
+            let Room { mut lines, count, reopens, ends, is_left, is_asleep: _ } =
+                self.taken(room_left);
             let (before, of_them) = reopens.unwrap_or_default();
             let (old, new) = lines.split_at(before.min(lines.len()));
             self.tell(sink.write(old, of_them));
@@ -170,12 +182,12 @@ mod tests {
             most: 10,
         };
         for line in ["1234\n", "123456\n", "6789\n", "\n"] {
-            shared.put(line.as_bytes());
+            shared.put(&[line.as_bytes()]);
         }
         let taken = shared.taken(Vec::new());
         assert_eq!((taken.lines.as_slice(), taken.count), (&b"1234\n6789\n"[..], 2));
         assert_eq!(metrics.records.lost.get(), 2);
-        shared.put(b"again\n");
+        shared.put(&[b"ag", b"ain\n"]);
         assert_eq!(shared.taken(Vec::new()).lines, b"again\n");
     }
 }
