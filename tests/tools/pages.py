@@ -38,7 +38,7 @@ NEEDS_MORE = re.compile(r'\bstirctl\b|examples/carrier/day')
 NOT_RUN = ('rt ci', '.ci/run', './stir --prove')
 
 # The pages whose sentences are counted, and how many words a sentence has at most.
-READ = ('README.md', 'CONTRIBUTING.md', 'CHANGELOG.md', 'host/stird/kamailio/README.md', 'python/README.md', 'examples/cluster/README.md',
+READ = ('README.md', 'CONTRIBUTING.md', 'CHANGELOG.md', 'host/stird/kamailio/README.md', 'python/README.md', 'examples/cluster/README.md', 'examples/kafka/README.md',
         *sorted(str(page.relative_to(TOP)) for page in (TOP / 'docs').rglob('*.md')))
 MOST_WORDS = 40
 
