@@ -1,30 +1,24 @@
-"""A day of calls on many machines: a map over the parts of a log, and a grouping by ticket in which the first call wins.
+"""A day of calls on many machines: a map over the parts of a log, and the tickets settled in the order of the calls.
 
-`judge_part` judges each call of a part by itself, so parts can be judged anywhere, in any order and more than once. Two calls with one ticket may be
-in different parts: `tickets` says which calls of a part pass with which ticket, in groups, so that all calls with one ticket are in the same group.
-`settle` finds the replays of a group, `merge` puts those of all groups together, and `report` writes the lines of a part. What each of these gives
-depends on its arguments alone.
+`judge_part` judges each call of a part by itself, so parts can be judged anywhere, in any order and more than once. What it gives depends on its
+arguments alone. Two calls with one ticket may be in different parts: a `Day` takes the parts in their order, and says which calls are replays.
 """
 from dataclasses import dataclass
-from typing import Callable, Dict, Iterable, List, Mapping, Tuple
+from typing import Callable, Dict, Tuple
 
 from .calls import Passes, Refused, Verdict, verify
 from .es256 import Question
 from .logs import Part, calls_of
 from .world import World
 
-# A call that passes: its ticket, and its number in the log.
-Claim = Tuple[bytes, int]
-
-# By the number of a replay the number of the first call with its ticket.
-Replays = Mapping[int, int]
-
 
 @dataclass(frozen=True)
 class Judged:
-    """The verdict of each call of a part by itself, in their order. `first` is the number of the first one."""
+    """The verdict of each call of a part by itself, in their order. `first` is the number of the first one, and `moment` the second at which the last
+    one came."""
 
     first: int
+    moment: int
     verdicts: Tuple[Verdict, ...]
 
 
@@ -36,45 +30,72 @@ class Report:
     all_valid: bool
 
 
+@dataclass(frozen=True)
+class First:
+    """The first call that passed with a ticket: its number, and the last second at which one may pass with this ticket."""
+
+    number: int
+    last: int
+
+
 def judge_part(part: Part, world: World, confirm: Callable[[Question], bool]) -> Judged:
     """Judges each call of a part by itself. Raises OSError, BadFile and OutOfMemory."""
-    verdicts = (verify(call, world, confirm) for call in calls_of(part))
-    return Judged(part.first, tuple(verdicts))
+    moment, verdicts = 0, []
+    for call in calls_of(part):
+        moment = call.moment
+        verdicts.append(verify(call, world, confirm))
+    return Judged(part.first, moment, tuple(verdicts))
 
 
-def tickets(judged: Judged, groups: int) -> List[List[Claim]]:
-    """The calls of a part that pass, in so many groups by their tickets."""
-    grouped: List[List[Claim]] = [[] for _ in range(groups)]
-    for number, verdict in enumerate(judged.verdicts, judged.first):
-        if isinstance(verdict, Passes):
-            grouped[int.from_bytes(verdict.ticket[:8], "big") % groups].append((verdict.ticket, number))
-    return grouped
+class Day:
+    """Settles a day part by part: of the calls that pass with one ticket the first is valid, and each other one is a replay of it. It holds the
+    tickets that may still pass, and no call."""
+
+    def __init__(self) -> None:
+        self.next = 1
+        self.firsts: Dict[bytes, First] = {}
+
+    def report(self, judged: Judged) -> Report:
+        """The lines of the next part. Raises ValueError for another one."""
+        if judged.first != self.next:
+            raise ValueError(f"the next part begins with call {self.next}, and this one with call {judged.first}")
+        lines = [self.line(number, verdict) for number, verdict in enumerate(judged.verdicts, judged.first)]
+        self.next += len(lines)
+        # Moments never fall, and no call passes after the last second of its ticket.
+        self.firsts = {ticket: first for ticket, first in self.firsts.items() if first.last >= judged.moment}
+        return Report("".join(lines).encode(), all(one.endswith(" valid - - -\n") for one in lines))
+
+    def line(self, number: int, verdict: Verdict) -> str:
+        """The line of the next call (docs/FORMATS.md, "Report")."""
+        if isinstance(verdict, Refused):
+            return f"{number} refused {verdict.code} {verdict.rule} {verdict.field}.{verdict.part}\n"
+        first = self.firsts.setdefault(verdict.ticket, First(number, verdict.last))
+        return f"{number} valid - - -\n" if first.number == number else f"{number} replay 438 18 {first.number}\n"
 
 
-def settle(parts: Iterable[Iterable[Claim]]) -> Dict[int, int]:
-    """The replays among the calls of one group, from all parts in any order."""
-    claims = [claim for part in parts for claim in part]
-    firsts: Dict[bytes, int] = {}
-    for ticket, number in claims:
-        firsts[ticket] = min(number, firsts.get(ticket, number))
-    return {number: firsts[ticket] for ticket, number in claims if firsts[ticket] != number}
+def written(judged: Judged) -> str:
+    """The verdicts of a part as lines, of which `read` makes them again."""
+    lines = (
+        f"passes {verdict.ticket.hex()} {verdict.last}\n" if isinstance(verdict, Passes) else
+        f"refused {verdict.rule} {verdict.code} {verdict.field} {verdict.part}\n"
+        for verdict in judged.verdicts
+    )
+    return f"{judged.first} {judged.moment} {len(judged.verdicts)}\n" + "".join(lines)
 
 
-def merge(groups: Iterable[Replays]) -> Dict[int, int]:
-    """The replays of all groups."""
-    return {number: first for group in groups for number, first in group.items()}
+def read(text: str) -> Judged:
+    """The verdicts of these lines. Raises ValueError if they aren't what was written, as after a kill."""
+    lines = text.split("\n")
+    first, moment, count = map(int, lines[0].split())
+    if len(lines) != count + 2 or lines[-1]:
+        raise ValueError(f"{len(lines) - 2} verdicts, and not {count}")
+    return Judged(first, moment, tuple(map(verdict_of, lines[1:-1])))
 
 
-def line(number: int, verdict: Verdict, replays: Replays) -> str:
-    """The line of a call (docs/FORMATS.md, "Report")."""
-    if isinstance(verdict, Refused):
-        return f"{number} refused {verdict.code} {verdict.rule} {verdict.field}.{verdict.part}\n"
-    if number in replays:
-        return f"{number} replay 438 18 {replays[number]}\n"
-    return f"{number} valid - - -\n"
-
-
-def report(judged: Judged, replays: Replays) -> Report:
-    """The lines of a part, by the replays of the whole log."""
-    lines = [line(number, verdict, replays) for number, verdict in enumerate(judged.verdicts, judged.first)]
-    return Report("".join(lines).encode(), all(one.endswith(" valid - - -\n") for one in lines))
+def verdict_of(line: str) -> Verdict:
+    kind, *words = line.split()
+    if kind == "passes":
+        ticket, last = words
+        return Passes(bytes.fromhex(ticket), int(last))
+    rule, code, field, part = map(int, words)
+    return Refused(rule, code, field, part)

@@ -1,8 +1,9 @@
-"""A day as it is handed to other machines: by the names of its files, and by what was in them when it began."""
+"""A day as it is handed to other machines: by the names of its files, and by what was in them when it began. What they judged can be kept."""
 import dataclasses
 import functools
 import hashlib
 import os
+import pathlib
 from dataclasses import dataclass
 from typing import Callable, Optional, Tuple
 
@@ -58,3 +59,32 @@ def held(job: Job) -> Tuple[World, Callable[[Question], bool]]:
 def judge(job: Job, part: Part) -> days.Judged:
     """Judges a part of a log, on whatever machine. Raises OSError, BadFile and OutOfMemory."""
     return days.judge_part(part, *held(job))
+
+
+class Kept:
+    """The parts of a job that were judged, in files of a folder, so that a day that ended in the middle goes on from there. A part counts only if
+    neither the job's files have changed since, nor the size or time of the log. Raises OSError."""
+
+    def __init__(self, folder: Name, job: Job) -> None:
+        self.folder, self.job = pathlib.Path(folder), job
+        self.folder.mkdir(parents=True, exist_ok=True)
+
+    def file(self, part: Part) -> pathlib.Path:
+        state = os.stat(part.log)
+        what = repr((self.job, part, state.st_size, state.st_mtime_ns))
+        return self.folder / hashlib.sha256(what.encode()).hexdigest()
+
+    def get(self, part: Part) -> Optional[days.Judged]:
+        """What is kept of a part, if it is whole."""
+        try:
+            judged = days.read(self.file(part).read_text("ascii"))
+        except (FileNotFoundError, ValueError):
+            return None
+        return judged if (judged.first, len(judged.verdicts)) == (part.first, part.count) else None
+
+    def put(self, part: Part, judged: days.Judged) -> None:
+        """Keeps a part. The file has its name once it is whole."""
+        file = self.file(part)
+        new = file.with_suffix(".new")
+        new.write_text(days.written(judged), "ascii")
+        new.replace(file)

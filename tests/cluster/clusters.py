@@ -1,4 +1,5 @@
 """A day on a cluster, beside the report of the proved program."""
+import contextlib
 import logging
 import os
 import pathlib
@@ -10,7 +11,7 @@ import time
 import cuts
 import day as example
 import stir
-from distributed import Client, LocalCluster, as_completed
+from distributed import Client, LocalCluster
 from load import below
 from stir import days, jobs, logs
 
@@ -39,9 +40,11 @@ class Day:
     def judged(self, workers, calls):
         """The report of so many workers on parts of so many calls."""
         output = self.folder / "report.txt"
+        cut = logs.cut([self.log], calls)
         with example.connect(workers, None) as client, open(output, "wb") as file:
-            status = example.write_report(client, self.job(), logs.cut([self.log], calls), file)
-        assert status == 1, f"the status is {status}"
+            judging = example.Judging(client, self.job(), cut.parts)
+            status = example.write_report(judging, cut, file)
+        assert (status, judging.judged) == (1, len(cut.parts)), f"status {status}, and {judging.judged} tasks for {len(cut.parts)} parts"
         return output.read_text()
 
     def workers(self):
@@ -85,18 +88,53 @@ class Day:
 
     def lost(self):
         """The scheduler is killed while the day waits for a worker."""
-        scheduler = subprocess.Popen([sys.executable, "-m", "distributed.cli.dask_scheduler", "--host", "127.0.0.1", "--port", "0", "--no-dashboard"],
-                                     stderr=subprocess.PIPE, text=True, env={**os.environ, "DASK_LOGGING__DISTRIBUTED": "info"})
-        try:
-            address = next(line.split()[-1] for line in scheduler.stderr if "Scheduler at:" in line)
+        with scheduler() as address:
             day = self.start("--scheduler", address)
             with Client(address) as watcher:
                 wait_until(lambda: watcher.run_on_scheduler(lambda dask_scheduler: len(dask_scheduler.tasks)) > 0)
-        finally:
-            scheduler.kill()
-            scheduler.wait()
         said = ended(day)
-        assert said == (2, "", "day.py: the scheduler is lost, and with it what it had of the day\n"), f"status, report and standard error are {said}"
+        wanted = (2, "", "day.py: the scheduler is lost: 0 of 1 parts were judged, and without --keep none is kept\n")
+        assert said == wanted, f"status, report and standard error are {said}"
+
+    def gone_on(self):
+        """The scheduler is killed in the middle; what was judged is kept, and another scheduler has the rest."""
+        kept = self.folder / "kept"
+        words = ("--keep", kept, "--calls", "2", "--scheduler")
+        with scheduler() as address, worker(address):
+            day = self.start(*words, address)
+            wait_until(lambda: kept.exists() and len(list(kept.iterdir())) > 5)
+        status, lines, error = ended(day)
+        parts, files = (len(self.calls) + 1) // 2, {file: file.stat().st_mtime_ns for file in kept.iterdir() if file.suffix != ".new"}
+        assert 5 < len(files) < parts, f"{len(files)} of {parts} parts are kept"
+        said = f"day.py: the scheduler is lost: {len(files)} of {parts} parts are judged and kept, and the same command goes on from there\n"
+        assert (status, error) == (2, said), f"status {status}, standard error {error}"
+        assert self.report.startswith(lines), "what was written isn't the begin of the report"
+        with scheduler() as address, worker(address):
+            status, lines, error = ended(self.start(*words, address))
+        assert (status, lines) == (1, self.report), f"status {status}, and another report"
+        assert error == f"day.py: {len(files)} of {parts} parts were kept from before\n", error
+        again = [file.name for file, when in files.items() if file.stat().st_mtime_ns != when]
+        assert len(list(kept.iterdir())) == parts and not again, f"parts that were kept were judged again: {again}"
+
+    def kept(self):
+        """What is kept counts whole, for the same files and the same log."""
+        cut, folder = logs.cut([self.log], 300), self.folder / "kept-parts"
+        kept, part = jobs.Kept(folder, self.job()), cut.parts[1]
+        judged = jobs.judge(self.job(), part)
+        assert kept.get(part) is None, "a part is kept that wasn't judged"
+        kept.put(part, judged)
+        assert kept.get(part) == judged and kept.get(cut.parts[0]) is None, "what is kept isn't what was judged"
+        [file] = folder.iterdir()
+        text = file.read_text()
+        for spoilt in (text[:-1], text[: len(text) // 2], "", text + "\n", text.replace("passes", "", 1), "\0" * len(text)):
+            file.write_text(spoilt)
+            assert kept.get(part) is None, "a part that isn't whole is taken"
+        file.write_text(text)
+        other = self.folder / "other-chains.txt"
+        other.write_bytes(pathlib.Path(self.names[0]).read_bytes() + b"; another file\n")
+        assert jobs.Kept(folder, self.job(other)).get(part) is None, "a part is taken that was judged by another file"
+        os.utime(self.log, ns=(1, 1))
+        assert kept.get(part) is None, "a part of a log is taken that has changed"
 
     def interrupted(self):
         """Ctrl-C, which the terminal sends to the program and to its workers alike."""
@@ -111,16 +149,14 @@ class Day:
         for workers in (2, 1):
             cut = logs.cut([self.log], 20)
             with example.connect(workers, None) as client:
-                judged, reports = example.submit(client, self.job(), list(cut.parts))
-                lost = 0
-                for done, future in enumerate(as_completed(judged), 1):
-                    future.result()
+                day, lines, lost = days.Day(), b"", 0
+                for done, judged in enumerate(example.Judging(client, self.job(), cut.parts).in_order(), 1):
+                    lines += day.report(judged).lines
                     if done in (1, len(cut.parts) // 2):
                         os.kill(next(iter(client.run(os.getpid).values())), signal.SIGKILL)
                         lost += 1
-                lines = b"".join(future.result().lines for future in reports).decode()
             assert lost == 2, f"{lost} workers were killed"
-            assert lines == self.report, f"{workers} workers give another report if some are killed"
+            assert lines.decode() == self.report, f"{workers} workers give another report if some are killed"
 
     def changed(self):
         """A worker goes by the files with which the job began, or not at all."""
@@ -138,10 +174,34 @@ class Day:
             raise AssertionError("a worker went by files that had changed")
 
 
-def ended(process):
-    """The status of a process that ends within a minute, its output and what it says on standard error."""
+@contextlib.contextmanager
+def scheduler():
+    """A scheduler, which is killed in the end: its address."""
+    process = subprocess.Popen([sys.executable, "-m", "distributed.cli.dask_scheduler", "--host", "127.0.0.1", "--port", "0", "--no-dashboard"],
+                               stderr=subprocess.PIPE, text=True, env={**os.environ, "DASK_LOGGING__DISTRIBUTED": "info"})
     try:
-        output, error = process.communicate(timeout=60)
+        yield next(line.split()[-1] for line in process.stderr if "Scheduler at:" in line)
+    finally:
+        process.kill()
+        process.wait()
+
+
+@contextlib.contextmanager
+def worker(address):
+    """A worker of this scheduler, which outlives it."""
+    process = subprocess.Popen([sys.executable, "-m", "distributed.cli.dask_worker", address, "--nthreads", "1", "--no-nanny", "--no-dashboard"],
+                               stderr=subprocess.DEVNULL)
+    try:
+        yield
+    finally:
+        process.kill()
+        process.wait()
+
+
+def ended(process):
+    """The status of a process that ends within five minutes, its output and what it says on standard error."""
+    try:
+        output, error = process.communicate(timeout=300)
     except subprocess.TimeoutExpired:
         os.killpg(process.pid, signal.SIGKILL)
         process.communicate()
@@ -150,8 +210,8 @@ def ended(process):
 
 
 def wait_until(holds):
-    """Waits until this holds, at most a minute."""
-    end = time.monotonic() + 60
+    """Waits until this holds, at most five minutes."""
+    end = time.monotonic() + 300
     while not holds():
         assert time.monotonic() < end, "what is waited for doesn't come"
         time.sleep(0.05)

@@ -52,6 +52,7 @@ TESTS = {
     "a log is cut at its entries, whatever the size of a part": lambda at: cuts.everywhere(at.folder),
     "a log that isn't whole has the place of verify": lambda at: cuts.faults(at.program, at.world, at.folder),
     "each call by itself has the verdict of the report": lambda at: verdicts.each(at.world, at.calls, at.report),
+    "a ticket is remembered while it may come": lambda at: verdicts.settled(),
     "the rules that hold are those of explain": lambda at: verdicts.explained(at.program, at.world, at.calls, at.folder),
     "a call that names many x5us is judged by its own": lambda at: verdicts.named(at.world),
     "a call is judged by its own among many anchors": lambda at: verdicts.trusted(at.world, at.calls, at.folder),
@@ -68,6 +69,8 @@ TESTS = {
     "files that change in the middle stop the run": lambda at: at.day.changed(),
     "a day for no worker is refused": lambda at: at.day.refused(),
     "a scheduler that dies ends the day with 2 and one line": lambda at: at.day.lost(),
+    "what was judged is kept, and another scheduler has the rest": lambda at: at.day.gone_on(),
+    "what is kept counts whole, for the same files": lambda at: at.day.kept(),
     "so does Ctrl-C": lambda at: at.day.interrupted(),
 }
 

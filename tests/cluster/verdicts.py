@@ -22,9 +22,13 @@ def verdicts(world, calls):
 
 def each(world, calls, report):
     """The lines of all calls, with tickets settled over the whole log, are the report; `ask` promises what `judge` says by all questions."""
-    judged = days.Judged(1, tuple(verdicts(world, calls)))
-    replays = days.merge(map(days.settle, ([group] for group in days.tickets(judged, 5))))
-    assert days.report(judged, replays).lines.decode() == report, "the lines aren't those of the report"
+    said = verdicts(world, calls)
+    for size in (7, 100, len(calls)):
+        day, lines = days.Day(), b""
+        for first in range(0, len(calls), size):
+            part = days.Judged(first + 1, calls[: first + size][-1][0], tuple(said[first : first + size]))
+            lines += day.report(days.read(days.written(part))).lines
+        assert lines.decode() == report, f"in parts of {size} the lines aren't those of the report"
     by = world_of(world)
     for call in (stir.Call(*call) for call in calls[:200]):
         asked = stir.ask(call, by)
@@ -32,6 +36,23 @@ def each(world, calls, report):
     kinds = {" ".join(line.split()[1:4]) for line in report.splitlines()}
     assert len(kinds) > 6, f"the log has only {sorted(kinds)}"
     return f"{len(calls)} calls, {len(kinds)} outcomes"
+
+
+def settled():
+    """A ticket is remembered up to its last second, and the parts come in their order."""
+    day, passes = days.Day(), [stir.Passes(bytes([n]) * 32, last) for n, last in ((1, 160), (2, 161))]
+    assert day.report(days.Judged(1, 160, (passes[0], passes[1], passes[0]))).lines == b"1 valid - - -\n2 valid - - -\n3 replay 438 18 1\n"
+    report = day.report(days.Judged(4, 161, (passes[1], stir.Refused(9, 403, 1, 0))))
+    assert report == days.Report(b"4 replay 438 18 2\n5 refused 403 9 1.0\n", False), report
+    assert list(day.firsts) == [passes[1].ticket], "a ticket is remembered that can't come again, or one is forgotten that can"
+    for first in (5, 7):
+        try:
+            day.report(days.Judged(first, 161, ()))
+        except ValueError as error:
+            assert "begins with call 6" in str(error), error
+        else:
+            raise AssertionError(f"a part was taken that begins with call {first}")
+    assert day.report(days.Judged(6, 162, (stir.Passes(bytes(32), 170),))) == days.Report(b"6 valid - - -\n", True)
 
 
 def explained(program, world, calls, folder):
