@@ -1,12 +1,13 @@
 """The pages that people read: each command that they show is run, in a copy of the tree in which the program stands as the proved one, and what it
 writes is compared; no sentence is too long; man/stir.1 is what dev/man makes; docs/RULES.md has the numbers and codes of the library's rules; what
-docs/dev/PROVED.md names is there; docs/dev/REFUSALS.md is what dev/refusals makes; and README.md trusts the crates of the kit that dev/trusted lists.
+docs/dev/PROVED.md names is there; docs/dev/HEADLINE.md quotes definitions as they stand; the sources keep what the page of dev/refusals promises;
+and README.md trusts the crates of the kit that dev/trusted lists.
 
     pages.py    counts the long sentences of these pages, and names them
 
-A command stands in a block that begins with ```sh, after `$ `, with what it writes below it on the standard output and standard error. A line that ends
-with a backslash goes on in the next. The commands of a block run in one shell, and the blocks of a page in one folder. From the first block on that needs
-stirctl, a page is tried only if that and the Python package cryptography are there.
+A command stands in a block that begins with ```sh, after `$ `, with what it writes below it on the standard output and standard error. A line that
+ends with a backslash goes on in the next. The commands of a block run in one shell, and the blocks of a page in one folder. From the first block on
+that needs stirctl, a page is tried only if that and the Python package cryptography are there.
 """
 import os
 import pathlib
@@ -38,8 +39,8 @@ NEEDS_MORE = re.compile(r'\bstirctl\b|examples/carrier/day')
 NOT_RUN = ('rt ci', '.ci/run', './stir --prove')
 
 # The pages whose sentences are counted, and how many words a sentence has at most.
-READ = ('README.md', 'CONTRIBUTING.md', 'CHANGELOG.md', 'host/stird/kamailio/README.md', 'python/README.md', 'examples/cluster/README.md', 'examples/kafka/README.md',
-        *sorted(str(page.relative_to(TOP)) for page in (TOP / 'docs').rglob('*.md')))
+READ = ('README.md', 'CONTRIBUTING.md', 'CHANGELOG.md', 'host/stird/kamailio/README.md', 'python/README.md', 'examples/cluster/README.md',
+        'examples/kafka/README.md', *sorted(str(page.relative_to(TOP)) for page in (TOP / 'docs').rglob('*.md')))
 MOST_WORDS = 40
 
 
@@ -138,20 +139,31 @@ def named_in(crate):
     return {name for file in files for pair in NAMED.findall(file.read_text()) for name in pair if name}
 
 
+def missing(crates, clauses, files):
+    """What a row of docs/dev/PROVED.md names of these crates and isn't there: a clause, or a file of `specs/`."""
+    known = set().union(*map(named_in, crates))
+    yield from (f'{crates}: {name}' for words in re.findall(r'`([^`]*)`', clauses) for name in words.split('::') if name not in known)
+    for file in re.findall(r'`([^`]*)`', files):
+        folders = [file.rpartition('/')[0]] if '/' in file else crates
+        if not any((CRATES / folder / 'specs' / f'{file.rpartition("/")[2]}.antt').exists() for folder in folders):
+            yield f'{crates}: {file}'
+
+
 def unknown(page):
-    """What the tables of docs/dev/PROVED.md name and isn't there: a clause of the crates of its heading, or a file of `specs/`."""
-    crates, known = [], set()
+    """What the tables of docs/dev/PROVED.md name and isn't there. A row has the crate, or nothing if it is that of the row above, the property, the
+    clauses and the files."""
+    crates = []
     for line in page.splitlines():
-        if line.startswith('#'):
-            crates = re.findall(r'`(\w+)`', line.split(':')[0]) or crates
-            known = set().union(*map(named_in, crates))
         cells = [cell.strip() for cell in line.split('|')[1:-1]]
-        if len(cells) == 3 and not set(cells[0]) <= {'-'}:
-            yield from (f'{crates}: {name}' for words in re.findall(r'`([^`]*)`', cells[1]) for name in words.split('::') if name not in known)
-            for file in re.findall(r'`([^`]*)`', cells[2]):
-                folders = [file.rpartition('/')[0]] if '/' in file else crates
-                if not any((CRATES / folder / 'specs' / f'{file.rpartition("/")[2]}.antt').exists() for folder in folders):
-                    yield f'{crates}: {file}'
+        if len(cells) == 4 and cells[0] not in ('Crate', '---'):
+            crates = re.findall(r'`(\w+)`', cells[0]) or crates
+            yield from missing(crates, *cells[2:])
+
+
+def other_quotes(page):
+    """The definitions in blocks of a page that no file of `specs/` has, word by word."""
+    has = ' '.join(' '.join(file.read_text().split()) for file in CRATES.glob('*/specs/*.antt'))
+    return [quote for quote in re.findall(r'^```text\n(.*?)^```$', page, re.M | re.S) if ' '.join(quote.split()) not in has]
 
 
 def results(program, has_library):
@@ -161,10 +173,11 @@ def results(program, has_library):
         yield f'{page}, sentences of more than {MOST_WORDS} words', [], long_sentences((TOP / page).read_text())
     yield 'docs/RULES.md, rules that the library has otherwise', [], rule_table.other_lists()
     yield 'docs/dev/PROVED.md, names that aren\'t there', [], list(unknown((TOP / 'docs/dev/PROVED.md').read_text()))
+    yield 'docs/dev/HEADLINE.md, definitions that specs/ has otherwise', [], other_quotes((TOP / 'docs/dev/HEADLINE.md').read_text())
     done = subprocess.run([sys.executable, TOP / 'dev' / 'man', '--check'], stderr=subprocess.PIPE, text=True)
     yield 'dev/man --check', (0, ''), (done.returncode, done.stderr)
     done = subprocess.run([sys.executable, TOP / 'dev' / 'refusals', '--check'], stdout=subprocess.PIPE, text=True)
-    yield 'dev/refusals --check', (0, 'refusals: docs/dev/REFUSALS.md has what the sources say\n'), (done.returncode, done.stdout)
+    yield 'dev/refusals --check', (0, 'refusals: the sources keep what the page promises\n'), (done.returncode, done.stdout)
 
     done = subprocess.run([sys.executable, TOP / 'dev' / 'picture', '--check'], stdout=subprocess.PIPE, text=True)
     yield 'dev/picture --check', (0, ''), (done.returncode, done.stdout)

@@ -1,4 +1,4 @@
-"""The site that dev/site makes of the pages: each page is there, each link and each place within a page leads somewhere, and nothing comes from elsewhere."""
+"""The site that dev/site makes of the pages: each page is there, each link and each place in a page leads somewhere, and nothing is from outside."""
 import html.parser
 import json
 import pathlib
@@ -62,6 +62,11 @@ def astray(site, pages, file, link):
 def test_each_page_of_the_tree_is_a_page_of_the_site(site, pages):
     wanted = {site / ('index.html' if page == 'README.md' else page.removesuffix('.md') + '.html') for page in pages_of_tree()}
     assert not {file for file in wanted if file not in pages and file.with_name('index.html') not in pages}
+
+
+def test_what_each_call_refuses_is_a_page_of_the_site(site):
+    made = (site / 'docs/dev/REFUSALS.html').read_text()
+    assert '<code>Service::prepare</code>' in made and 'Calls that take no memory' in made
 
 
 def test_each_link_leads_somewhere(site, pages):

@@ -1,4 +1,4 @@
-"""What `drill` writes and what its files are, by a model of what docs/FORMATS.md says of a drill ("The drill").
+"""What `drill` writes and what its files are, by a model of a drill, of which docs/FORMATS.md ("The drill") tells the draws.
 
     drills.py SEED COUNT      prints the seven lines
     drills.py answers         prints what the lines of crates/vectors on the drill's files must answer: the bytes of each file, and their SHA-256
