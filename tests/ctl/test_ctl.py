@@ -203,7 +203,7 @@ def test_an_output_without_room_is_said(run, tmp_path):
 
 
 def test_a_day_with_real_signatures_is_judged_by_one_command(run, request, tmp_path):
-    """The day of docs/DAY.md: the capture by one command says what five commands say of it."""
+    """The day of docs/OPERATING.md: the capture by one command says what five commands say of it."""
     pytest.importorskip('cryptography')
     program = request.config.getoption('program').resolve()
     if not program.exists():

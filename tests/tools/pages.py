@@ -30,7 +30,7 @@ PATH = f'{CTL.parent}{os.pathsep}{os.environ["PATH"]}'
 
 # The pages whose commands are run, each with what makes the files of a carrier with which it begins.
 CARRIER = 'examples/carrier/day --in . > said 2>&1; cp root.pem roots.pem'
-SHOWN = {'README.md': None, 'docs/COMMANDS.md': None, 'docs/DAY.md': None, 'docs/OPERATING.md': CARRIER}
+SHOWN = {'README.md': None, 'docs/COMMANDS.md': None, 'docs/OPERATING.md': CARRIER}
 
 # The commands for which stirctl and the Python package cryptography are needed.
 NEEDS_MORE = re.compile(r'\bstirctl\b|examples/carrier/day')
