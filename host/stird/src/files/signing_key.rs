@@ -187,7 +187,7 @@ mod tests {
         let pem = EcKey::generate(&curve).and_then(|key| key.private_key_to_pem());
         std::fs::write(&path, pem.expect("a key")).expect("a file");
         let name = path.to_str().expect("text");
-        let read = || SigningKey::read(name, &mut Files::default()).ok().expect("it is a key");
+        let read = || SigningKey::read(name, &mut Files::default()).expect("it is a key");
         let (old, new) = (read(), read());
         *old.failing().1.lock().held() = Some(SignFault::Late);
         new.go_on_from(&HashMap::from([old.failing()]));
