@@ -124,10 +124,21 @@ def texts(page):
             yield ' '.join(line.strip() for line in lines)
 
 
+def sentences(page):
+    """The sentences of a page."""
+    return [it for text in texts(page) for it in re.split(r'(?<=[.?!])[)*"`]*\s+(?=[A-Z`*\[("0-9])', text)]
+
+
 def long_sentences(page):
     """The sentences of a page that have too many words."""
-    sentences = (it for text in texts(page) for it in re.split(r'(?<=[.?!])[)*"`]*\s+(?=[A-Z`*\[("0-9])', text))
-    return [sentence for sentence in sentences if len(sentence.split()) > MOST_WORDS]
+    return [sentence for sentence in sentences(page) if len(sentence.split()) > MOST_WORDS]
+
+
+def in_words():
+    """How many lines all pages have, and how many words the sentence in the middle has, of those with a full stop."""
+    read = [(TOP / page).read_text() for page in READ]
+    words = sorted(len(sentence.split()) for page in read for sentence in sentences(page) if re.search(r'[.?!]', sentence[-3:]))
+    return sum(len(page.splitlines()) for page in read), words[len(words) // 2]
 
 
 NAMED = re.compile(r'\b(?:fn|ensures|ghost|struct|enum|trait|record|abbrev pub) (\w+)|^ *pub (\w+) :', re.M)
