@@ -17,12 +17,13 @@ import contextlib
 import logging
 import os
 import pathlib
-import shutil
 import signal
 import sys
-import tempfile
 from multiprocessing import resource_tracker
 from typing import BinaryIO, Dict, Iterator, Optional, Sequence
+
+# Its workers are processes of their own, which read this: else they tell how they clear away what a killed worker of another run left.
+os.environ.setdefault("DASK_LOGGING__DISTRIBUTED", "critical")
 
 import stir
 from distributed import Client, KilledWorker, LocalCluster, as_completed
@@ -66,15 +67,10 @@ def connect(workers: int, scheduler: Optional[str]) -> Iterator[Client]:
         with Client(scheduler) as client:
             yield client
     else:
-        # Dask's workers clear away, and tell of, what killed ones left in the folder that they share. So each run has its own.
-        room = tempfile.mkdtemp(prefix="stir-day-")
-        try:
-            with interrupts_held():
-                cluster = LocalCluster(n_workers=workers, threads_per_worker=1, host="127.0.0.1", dashboard_address=None, local_directory=room)
-            with cluster, Client(cluster) as client:
-                yield client
-        finally:
-            shutil.rmtree(room, ignore_errors=True)
+        with interrupts_held():
+            cluster = LocalCluster(n_workers=workers, threads_per_worker=1, host="127.0.0.1", dashboard_address=None)
+        with cluster, Client(cluster) as client:
+            yield client
 
 
 @contextlib.contextmanager
