@@ -4,7 +4,7 @@
     tests/service/record_cost.py STIRD [--calls COUNT] [--rounds COUNT] [--chains COUNT] [WORD ..]
 
 One service records its calls and one doesn't, and both get the same calls by turns, so that what else runs on the machine troubles both alike: in each round
-COUNT calls, over 8 connections by the client in C (load.c). Written are the microseconds of processor time that a call takes of each (user and system, with the
+COUNT new calls, whose signatures are checked, over 8 connections by the client in C (load.c). Written are the microseconds of processor time that a call takes of each (user and system, with the
 thread that writes), in all and as the median of the rounds. WORDs are options more of the one that records, as `--record-numbers=hashed`.
 """
 import argparse
@@ -45,20 +45,21 @@ def main():
     with tempfile.TemporaryDirectory() as name:
         folder = pathlib.Path(name)
         world = World(folder / "world", given.chains)
-        calls = [(START, world.call(number % world.count, START, number)) for number in range(1, given.calls + 1)]
-        client, requests = load.light_client(folder), load.written(folder / "requests", calls)
+        client, requests = load.light_client(folder), folder / "requests"
         by = [*world.words(), "--moments", "asked"]
         record = ["--record", str(folder / "record"), *more]
         with Stird(given.stird.resolve(), by) as plain, Stird(given.stird.resolve(), [*by, *record]) as recording:
             costs, lines = collections.defaultdict(list), Lines(folder / "record")
             for number in range(given.rounds + 1):
+                first = number * given.calls
+                load.written(requests, ((START, world.call(call % world.count, START, call)) for call in range(first + 1, first + given.calls + 1)))
                 for service in (plain, recording) if number % 2 else (recording, plain):
                     before = service.used()
                     answers, _, _ = load.send_light(service.port, requests, 0, CONNECTIONS, client)
                     if service is recording:
-                        done = (number + 1) * given.calls
+                        done = first + given.calls
                         assert wait_until(lambda: lines.now() == done, 30), "lines are lost"
-                    assert {json.loads(answer)["outcome"] for answer in answers} == {"replay" if number else "valid"}
+                    assert {json.loads(answer)["outcome"] for answer in answers} == {"valid"}
                     costs[service].append((service.used() - before) / given.calls * 1e6)
             size = (folder / "record").stat().st_size / done
     # The first round opens what is kept.

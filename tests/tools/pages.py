@@ -38,10 +38,10 @@ NEEDS_MORE = re.compile(r'\bstirctl\b|examples/carrier/day')
 # Commands that aren't run here: the gate itself, and the proofs that it makes.
 NOT_RUN = ('rt ci', '.ci/run', './stir --prove')
 
-# The pages whose sentences are counted, and how many words a sentence has at most.
+# The pages whose lines and sentences are counted: how many lines they have together at most, and how many words a sentence has at most, and in the middle.
 READ = ('README.md', 'CONTRIBUTING.md', 'CHANGELOG.md', 'host/stird/kamailio/README.md', 'python/README.md', 'examples/cluster/README.md',
         'examples/kafka/README.md', *sorted(str(page.relative_to(TOP)) for page in (TOP / 'docs').rglob('*.md')))
-MOST_WORDS = 40
+MOST_LINES, MOST_WORDS, MIDDLE_WORDS = 3600, 30, 20
 
 
 def blocks(text):
@@ -182,6 +182,8 @@ def results(program, has_library):
     yield from shown(program, has_library)
     for page in READ:
         yield f'{page}, sentences of more than {MOST_WORDS} words', [], long_sentences((TOP / page).read_text())
+    lines, words = in_words()
+    yield f'at most {MOST_LINES} lines, and {MIDDLE_WORDS} words in the middle: {lines} and {words}', True, lines <= MOST_LINES and words <= MIDDLE_WORDS
     yield 'docs/RULES.md, rules that the library has otherwise', [], rule_table.other_lists()
     yield 'docs/dev/PROVED.md, names that aren\'t there', [], list(unknown((TOP / 'docs/dev/PROVED.md').read_text()))
     yield 'docs/dev/HEADLINE.md, definitions that specs/ has otherwise', [], other_quotes((TOP / 'docs/dev/HEADLINE.md').read_text())
@@ -200,7 +202,8 @@ def main():
     found = [(page, sentence) for page in READ for sentence in long_sentences((TOP / page).read_text())]
     for page, sentence in found:
         print(f'{page}: {len(sentence.split())} words: {sentence}')
-    print(f'pages: {len(found)} sentences of more than {MOST_WORDS} words')
+    lines, words = in_words()
+    print(f'pages: {lines} lines; {len(found)} sentences of more than {MOST_WORDS} words, and {words} in the middle')
     return 1 if found else 0
 
 
