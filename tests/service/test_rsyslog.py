@@ -17,7 +17,7 @@ PAGE = Path(__file__).resolve().parents[2] / "docs" / "RECORD.md"
 def configuration(folder):
     """That of the page, with files in this folder."""
     (text,) = re.findall(r"```rsyslog\n(.*?)```", PAGE.read_text(), re.S)
-    for name in ("/var/spool/rsyslog", "/var/log/stird", "/var/log"):
+    for name in ("/var/spool/rsyslog", "/var/lib/stird", "/var/log"):
         text = text.replace(name, str(folder))
     path = folder / "rsyslog.conf"
     path.write_text(text)

@@ -155,18 +155,21 @@ impl Desk {
         let (reply, came) = sync_channel(1);
         let until = Instant::now() + within;
         let (uri, public) = (Arc::clone(uri), public.copied());
-        WAITING.fetch_add(1, Relaxed);
         let job = Job { uri, public, digest: *digest, until, reply };
         let asked = match &self.queue {
             Some(queue) => queue.try_send(job),
             None => Err(TrySendError::Disconnected(job)),
         };
         let made = match asked {
-            Ok(()) => came.recv_timeout(within).unwrap_or(Err(SignFault::Late)),
+            Ok(()) => {
+                WAITING.fetch_add(1, Relaxed);
+                let made = came.recv_timeout(within).unwrap_or(Err(SignFault::Late));
+                WAITING.fetch_sub(1, Relaxed);
+                made
+            }
             Err(TrySendError::Full(_)) => Err(SignFault::Full),
             Err(TrySendError::Disconnected(_)) => Err(SignFault::Late),
         };
-        WAITING.fetch_sub(1, Relaxed);
         if let (Err(fault), Some(_)) = (&made, public) {
             count(fault);
         }
