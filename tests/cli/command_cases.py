@@ -24,8 +24,8 @@ A piece is `[COUNT*]TEXT`, and a text is `$NAME`, `x:HEX`, or plain text in whic
 one entry of a call log with that message. A line that can't be read fails the run.
 
 The program runs in a folder of its own and must write nothing to standard error. More cases stand elsewhere: the words of
-tests/vectors/words.py, logs that are made here, one of 100,000 calls, one that comes slowly, and one of replays on each number of workers, state
-files of as many bytes as may be and of one more, and lists of tickets that tests/vectors/tickets.py draws, on each number of workers.
+crates/vectors/generators/words.py, logs that are made here, one of 100,000 calls, one that comes slowly, and one of replays on each number of workers, state
+files of as many bytes as may be and of one more, and lists of tickets that crates/vectors/generators/tickets.py draws, on each number of workers.
 """
 import contextlib
 import functools
@@ -38,7 +38,7 @@ import sys
 import tempfile
 
 HERE = pathlib.Path(__file__).resolve().parent
-sys.path.insert(0, str(HERE.parent / 'vectors'))
+sys.path.insert(0, str(HERE.parents[1] / 'crates/vectors/generators'))
 import tickets  # noqa: E402
 from words import program_cases  # noqa: E402
 
@@ -172,7 +172,7 @@ def rows(path):
 
 
 def word_case(words, status, output, program):
-    """What the program does with words of tests/vectors/words.py, where no file is."""
+    """What the program does with words of crates/vectors/generators/words.py, where no file is."""
     return (status, output, b''), run(program, words, b'', {})
 
 

@@ -9,7 +9,7 @@ import tempfile
 import time
 
 HERE = pathlib.Path(__file__).resolve().parent
-sys.path.append(str(HERE.parent / 'vectors'))
+sys.path.append(str(HERE.parents[1] / 'crates/vectors/generators'))
 import calls  # noqa: E402
 from certificates import WORLD  # noqa: E402
 

@@ -16,7 +16,7 @@ import tempfile
 
 HERE = pathlib.Path(__file__).resolve().parent
 TESTS = HERE.parent
-sys.path[:0] = [str(TESTS / name) for name in ('tools', 'fuzz', 'vectors', 'cli')]
+sys.path[:0] = [str(TESTS.parent / name) for name in ('tests/tools', 'tests/fuzz', 'crates/vectors/generators', 'tests/cli')]
 import captures  # noqa: E402
 import spoil  # noqa: E402
 import states  # noqa: E402

@@ -7,7 +7,7 @@ import sys
 from given import entries, option
 
 TESTS = pathlib.Path(__file__).resolve().parent.parent
-sys.path[:0] = [str(TESTS / 'vectors'), str(TESTS)]
+sys.path[:0] = [str(TESTS.parent / 'crates/vectors/generators'), str(TESTS)]
 import states  # noqa: E402
 import tickets  # noqa: E402
 from rule_table import CODES  # noqa: E402

@@ -9,7 +9,7 @@ of a log is put back with its length, so that the readers below the log are reac
 
 Of each run it must hold that the status is 0 to 6, that nothing is on standard error, that it ended within 20 seconds and with 1.5 GB of memory, and that
 the output is in the grammar of docs/FORMATS.md: a line or more for each call whose entry is whole, as the log is read here by itself, and then the line of
-the fault, if there is one. A state that is handed on keeps what it must of the state before, and what `once` says of tickets is what tests/vectors allows.
+the fault, if there is one. A state that is handed on keeps what it must of the state before, and what `once` says of tickets is what its generator allows.
 `--only` writes the files of one case into a folder and runs nothing. `spoil` spoils, and `holds` looks at what came out. Needs the standard library alone.
 """
 import argparse
@@ -26,7 +26,7 @@ import tempfile
 
 HERE = pathlib.Path(__file__).resolve().parent
 TOP = HERE.parent.parent
-sys.path[:0] = [str(HERE.parent / 'cli'), str(HERE.parent / 'vectors')]
+sys.path[:0] = [str(HERE.parent / 'cli'), str(HERE.parents[1] / 'crates/vectors/generators')]
 import command_cases as cli  # noqa: E402
 import states  # noqa: E402
 import tickets  # noqa: E402
@@ -46,7 +46,7 @@ COMMANDS = (b'verify', b'explain', b'ask', b'sign', b'divert', b'retarget', b'sh
 
 
 def examples():
-    """Words, input and files of the runs of examples/, which start at the top of the repository, and of lists of tickets that tests/vectors draws."""
+    """Words, input and files of the runs of examples/, which start at the top of the repository, and of lists of tickets that crates/vectors draws."""
     files = {f'examples/files/{path.name}': path.read_bytes() for path in (TOP / 'examples/files').iterdir()}
     files['state'] = states.text(*states.GOOD).encode()
     world = [b'--chains=examples/files/chains.txt', b'--anchors=examples/files/anchors.der', b'--table=examples/files/table.txt']

@@ -1,6 +1,6 @@
 """The runs of which memory and devices are refused call by call, and what each writes if nothing is refused.
 
-The messages, PASSporTs, certificates and answers are those of tests/vectors, put together by RFC 8224, 8225, 8588, 8946 and 5280, so what a run writes
+The messages, PASSporTs, certificates and answers are those of crates/vectors, put together by RFC 8224, 8225, 8588, 8946 and 5280, so what a run writes
 doesn't come from this program. `refuse.c` stands before the C library's calls and refuses one of them.
 """
 
@@ -13,7 +13,7 @@ import tempfile
 from pathlib import Path
 
 HERE = Path(__file__).resolve().parent
-sys.path.insert(0, str(HERE.parent / "vectors"))
+sys.path.insert(0, str(HERE.parents[1] / "crates/vectors/generators"))
 sys.path.insert(0, str(HERE.parent / "performance"))
 import calls  # noqa: E402
 import logs  # noqa: E402

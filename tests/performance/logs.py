@@ -15,7 +15,7 @@ import sys
 import tempfile
 from pathlib import Path
 
-sys.path.append(str(Path(__file__).resolve().parents[1] / "vectors"))
+sys.path.append(str(Path(__file__).resolve().parents[2] / "crates/vectors/generators"))
 import calls
 from certificates import certificate
 

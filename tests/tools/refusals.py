@@ -1,4 +1,4 @@
-"""Whether tools/stir-words finds a reason for just those words that the program refuses, by the words of tests/vectors; and what the script
+"""Whether tools/stir-words finds a reason for just those words that the program refuses, by the words of crates/vectors; and what the script
 `./stir` says of them, from the folder of the tree and from another; and what it answers itself."""
 import importlib.util
 import os
@@ -9,7 +9,7 @@ import sys
 import tempfile
 
 TOP = pathlib.Path(__file__).resolve().parent.parent.parent
-sys.path.append(str(TOP / 'tests' / 'vectors'))
+sys.path.append(str(TOP / 'crates/vectors/generators'))
 import words  # noqa: E402
 
 # Words, and what is said of them; None where they aren't refused.
@@ -88,7 +88,7 @@ def results(program):
     """Each case: its name, what is wanted, and what came."""
     why = table().why_refused
     wrong = [given for given, status, _ in words.program_cases() if (status == 2) != (why(given) is not None)]
-    yield 'stir-words and the words of tests/vectors', [], wrong
+    yield 'stir-words and the words of crates/vectors', [], wrong
     with tempfile.TemporaryDirectory() as folder:
         script = started(program, pathlib.Path(folder))
         for given, said in SAID.items():

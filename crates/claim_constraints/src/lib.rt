@@ -18,7 +18,7 @@
 //! must be there is a member of the payload and each member with permitted values is one of them ([`constraints_law`]; `docs/dev/PROVED.md` has the
 //! clauses).
 //!
-//! Cases: section `constraints` of `crates/vectors/stdin`, which `tests/vectors/constraints.py` prints.
+//! Cases: section `constraints` of `crates/vectors/stdin`, which `crates/vectors/generators/constraints.py` prints.
 #![tactic(auto)]
 
 mod constraints;

@@ -22,7 +22,7 @@
 //! text for one seed, on however many workers ([`rounds_law`], [`summary_law`], [`winners_law`]). What is counted round by round is the summary of
 //! all ([`count_law`]), and the files are what the drill's texts say by their grammars ([`files_law`]). `docs/dev/PROVED.md` has the clauses.
 //!
-//! Cases: `tests/cli/drill.rows`, since the command `drill` is this call. The counts in them are those of `tests/vectors/drills.py`. Section `drill` of
+//! Cases: `tests/cli/drill.rows`, since the command `drill` is this call. The counts in them are those of `crates/vectors/generators/drills.py`. Section `drill` of
 //! `crates/vectors/stdin` has the texts.
 #![tactic(auto)]
 

@@ -19,7 +19,7 @@
 //! `specs/StateText` has the text and the files, `specs/BadLine` the line that a fault names, and `specs/Reading` a reader of lists, which the code
 //! follows. `docs/dev/PROVED.md` has the clauses.
 //!
-//! Cases: section `state` of `crates/vectors/stdin`, which `tests/vectors/states.py` prints.
+//! Cases: section `state` of `crates/vectors/stdin`, which `crates/vectors/generators/states.py` prints.
 #![tactic(auto)]
 
 mod entries;

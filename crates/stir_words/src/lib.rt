@@ -21,7 +21,7 @@
 //! Proved: exactly the lists of words are accepted that the definition accepts, with exactly its values (`specs/Order`, `specs/Values`,
 //! `specs/Options`, `specs/Table`). `docs/dev/PROVED.md`, "The program", has the clauses.
 //!
-//! Cases: section `words` of `crates/vectors/stdin`, which `tests/vectors/words.py` prints; `tests/cli/words.rows`.
+//! Cases: section `words` of `crates/vectors/stdin`, which `crates/vectors/generators/words.py` prints; `tests/cli/words.rows`.
 #![tactic(auto)]
 
 mod claiming;

@@ -3,7 +3,7 @@
 //! A module for each subject: [`rules`] (the rules of the call, and the response codes), [`verdicts`] (the rules of the chains), [`rounds`],
 //! [`workers`] and [`signing`] (`sign`, `divert`). Rounds are judged on one worker, and on several that wait for each other at a gate.
 //!
-//! The lines are the sections of these names in `crates/vectors/stdin`; scripts of `tests/vectors` print the calls in them.
+//! The lines are the sections of these names in `crates/vectors/stdin`; scripts of `crates/vectors/generators` print the calls in them.
 #![tactic(auto)]
 
 mod lending;

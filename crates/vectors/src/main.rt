@@ -7,10 +7,10 @@
 //!
 //! `stdin` and `stdout` beside `src/` are the table and its answers; the gate runs the program and compares. The head of `stdin` says how a line is
 //! written, and CONTRIBUTING.md how a case is added. Expected values come from outside the program: worked by hand from a standard, or printed by a
-//! script of `tests/vectors`.
+//! script of `crates/vectors/generators`.
 //!
 //! The subjects are in `vector_texts`, `vector_chains`, `vector_messages` and `vector_calls`; those of words and named files are in `commands` here. Whole
-//! runs of `stir_cmd` are in `runs`, over memory forms, whose reads and writes fail at the calls that a line lists; `tests/vectors/runs.py` prints them.
+//! runs of `stir_cmd` are in `runs`, over memory forms, whose reads and writes fail at the calls that a line lists; `crates/vectors/generators/runs.py` prints them.
 #![tactic(auto)]
 
 mod commands;

@@ -31,7 +31,7 @@
 //!
 //! # Cases
 //!
-//! Section `certificates` of `crates/vectors/stdin`, of which `tests/vectors/certificates.py` prints the certificates; `tests/cli/show.rows`.
+//! Section `certificates` of `crates/vectors/stdin`, of which `crates/vectors/generators/certificates.py` prints the certificates; `tests/cli/show.rows`.
 #![tactic(auto)]
 
 mod certificate;

@@ -370,7 +370,7 @@ def drawn(seed, count):
 
 
 SECTIONS = (
-    (commands, "`tests/vectors/words.py` prints the lines from here up to `files`. `verify` answers its four files, how many seconds old and ahead a",
+    (commands, "`crates/vectors/generators/words.py` prints the lines from here up to `files`. `verify` answers its four files, how many seconds old and ahead a",
      "PASSporT may be, the country, the length of a national number, the state or `-`, and the workers; `explain` the same without these two, and `ask` without the",
      "answers besides. `sign` answers the form, with the attestation and the identifier after `shaken`, `divert` the earlier number, and both then",
      "the name of the key, the URI, the second, the country and the length of a national number, the file of the answers, and the holder's two",

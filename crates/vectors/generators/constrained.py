@@ -88,7 +88,7 @@ LONG = sequence(must(*(b"%03d" % number for number in range(300))))
 
 
 def rows():
-    yield comment("`tests/vectors/constrained.py` prints the lines from here up to those of `questions.py`. What a certificate demands of claims, if it has such an")
+    yield comment("`crates/vectors/generators/constrained.py` prints the lines from here up to those of `questions.py`. What a certificate demands of claims, if it has such an")
     yield comment("extension: critical or not, of a leaf and of an authority.")
     yield "certificates.constraints $LEAF", "none"
     yield "certificates.constraints $INT", "none"

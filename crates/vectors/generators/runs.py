@@ -121,7 +121,7 @@ def rows():
         return f"runs.run {failing} {command(words)} {rest}", answer
 
     report = "".join(line for _, line in CALLS)
-    yield comment("`tests/vectors/runs.py` prints the lines from here up to the end. Which reads of files, reads of the log and writes fail, the words, the")
+    yield comment("`crates/vectors/generators/runs.py` prints the lines from here up to the end. Which reads of files, reads of the log and writes fail, the words, the")
     yield comment("log, and the files, each a name and its content. The answer is the status, the output, how many bytes of the log are left, and how many")
     yield comment("reads of files, reads of the log and writes failed. `each_read`, `each_write` and `each_file` let the first call of that kind fail, the second,")
     yield comment("and so on, and answer how many runs came to the same status and output; behind `-` stands the run in which none fails.")

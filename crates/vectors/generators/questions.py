@@ -16,11 +16,11 @@ import columns
 from calls import answer, scalar, signed_part
 from certificates import WORLD
 
-FILES = pathlib.Path(__file__).resolve().parent.parent / "ctl/files"
+FILES = pathlib.Path(__file__).resolve().parents[3] / "tests/ctl/files"
 
 # What is tried, the certificates of a chain, the trust anchors, and the issuer under whose key each certificate is asked for, `-` for none.
 CASES = (
-    ("`tests/vectors/questions.py` prints the lines from here up to `messages`. How many certificates a chain has, and for each the key, the digest\n"
+    ("`crates/vectors/generators/questions.py` prints the lines from here up to `messages`. How many certificates a chain has, and for each the key, the digest\n"
      "and the signature of the question for it. A whole chain; and with its anchor in it, which nothing is asked for.", "LEAF INT", "ROOT", "INT ROOT"),
     ("", "LEAF INT ROOT", "ROOT", "INT ROOT -"),
     ("With one that is an anchor itself, alone and below another.", "LEAF INT", "INT", "INT -"),

@@ -328,7 +328,7 @@ def built_rows():
 def rows():
     yield comment("constraints: constraints on claims (after RFC 8226, section 8; form and meaning are this project's own)")
     yield ("", "")
-    yield comment("`tests/vectors/constraints.py` prints the lines from here up to `certificates`. How many claims must be there and which, and how many have")
+    yield comment("`crates/vectors/generators/constraints.py` prints the lines from here up to `certificates`. How many claims must be there and which, and how many have")
     yield comment("permitted values, each with how many and which; or the kind of the first fault and its place. What is read is written so again.")
     for text in good_texts():
         yield reads(text)

@@ -228,7 +228,7 @@ def reads(title, files):
 
 def rows():
     """Each line with what it answers."""
-    yield comment("`tests/vectors/states.py` prints the lines from here up to the next subject. The window, the call, the moment and the entries of a file,")
+    yield comment("`crates/vectors/generators/states.py` prints the lines from here up to the next subject. The window, the call, the moment and the entries of a file,")
     yield comment("each entry as its ticket, its call and its last second; or the line that can't be read. An empty file has the window 61.")
     yield from reads("Files that hold a state: lines before it, and anything after it.", good_ones())
     yield from reads("The first line, and the lines before it.", faults_of_heads())
