@@ -63,8 +63,8 @@ config_on day = record { settings = day.settings; workers = 1 }
 abbrev OfCallOn : Day → Row → Type 0
 OfCallOn day row = OfCall (config_on day) (IsOwed day.settings) day.calls row
 
-pub all_owed : KnownLaw → FirstLaw → (past : ℕ) (day : Day) → IsSettledDay past day → EachPair (IsOwed day.settings) day.calls day.outcomes
-all_owed known law past day is =
+pub all_owed : KnownLaw → FirstLaw → (window : ℕ) (day : Day) → IsSettledDay window day → EachPair (IsOwed day.settings) day.calls day.outcomes
+all_owed known law window day is =
     point_as (IsByItself day.world day.settings) (IsOwed day.settings) day.calls day.outcomes (owed_by known law day.world day.settings) is.each
 
 of_row : (day : Day) (place : ℕ) (row : Row) → EachPair (IsOwed day.settings) day.calls day.outcomes → Stands (day_rows day) place row → OfCallOn day row
@@ -96,15 +96,15 @@ fresh_from day owed from = record {
 
 -- ---- calls that pass with one ticket have one last second
 
-pub record OfDay (past : ℕ) (days : List Day) (row : Row) : Type 0 where
+pub record OfDay (window : ℕ) (days : List Day) (row : Row) : Type 0 where
   pub day : Day
   pub day_in : IsIn day days
-  pub window : day.settings.past ≡ past
+  pub window : day.settings.past ≡ window
   pub of : OfCallOn day row
 
-pub one_last : (past : ℕ) (days : List Day) → AreApart days → (row same : Row) → OfDay past days row → row.passes ≡ true → OfDay past days same → Uses row.ticket same
+pub one_last : (window : ℕ) (days : List Day) → AreApart days → (row same : Row) → OfDay window days row → row.passes ≡ true → OfDay window days same → Uses row.ticket same
     → row.last ≡ same.last
-one_last past days one row same f p g uses =
+one_last window days one row same f p g uses =
     let a = known_row f.day row p f.of in
     let b = known_row g.day same uses.passes g.of in
     let mine : Settings = f.day.settings in
@@ -118,20 +118,20 @@ one_last past days one row same f p g uses =
 
 -- each of these rows is that of a call of one of the days
 abbrev pub AreOfDays : ℕ → List Day → List Row → Type 0
-AreOfDays past days rows = (place : ℕ) (row : Row) → Stands rows place row → OfDay past days row
+AreOfDays window days rows = (place : ℕ) (row : Row) → Stands rows place row → OfDay window days row
 
-pub are_of_day : (past : ℕ) (days : List Day) (day : Day) → IsSettledDay past day → IsIn day days → EachPair (IsOwed day.settings) day.calls day.outcomes
-    → AreOfDays past days (day_rows day)
-are_of_day past days day is inside owed place row stands = record { day = day; day_in = inside; window = is.window; of = of_row day place row owed stands }
+pub are_of_day : (window : ℕ) (days : List Day) (day : Day) → IsSettledDay window day → IsIn day days → EachPair (IsOwed day.settings) day.calls day.outcomes
+    → AreOfDays window days (day_rows day)
+are_of_day window days day is inside owed place row stands = record { day = day; day_in = inside; window = is.window; of = of_row day place row owed stands }
 
-have_one : (past : ℕ) (days : List Day) → AreApart days → (rows : List Row) → AreOfDays past days rows → HaveOneLast rows
-have_one past days one rows are place other row same stands p there uses =
-    one_last past days one row same (are place row stands) p (are other same there) uses
+have_one : (window : ℕ) (days : List Day) → AreApart days → (rows : List Row) → AreOfDays window days rows → HaveOneLast rows
+have_one window days one rows are place other row same stands p there uses =
+    one_last window days one row same (are place row stands) p (are other same there) uses
 
-pub are_both : (past : ℕ) (days : List Day) (xs ys : List Row) → AreOfDays past days xs → AreOfDays past days ys → AreOfDays past days (xs ++ ys)
-are_both past days [] ys mine theirs place row stands = theirs place row stands
-are_both past days (x ∷ xs) ys mine theirs zero row stands = mine zero row stands
-are_both past days (x ∷ xs) ys mine theirs (suc place) row stands = are_both past days xs ys (λ p r s. mine (suc p) r s) theirs place row stands
+pub are_both : (window : ℕ) (days : List Day) (xs ys : List Row) → AreOfDays window days xs → AreOfDays window days ys → AreOfDays window days (xs ++ ys)
+are_both window days [] ys mine theirs place row stands = theirs place row stands
+are_both window days (x ∷ xs) ys mine theirs zero row stands = mine zero row stands
+are_both window days (x ∷ xs) ys mine theirs (suc place) row stands = are_both window days xs ys (λ p r s. mine (suc p) r s) theirs place row stands
 
 -- ---- one day more
 
@@ -142,23 +142,23 @@ none_answered = record {
   later = λ place other winner row is stands p less. absurd (none-some row stands);
 }
 
-days_on : DayAfterDay → KnownLaw → FirstLaw → (past : ℕ) (days : List Day) → AreApart days → (before : List Row) (others : List Day)
-    → ((day : Day) → IsIn day others → IsIn day days) → AreOfDays past days before → AnsweredByFirst before → AreDaysAfter past before others
+days_on : DayAfterDay → KnownLaw → FirstLaw → (window : ℕ) (days : List Day) → AreApart days → (before : List Row) (others : List Day)
+    → ((day : Day) → IsIn day others → IsIn day days) → AreOfDays window days before → AnsweredByFirst before → AreDaysAfter window before others
     → AnsweredByFirst (before ++ days_rows others)
-days_on law known early past days one before [] inside of by are = subst AnsweredByFirst (sym (append-nil before)) by
-days_on law known early past days one before (day ∷ others) inside of by (is, are) =
-    let owed = all_owed known early past day is.settled in
-    let today = are_of_day past days day is.settled (inside day (inl refl)) owed in
-    let both = are_both past days before (day_rows day) of today in
+days_on law known early window days one before [] inside of by are = subst AnsweredByFirst (sym (append-nil before)) by
+days_on law known early window days one before (day ∷ others) inside of by (is, are) =
+    let owed = all_owed known early window day is.settled in
+    let today = are_of_day window days day is.settled (inside day (inl refl)) owed in
+    let both = are_both window days before (day_rows day) of today in
     let now : AnsweredByFirst (before ++ day_rows day) = law day.moment day.held before (day_rows day) by is.kept is.settled.after
-    (fresh_from day owed is.settled.from) (have_one past days one (before ++ day_rows day) both) in
+    (fresh_from day owed is.settled.from) (have_one window days one (before ++ day_rows day) both) in
     subst AnsweredByFirst (append_assoc before (day_rows day) (days_rows others))
-    (days_on law known early past days one (before ++ day_rows day) others (λ other i. inside other (inr i)) both now are)
+    (days_on law known early window days one (before ++ day_rows day) others (λ other i. inside other (inr i)) both now are)
 
 pub days_are_one : DayAfterDay → KnownLaw → FirstLaw → DaysAreOne
-days_are_one law known early past days are one =
-    days_on law known early past days one [] days (λ day i. i) (λ place row stands. absurd (none-some row stands)) none_answered are
+days_are_one law known early window days are one =
+    days_on law known early window days one [] days (λ day i. i) (λ place row stands. absurd (none-some row stands)) none_answered are
 
 pub days_are_legal : FirstIsLegal → DayAfterDay → KnownLaw → FirstLaw → DaysAreLegal
-days_are_legal legal law known early past days rounds are one cut =
-    legal rounds (subst AnsweredByFirst (sym cut) (days_are_one law known early past days are one))
+days_are_legal legal law known early window days rounds are one cut =
+    legal rounds (subst AnsweredByFirst (sym cut) (days_are_one law known early window days are one))

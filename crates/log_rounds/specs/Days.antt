@@ -36,24 +36,24 @@ abbrev pub days_rows : List Day → List Row
 days_rows [] = []
 days_rows (day ∷ others) = day_rows day ++ days_rows others
 
--- A day by this `past`: none of its calls comes before its moment, and each outcome is what the rules say of its call by itself. A call that passes with a
+-- A day by this window: none of its calls comes before its moment, and each outcome is what the rules say of its call by itself. A call that passes with a
 -- ticket that is kept is a replay of the earlier call; of those that pass with any other ticket the first is valid, and each later one is a replay of it.
-pub record IsSettledDay (past : ℕ) (day : Day) : Type 0 where
-  pub window : day.settings.past ≡ past
+pub record IsSettledDay (window : ℕ) (day : Day) : Type 0 where
+  pub window : day.settings.past ≡ window
   pub from : (call : Entry) → IsIn call day.calls → day.moment ≤ call.moment
   pub each : EachPair (IsByItself day.world day.settings) day.calls day.outcomes
   pub after : AnsweredAfter day.held (day_rows day)
 
 -- And it goes on from days with these calls: for a ticket the first call that passed with it is kept, unless the last second of that is below the day's
 -- moment.
-pub record IsDayAfter (past : ℕ) (before : List Row) (day : Day) : Type 0 where
-  pub settled : IsSettledDay past day
+pub record IsDayAfter (window : ℕ) (before : List Row) (day : Day) : Type 0 where
+  pub settled : IsSettledDay window day
   pub kept : IsKeptOf day.moment before day.held
 
 -- each goes on from those before it
 abbrev pub AreDaysAfter : ℕ → List Row → List Day → Type 0
-AreDaysAfter past before [] = ⊤
-AreDaysAfter past before (day ∷ others) = IsDayAfter past before day × AreDaysAfter past (before ++ day_rows day) others
+AreDaysAfter window before [] = ⊤
+AreDaysAfter window before (day ∷ others) = IsDayAfter window before day × AreDaysAfter window (before ++ day_rows day) others
 
 -- no two different texts that were signed as last PASSporTs of the calls of all days have one digest
 abbrev pub AreApart : List Day → Type 0
@@ -82,10 +82,10 @@ pub record HandsOn (day : Day) (moment : ℕ) (next : Held) : Type 0 where
 
 -- each day goes on over what the day before it handed on, and their moments don't fall
 abbrev pub AreHandedOn : ℕ → List Day → Type 0
-AreHandedOn past [] = ⊤
-AreHandedOn past (day ∷ []) = IsSettledDay past day
-AreHandedOn past (day ∷ next ∷ others) =
-    IsSettledDay past day × (day.moment ≤ next.moment) × HandsOn day next.moment next.held × AreHandedOn past (next ∷ others)
+AreHandedOn window [] = ⊤
+AreHandedOn window (day ∷ []) = IsSettledDay window day
+AreHandedOn window (day ∷ next ∷ others) =
+    IsSettledDay window day × (day.moment ≤ next.moment) × HandsOn day next.moment next.held × AreHandedOn window (next ∷ others)
 
 -- nothing is kept before the first
 abbrev pub FromNothing : List Day → Type 0
@@ -97,14 +97,14 @@ FromNothing (day ∷ others) = Same nothing day.held
 -- Such days, from the first on, are one log that is answered by the first call of each ticket, whichever day that came on, if all logs together are apart.
 -- So what a day drops lets no PASSporT pass twice.
 abbrev pub DaysAreOne : Type 0
-DaysAreOne = (past : ℕ) (days : List Day) → AreDaysAfter past [] days → AreApart days → AnsweredByFirst (days_rows days)
+DaysAreOne = (window : ℕ) (days : List Day) → AreDaysAfter window [] days → AreApart days → AnsweredByFirst (days_rows days)
 
 -- And so the answers are legal, whatever the cut of the calls of all days into rounds, and the first call that passes with a ticket is the valid one.
 abbrev pub DaysAreLegal : Type 0
-DaysAreLegal = (past : ℕ) (days : List Day) (rounds : List RowRound) → AreDaysAfter past [] days → AreApart days → rows_in rounds ≡ days_rows days
+DaysAreLegal = (window : ℕ) (days : List Day) (rounds : List RowRound) → AreDaysAfter window [] days → AreApart days → rows_in rounds ≡ days_rows days
     → RowsLegal rounds × FirstOfLogWins rounds
 
 -- Each day keeps what it is to keep of all days before it, if each goes on over what the one before it handed on, from nothing on. So a day needs to know nothing
 -- of earlier days but that.
 abbrev pub DaysHandOn : Type 0
-DaysHandOn = (past : ℕ) (days : List Day) → FromNothing days → AreHandedOn past days → AreApart days → AreDaysAfter past [] days
+DaysHandOn = (window : ℕ) (days : List Day) → FromNothing days → AreHandedOn window days → AreApart days → AreDaysAfter window [] days

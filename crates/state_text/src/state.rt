@@ -50,23 +50,23 @@ impl Model for State {
 }
 
 impl State {
-    /// Reads a state file. An empty one means a state with the window `past`, of at most a day in seconds, in which no call came and nothing is
+    /// Reads a state file. An empty one means a state with this window, of at most a day in seconds, in which no call came and nothing is
     /// kept.
     ///
     /// `Line` names the first line that can't be read, or the line after the last if lines are missing.
     #[tactic(auto, using(crate::proofs::AnswerLaws::found_by, crate::proofs::AnswerLaws::only_by, crate::proofs::AnswerLaws::refused_by, crate::proofs::AnswerLaws::first_by))]
-    pub fn read(alloc: Global, text: &[u8], past: u64) -> Result<State, StateFault>
+    pub fn read(alloc: Global, text: &[u8], window: u64) -> Result<State, StateFault>
         requires size { length text.now < 2 ^ 32 - 1 }
-        requires window { past ≤ 86400 }
+        requires window { window ≤ 86400 }
         // the state that the file holds, and a file that holds one is read
-        ensures found { IfOk result (λ state. StateFile past text.now state) }
-        ensures only { (state : StateView) → StateFile past text.now state → Gives fault_line (λ state. state) result (Ok state) }
+        ensures found { IfOk result (λ state. StateFile window text.now state) }
+        ensures only { (state : StateView) → StateFile window text.now state → Gives fault_line (λ state. state) result (Ok state) }
         // the bad line, and a file that has one is refused
-        ensures refused { IfErr result (λ fault. IfLine fault (IsBadLine past text.now)) }
-        ensures first { (line : ℕ) → IsBadLine past text.now line → Gives fault_line (λ state. state) result (Err line) }
-        ensures exact { Gives fault_line (λ state. state) result (read_state past text.now) }
+        ensures refused { IfErr result (λ fault. IfLine fault (IsBadLine window text.now)) }
+        ensures first { (line : ℕ) → IsBadLine window text.now line → Gives fault_line (λ state. state) result (Err line) }
+        ensures exact { Gives fault_line (λ state. state) result (read_state window text.now) }
     {
-        State::read_exactly(alloc, text, past)
+        State::read_exactly(alloc, text, window)
     }
 
     /// What is handed on; None exactly if a rule of a state is broken. The window is at most a day, the moment at most the last second of the year
@@ -126,7 +126,7 @@ impl State {
     pub fn write(&self) -> Result<Vec<u8>, AllocError>
         ensures exact { IfOk result (λ text. text.items ≡ state_text self.now) }
         ensures text { self.now.call ≤ 4000000000 → IfOk result (λ text. StateText text.items self.now) }
-        ensures read_again { self.now.call ≤ 4000000000 → IfOk result (λ text. length text.items < 2 ^ 32 - 1 → (past : ℕ) → read_state past text.items ≡ Ok self.now) }
+        ensures read_again { self.now.call ≤ 4000000000 → IfOk result (λ text. length text.items < 2 ^ 32 - 1 → (window : ℕ) → read_state window text.items ≡ Ok self.now) }
     {
         let _ = &self.window;
         self.write_exactly()
@@ -147,14 +147,14 @@ impl State {
 
     /// The same, of one exit.
     #[tactic(auto, unfolding(crate::specs::Reading::read_state))]
-    fn read_exactly(alloc: Global, text: &[u8], past: u64) -> Result<State, StateFault>
+    fn read_exactly(alloc: Global, text: &[u8], window: u64) -> Result<State, StateFault>
         requires size { length text.now < 2 ^ 32 - 1 }
-        requires window { past ≤ 86400 }
-        ensures { Gives fault_line (λ state. state) result (read_state past text.now) }
+        requires window { window ≤ 86400 }
+        ensures { Gives fault_line (λ state. state) result (read_state window text.now) }
     {
         if text.is_empty() {
             return Ok(State {
-                window: past,
+                window,
                 call: 0,
                 moment: 0,
                 kept: Vec::new(alloc),

@@ -27,7 +27,7 @@ fits inputs (Anchors name) content h = read_and inputs.anchors _ _ (λ anchors a
 fits inputs (Table name) content h = read_and inputs.table _ _ (λ table t. ap refusal_of t.read) h
 fits inputs (Answers name) content h = read_and inputs.answers _ _ (λ answers a. ap refusal_of a.read) h
 fits inputs (Leaf name) content h = read_and inputs.leaf _ _ (λ leaf l. is_fit content leaf l) h
-fits inputs (State file) content h = read_and inputs.state _ _ (λ state s. passes_so file.past content state s) h
+fits inputs (State file) content h = read_and inputs.state _ _ (λ state s. passes_so file.window content state s) h
 
 pub passes : (files : Option Files) (inputs : Inputs) (file : InputFile) → HoldsFile files inputs file → Passes files (file_of file)
 passes files inputs file read = record { content = read.content; short = read.short; told = read.told; holds = fits inputs file read.content read.holds }

@@ -20,7 +20,7 @@ file_of (Anchors name) = anchor_file name.now
 file_of (Table name) = code_table name.now
 file_of (Answers name) = answers_file name.now
 file_of (Leaf name) = leaf_file name.now
-file_of (State file) = state_file file.past file.name.now
+file_of (State file) = state_file file.window file.name.now
 
 abbrev pub files_named : List InputFile → List NamedFile
 files_named named = map file_of named
@@ -49,7 +49,7 @@ HoldsContent inputs (Anchors name) content = IsSomeAnd inputs.anchors (AnchorsOf
 HoldsContent inputs (Table name) content = IsSomeAnd inputs.table (TableOf content)
 HoldsContent inputs (Answers name) content = IsSomeAnd inputs.answers (AnswersOf content)
 HoldsContent inputs (Leaf name) content = IsSomeAnd inputs.leaf (LeafOf content)
-HoldsContent inputs (State file) content = IsSomeAnd inputs.state (StateOf file.past content)
+HoldsContent inputs (State file) content = IsSomeAnd inputs.state (StateOf file.window content)
 
 -- what was read from a file is what it says
 abbrev pub HoldsFile : Option Files → Inputs → InputFile → Type 0

@@ -20,19 +20,19 @@ window_line content = after_head 1 (ended_lines content)
 
 -- a content that holds no state is refused at its first bad line, and one with another window at the line of it
 abbrev pub state_refusal : ℕ → ℕ → Result StateView ℕ → Option FileFault
-state_refusal past line (Ok state) = if state.window == past then None else Some (Refused line)
-state_refusal past line (Err bad) = Some (Refused bad)
+state_refusal window line (Ok state) = if state.window == window then None else Some (Refused line)
+state_refusal window line (Err bad) = Some (Refused bad)
 
 -- the whole content is read first
 abbrev pub refusal_by : ℕ → List ℕ → Option FileFault
-refusal_by past content = state_refusal past (window_line content) (read_state past content)
+refusal_by window content = state_refusal window (window_line content) (read_state window content)
 
 -- a state file with this window
 abbrev pub state_file : ℕ → List ℕ → NamedFile
-state_file past name = record { name = name; limit = 536870912; refused = refusal_by past }
+state_file window name = record { name = name; limit = 536870912; refused = refusal_by window }
 
 -- the content is a state file of this state, and is read as it; its window is this one
-pub record StateOf (past : ℕ) (content : List ℕ) (state : StateView) : Type 0 where
-  pub file : StateFile past content state
-  pub read : read_state past content ≡ Ok state
-  pub window : state.window ≡ past
+pub record StateOf (window : ℕ) (content : List ℕ) (state : StateView) : Type 0 where
+  pub file : StateFile window content state
+  pub read : read_state window content ≡ Ok state
+  pub window : state.window ≡ window

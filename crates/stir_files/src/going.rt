@@ -55,7 +55,7 @@ pub fn read_going<'a, S: Shelf>(
         InputFile::Answers(judging.answers),
         InputFile::State(StateFile {
             name: state,
-            past: judging.settings.past,
+            window: judging.settings.past,
         }),
     ];
     let Inputs {

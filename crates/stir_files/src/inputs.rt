@@ -129,7 +129,7 @@ fn take_in(
         InputFile::Table(_) => inputs.table = Some(read_table(alloc, content)?),
         InputFile::Answers(_) => inputs.answers = Some(read_answers(alloc, content)?),
         InputFile::Leaf(_) => inputs.leaf = Some(read_leaf(alloc, content)?),
-        InputFile::State(file) => inputs.state = Some(read_state(alloc, content, file.past)?),
+        InputFile::State(file) => inputs.state = Some(read_state(alloc, content, file.window)?),
     }
     Ok(())
 }

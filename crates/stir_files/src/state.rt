@@ -13,15 +13,15 @@ pub(crate) const MOST_BYTES: usize = 536_870_912;
 /// The state that the content holds, if its window is this one. The place of a fault is the first bad line, or the line of another window: the whole
 /// content is read first.
 #[tactic(auto, using(crate::proofs::StateSteps::bad_line, crate::proofs::StateSteps::other_window, crate::proofs::StateSteps::is_state))]
-pub(crate) fn read_state(alloc: Global, content: &[u8], past: u64) -> Result<State, FileFault>
+pub(crate) fn read_state(alloc: Global, content: &[u8], window: u64) -> Result<State, FileFault>
     requires size { length content.now ≤ MOST_BYTES }
-    requires window { past ≤ 86400 }
-    ensures read { IfOk result (StateOf past content.now) }
-    ensures refused { IfErr result (IsRefusal (refusal_by past content.now)) }
+    requires window { window ≤ 86400 }
+    ensures read { IfOk result (StateOf window content.now) }
+    ensures refused { IfErr result (IsRefusal (refusal_by window content.now)) }
 {
-    match State::read(alloc, content, past) {
+    match State::read(alloc, content, window) {
         Ok(state) => {
-            if state.window() == past {
+            if state.window() == window {
                 Ok(state)
             } else {
                 Err(FileFault::Refused {

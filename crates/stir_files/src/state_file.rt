@@ -7,6 +7,6 @@ pub struct StateFile<'a> {
     /// Its name, as it was given.
     pub name: &'a str,
     /// How many seconds old a PASSporT may be: at most a day.
-    pub past: u64,
-    ghost within: { past ≤ 86400 },
+    pub window: u64,
+    ghost within: { window ≤ 86400 },
 }

@@ -19,15 +19,15 @@ pub fn answer(alloc: Global, call: &str, words: &[&[u8]]) -> Result<String, Unre
 
 /// The state that a file holds, or why it holds none; the first word is the window that an empty file stands for.
 fn read(alloc: Global, words: &[&[u8]]) -> Result<String, Unread> {
-    let [past, file @ ..] = words else {
+    let [window, file @ ..] = words else {
         return Err(Unread::Call);
     };
-    let past: u64 = number(past)?;
+    let window: u64 = number(window)?;
     let file = joined(alloc, file)?;
-    if past > 86_400 || file.len() >= 4_000_000_000 {
+    if window > 86_400 || file.len() >= 4_000_000_000 {
         return Err(Unread::Value);
     }
-    match State::read(alloc, file.as_slice(), past) {
+    match State::read(alloc, file.as_slice(), window) {
         Ok(state) => put_state(Answer::new(alloc), &state).line(),
         Err(StateFault::Memory) => Err(Unread::Memory),
         Err(fault) => word(alloc, fault),
