@@ -5,4 +5,5 @@ pub mod HeldLaws
 pub mod HexLaws
 pub mod HexWords
 pub mod RowLineLaws
+pub mod StretchLaws
 pub mod Transfers

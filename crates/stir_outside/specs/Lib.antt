@@ -11,4 +11,5 @@ pub mod Provided
 pub mod Shelf
 pub mod Status
 pub mod Stays
+pub mod Stretch
 pub mod Told

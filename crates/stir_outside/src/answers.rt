@@ -4,5 +4,7 @@ pub mod held;
 mod hex_word;
 pub mod key_name;
 pub mod provider;
+pub mod reader;
 pub mod rows;
 pub mod steady;
+pub mod stretch;

@@ -11,8 +11,9 @@
 //! | [`Gate`] | a point that a worker passes before it judges a call | - | [`NoGate`] |
 //!
 //! Each object counts what went wrong with it. Memory forms tell what they hold, so that a clause can name the bytes; files and streams tell
-//! nothing. [`Answers`] reads an answers file (this project's own format), and its providers answer as the file says. [`read_up_to`] and
-//! [`write_whole`] are the loops over a source and a sink, and [`end_with`] writes the last line of a run and gives its [`Status`].
+//! nothing. [`Answers`] reads an answers file (this project's own format), and its providers answer as the file says. An [`AnswersReader`] says in how
+//! many threads: [`OneThread`] or [`SeveralThreads`]. [`read_up_to`] and [`write_whole`] are the loops over a source and a sink, and [`end_with`] writes
+//! the last line of a run and gives its [`Status`].
 //!
 //! ```rust
 //! let mut input = SourceMem::new(bytes, failing);           // its reads with the numbers of `failing` fail
@@ -54,6 +55,7 @@ pub use adapters::stdin::StdinSource;
 pub use adapters::stdout::StdoutSink;
 pub use answers::held::{AnswerFault, Answers};
 pub use answers::provider::AnswerProvider;
+pub use answers::reader::{AnswersReader, OneThread, SeveralThreads};
 pub use answers::steady::SteadyProvider;
 pub use ending::{end_with, memory_line};
 pub use gate::{Gate, NoGate};

@@ -2,16 +2,19 @@
 ghost use Rattle.std.specs.Prelude.{◌≡◌, ◌-◌, ◌^◌, ◌<◌, ◌↔◌, ℕ, List, Ok, Err, IfOk, IfErr, Some, length};
 ghost use Rattle.stir_outside.specs.AnswersLine.{IsRowLine};
 ghost use Rattle.stir_outside.specs.AnswersText.{AnswersText, FirstBad, answer_rows, row_of};
+ghost use Rattle.stir_outside.specs.Stretch.{AddsSaid, AddsStretch, AreRows};
 ghost use Rattle.stir_outside.specs.declared.answers.rows.Row.{Row};
 
 use crate::answers::key_name::KeyName;
 use crate::answers::provider::AnswerProvider;
 use crate::answers::rows::{Order, Row, Triple, row_of};
 use crate::answers::steady::SteadyProvider;
+use crate::answers::stretch::{next_stretch, read_rows};
 use std::alloc::{AllocError, Global};
 use std::collections::{HashMap, HashSet};
 use std::marker::Model;
-use text_grammar::{Lines, words_law};
+use std::thread::Threads;
+use text_grammar::{Line, Lines, words_law};
 
 /// How many bytes a `confirm` line has without its end: its four words, three of them in hex digits, with a space between each two.
 const CONFIRM_LINE: usize = 332;
@@ -94,6 +97,70 @@ impl Answers {
         Ok(answers)
     }
 
+    /// Reads an answers file in at most this many threads, as [`Answers::read`] does in one; 0 is read as 1.
+    pub fn read_by<R: Threads + Sync>(
+        rt: &R,
+        alloc: Global,
+        threads: usize,
+        text: &[u8],
+    ) -> Result<Answers, AnswerFault>
+        requires { length text.now < 2 ^ 32 - 1 }
+        ensures answers { IfOk result (AnswersOf text.now) }
+        ensures fault { IfErr result (FaultOf text.now) }
+    {
+        if threads <= 1 {
+            return Answers::read_lines(alloc, text);
+        }
+        Answers::read_stretches(rt, alloc, threads, text)
+    }
+
+    /// Reads the lines stretch by stretch, up to the first bad one.
+    #[tactic(auto, using(crate::proofs::StretchLaws::stretch_added, crate::proofs::StretchLaws::stretch_bad, crate::proofs::StretchLaws::no_more, crate::proofs::StretchLaws::fewer_left, crate::proofs::HeldLaws::none_read))]
+    fn read_stretches<R: Threads + Sync>(
+        rt: &R,
+        alloc: Global,
+        threads: usize,
+        text: &[u8],
+    ) -> Result<Answers, AnswerFault>
+        requires short { length text.now < 2 ^ 32 - 1 }
+        requires some { 0 < threads }
+        ensures answers { IfOk result (AnswersOf text.now) }
+        ensures fault { IfErr result (FaultOf text.now) }
+    {
+        let mut answers = Answers::none(alloc, text)?;
+        let mut lines = Lines::new(text);
+        let mut stretch = Vec::new(alloc);
+        'stretches: loop {
+            next_stretch(&mut lines, &mut stretch)?;
+            let taken = stretch.as_slice();
+            if taken.is_empty() {
+                return Ok(answers);
+            }
+            let rows = read_rows(rt, alloc, threads, taken)?;
+            if let Some(line) = answers.add_stretch(taken, rows.as_slice())? {
+                return Err(AnswerFault::Line { line });
+            }
+        }
+    }
+
+    /// Adds what the lines of a stretch say, up to the first bad one: this is its number.
+    #[tactic(auto, using(crate::proofs::StretchLaws::leads_on, crate::proofs::StretchLaws::ends_at, crate::proofs::StretchLaws::all_added))]
+    fn add_stretch(
+        &mut self,
+        stretch: &[Line<'_>],
+        rows: &[Option<Row>],
+    ) -> Result<Option<u32>, AllocError>
+        requires { AreRows stretch.now rows.now }
+        ensures { IfOk result (AddsStretch self.old self.new stretch.now) }
+    {
+        'lines: for at in 0..stretch.len() {
+            if !self.add_row(rows[at])? {
+                return Ok(Some(stretch[at].number));
+            }
+        }
+        Ok(None)
+    }
+
     /// Answers that say nothing, with room for the triples of a text, so that it is taken once.
     fn none(alloc: Global, text: &[u8]) -> Result<Answers, AllocError>
         ensures { IfOk result (HoldsRows []) }
@@ -109,7 +176,14 @@ impl Answers {
     fn add_line(&mut self, line: &[u8]) -> Result<bool, AllocError>
         ensures { IfOk result (AddsLine self.old self.new line.now) }
     {
-        match row_of(line) {
+        self.add_row(row_of(line))
+    }
+
+    /// Adds the row that a line says; false if it says none, or signs what is signed already.
+    fn add_row(&mut self, row: Option<Row>) -> Result<bool, AllocError>
+        ensures { IfOk result (AddsSaid self.old self.new row) }
+    {
+        match row {
             Some(row) => self.add(row),
             None => Ok(false),
         }
