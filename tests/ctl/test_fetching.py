@@ -3,9 +3,7 @@
 import fcntl
 import json
 import os
-import pty
 import re
-import select
 import subprocess
 import sys
 import time
@@ -14,6 +12,7 @@ import fetching
 import issued
 import pytest
 from fetching import SECONDS, TESTS, TRUSTED
+from terminals import on_terminal
 
 sys.path.append(str(TESTS / 'service'))
 
@@ -219,21 +218,9 @@ def test_words_and_lines_that_are_not_taken_are_told(fetch):
 
 
 def test_a_terminal_sees_how_far_it_is_and_whole_lines(fetch):
-    ours, theirs = pty.openpty()
-    running = subprocess.Popen(fetch.words(), stdin=subprocess.PIPE, stdout=subprocess.DEVNULL, stderr=theirs, cwd=fetch.room,
-                               env=os.environ | {'TERM': 'xterm'})
-    os.close(theirs)
-    running.stdin.write(b'u\n')
-    running.stdin.close()
-    said = b''
-    while select.select([ours], [], [], 60)[0]:
-        try:
-            said += os.read(ours, 65536)
-        except OSError:
-            break
-    assert running.wait() == 1
-    os.close(ours)
-    lines = re.sub(r'\x1b\[[0-9;?]*[A-Za-z]', '\r', said.decode()).replace('\n', '\r').split('\r')
+    status, said = on_terminal(fetch.words(), b'u\n', fetch.room, os.environ | {'TERM': 'xterm'})
+    assert status == 1
+    lines = re.sub(r'\x1b\[[0-9;?]*[A-Za-z]', '\r', said).replace('\n', '\r').split('\r')
     assert f'stirctl: u: {NO_URI}; there is no file of it' in lines, said
     assert any(re.match(r'\[.{30}\] \d+%', line) for line in lines), said
 

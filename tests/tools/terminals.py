@@ -12,10 +12,10 @@ BAR = r'\rstir-%s: \[[# ]{30}\] \d+%%\x1b\[K'
 GONE = '\r\x1b[K'
 
 
-def on_terminal(tool, given, folder):
-    """What a tool writes to a terminal that is its standard error."""
+def on_terminal(words, given, folder, env=None):
+    """The status of a program, and what it writes to a terminal that is its standard error."""
     ours, theirs = pty.openpty()
-    running = subprocess.Popen([sys.executable, *tool], stdin=subprocess.PIPE, stdout=subprocess.DEVNULL, stderr=theirs, cwd=folder)
+    running = subprocess.Popen(words, stdin=subprocess.PIPE, stdout=subprocess.DEVNULL, stderr=theirs, cwd=folder, env=env)
     os.close(theirs)
     running.stdin.write(given)
     running.stdin.close()
@@ -25,9 +25,9 @@ def on_terminal(tool, given, folder):
             said += os.read(ours, 65536)
         except OSError:
             break
-    running.wait()
+    status = running.wait()
     os.close(ours)
-    return said.decode().replace('\r\n', '\n')
+    return status, said.decode()
 
 
 def results(tools, files):
@@ -37,6 +37,6 @@ def results(tools, files):
             with open(os.path.join(folder, name), 'wb') as file:
                 file.write(files[name])
         for words, given, said in ((['stir-log', 'run-udp.pcap'], b'', 'stir-log: calls 5\n'), (['stir-log', '--x5u', 'run.log'], b'', '')):
-            got = on_terminal([str(tools / words[0]), *words[1:]], given, folder)
+            got = on_terminal([sys.executable, str(tools / words[0]), *words[1:]], given, folder)[1].replace('\r\n', '\n')
             bars = BAR % words[0].removeprefix('stir-')
             yield f'{" ".join(words)} on a terminal', (True, said), (bool(re.match(bars, got)) and GONE in got, re.sub(bars, '', got).replace(GONE, ''))
