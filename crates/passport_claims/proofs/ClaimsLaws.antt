@@ -1,36 +1,28 @@
 -- What is read of header and payload is what the relation says, and nothing else.
-use Rattle.std.proofs.Common.{◌≡◌, ℕ, Bool, true, false, not, List, length, cond, nat_le, Option, Some, None, Result, Ok, Err, refl, sym, ap, ◌∙◌, subst, codes, arith, inl, inr, le-leb}
+use Rattle.std.proofs.Common.{◌≡◌, ℕ, Bool, true, false, not, List, length, cond, nat_le, Option, Some, None, Result, Ok, Err, refl, sym, ap, ◌∙◌, subst, codes, arith, le-leb}
 use Rattle.std.specs.Prelude.{option_and_then, IfOk}
 use Rattle.std.proofs.lemmas.Bool.Decides.{nat_tests}
-use Rattle.std.proofs.lemmas.Option.{cond_some, option_and_then_some}
+use Rattle.std.proofs.lemmas.Option.{option_and_then_some}
 use Rattle.serde_json.specs.Data.{Num, unsigned, negative, float, Data, null, boolean, number, string, array, object}
 use Rattle.serde_json.specs.Find.{as_number, as_u64, get}
 use Rattle.passport_json.specs.IssuedAt.{IsIssuedAt, issued_at, not_past}
 use Rattle.text_grammar.specs.Moment.{last_second}
-use Rattle.passport_claims.specs.Claims.{Claims, HasKind, IsKnown}
-use Rattle.passport_claims.specs.Kind.{attest_of, attest_text, ppt_of}
-use Rattle.passport_claims.specs.Members.{HasText, called_in, number_in, text_in}
-use Rattle.passport_claims.specs.Origid.{IsOrigid, is_origid}
-use Rattle.passport_claims.specs.Passport.{ClaimsView, IsCalledCount, IsKind, IsPassport, most_called}
-use Rattle.passport_claims.specs.Read.{checked_header, checked_kind, has_text, has_text_where, origid_of, read_claims, shaken_in, div_in}
+use Rattle.passport_claims.specs.Claims.{Claims}
+use Rattle.passport_claims.specs.HasKind.{checked_kind}
+use Rattle.passport_claims.specs.Kind.{IsKnown}
+use Rattle.passport_claims.specs.Members.{called_in, number_in}
+use Rattle.passport_claims.specs.Passport.{ClaimsView, IsCalledCount, IsPassport, most_called}
+use Rattle.passport_claims.specs.Read.{checked_header, has_text, has_text_where, read_claims}
 use Rattle.passport_claims.specs.Refused.{HasHeader, IsOfFieldType, IsSigned256}
 use Rattle.passport_claims.specs.Reading.{Gives, IsOkUnlessMemory, fault_seen, or_fault}
-use Rattle.lists.specs.Steps.{◌>>=◌}
 use Rattle.passport_claims.specs.declared.fault.ClaimFault.{ClaimFault}
 use Rattle.passport_claims.specs.declared.fault.ClaimFault.TheVariants as faults
-use Rattle.passport_claims.specs.declared.kind.Attest.{Attest}
 use Rattle.passport_claims.specs.declared.kind.Kind.{Kind}
-use Rattle.passport_claims.specs.declared.kind.Kind.TheVariants as kinds
-use Rattle.passport_claims.proofs.MemberLaws.{attest_again, attest_only, called_again, called_count, called_only, count_called, found_text, number_again, number_only, text_again, text_found, where_again, where_found}
-use Rattle.passport_claims.proofs.OrigidLaws.{origid_again, origid_tells}
+use Rattle.passport_claims.proofs.KindLaws.{kind_again, kind_meets, kind_only}
+use Rattle.passport_claims.proofs.MemberLaws.{called_again, called_count, called_only, count_called, number_again, number_only, text_again, text_found, where_again, where_found}
+use Rattle.passport_claims.proofs.RefusedSteps.{there}
 use Rattle.lists.proofs.GivenLaws.{only_given}
 use Rattle.lists.proofs.StepLaws.{came}
-
--- ---- steps
-
-pub there : {A : Type 0} (broken : ClaimFault) (found : Option A) (a : A) → or_fault broken found ≡ Ok a → found ≡ Some a
-there broken None a h = absurd cc
-there broken (Some x) a h = let e : x ≡ a = cc in ap (λ y. Some y) e
 
 -- ---- the header
 
@@ -68,57 +60,6 @@ header_only header ppt info kept h =
     } in
     let of_type : IsOfFieldType header ppt = record { before = signed; same_ppt = where_found (codes "ppt") ppt header k.third } in
     (record { before = of_type; same_x5u = text_found (codes "x5u") info header k.fourth }, k.is)
-
--- ---- what the type adds
-
-kind_again : (payload : Data) (kind : Kind) → HasKind payload kind → checked_kind (ppt_of kind) payload ≡ Ok kind
-kind_again payload kinds.Base h = refl
-kind_again payload (kinds.Shaken level origid) h = rw (h.0, attest_again level, h.1, origid_again origid h.2) refl
-kind_again payload (kinds.Div div) h = rw (number_again (codes "div") payload div h) refl
-
-pub attest_found : (payload : Data) (level : Attest) → option_and_then attest_of (text_in (codes "attest") payload) ≡ Some level → HasText (codes "attest") (attest_text level) payload
-attest_found payload level h =
-    option_and_then_some attest_of (text_in (codes "attest") payload) level h
-    (λ text et el. subst (λ t. HasText (codes "attest") t payload) (attest_only text level el) (found_text (get (codes "attest") payload) text et))
-
-pub origid_found : (payload : Data) (origid : List ℕ) → option_and_then origid_of (text_in (codes "origid") payload) ≡ Some origid → HasText (codes "origid") origid payload × IsOrigid origid
-origid_found payload origid h =
-    option_and_then_some origid_of (text_in (codes "origid") payload) origid h
-    (λ text et eo. let k = cond_some (is_origid text) text origid eo in
-    (subst (λ t. HasText (codes "origid") t payload) k.1 (found_text (get (codes "origid") payload) text et), subst IsOrigid k.1 (origid_tells text k.0)))
-
-record IsOfType (payload : Data) (ppt : Option (List ℕ)) (kind : Kind) : Type 0 where
-  has : HasKind payload kind
-  type_is : ppt_of kind ≡ ppt
-
-shaken_only : (payload : Data) (kind : Kind) → shaken_in payload ≡ Ok kind → IsOfType payload (Some (codes "shaken")) kind
-shaken_only payload kind h =
-    let first = came (or_fault faults.Attest (option_and_then attest_of (text_in (codes "attest") payload))) (λ level. or_fault faults.Origid (option_and_then origid_of (text_in (codes "origid") payload)) >>= (λ origid. Ok (kinds.Shaken level origid))) kind h in
-    let second = came (or_fault faults.Origid (option_and_then origid_of (text_in (codes "origid") payload))) (λ origid. Ok (kinds.Shaken first.0 origid)) kind first.2 in
-    let is : kinds.Shaken first.0 second.0 ≡ kind = let e = second.2 in cc in
-    let level = attest_found payload first.0 (there faults.Attest (option_and_then attest_of (text_in (codes "attest") payload)) first.0 first.1) in
-    let origid = origid_found payload second.0 (there faults.Origid (option_and_then origid_of (text_in (codes "origid") payload)) second.0 second.1) in
-    let here : IsOfType payload (Some (codes "shaken")) (kinds.Shaken first.0 second.0) = record { has = (level, origid.0, origid.1); type_is = refl } in
-    subst (IsOfType payload (Some (codes "shaken"))) is here
-
-div_only : (payload : Data) (kind : Kind) → div_in payload ≡ Ok kind → IsOfType payload (Some (codes "div")) kind
-div_only payload kind h =
-    let first = came (or_fault faults.Div (number_in (codes "div") payload)) (λ div. Ok (kinds.Div div)) kind h in
-    let is : kinds.Div first.0 ≡ kind = let e = first.2 in cc in
-    let div = number_only (codes "div") payload first.0 (there faults.Div (number_in (codes "div") payload) first.0 first.1) in
-    let here : IsOfType payload (Some (codes "div")) (kinds.Div first.0) = record { has = div; type_is = refl } in
-    subst (IsOfType payload (Some (codes "div"))) is here
-
-base_only : (payload : Data) (kind : Kind) → checked_kind None payload ≡ Ok kind → IsOfType payload None kind
-base_only payload kind h =
-    let is : kinds.Base ≡ kind = cc in
-    let here : IsOfType payload None kinds.Base = record { has = tt; type_is = refl } in
-    subst (IsOfType payload None) is here
-
-kind_only : (payload : Data) (ppt : Option (List ℕ)) (kind : Kind) → IsKnown ppt → checked_kind ppt payload ≡ Ok kind → IsOfType payload ppt kind
-kind_only payload ppt kind (inl e) h = rw e (base_only payload kind (subst (λ p. checked_kind p payload ≡ Ok kind) e h))
-kind_only payload ppt kind (inr (inl e)) h = rw e (shaken_only payload kind (subst (λ p. checked_kind p payload ≡ Ok kind) e h))
-kind_only payload ppt kind (inr (inr e)) h = rw e (div_only payload kind (subst (λ p. checked_kind p payload ≡ Ok kind) e h))
 
 -- ---- all claims
 
@@ -225,11 +166,6 @@ claims_unique header payload ppt info one other a b =
     cc
 
 -- ---- what is read meets what each PASSporT meets
-
-kind_meets : (payload : Data) (kind : Kind) → HasKind payload kind → IsKind kind
-kind_meets payload kinds.Base h = tt
-kind_meets payload (kinds.Shaken level origid) h = h.2
-kind_meets payload (kinds.Div div) h = tt
 
 pub read_meets : (payload : Data) (ppt : Option (List ℕ)) (kind : Kind) (x5u : List ℕ) (iat : ℕ) (orig : List ℕ) (dest : List (List ℕ)) → IsKnown ppt
     → IsIssuedAt payload iat → or_fault faults.Dest (called_in (most_called ppt) payload) ≡ Ok dest → checked_kind ppt payload ≡ Ok kind

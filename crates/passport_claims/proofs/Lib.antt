@@ -1,6 +1,9 @@
 mod ClaimsLaws
 pub mod FirstLaws
+pub mod KindLaws
+mod KindTexts
 mod MemberLaws
+mod MemberSizes
 pub mod OrigidLaws
 mod PassportLaws
 mod RefusedLaws

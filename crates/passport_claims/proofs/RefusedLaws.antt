@@ -1,28 +1,26 @@
 -- Header and payload are refused for the first claim that is broken, and the first that is broken is what they are refused for.
 use Rattle.std.proofs.Common.{◌≡◌, inl, inr, ℕ, Bool, true, false, not, cond, List, length, Option, Some, None, Result, Ok, Err, codes, refl, sym, ap, subst, ◌∙◌}
-use Rattle.std.specs.Prelude.{IfSome, option_and_then}
+use Rattle.std.specs.Prelude.{IfSome}
 use Rattle.lists.specs.Given.{IsFaultOf}
 use Rattle.lists.specs.Steps.{◌>>=◌}
 use Rattle.serde_json.specs.Data.{Data}
 use Rattle.serde_json.specs.Find.{get}
 use Rattle.passport_json.specs.IssuedAt.{IsIssuedAt, issued_at}
 use Rattle.passport_json.specs.Passport.{text_where}
-use Rattle.passport_claims.specs.Claims.{IsKnown}
-use Rattle.passport_claims.specs.Kind.{attest_of, attest_text}
-use Rattle.passport_claims.specs.Members.{HasNumber, HasNumbers, HasText, called_in, number_in, text_in}
-use Rattle.passport_claims.specs.Origid.{IsOrigid}
+use Rattle.passport_claims.specs.HasKind.{checked_kind}
+use Rattle.passport_claims.specs.Kind.{IsKnown}
+use Rattle.passport_claims.specs.Members.{HasNumber, HasNumbers, HasText, called_in, number_in}
 use Rattle.passport_claims.specs.Passport.{ClaimsView, IsCalledCount, most_called}
-use Rattle.passport_claims.specs.Read.{checked_header, checked_kind, div_in, has_text, has_text_where, origid_of, read_claims, shaken_in}
+use Rattle.passport_claims.specs.Read.{checked_header, has_text, has_text_where, read_claims}
 use Rattle.passport_claims.specs.Reading.{Gives, IfRefused, fault_seen, or_fault}
-use Rattle.passport_claims.specs.Refused.{HasCalled, HasCalling, HasHeader, HasTime, IsOfFieldType, IsSigned256, Refused, wrong_alg, wrong_attest, wrong_dest, wrong_div, wrong_iat, wrong_orig, wrong_origid, wrong_ppt, wrong_typ, wrong_x5u}
+use Rattle.passport_claims.specs.Refused.{HasCalled, HasCalling, HasHeader, HasTime, IsOfFieldType, IsSigned256, Refused, wrong_alg, wrong_dest, wrong_iat, wrong_orig, wrong_ppt, wrong_typ, wrong_type, wrong_x5u}
 use Rattle.passport_claims.specs.declared.fault.ClaimFault.{ClaimFault}
 use Rattle.passport_claims.specs.declared.fault.ClaimFault.TheVariants as faults
-use Rattle.passport_claims.specs.declared.kind.Attest.{Attest}
 use Rattle.passport_claims.specs.declared.kind.Kind.{Kind}
-use Rattle.passport_claims.proofs.ClaimsLaws.{attest_found, header_again, header_only, issued_again, issued_only, origid_found, there}
-use Rattle.passport_claims.proofs.MemberLaws.{attest_again, called_again, called_count, called_only, count_called, number_again, number_only, text_again, text_found, where_again, where_found}
-use Rattle.passport_claims.proofs.OrigidLaws.{origid_again}
-use Rattle.passport_claims.proofs.RefusedSteps.{false_means, means_false, none_holds, none_read, nothing_there, stops}
+use Rattle.passport_claims.proofs.ClaimsLaws.{header_again, header_only, issued_again, issued_only}
+use Rattle.passport_claims.proofs.KindLaws.{type_refused, type_wrong}
+use Rattle.passport_claims.proofs.MemberLaws.{called_again, called_count, called_only, count_called, number_again, number_only, text_again, text_found, where_again, where_found}
+use Rattle.passport_claims.proofs.RefusedSteps.{false_means, means_false, none_holds, none_read, nothing_there, stops, there}
 
 -- ---- the header
 
@@ -54,54 +52,6 @@ header_refused header payload ppt info fault h =
         }) (false_means _ _ ed (text_again (codes "x5u") info header)) (sym is)
     of true true true true ea eb ec ed h = absurd cc
 
--- ---- what the type adds
-
-attest_read : (payload : Data) (level : Attest) → HasText (codes "attest") (attest_text level) payload
-    → option_and_then attest_of (text_in (codes "attest") payload) ≡ Some level
-attest_read payload level has = rw has (attest_again level)
-
-origid_read : (payload : Data) (text : List ℕ) → HasText (codes "origid") text payload × IsOrigid text
-    → option_and_then origid_of (text_in (codes "origid") payload) ≡ Some text
-origid_read payload text h = rw (h.0, origid_again text h.1) refl
-
-attest_refused : (header payload : Data) (info : List ℕ) (fault : ClaimFault) → HasCalled header payload (Some (codes "shaken")) info
-    → shaken_in payload ≡ Err fault → Refused header payload (Some (codes "shaken")) info fault
-attest_refused header payload info fault before h =
-    elim (stops (or_fault faults.Attest (option_and_then attest_of (text_in (codes "attest") payload))) _ fault h) [
-      | inl k ↦
-          let n = nothing_there faults.Attest fault (option_and_then attest_of (text_in (codes "attest") payload)) k in
-          wrong_attest before refl
-          (none_holds (λ level. HasText (codes "attest") (attest_text level) payload) (option_and_then attest_of (text_in (codes "attest") payload)) n.0 (attest_read payload)) n.1
-      | inr p ↦
-          let level = attest_found payload p.0 (there faults.Attest (option_and_then attest_of (text_in (codes "attest") payload)) p.0 p.1) in
-          elim (stops (or_fault faults.Origid (option_and_then origid_of (text_in (codes "origid") payload))) _ fault p.2) [
-            | inl k ↦
-                let n = nothing_there faults.Origid fault (option_and_then origid_of (text_in (codes "origid") payload)) k in
-                wrong_origid before refl p.0 level
-                (λ text has is. none_holds (λ text. HasText (codes "origid") text payload × IsOrigid text) (option_and_then origid_of (text_in (codes "origid") payload)) n.0 (origid_read payload) text (has, is)) n.1
-            | inr q ↦ absurd (let e = q.2 in cc)
-          ]
-    ]
-
-div_refused : (header payload : Data) (info : List ℕ) (fault : ClaimFault) → HasCalled header payload (Some (codes "div")) info
-    → div_in payload ≡ Err fault → Refused header payload (Some (codes "div")) info fault
-div_refused header payload info fault before h =
-    elim (stops (or_fault faults.Div (number_in (codes "div") payload)) _ fault h) [
-      | inl k ↦
-          let n = nothing_there faults.Div fault (number_in (codes "div") payload) k in
-          wrong_div before refl
-          (none_holds (λ number. HasNumber (codes "div") payload number) (number_in (codes "div") payload) n.0 (number_again (codes "div") payload)) n.1
-      | inr p ↦ absurd (let e = p.2 in cc)
-    ]
-
-kind_refused : (header payload : Data) (ppt : Option (List ℕ)) (info : List ℕ) (fault : ClaimFault) → IsKnown ppt → HasCalled header payload ppt info
-    → checked_kind ppt payload ≡ Err fault → Refused header payload ppt info fault
-kind_refused header payload ppt info fault (inl e) before h = absurd (let k = subst (λ p. checked_kind p payload ≡ Err fault) e h in cc)
-kind_refused header payload ppt info fault (inr (inl e)) before h =
-    rw e (attest_refused header payload info fault (subst (λ p. HasCalled header payload p info) e before) (subst (λ p. checked_kind p payload ≡ Err fault) e h))
-kind_refused header payload ppt info fault (inr (inr e)) before h =
-    rw e (div_refused header payload info fault (subst (λ p. HasCalled header payload p info) e before) (subst (λ p. checked_kind p payload ≡ Err fault) e h))
-
 -- ---- what is left to read after each claim, and that its fault is that of header and payload
 
 abbrev claims_of : List ℕ → ℕ → List ℕ → List (List ℕ) → Kind → ClaimsView
@@ -130,11 +80,11 @@ called_holds payload ppt numbers h =
     let k = called_only (most_called ppt) payload numbers h in
     (k.has, called_count ppt (length numbers) k.some k.few)
 
-type_refused : (header payload : Data) (ppt : Option (List ℕ)) (info : List ℕ) (fault : ClaimFault) (x5u : List ℕ) (iat : ℕ) (orig : List ℕ) (dest : List (List ℕ))
+last_refused : (header payload : Data) (ppt : Option (List ℕ)) (info : List ℕ) (fault : ClaimFault) (x5u : List ℕ) (iat : ℕ) (orig : List ℕ) (dest : List (List ℕ))
     → IsKnown ppt → HasCalled header payload ppt info → behind_dest payload ppt x5u iat orig dest ≡ Err fault → Refused header payload ppt info fault
-type_refused header payload ppt info fault x5u iat orig dest known before h =
+last_refused header payload ppt info fault x5u iat orig dest known before h =
     elim (stops (checked_kind ppt payload) _ fault h) [
-      | inl k ↦ kind_refused header payload ppt info fault known before k
+      | inl k ↦ wrong_type before (type_refused payload ppt fault known k)
       | inr p ↦ absurd (let e = p.2 in cc)
     ]
 
@@ -149,7 +99,7 @@ dest_refused header payload ppt info fault x5u iat orig known before h =
           (called_read payload ppt) numbers (has, count)) n.1
       | inr p ↦
           let k = called_holds payload ppt p.0 (there faults.Dest (called_in (most_called ppt) payload) p.0 p.1) in
-          type_refused header payload ppt info fault x5u iat orig p.0 known (record { dest = p.0; before = before; called = k.0; count = k.1 }) p.2
+          last_refused header payload ppt info fault x5u iat orig p.0 known (record { dest = p.0; before = before; called = k.0; count = k.1 }) p.2
     ]
 
 orig_refused : (header payload : Data) (ppt : Option (List ℕ)) (info : List ℕ) (fault : ClaimFault) (x5u : List ℕ) (iat : ℕ)
@@ -230,22 +180,6 @@ type_read header payload ppt info fault before wrong =
       wrong,
     ) refl
 
-attest_missing : (payload : Data) → ((level : Attest) → HasText (codes "attest") (attest_text level) payload → ⊥) → shaken_in payload ≡ Err faults.Attest
-attest_missing payload none =
-    rw (none_read (λ level. HasText (codes "attest") (attest_text level) payload) (option_and_then attest_of (text_in (codes "attest") payload)) (attest_found payload) none) refl
-
-origid_missing : (payload : Data) (level : Attest) → HasText (codes "attest") (attest_text level) payload
-    → ((text : List ℕ) → HasText (codes "origid") text payload → IsOrigid text → ⊥) → shaken_in payload ≡ Err faults.Origid
-origid_missing payload level has none =
-    rw (
-      attest_read payload level has,
-      none_read (λ text. HasText (codes "origid") text payload × IsOrigid text) (option_and_then origid_of (text_in (codes "origid") payload)) (origid_found payload) (λ text h. none text h.0 h.1),
-    ) refl
-
-div_missing : (payload : Data) → ((number : List ℕ) → HasNumber (codes "div") payload number → ⊥) → div_in payload ≡ Err faults.Div
-div_missing payload none =
-    rw (none_read (λ number. HasNumber (codes "div") payload number) (number_in (codes "div") payload) (number_only (codes "div") payload) none) refl
-
 abbrev refused_claims : ClaimFault → Result ClaimsView ClaimFault
 refused_claims fault = Err fault
 
@@ -291,12 +225,7 @@ refused_again header payload ppt info fault (wrong_x5u before wrong e) = x5u_rea
 refused_again header payload ppt info fault (wrong_iat before none e) = iat_read header payload ppt info before none ∙ ap refused_claims (sym e)
 refused_again header payload ppt info fault (wrong_orig before none e) = orig_read header payload ppt info before none ∙ ap refused_claims (sym e)
 refused_again header payload ppt info fault (wrong_dest before none e) = dest_read header payload ppt info before none ∙ ap refused_claims (sym e)
-refused_again header payload ppt info fault (wrong_attest before is none e) =
-    type_read header payload ppt info faults.Attest before (rw is (attest_missing payload none)) ∙ ap refused_claims (sym e)
-refused_again header payload ppt info fault (wrong_origid before is level has none e) =
-    type_read header payload ppt info faults.Origid before (rw is (origid_missing payload level has none)) ∙ ap refused_claims (sym e)
-refused_again header payload ppt info fault (wrong_div before is none e) =
-    type_read header payload ppt info faults.Div before (rw is (div_missing payload none)) ∙ ap refused_claims (sym e)
+refused_again header payload ppt info fault (wrong_type before wrong) = type_read header payload ppt info fault before (type_wrong payload ppt fault wrong)
 
 -- ---- of an answer
 

@@ -33,3 +33,8 @@ false_means P t e again holds = let f = again holds in absurd cc
 pub means_false : (P : Type 0) (t : Bool) → (t ≡ true → P) → (P → ⊥) → t ≡ false
 means_false P true holds never = absurd (never (holds refl))
 means_false P false holds never = refl
+
+-- what came isn't the fault, so it is there
+pub there : {A : Type 0} (broken : ClaimFault) (found : Option A) (a : A) → or_fault broken found ≡ Ok a → found ≡ Some a
+there broken None a h = absurd cc
+there broken (Some x) a h = let e : x ≡ a = cc in ap (λ y. Some y) e

@@ -1,22 +1,19 @@
 -- Header and payload as they are written: they have a deterministic text, and the claims are read from them again.
-use Rattle.std.proofs.Common.{◌≡◌, ◌≤◌, ◌<◌, ◌+◌, ℕ, true, false, List, [], ◌∷◌, ◌++◌, length, take, get_or, map, Some, codes, refl, sym, ap, ◌∙◌, arith, rules, String, Global, string_bytes}
+use Rattle.std.proofs.Common.{◌≡◌, ◌≤◌, ◌<◌, ◌+◌, ℕ, true, List, [], ◌∷◌, ◌++◌, length, take, get_or, map, refl, sym, ap, ◌∙◌, rules, String, Global, string_bytes}
 use Rattle.std.specs.List.{list_all}
 use Rattle.std.proofs.lemmas.List.{map-append, take_all, take_more}
 use Rattle.std.proofs.lemmas.List.Folds.{list_all-append}
-use Rattle.serde_json.specs.Data.{Data, string, array, number as numeral, unsigned, Items, no_items, item, items_depth}
-use Rattle.serde_json.specs.Find.{get}
+use Rattle.serde_json.specs.Data.{Data, string, array, Items, no_items, item}
 use Rattle.serde_json.specs.View.{items_of, items_view, view}
-use Rattle.serde_json.specs.Written.{items_have_float}
 use Rattle.serde_json.specs.declared.value.Value.{Value, the_lemmas}
 use Rattle.tn_values.specs.Number.{is_number}
 use Rattle.passport_json.specs.Deterministic.{IsWritable}
-use Rattle.passport_json.specs.Passport.{Header, Payload, text_where, texts, with_tn}
-use Rattle.passport_claims.specs.Claims.{Claims, HasKind}
+use Rattle.passport_json.specs.Passport.{Header, Payload, texts, with_tn}
+use Rattle.passport_claims.specs.Claims.{Claims}
+use Rattle.passport_claims.specs.HasKind.{HasKind}
 use Rattle.passport_claims.specs.Kind.{ppt_of}
-use Rattle.passport_claims.specs.Members.{HasText}
-use Rattle.passport_claims.specs.Passport.{AreNumbers, ClaimsView, IsDiverted, IsKind, IsPassport, members_of}
-use Rattle.passport_claims.specs.declared.kind.Kind.{Kind}
-use Rattle.passport_claims.specs.declared.kind.Kind.TheVariants as kinds
+use Rattle.passport_claims.specs.Passport.{AreNumbers, ClaimsView, IsPassport, members_of}
+use Rattle.passport_claims.proofs.KindTexts.{HasMembers, has_kind, has_members, header_of_kind, payload_of_kind}
 
 -- ---- the called numbers as an array
 
@@ -56,26 +53,6 @@ numbers_all called i end so_far = ap (list_all is_number) (sym (take_all i calle
 
 -- ---- the deterministic text
 
-no_float : (numbers : List (List ℕ)) → items_have_float (texts numbers) ≡ false
-no_float [] = refl
-no_float (number ∷ others) = no_float others
-
-flat : (numbers : List (List ℕ)) → items_depth (texts numbers) ≡ 0
-flat [] = refl
-flat (number ∷ others) = rw (flat others) refl
-
-header_of_kind : (kind : Kind) (x5u : List ℕ) (iat : ℕ) (orig : List ℕ) (dest : List (List ℕ))
-    → IsWritable (Header (members_of (record { kind = kind; x5u = x5u; iat = iat; orig = orig; dest = dest })))
-header_of_kind kinds.Base x5u iat orig dest = record { no_float = refl; shallow = omega arith }
-header_of_kind (kinds.Shaken level origid) x5u iat orig dest = record { no_float = refl; shallow = omega arith }
-header_of_kind (kinds.Div div) x5u iat orig dest = record { no_float = refl; shallow = omega arith }
-
-payload_of_kind : (kind : Kind) (x5u : List ℕ) (iat : ℕ) (orig : List ℕ) (dest : List (List ℕ))
-    → IsWritable (Payload (members_of (record { kind = kind; x5u = x5u; iat = iat; orig = orig; dest = dest })))
-payload_of_kind kinds.Base x5u iat orig dest = record { no_float = rw (no_float dest) refl; shallow = rw (flat dest) (omega arith) }
-payload_of_kind (kinds.Shaken level origid) x5u iat orig dest = record { no_float = rw (no_float dest) refl; shallow = rw (flat dest) (omega arith) }
-payload_of_kind (kinds.Div div) x5u iat orig dest = record { no_float = rw (no_float dest) refl; shallow = rw (flat dest) (omega arith) }
-
 pub header_writable : (value : Data) (claims : ClaimsView) → value ≡ Header (members_of claims) → IsWritable value
 header_writable value claims e = rw e (header_of_kind claims.kind claims.x5u claims.iat claims.orig claims.dest)
 
@@ -83,29 +60,6 @@ pub payload_writable : (value : Data) (claims : ClaimsView) → value ≡ Payloa
 payload_writable value claims e = rw e (payload_of_kind claims.kind claims.x5u claims.iat claims.orig claims.dest)
 
 -- ---- read again
-
--- the members of a header and a payload
-record HasMembers (header payload : Data) (claims : ClaimsView) : Type 0 where
-  typ : HasText (codes "typ") (codes "passport") header
-  alg : HasText (codes "alg") (codes "ES256") header
-  ppt : get (codes "ppt") header ≡ text_where (ppt_of claims.kind)
-  x5u : HasText (codes "x5u") claims.x5u header
-  iat : get (codes "iat") payload ≡ Some (numeral (unsigned claims.iat))
-  orig : get (codes "orig") payload ≡ Some (with_tn (string claims.orig))
-  dest : get (codes "dest") payload ≡ Some (with_tn (array (texts claims.dest)))
-
-has_members : (kind : Kind) (x5u : List ℕ) (iat : ℕ) (orig : List ℕ) (dest : List (List ℕ))
-    → HasMembers (Header (members_of (record { kind = kind; x5u = x5u; iat = iat; orig = orig; dest = dest }))) (Payload (members_of (record { kind = kind; x5u = x5u; iat = iat; orig = orig; dest = dest })))
-    (record { kind = kind; x5u = x5u; iat = iat; orig = orig; dest = dest })
-has_members kinds.Base x5u iat orig dest = record { typ = refl; alg = refl; ppt = refl; x5u = refl; iat = refl; orig = refl; dest = refl }
-has_members (kinds.Shaken level origid) x5u iat orig dest = record { typ = refl; alg = refl; ppt = refl; x5u = refl; iat = refl; orig = refl; dest = refl }
-has_members (kinds.Div div) x5u iat orig dest = record { typ = refl; alg = refl; ppt = refl; x5u = refl; iat = refl; orig = refl; dest = refl }
-
-has_kind : (kind : Kind) (x5u : List ℕ) (iat : ℕ) (orig : List ℕ) (dest : List (List ℕ)) → IsKind kind → IsDiverted kind
-    → HasKind (Payload (members_of (record { kind = kind; x5u = x5u; iat = iat; orig = orig; dest = dest }))) kind
-has_kind kinds.Base x5u iat orig dest is ok = tt
-has_kind (kinds.Shaken level origid) x5u iat orig dest is ok = (refl, refl, is)
-has_kind (kinds.Div div) x5u iat orig dest is ok = record { holder = with_tn (string div); member = refl; tn = refl; ok = ok }
 
 claims_by : (claims : ClaimsView) → HasMembers (Header (members_of claims)) (Payload (members_of claims)) claims → HasKind (Payload (members_of claims)) claims.kind → IsPassport claims → AreNumbers claims
     → Claims (Header (members_of claims)) (Payload (members_of claims)) (ppt_of claims.kind) claims.x5u claims

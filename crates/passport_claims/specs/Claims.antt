@@ -1,23 +1,14 @@
 -- What a PASSporT says by its header and payload (RFC 8225, sections 4 and 5; RFC 8588, section 4; RFC 8946, section 4), for the
 -- type and the certificate's URI that its Identity header field has (RFC 8224, section 4).
-use Rattle.std.specs.Prelude.{◌≡◌, ◌⊎◌, ℕ, List, length, Option, Some, None, ⊤, codes}
+use Rattle.std.specs.Prelude.{◌≡◌, ℕ, List, length, Option, codes}
 use Rattle.serde_json.specs.Data.{Data}
 use Rattle.serde_json.specs.Find.{get}
 use Rattle.passport_json.specs.IssuedAt.{IsIssuedAt}
 use Rattle.passport_json.specs.Passport.{text_where}
-use Rattle.passport_claims.specs.Kind.{attest_text, ppt_of}
+use Rattle.passport_claims.specs.HasKind.{HasKind}
+use Rattle.passport_claims.specs.Kind.{ppt_of}
 use Rattle.passport_claims.specs.Members.{HasText, HasNumber, HasNumbers}
-use Rattle.passport_claims.specs.Origid.{IsOrigid}
 use Rattle.passport_claims.specs.Passport.{ClaimsView, IsCalledCount}
-use Rattle.passport_claims.specs.declared.kind.Kind.{Kind}
-use Rattle.passport_claims.specs.declared.kind.Kind.TheVariants as kinds
-
--- the payload has the claims of this type: attestation and identifier of the call for `shaken`, the diverted number for `div`
-abbrev pub HasKind : Data → Kind → Type 0
-HasKind payload kinds.Base = ⊤
-HasKind payload (kinds.Shaken level origid) =
-    HasText (codes "attest") (attest_text level) payload × HasText (codes "origid") origid payload × IsOrigid origid
-HasKind payload (kinds.Div number) = HasNumber (codes "div") payload number
 
 -- header and payload are those of a PASSporT that says this
 pub record Claims (header payload : Data) (ppt : Option (List ℕ)) (info : List ℕ) (claims : ClaimsView) : Type 0 where
@@ -35,7 +26,3 @@ pub record Claims (header payload : Data) (ppt : Option (List ℕ)) (info : List
   -- what is kept of the field
   pub kept_ppt : ppt_of claims.kind ≡ ppt
   pub kept_x5u : claims.x5u ≡ info
-
--- the field's type is one of the three
-abbrev pub IsKnown : Option (List ℕ) → Type 0
-IsKnown ppt = (ppt ≡ None) ⊎ ((ppt ≡ Some (codes "shaken")) ⊎ (ppt ≡ Some (codes "div")))

@@ -2,6 +2,7 @@ pub mod Claims
 pub mod Fault
 pub mod Form
 pub mod GoesOn
+pub mod HasKind
 pub mod Kind
 pub mod Links
 pub mod Made

@@ -3,8 +3,8 @@
 use Rattle.std.specs.Prelude.{◌≡◌, ℕ, ◌-◌, ◌≤◌, List, [], ◌∷◌, Some, codes, unwrap_or, slice_index_or, ⊤}
 use Rattle.std.specs.List.{slice_get}
 use Rattle.std.specs.Option.{option_map_or}
-use Rattle.passport_claims.specs.Kind.{ppt_of}
-use Rattle.passport_claims.specs.Passport.{ClaimsView, div_in}
+use Rattle.passport_claims.specs.Kind.{div_in, ppt_of}
+use Rattle.passport_claims.specs.Passport.{ClaimsView}
 
 -- a PASSporT of type `div`
 abbrev pub IsLink : ClaimsView → Type 0

@@ -1,14 +1,14 @@
 -- What a PASSporT says (RFC 8225, sections 4 and 5; RFC 8588, section 4; RFC 8946, section 4).
-use Rattle.std.specs.Prelude.{◌≡◌, ℕ, ◌≤◌, Bool, true, false, List, length, Option, Some, None, ⊤, codes, if◌then◌else◌}
+use Rattle.std.specs.Prelude.{◌≡◌, ℕ, ◌≤◌, Bool, true, false, List, length, Option, Some, None, IfSome, codes, if◌then◌else◌}
 use Rattle.std.specs.List.{list_all}
+use Rattle.std.specs.Option.{option_map}
 use Rattle.std.specs.Str.{bytes_eq}
 use Rattle.tn_values.specs.Number.{is_number}
 use Rattle.text_grammar.specs.Moment.{last_second}
 use Rattle.passport_json.specs.Passport.{PassportView}
-use Rattle.passport_claims.specs.Kind.{attest_text, ppt_of}
+use Rattle.passport_claims.specs.Kind.{attest_text, div_in, level_in, origid_in, ppt_of}
 use Rattle.passport_claims.specs.Origid.{IsOrigid}
 use Rattle.passport_claims.specs.declared.kind.Kind.{Kind}
-use Rattle.passport_claims.specs.declared.kind.Kind.TheVariants as kinds
 
 -- its type with the claims of that type, the certificate's URI, when it was issued in Unix seconds, the calling number and the
 -- called ones
@@ -19,27 +19,12 @@ pub record ClaimsView : Type 0 where
   pub orig : List ℕ
   pub dest : List (List ℕ)
 
-abbrev pub attest_in : Kind → Option (List ℕ)
-attest_in kinds.Base = None
-attest_in (kinds.Shaken level origid) = Some (attest_text level)
-attest_in (kinds.Div number) = None
-
-abbrev pub origid_in : Kind → Option (List ℕ)
-origid_in kinds.Base = None
-origid_in (kinds.Shaken level origid) = Some origid
-origid_in (kinds.Div number) = None
-
-abbrev pub div_in : Kind → Option (List ℕ)
-div_in kinds.Base = None
-div_in (kinds.Shaken level origid) = None
-div_in (kinds.Div number) = Some number
-
 -- the members of its deterministic header and payload
 abbrev pub members_of : ClaimsView → PassportView
 members_of claims = record {
   ppt = ppt_of claims.kind;
   x5u = claims.x5u;
-  attest = attest_in claims.kind;
+  attest = option_map attest_text (level_in claims.kind);
   dest = claims.dest;
   div = div_in claims.kind;
   iat = claims.iat;
@@ -67,9 +52,7 @@ pub record IsCalledCount (ppt : Option (List ℕ)) (count : ℕ) : Type 0 where
 
 -- the identifier of the call is one, if the type has it
 abbrev pub IsKind : Kind → Type 0
-IsKind kinds.Base = ⊤
-IsKind (kinds.Shaken level origid) = IsOrigid origid
-IsKind (kinds.Div number) = ⊤
+IsKind kind = IfSome (origid_in kind) IsOrigid
 
 pub record IsPassport (claims : ClaimsView) : Type 0 where
   pub iat_within : claims.iat ≤ last_second
@@ -78,9 +61,7 @@ pub record IsPassport (claims : ClaimsView) : Type 0 where
 
 -- its numbers are numbers: the calling one, the called ones, and the diverted one, if there is one
 abbrev pub IsDiverted : Kind → Type 0
-IsDiverted kinds.Base = ⊤
-IsDiverted (kinds.Shaken level origid) = ⊤
-IsDiverted (kinds.Div number) = is_number number ≡ true
+IsDiverted kind = IfSome (div_in kind) (λ number. is_number number ≡ true)
 
 pub record AreNumbers (claims : ClaimsView) : Type 0 where
   pub orig : is_number claims.orig ≡ true

@@ -1,18 +1,16 @@
 -- Why header and payload are not those of a PASSporT, for the type and the certificate's URI that its Identity header field has: the claims in
 -- their order, each in the words of its standard (RFC 8225, sections 4 and 5; RFC 8588, sections 4 and 5; RFC 8946, section 4.1). The faults and
 -- their order are this project's own.
-use Rattle.std.specs.Prelude.{◌≡◌, ℕ, List, length, Option, Some, codes}
+use Rattle.std.specs.Prelude.{◌≡◌, ℕ, List, length, Option, codes}
 use Rattle.serde_json.specs.Data.{Data}
 use Rattle.serde_json.specs.Find.{get}
 use Rattle.passport_json.specs.IssuedAt.{IsIssuedAt}
 use Rattle.passport_json.specs.Passport.{text_where}
-use Rattle.passport_claims.specs.Kind.{attest_text}
+use Rattle.passport_claims.specs.HasKind.{IsTypeRefused}
 use Rattle.passport_claims.specs.Members.{HasText, HasNumber, HasNumbers}
-use Rattle.passport_claims.specs.Origid.{IsOrigid}
 use Rattle.passport_claims.specs.Passport.{IsCalledCount}
 use Rattle.passport_claims.specs.declared.fault.ClaimFault.{ClaimFault}
 use Rattle.passport_claims.specs.declared.fault.ClaimFault.TheVariants as faults
-use Rattle.passport_claims.specs.declared.kind.Attest.{Attest}
 
 -- ---- what is right before it
 
@@ -72,13 +70,5 @@ pub data Refused (header payload : Data) (ppt : Option (List ℕ)) (info : List 
   wrong_dest : HasCalling header payload ppt info
       → ((numbers : List (List ℕ)) → HasNumbers payload numbers → IsCalledCount ppt (length numbers) → ⊥) → fault ≡ faults.Dest
       → Refused header payload ppt info fault
-  -- Attest: for `shaken`, `attest` isn't A, B or C
-  wrong_attest : HasCalled header payload ppt info → ppt ≡ Some (codes "shaken")
-      → ((level : Attest) → HasText (codes "attest") (attest_text level) payload → ⊥) → fault ≡ faults.Attest → Refused header payload ppt info fault
-  -- Origid: for `shaken`, `origid` is no UUID in 36 characters
-  wrong_origid : HasCalled header payload ppt info → ppt ≡ Some (codes "shaken") → (level : Attest) → HasText (codes "attest") (attest_text level) payload
-      → ((text : List ℕ) → HasText (codes "origid") text payload → IsOrigid text → ⊥) → fault ≡ faults.Origid
-      → Refused header payload ppt info fault
-  -- Div: for `div`, `div` is no number
-  wrong_div : HasCalled header payload ppt info → ppt ≡ Some (codes "div") → ((number : List ℕ) → HasNumber (codes "div") payload number → ⊥)
-      → fault ≡ faults.Div → Refused header payload ppt info fault
+  -- and those of the type's own claims
+  wrong_type : HasCalled header payload ppt info → IsTypeRefused payload ppt fault → Refused header payload ppt info fault

@@ -3,7 +3,6 @@ ghost use Rattle.std.specs.Prelude.{◌≡◌, ◌+◌, ◌-◌, ◌≤◌, All,
 ghost use Rattle.passport_claims.specs.Links.{IsLink, IsOneOf, dest_at, div_at, div_of, dest_of};
 ghost use Rattle.passport_claims.specs.OrderReading.{first_from, is_twin, leads_from, leads_to, may_start, repeats};
 
-use crate::kind::Kind;
 use crate::passport::Passport;
 use crate::passports::Passports;
 use tn_values::Number;
@@ -13,9 +12,9 @@ fn div_of(link: &Passport) -> Number
     requires { IsLink link.now }
     ensures { result ≡ div_of link.now }
 {
-    match link.kind() {
-        Kind::Div { div } => div,
-        Kind::Base | Kind::Shaken { .. } => unreachable!(),
+    match link.kind().div() {
+        Some(div) => div,
+        None => unreachable!(),
     }
 }
 

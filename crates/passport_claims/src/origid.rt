@@ -1,8 +1,7 @@
 //! The identifier of a call.
 ghost use Rattle.std.specs.Prelude.{◌≡◌, true, length, is_some};
 ghost use Rattle.uuid.specs.Text.{parsed};
-ghost use Rattle.passport_claims.specs.Origid.{is_origid};
-ghost use Rattle.passport_claims.specs.Read.{origid_of};
+ghost use Rattle.passport_claims.specs.Origid.{is_origid, origid_of};
 ghost use Rattle.passport_claims.specs.Reading.{or_fault};
 ghost use Rattle.passport_claims.specs.declared.fault.ClaimFault.{ClaimFault};
 

@@ -2,7 +2,8 @@
 ghost use Rattle.std.specs.Prelude.{◌≡◌, ◌≤◌, Some, None, Err, IfOk, if◌then◌else◌};
 ghost use Rattle.std.specs.Option.{option_copied};
 ghost use Rattle.text_grammar.specs.Uri.{is_uri};
-ghost use Rattle.passport_claims.specs.Claims.{Claims, IsKnown};
+ghost use Rattle.passport_claims.specs.Claims.{Claims};
+ghost use Rattle.passport_claims.specs.Kind.{IsKnown};
 ghost use Rattle.passport_claims.specs.Made.{is_called_count, made};
 ghost use Rattle.passport_claims.specs.Passport.{ClaimsView, IsPassport};
 ghost use Rattle.passport_claims.specs.Read.{read_claims};
@@ -10,9 +11,9 @@ ghost use Rattle.passport_claims.specs.Reading.{Gives, IfRefused, IsOkUnlessMemo
 ghost use Rattle.passport_claims.specs.Refused.{Refused};
 
 use crate::fault::ClaimFault;
-use crate::kind::Kind;
+use crate::kind::{Kind, checked_kind};
 use crate::members::{called_in, number_in};
-use crate::rows::{checked_header, checked_kind, most_called};
+use crate::rows::{checked_header, most_called};
 use passport_json::Token;
 use std::alloc::Global;
 use std::marker::Model;

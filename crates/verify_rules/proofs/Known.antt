@@ -1,7 +1,7 @@
 -- The type of a field that is judged is one of three.
 use Rattle.std.proofs.Common.{◌≡◌, ℕ, true, List, Option, Some, None, refl, ap, codes, inl, inr}
 use Rattle.std.proofs.lemmas.Slice.Eq.{bytes_eq-Decides}
-use Rattle.passport_claims.specs.Claims.{IsKnown}
+use Rattle.passport_claims.specs.Kind.{IsKnown}
 use Rattle.passport_claims.specs.Passport.{is_text}
 use Rattle.verify_rules.specs.Call.{IdentityField, has_ppt, is_absent, lacks_ppt}
 

@@ -10,7 +10,8 @@ use Rattle.identity_header.specs.FieldText.{FieldText}
 use Rattle.identity_header.specs.Parts.{Parts, is_digest_byte}
 use Rattle.identity_header.specs.Read.{read as read_parts}
 use Rattle.identity_header.specs.declared.field.FieldFault.{FieldFault}
-use Rattle.passport_claims.specs.Claims.{Claims, IsKnown}
+use Rattle.passport_claims.specs.Claims.{Claims}
+use Rattle.passport_claims.specs.Kind.{IsKnown}
 use Rattle.passport_claims.specs.Passport.{ClaimsView}
 use Rattle.passport_claims.specs.Read.{read_claims}
 use Rattle.passport_claims.specs.declared.fault.ClaimFault.{ClaimFault}

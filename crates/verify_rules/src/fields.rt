@@ -2,7 +2,7 @@
 ghost use Rattle.std.specs.Prelude.{◌≡◌, true, ◌∷◌, map, find, codes, IfSome};
 ghost use Rattle.std.specs.List.{list_any};
 ghost use Rattle.std.specs.Option.{option_copied, option_map};
-ghost use Rattle.passport_claims.specs.Claims.{IsKnown};
+ghost use Rattle.passport_claims.specs.Kind.{IsKnown};
 ghost use Rattle.sip_message.specs.Accessors.{identities};
 ghost use Rattle.passport_claims.specs.Passport.{is_text};
 ghost use Rattle.verify_rules.specs.Call.{has_ppt, links, originating};

@@ -1,6 +1,6 @@
 //! Rule 6: the PASSporTs of the judged fields.
 ghost use Rattle.std.specs.Prelude.{◌≡◌, ◌≤◌, ◌∷◌, length, map, IfOk, IsTrue};
-ghost use Rattle.passport_claims.specs.Claims.{IsKnown};
+ghost use Rattle.passport_claims.specs.Kind.{IsKnown};
 ghost use Rattle.passport_claims.specs.Kind.{ppt_of};
 ghost use Rattle.passport_json.specs.Seen.{call_of};
 ghost use Rattle.text_grammar.specs.Uri.{is_uri};

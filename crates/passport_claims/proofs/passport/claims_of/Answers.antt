@@ -3,9 +3,9 @@ use Rattle.std.proofs.Common.{◌≡◌, Ok, sym}
 use Rattle.std.specs.Option.{option_copied}
 use Rattle.std.specs.String.{string_bytes}
 use Rattle.passport_claims.proofs.ClaimsLaws.{read_meets}
+use Rattle.passport_claims.specs.HasKind.{checked_kind}
 use Rattle.passport_claims.specs.Members.{called_in}
 use Rattle.passport_claims.specs.Passport.{most_called}
-use Rattle.passport_claims.specs.Read.{checked_kind}
 use Rattle.passport_claims.specs.Reading.{or_fault}
 use Rattle.passport_claims.specs.declared.fault.ClaimFault.TheVariants as faults
 use Rattle.passport_claims.proofs.passport.claims_of.Goals as goal
