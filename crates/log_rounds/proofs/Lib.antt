@@ -1,4 +1,5 @@
 pub mod ServiceLaws
+pub mod NewLaws
 pub mod WorkerLaws
 pub mod RoundLaws
 pub mod FewLaws
