@@ -2,7 +2,6 @@ pub mod AlikeLaws
 pub mod CommandLaws
 pub mod SpeakLaws
 pub mod RunLaws
-pub mod ReadySteps
 pub mod LoopLaws
 pub mod WinnerLaws
 pub mod SummaryLaws

@@ -5,10 +5,10 @@ use Rattle.call_log.specs.Log.{start}
 use Rattle.call_log.specs.Reads.{LogState}
 use Rattle.drill.proofs.CommandLaws.{counted_none}
 use Rattle.drill.proofs.RunLaws.{ended_short}
-use Rattle.drill.proofs.ReadySteps.{same_basis, stands_at_first, trusts_at_first}
 use Rattle.drill.proofs.LoopLaws.{ran_loop}
 use Rattle.drill.proofs.SpeakLaws.{drill_speaks}
 use Rattle.drill.specs.Drilled.{drill_settings}
+use Rattle.log_rounds.proofs.NewLaws.{stands_at_first, told_basis, trusts_none}
 use Rattle.log_run.proofs.WordsLaws.{first_says}
 use Rattle.stir_outside.specs.Memory.{ShelfState}
 use Rattle.verify_rules.specs.declared.settings.Settings.{Settings}
@@ -25,7 +25,7 @@ pub run_log-requires-clause-stands : goal.run_log-requires-clause-stands
 run_log-requires-clause-stands g c κs within = record {
   number = c.in-Ok.ensures.number ∙ sym (ap (λ (x : LogState). x.passed.number) c.new-reader.ensures);
   moment = c.in-Ok.ensures.moment ∙ sym (ap (λ (x : LogState). x.passed.moment) c.new-reader.ensures);
-  trusts = trusts_at_first _ _ _ _ _ c.in-Ok.ensures;
+  trusts = trusts_none c.in-Ok.service _ _ c.in-Ok.ensures.held;
 }
 
 pub returns : goal.returns
@@ -33,7 +33,7 @@ returns g c =
     let new : IsNew drill_settings c.args.ready.files.world c.in-Ok.service = subst (λ (x : Settings). IsNew x c.args.ready.files.world c.in-Ok.service) c.settings.ensures c.in-Ok.ensures in
     ran_loop c.args.seed c.args.count c.args.workers c.requires.few c.args.ready.files c.requires.files (c.log_law.ensures.whole c.args.seed c.args.count c.requires.few) c.args.ready.shelf.counts.reads c.run_log.new.shelf.counts.reads
     (g.O.Sink.written c.args.sink.now) (g.O.Sink.written c.run_log.new.sink) (Some c.run_log.new.input.left) (g.O.Sink.faults c.args.sink.now) (g.O.Sink.faults c.run_log.new.sink) c.run_log.result _ _ _ c.from.result
-    (same_basis drill_settings c.args.workers c.args.ready.files.world c.args.ready.files.answers c.in-Ok.service new) (ap (λ (x : ShelfState). x.files) c.requires.shelf) c.requires.log c.from.ensures
+    (told_basis drill_settings c.args.workers c.args.ready.files.world c.args.ready.files.answers c.in-Ok.service new.settings_are new.chains new.anchors new.table) (ap (λ (x : ShelfState). x.files) c.requires.shelf) c.requires.log c.from.ensures
     (first_says one_log _ _ _ _ c.new-reader.result _ _ _ _ _ _ c.new-reader.ensures
     (drill_speaks c.legal_together.ensures c.first_of_all.ensures _ c.run_log.new.command _ (start 0 0) _ _ (stands_at_first drill_settings c.args.ready.files.world c.in-Ok.service (record c.args.ready.shelf.counts { faults = 0 }) new) c.new-2.ensures)
     c.run_log.ensures.ran)
