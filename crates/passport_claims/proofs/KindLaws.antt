@@ -1,5 +1,5 @@
 -- What a type adds to the claims is read if the payload has it, and refused just for what is wrong in it.
-use Rattle.std.proofs.Common.{◌≡◌, ◌⊎◌, inl, inr, ℕ, List, length, Option, Some, None, Result, Ok, Err, codes, refl, sym, ap, subst, ◌∙◌, arith}
+use Rattle.std.proofs.Common.{◌≡◌, ◌⊎◌, inl, inr, ℕ, List, Option, Some, None, Result, Ok, Err, codes, refl, sym, ap, subst, ◌∙◌, arith}
 use Rattle.std.specs.Prelude.{IfSome, option_and_then}
 use Rattle.std.proofs.lemmas.Option.{cond_some, option_and_then_some}
 use Rattle.lists.specs.Given.{IsFaultOf}
@@ -26,8 +26,8 @@ use Rattle.passport_claims.proofs.RefusedSteps.{none_holds, none_read, nothing_t
 
 pub type_text : (kind : Kind) → IfSome (ppt_of kind) IsTypeText
 type_text kinds.Base = tt
-type_text (kinds.Shaken level origid) = record { letters = refl; short = let e : length (codes "shaken") ≡ 6 = refl in omega (arith, e) }
-type_text (kinds.Div number) = record { letters = refl; short = let e : length (codes "div") ≡ 3 = refl in omega (arith, e) }
+type_text (kinds.Shaken level origid) = record { each = refl; some = omega arith; within = omega arith }
+type_text (kinds.Div number) = record { each = refl; some = omega arith; within = omega arith }
 
 -- ---- what is read of the claims of a type is what it has, and nothing else
 

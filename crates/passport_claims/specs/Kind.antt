@@ -1,8 +1,8 @@
 -- The types of a PASSporT that are judged and signed here: without a type (RFC 8225), `shaken` (RFC 8588) and `div` (RFC 8946).
-use Rattle.std.specs.Prelude.{◌≡◌, ◌⊎◌, ℕ, ◌≤◌, List, length, Option, Some, None, codes, if◌then◌else◌}
+use Rattle.std.specs.Prelude.{◌≡◌, ◌⊎◌, ℕ, List, Option, Some, None, codes, if◌then◌else◌}
 use Rattle.std.specs.Str.{bytes_eq}
 use Rattle.text_grammar.specs.Bytes.{is_letter}
-use Rattle.text_grammar.specs.Grammar.{Any}
+use Rattle.text_grammar.specs.Grammar.{Run}
 use Rattle.passport_claims.specs.declared.kind.Attest.{Attest}
 use Rattle.passport_claims.specs.declared.kind.Attest.TheVariants as levels
 use Rattle.passport_claims.specs.declared.kind.Kind.{Kind}
@@ -28,10 +28,9 @@ ppt_of kinds.Base = None
 ppt_of (kinds.Shaken level origid) = Some (codes "shaken")
 ppt_of (kinds.Div number) = Some (codes "div")
 
--- its text is at most six letters (this project's own limit)
-pub record IsTypeText (text : List ℕ) : Type 0 where
-  pub letters : Any is_letter text
-  pub short : length text ≤ 6
+-- its text is one to six letters (this project's own limit)
+abbrev pub IsTypeText : List ℕ → Type 0
+IsTypeText text = Run is_letter 6 text
 
 -- the claims that a type adds: the attestation and the identifier of the call of `shaken` (RFC 8588, section 4), and the number of `div` that was
 -- called before the diversion (RFC 8946, section 4.1)
