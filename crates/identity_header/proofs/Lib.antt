@@ -8,3 +8,4 @@ pub mod FieldLaw
 pub mod Rows
 pub mod Written
 pub mod LineLaws
+pub mod BlockLaws

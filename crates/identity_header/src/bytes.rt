@@ -6,6 +6,7 @@ ghost use Rattle.identity_header.specs.Parts as parts;
 ghost use Rattle.text_grammar.specs.Bytes as bytes;
 ghost use Rattle.identity_header.specs.Spelling as spelling;
 
+use crate::blocks::{BLOCK, has_digest_block};
 use text_grammar::is_uri_byte;
 
 /// The most bytes of a token.
@@ -83,8 +84,23 @@ pub(crate) fn is_bare(text: &[u8]) -> bool
     !text.is_empty() && all_bare(text)
 }
 
-/// How many digest bytes a text begins with.
+/// How many digest bytes a text begins with: first by whole blocks, and then byte by byte.
 pub(crate) fn digest_len(text: &[u8]) -> usize
+    ensures count { result ≡ prefix_len parts.is_digest_byte text.now }
+    ensures within { result ≤ length text.now }
+{
+    let mut sure = 0;
+    'whole: while text.len() - sure >= BLOCK {
+        if !has_digest_block(text, sure) {
+            break;
+        }
+        sure += BLOCK;
+    }
+    sure + digest_len_by_bytes(&text[sure..])
+}
+
+/// How many digest bytes a text begins with, byte by byte.
+fn digest_len_by_bytes(text: &[u8]) -> usize
     ensures count { result ≡ prefix_len parts.is_digest_byte text.now }
     ensures within { result ≤ length text.now }
 {

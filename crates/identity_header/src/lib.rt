@@ -23,6 +23,7 @@
 //! Cases: section `identity` of `crates/vectors/stdin`.
 #![tactic(auto)]
 
+mod blocks;
 mod bytes;
 mod field;
 mod laws;
