@@ -20,6 +20,9 @@ const HEADER_LINE: u8 = 3;
 /// The kind of a head without an empty line at its end.
 const NO_END: u8 = 4;
 
+/// For how many header fields there is room at once. More take new room, and most heads have fewer.
+const EXPECTED_FIELDS: usize = 16;
+
 /// The fields of a head and the offset of the empty line that ends it.
 #[derive(Drop)]
 pub(crate) struct HeadFields<'a> {
@@ -36,7 +39,7 @@ pub(crate) fn read_head<'a>(
 ) -> Result<HeadFields<'a>, MessageFault>
     ensures { Gives head_seen result (fields_after size false [] lines.old) }
 {
-    let mut fields = Vec::new(alloc);
+    let mut fields = Vec::with_capacity(alloc, EXPECTED_FIELDS)?;
     'lines: while let Some(line) = lines.next() {
         if line.text.is_empty() {
             return Ok(HeadFields {
