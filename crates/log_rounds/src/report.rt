@@ -4,9 +4,10 @@ ghost use Rattle.log_rounds.specs.AllValid.{all_valid};
 ghost use Rattle.log_rounds.specs.Batches.{first_number};
 ghost use Rattle.verify_service.specs.Report.{report};
 
+use crate::report_lines::put_line;
 use call_log::Call;
 use std::alloc::{AllocError, Global};
-use verify_service::{Outcome, report_line};
+use verify_service::Outcome;
 
 /// The number of the first call, and 0 if there is none.
 pub(crate) fn first_number(calls: &[Call]) -> u32
@@ -31,8 +32,7 @@ pub(crate) fn lines_of(
     let mut number = first;
     let mut text = Vec::new(alloc);
     for outcome in outcomes {
-        let line = report_line(alloc, number, outcome)?;
-        text.extend_from_slice(&line)?;
+        put_line(&mut text, number, outcome)?;
         number += 1;
     }
     Ok(text)
