@@ -35,11 +35,12 @@ impl Readings {
         }
     }
 
-    /// One more.
+    /// One more, with room for itself alone: most calls have one.
     #[tactic(auto, using(crate::proofs::ReadingLaws::kept_more))]
     pub(crate) fn push(&mut self, one: JudgedPassport) -> Result<(), AllocError>
         ensures { OnOk result (self.new ≡ self.old ++ judged_seen one ∷ []) }
     {
+        self.kept.reserve_exact(1)?;
         self.kept.push(one)?;
         Ok(())
     }
