@@ -101,54 +101,43 @@ reads_restored settings materials service call moment left reads now restored nu
 
 -- ---- of the whole run
 
+-- what holds of any files and bytes that are told
+if_told : (files : Option Files) (left : Option (List ℕ)) (P : Files → List ℕ → Type 0) → ((told : Files) (bytes : List ℕ) → files ≡ Some told → left ≡ Some bytes → P told bytes) → IfTold files left P
+if_told None left P each = tt
+if_told (Some files) None P each = tt
+if_told (Some files) (Some bytes) P each = each files bytes refl refl
+
 -- none but the named files were read
 pub few_named : (verifying : VerifyingView) (before now : Outside) → now.counts.reads ≤ before.counts.reads + 4 → FewReadsFrom verifying None before now
-few_named verifying before now few = by before.files before.left
-  where
-    by : (files : Option Files) (left : Option (List ℕ)) → IfTold files left (ReadsFewFrom verifying None before now)
-    by None left = tt
-    by (Some files) None = tt
-    by (Some files) (Some bytes) = inl few
+few_named verifying before now few = if_told before.files before.left (ReadsFewFrom verifying None before now) (λ told bytes files left. inl few)
 
 pub few_named_on : (verifying : VerifyingView) (name : List ℕ) (before now : Outside) → now.counts.reads ≤ before.counts.reads + 5 → FewReadsFrom verifying (Some name) before now
-few_named_on verifying name before now few = by before.files before.left
-  where
-    by : (files : Option Files) (left : Option (List ℕ)) → IfTold files left (ReadsFewFrom verifying (Some name) before now)
-    by None left = tt
-    by (Some files) None = tt
-    by (Some files) (Some bytes) = inl few
+few_named_on verifying name before now few = if_told before.files before.left (ReadsFewFrom verifying (Some name) before now) (λ told bytes files left. inl few)
+
+-- by the settings of the words, of the log that was there
+log_reads_by : OneLog → (settings given : Settings) (chains : ChainFiles) (passed : Passed) (left : Option (List ℕ)) (bytes : List ℕ) (reads mid now : ℕ) → left ≡ Some bytes → mid ≤ reads → settings ≡ given
+    → ReadsFirst settings chains passed left mid now → ReadsLog given chains passed bytes reads now
+log_reads_by law settings given chains passed left bytes reads mid now is least same first =
+    subst (λ (x : Settings). ReadsLog x chains passed bytes reads now) same
+    (log_reads law settings chains passed bytes reads mid now least (subst (λ (x : Option (List ℕ)). ReadsFirst settings chains passed x mid now) is first))
 
 pub few_alone : OneLog → (verifying : VerifyingView) (before now : Outside) (mid : ℕ) (settings : Settings) (materials : Materials) → MaterialsOf before.files verifying.judging materials
     → mid ≤ before.counts.reads + 4 → settings ≡ settings_by verifying.judging.settings → ReadsFirst settings materials.world.chains (start 0 0) before.left mid now.counts.reads
     → FewReadsFrom verifying None before now
-few_alone law verifying before now mid settings materials stands four given reads = by before.files before.left stands reads
-  where
-    by : (files : Option Files) (left : Option (List ℕ)) → MaterialsOf files verifying.judging materials → ReadsFirst settings materials.world.chains (start 0 0) left mid now.counts.reads
-        → IfTold files left (ReadsFewFrom verifying None before now)
-    by None left stands reads = tt
-    by (Some files) None stands reads = tt
-    by (Some files) (Some bytes) stands reads = inr (record {
-      materials = materials;
-      stands = stands;
-      reads = subst (λ (x : Settings). ReadsLog x materials.world.chains (start 0 0) bytes (before.counts.reads + 4) now.counts.reads) given
-          (log_reads law settings materials.world.chains (start 0 0) bytes (before.counts.reads + 4) mid now.counts.reads four reads);
-    })
+few_alone law verifying before now mid settings materials stands four given reads = if_told before.files before.left (ReadsFewFrom verifying None before now) (λ told bytes files left. inr (record {
+  materials = materials;
+  stands = subst (λ (x : Option Files). MaterialsOf x verifying.judging materials) files stands;
+  reads = log_reads_by law settings _ materials.world.chains (start 0 0) before.left bytes (before.counts.reads + 4) mid now.counts.reads left four given reads;
+}))
 
 pub few_on : OneLog → (verifying : VerifyingView) (name : List ℕ) (before now : Outside) (mid : ℕ) (settings : Settings) (materials : GoingMaterials) → GoingOf before.files verifying.judging name materials
     → mid ≤ before.counts.reads + 5 → settings ≡ settings_by verifying.judging.settings → ReadsFirst settings materials.judging.world.chains (start_at materials.state) before.left mid now.counts.reads
     → FewReadsFrom verifying (Some name) before now
-few_on law verifying name before now mid settings materials stands five given reads = by before.files before.left stands reads
-  where
-    by : (files : Option Files) (left : Option (List ℕ)) → GoingOf files verifying.judging name materials → ReadsFirst settings materials.judging.world.chains (start_at materials.state) left mid now.counts.reads
-        → IfTold files left (ReadsFewFrom verifying (Some name) before now)
-    by None left stands reads = tt
-    by (Some files) None stands reads = tt
-    by (Some files) (Some bytes) stands reads = inr (record {
-      materials = materials;
-      stands = stands;
-      reads = subst (λ (x : Settings). ReadsLog x materials.judging.world.chains (start_at materials.state) bytes (before.counts.reads + 5) now.counts.reads) given
-          (log_reads law settings materials.judging.world.chains (start_at materials.state) bytes (before.counts.reads + 5) mid now.counts.reads five reads);
-    })
+few_on law verifying name before now mid settings materials stands five given reads = if_told before.files before.left (ReadsFewFrom verifying (Some name) before now) (λ told bytes files left. inr (record {
+  materials = materials;
+  stands = subst (λ (x : Option Files). GoingOf x verifying.judging name materials) files stands;
+  reads = log_reads_by law settings _ materials.judging.world.chains (start_at materials.state) before.left bytes (before.counts.reads + 5) mid now.counts.reads left five given reads;
+}))
 
 -- ---- by the words
 

@@ -1,11 +1,10 @@
 -- What `verify` with a state came to, from what its steps came to.
-use Rattle.std.proofs.Common.{◌≡◌, ℕ, ◌+◌, ◌≤◌, inl, inr, List, [], length, Option, Some, None, Ok, sym, ap, subst, arith}
-use Rattle.cert_store.specs.Holding.{Chains}
-use Rattle.cert_store.specs.Rules.{Says}
+use Rattle.std.proofs.Common.{◌≡◌, ℕ, ◌+◌, ◌≤◌, inl, inr, List, length, Option, Some, None, Ok, sym, ap, subst, arith}
 use Rattle.cert_store.specs.Using.{names}
 use Rattle.cert_store.specs.declared.world.World.{World as Told}
 use Rattle.call_log.specs.Log.{Passed, start}
 use Rattle.log_run.specs.Words.{LogSays}
+use Rattle.log_rounds.proofs.NewLaws.{told_basis}
 use Rattle.log_rounds.specs.Handed.{GoesOnFrom, words_on}
 use Rattle.log_rounds.specs.Verifier.{JudgeBasis, basis_by, state_by}
 use Rattle.replay_law.specs.Held.{Held}
@@ -18,16 +17,14 @@ use Rattle.stir_outside.specs.Files.{Counts, CountsGoOn, Files}
 use Rattle.stir_words.specs.Order.{VerifyingView}
 use Rattle.verify_rules.specs.declared.settings.Settings.{Settings}
 use Rattle.verify_service.specs.Handing.{IsRestored, kept_by}
-use Rattle.verify_service.specs.RightChains.{AreRightHeld}
 use Rattle.verify_service.specs.Rows.{held}
-use Rattle.verify_service.specs.Service.{HoldsRight, ServiceView, materials_of}
+use Rattle.verify_service.specs.Service.{ServiceView}
 use Rattle.stir_cmd.specs.Outside.{Outside, outside}
 use Rattle.stir_cmd.specs.Calls.{basis_of, settings_by}
 use Rattle.stir_cmd.specs.OverFiles.{over_files}
 use Rattle.stir_cmd.specs.OverLog.{log_in}
 use Rattle.stir_cmd.specs.Verifying.{WentOn, going_course, going_over, start_at, verify_from, verify_over}
 use Rattle.stir_cmd.proofs.OverFilesSteps.{goes_on, short_behind}
-use Rattle.stir_cmd.proofs.VerifySteps.{none_right}
 
 -- ---- which words
 
@@ -71,20 +68,7 @@ pub goes_on_from : (settings : Settings) (told : Told) (state : StateView) (serv
     → GoesOnFrom call moment (state_by service counts)
 goes_on_from settings told state service counts call moment r number last = record { held = ap names r.no_chain; number_is = rw number r.number; moment_is = rw last r.moment }
 
-pub trusts_restored : (settings : Settings) (told : Told) (state : StateView) (service : ServiceView) (files : Option Files) (says : Says) → IsRestored settings told state service → HoldsRight files says service
-trusts_restored settings told state service files says r = subst (λ (x : Chains). AreRightHeld files (materials_of service) says x []) (sym r.no_chain) (none_right files says (materials_of service))
-
 -- ---- the log was judged by a restored service
-
-same_basis : (settings : Settings) (workers : ℕ) (materials : GoingMaterials) (service : ServiceView)
-    → IsRestored settings materials.judging.world materials.state service
-    → basis_by service materials.judging.answers workers ≡ basis_of settings workers materials.judging
-same_basis settings workers materials service r = λ i. record {
-  settings = r.settings_are i;
-  materials = record { chains = r.chains i; anchors = r.anchors i; table = r.table i };
-  answers = materials.judging.answers;
-  workers = workers;
-}
 
 same_kept : (settings : Settings) (told : Told) (state : StateView) (service : ServiceView) → IsRestored settings told state service → held service.past ≡ kept_by state.kept
 same_kept settings told state service r = λ i ticket. sym (r.past ticket) i
@@ -101,7 +85,7 @@ log_on settings workers materials service call moment before now status r number
     let basis = basis_of settings workers materials.judging in
     let told : Told = materials.judging.world in
     let by_basis = subst (λ (x : JudgeBasis). LogSays (words_on x before.files (held service.past) (start call moment) before.counts now.counts) (start call moment) (log_in before) (log_in now) status)
-    (same_basis settings workers materials service r) says in
+    (told_basis settings workers told materials.judging.answers service r.settings_are r.chains r.anchors r.table) says in
     let by_past = subst (λ (x : Held). LogSays (words_on basis before.files x (start call moment) before.counts now.counts) (start call moment) (log_in before) (log_in now) status)
     (same_kept settings told materials.state service r) by_basis in
     inl (subst (λ (x : Passed). LogSays (words_on basis before.files (kept_by materials.state.kept) x before.counts now.counts) x (log_in before) (log_in now) status)

@@ -11,7 +11,7 @@ ghost use Rattle.stir_cmd.specs.InputCode.{RepliesTo};
 ghost use Rattle.stir_cmd.specs.Outside.{io_of, outside_of};
 ghost use Rattle.verify_service.specs.Report.{said_text};
 
-use crate::answer::Answer;
+use crate::answer::{Answer, Answered};
 use crate::input::write_answer;
 use crate::sending::{Place, send_on};
 use crate::settings::settings_of;
@@ -103,7 +103,7 @@ fn reply_to<S: Shelf, O: Sink>(
 }
 
 /// The line of a message that is too long.
-fn too_long(alloc: Global) -> Result<Answer, AllocError>
+fn too_long(alloc: Global) -> Answered
     ensures { IfOk result (λ reply. GatewayRefuses reply.text (status_number reply.status)) }
 {
     let text = String::from_str(alloc, "refused 400 1 0.65535\n")?;
@@ -117,7 +117,7 @@ fn answer<S: Shelf>(
     place: &Place<'_>,
     shelf: &mut S,
     bytes: &[u8],
-) -> Result<Answer, AllocError>
+) -> Answered
     requires hop { IsTrue (is_hop (hop_by (retargeting_view words.now))) }
     requires local { words.now.judging.settings.local ≡ place.now.settings.local }
     ensures gives { IfOk result (λ reply. GatewayGives (place_of place.now) (hop_by (retargeting_view words.now)) (S.files shelf.old) (S.counts shelf.old).faults (S.counts shelf.new).faults
@@ -164,7 +164,7 @@ fn place_for<'a>(
 }
 
 /// The line of a fault, for a key of this name.
-fn refusal(alloc: Global, key: &str, fault: HopFault) -> Result<Answer, AllocError>
+fn refusal(alloc: Global, key: &str, fault: HopFault) -> Answered
     requires { HasHopLine fault }
     ensures { IfOk result (λ reply. HeldFor key.now fault reply.text (status_number reply.status)) }
 {

@@ -4,8 +4,8 @@ ghost use Rattle.stir_cmd.specs.Input.{RanInput, answering_by};
 ghost use Rattle.stir_cmd.specs.InputCode.{EndsReply, RepliesTo};
 ghost use Rattle.stir_cmd.specs.Outside.{io_of};
 
-use crate::answer::Answer;
-use std::alloc::{AllocError, Global};
+use crate::answer::Answered;
+use std::alloc::Global;
 use std::thread::Threads;
 use stir_outside::{
     ReadFault, Sink, Source, Status, end_with, memory_line, read_up_to, write_whole,
@@ -35,19 +35,14 @@ pub(crate) trait InputCommand {
         ensures small { result ≤ 67108864 };
 
     /// The answer to an input of these bytes; `rt` starts the threads that it wants. Its error is that memory ran out.
-    fn answer<R: Threads + Sync>(
-        &self,
-        rt: &R,
-        alloc: Global,
-        bytes: &[u8],
-    ) -> Result<Answer, AllocError>
+    fn answer<R: Threads + Sync>(&self, rt: &R, alloc: Global, bytes: &[u8]) -> Answered
         requires shared { IsSync R.row }
         requires ready { ready self.now }
         requires short { length bytes.now ≤ most self.now }
         ensures gives { IfOk result (λ reply. gives self.now bytes.now reply.text (status_number reply.status)) };
 
     /// The answer to an input that is longer. Its error is that memory ran out.
-    fn refuse(&self, alloc: Global) -> Result<Answer, AllocError>
+    fn refuse(&self, alloc: Global) -> Answered
         ensures refuses { IfOk result (λ reply. long self.now reply.text (status_number reply.status)) };
 }
 
@@ -94,7 +89,7 @@ fn reply_to<R: Threads + Sync, C: InputCommand, O: Sink>(
 }
 
 /// Writes an answer and gives its status, or says that memory ran out.
-pub(crate) fn write_answer<O: Sink>(sink: &mut O, answer: Result<Answer, AllocError>) -> u8
+pub(crate) fn write_answer<O: Sink>(sink: &mut O, answer: Answered) -> u8
     ensures { EndsReply (O.written sink.old) (O.written sink.new) (O.faults sink.old) (O.faults sink.new) result answer }
 {
     match answer {

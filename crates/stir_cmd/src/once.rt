@@ -6,7 +6,7 @@ ghost use Rattle.stir_cmd.specs.Input.{RanInput};
 ghost use Rattle.stir_cmd.specs.Outside.{io_of};
 ghost use Rattle.stir_outside.specs.Status.{status_number};
 
-use crate::answer::Answer;
+use crate::answer::{Answer, Answered};
 use crate::input::{InputCommand, answer_input};
 use once_run::{TicketsFault, run_once};
 use std::alloc::{AllocError, Global};
@@ -33,16 +33,11 @@ impl InputCommand for Claiming {
         MOST_BYTES
     }
 
-    fn answer<R: Threads + Sync>(
-        &self,
-        rt: &R,
-        alloc: Global,
-        bytes: &[u8],
-    ) -> Result<Answer, AllocError> {
+    fn answer<R: Threads + Sync>(&self, rt: &R, alloc: Global, bytes: &[u8]) -> Answered {
         claimed(rt, alloc, self, bytes)
     }
 
-    fn refuse(&self, alloc: Global) -> Result<Answer, AllocError> {
+    fn refuse(&self, alloc: Global) -> Answered {
         let text = String::from_str(alloc, "long input\n")?;
         Ok(Answer::of_text(text, Status::Input))
     }
@@ -64,12 +59,7 @@ pub(crate) fn once<R: Threads + Sync, I: Source, O: Sink>(
 
 /// The answer to bytes that are no more than the longest input.
 #[tactic(auto, using(crate::proofs::OnceLaws::claims, crate::proofs::OnceLaws::refuses))]
-fn claimed<R: Threads + Sync>(
-    rt: &R,
-    alloc: Global,
-    claiming: &Claiming,
-    bytes: &[u8],
-) -> Result<Answer, AllocError>
+fn claimed<R: Threads + Sync>(rt: &R, alloc: Global, claiming: &Claiming, bytes: &[u8]) -> Answered
     requires short { length bytes.now ≤ 67108864 }
     ensures gives { IfOk result (λ reply. OnceGives claiming.now.size bytes.now reply.text (status_number reply.status)) }
 {

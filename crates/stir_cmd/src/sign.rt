@@ -12,7 +12,7 @@ ghost use Rattle.stir_cmd.specs.Outside.{outside_of};
 ghost use Rattle.stir_cmd.specs.SignCode.{command_of};
 ghost use Rattle.stir_cmd.specs.Signing.{GivesMessage, GivesWhy, HasLine, HasList, RefusedFor, holder_by, sign_course, unsigned_line};
 
-use crate::answer::Answer;
+use crate::answer::{Answer, Answered};
 use crate::input::{InputCommand, answer_input};
 use crate::verify::end_at;
 use auth_service::{DivertOrder, Holder, SignFault, SignOrder, divert, sign};
@@ -127,19 +127,14 @@ impl InputCommand for MessageCommand<'_, '_> {
         MOST_BYTES
     }
 
-    fn answer<R: Threads + Sync>(
-        &self,
-        _rt: &R,
-        alloc: Global,
-        bytes: &[u8],
-    ) -> Result<Answer, AllocError> {
+    fn answer<R: Threads + Sync>(&self, _rt: &R, alloc: Global, bytes: &[u8]) -> Answered {
         match sign_bytes(alloc, self.command, self.materials, bytes) {
             Ok(out) => Ok(Answer::new(out, Status::Done)),
             Err(fault) => refusal(alloc, self.command.key(), fault),
         }
     }
 
-    fn refuse(&self, alloc: Global) -> Result<Answer, AllocError> {
+    fn refuse(&self, alloc: Global) -> Answered {
         let text = String::from_str(alloc, "sign fault 1\n")?;
         Ok(Answer::of_text(text, Status::NotAllValid))
     }
@@ -226,7 +221,7 @@ pub(crate) fn list_of(certificate: &Certificate) -> &AuthList
 }
 
 /// The line of a fault, for a key of this name.
-fn refusal(alloc: Global, key: &str, fault: SignFault) -> Result<Answer, AllocError>
+fn refusal(alloc: Global, key: &str, fault: SignFault) -> Answered
     requires { HasLine fault }
     ensures { IfOk result (λ reply. RefusedFor key.now fault reply.text (status_number reply.status)) }
 {
