@@ -2,7 +2,6 @@ pub mod WordSteps
 pub mod TurnLaws
 pub mod TableLaws
 pub mod OrderLaws
-pub mod SigningLaws
 pub mod OptionLaws
 pub mod AcceptLaws
 pub mod FormLaws
@@ -13,3 +12,4 @@ pub mod ClapLaws
 pub mod RowTable
 pub mod RowValues
 pub mod RowLaws
+pub mod SigningLaws

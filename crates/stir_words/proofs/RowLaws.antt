@@ -14,7 +14,7 @@ use Rattle.passport_claims.specs.declared.form.Form.TheVariants as forms
 use Rattle.passport_claims.specs.declared.kind.Attest.{Attest}
 use Rattle.passport_claims.specs.declared.kind.Attest.TheVariants as levels
 use Rattle.stir_words.specs.Options.{Pair, pairs_of}
-use Rattle.stir_words.specs.Order.{AskBy, AskingView, ClaimingView, DivertBy, DivertingView, DrillBy, DrillingView, ExplainBy, HolderNames, JudgingView, OnceBy, OrderView, RetargetBy, RetargetingView, SettingsView, ShowCertificates, SignBy, SignerView, SigningView, VerifyBy, VerifyingView, asking_of, claiming_of, diverting_by, diverting_from, diverting_of, drilling_of, holder_by, judging_of, order_by, order_of, order_with, retargeting_from, retargeting_of, settings_of, signer_from, signer_of, signing_by, signing_from, signing_of, verifying_of}
+use Rattle.stir_words.specs.Order.{AskBy, AskingView, ClaimingView, DivertBy, DivertingView, DrillBy, DrillingView, ExplainBy, HolderNames, JudgingView, OnceBy, OrderView, RetargetBy, RetargetingView, SettingsView, ShowCertificates, SignBy, SignerView, SigningView, VerifyBy, VerifyingView, asking_of, claiming_of, diverting_by, diverting_of, drilling_of, holder_by, judging_of, order_by, order_of, order_with, retargeting_of, settings_of, signer_of, signing_by, signing_of, verifying_of}
 use Rattle.stir_words.specs.Rows.{EachMeans, IsOrdered, Maybe, Number, OptionRow, Text, TextOf, form_rows, holder_rows, judging_rows, key_rows, local_rows, row, rows_of, settings_rows, signer_rows, word_of, workers_row}
 use Rattle.stir_words.specs.Table.{Accepted, Given, Known, accepts, command_named, given_by, options_of}
 use Rattle.stir_words.specs.Values.{count_of, earlier_of, form_by, form_of, future_of, iat_of, is_key, key_of, local_in, moment_of, past_of, seed_of, shaken_by, size_of, text_if, workers_of, x5u_of}
@@ -26,84 +26,52 @@ use Rattle.stir_words.proofs.OrderLaws.{if_accepted}
 use Rattle.stir_words.proofs.RowTable.{accepted_by, each_once, matches}
 use Rattle.stir_words.proofs.RowValues.{both_mean, fits_again, fits_means, fits_parts, local_again, local_means, number_again, number_means, or_again, or_means, some_again, some_means, some_or_again, some_or_means, split_mean, text_again, text_means}
 
+-- ---- values that lead on to one another
+
+-- a value that leads on to one is there
+some_of : {A C : Type 0} (next : A → Option C) (a : Option A) (c : C) → option_and_then next a ≡ Some c → (x : A) × (a ≡ Some x) × (next x ≡ Some c)
+some_of next None c h = absurd cc
+some_of next (Some x) c h = (x, refl, h)
+
+-- and so is the last one
+last_of : {A C : Type 0} (made : A → C) (a : Option A) (c : C) → option_map made a ≡ Some c → (x : A) × (a ≡ Some x) × (made x ≡ c)
+last_of made None c h = absurd cc
+last_of made (Some x) c h = (x, refl, same_Some (made x) c h)
+
 -- ---- the settings
-
-abbrev settings_from : Option ℕ → Option ℕ → Option LocalView → Option SettingsView
-settings_from past future l = option_and_then (λ p. option_and_then (λ f. option_map (λ n. record { past = p; future = f; local = n }) l) future) past
-
-settings_parts : (past future : Option ℕ) (l : Option LocalView) (s : SettingsView) → settings_from past future l ≡ Some s
-    → (past ≡ Some s.past) × (future ≡ Some s.future) × (l ≡ Some s.local)
-settings_parts None future l s h = absurd cc
-settings_parts (Some p) None l s h = absurd cc
-settings_parts (Some p) (Some f) None s h = absurd cc
-settings_parts (Some p) (Some f) (Some n) s h =
-    let made : SettingsView = record { past = p; future = f; local = n } in
-    let e : made ≡ s = cc in
-    (ap (λ (x : SettingsView). Some x.past) e, ap (λ (x : SettingsView). Some x.future) e, ap (λ (x : SettingsView). Some x.local) e)
-
-settings_made : (past future : Option ℕ) (l : Option LocalView) (s : SettingsView) → past ≡ Some s.past → future ≡ Some s.future → l ≡ Some s.local → settings_from past future l ≡ Some s
-settings_made past future l s p f n = rw (p, f, n) refl
 
 settings_mean : (given : Given) (s : SettingsView) → settings_of given ≡ Some s → EachMeans given (settings_rows s)
 settings_mean given s h =
-    let parts = settings_parts (past_of given) (future_of given) (local_in given) s h in (
-      or_means 60 86400 s.past (given (codes "past")) (omega arith) parts.0,
-      (or_means 5 86400 s.future (given (codes "future")) (omega arith) parts.1, local_means given s.local parts.2),
+    let p = some_of _ (past_of given) s h in
+    let f = some_of _ (future_of given) s p.2 in
+    let l = last_of _ (local_in given) s f.2 in
+    subst (λ (x : SettingsView). EachMeans given (settings_rows x)) l.2 (
+      or_means 60 86400 p.0 (given (codes "past")) (omega arith) p.1,
+      (or_means 5 86400 f.0 (given (codes "future")) (omega arith) f.1, local_means given l.0 l.1),
     )
 
 settings_again : (given : Given) (s : SettingsView) → EachMeans given (settings_rows s) → settings_of given ≡ Some s
 settings_again given s h =
-    settings_made (past_of given) (future_of given) (local_in given) s (or_again 60 0 86400 s.past (given (codes "past")) (omega arith) h.0)
-    (or_again 5 0 86400 s.future (given (codes "future")) (omega arith) h.1.0) (local_again given s.local h.1.1)
+    let p = or_again 60 0 86400 s.past (given (codes "past")) (omega arith) h.0 in
+    let f = or_again 5 0 86400 s.future (given (codes "future")) (omega arith) h.1.0 in
+    let l = local_again given s.local h.1.1 in rw (p, f, l) refl
 
 -- ---- by what calls are judged
 
-abbrev judging_from : Option (List ℕ) → Option (List ℕ) → Option (List ℕ) → Option (List ℕ) → Option SettingsView → Option JudgingView
-judging_from chains anchors table answers settings =
-    option_and_then (λ c. option_and_then (λ a. option_and_then (λ t. option_and_then (λ n.
-    option_map (λ s. record { chains = c; anchors = a; table = t; answers = n; settings = s }) settings) answers) table) anchors) chains
-
-record JudgingParts (chains anchors table answers : Option (List ℕ)) (settings : Option SettingsView) (j : JudgingView) : Type 0 where
-  chains_are : chains ≡ Some j.chains
-  anchors_are : anchors ≡ Some j.anchors
-  table_is : table ≡ Some j.table
-  answers_are : answers ≡ Some j.answers
-  settings_are : settings ≡ Some j.settings
-
-judging_parts : (chains anchors table answers : Option (List ℕ)) (settings : Option SettingsView) (j : JudgingView) → judging_from chains anchors table answers settings ≡ Some j
-    → JudgingParts chains anchors table answers settings j
-judging_parts None anchors table answers settings j h = absurd cc
-judging_parts (Some c) None table answers settings j h = absurd cc
-judging_parts (Some c) (Some a) None answers settings j h = absurd cc
-judging_parts (Some c) (Some a) (Some t) None settings j h = absurd cc
-judging_parts (Some c) (Some a) (Some t) (Some n) None j h = absurd cc
-judging_parts (Some c) (Some a) (Some t) (Some n) (Some s) j h =
-    let made : JudgingView = record { chains = c; anchors = a; table = t; answers = n; settings = s } in
-    let e : made ≡ j = cc in
-    record {
-      chains_are = ap (λ (x : JudgingView). Some x.chains) e;
-      anchors_are = ap (λ (x : JudgingView). Some x.anchors) e;
-      table_is = ap (λ (x : JudgingView). Some x.table) e;
-      answers_are = ap (λ (x : JudgingView). Some x.answers) e;
-      settings_are = ap (λ (x : JudgingView). Some x.settings) e;
-    }
-
-judging_made : (chains anchors table answers : Option (List ℕ)) (settings : Option SettingsView) (j : JudgingView) → JudgingParts chains anchors table answers settings j
-    → judging_from chains anchors table answers settings ≡ Some j
-judging_made chains anchors table answers settings j p = rw (p.chains_are, p.anchors_are, p.table_is, p.answers_are, p.settings_are) refl
-
 judging_mean : (given : Given) (j : JudgingView) (others : List OptionRow) → judging_of given ≡ Some j → EachMeans given others → EachMeans given (judging_rows j others)
 judging_mean given j others h more =
-    let p = judging_parts (given (codes "chains")) (given (codes "anchors")) (given (codes "table")) (given (codes "answers")) (settings_of given) j h in (
-      text_means j.chains (given (codes "chains")) p.chains_are,
+    let c = some_of _ (given (codes "chains")) j h in
+    let a = some_of _ (given (codes "anchors")) j c.2 in
+    let t = some_of _ (given (codes "table")) j a.2 in
+    let n = some_of _ (given (codes "answers")) j t.2 in
+    let s = last_of _ (settings_of given) j n.2 in
+    subst (λ (x : JudgingView). EachMeans given (judging_rows x others)) s.2 (
+      text_means c.0 (given (codes "chains")) c.1,
       (
-        text_means j.anchors (given (codes "anchors")) p.anchors_are,
+        text_means a.0 (given (codes "anchors")) a.1,
         (
-          text_means j.table (given (codes "table")) p.table_is,
-          (
-            text_means j.answers (given (codes "answers")) p.answers_are,
-            both_mean given others (settings_rows j.settings) more (settings_mean given j.settings p.settings_are),
-          ),
+          text_means t.0 (given (codes "table")) t.1,
+          (text_means n.0 (given (codes "answers")) n.1, both_mean given others (settings_rows s.0) more (settings_mean given s.0 s.1)),
         ),
       ),
     )
@@ -111,32 +79,14 @@ judging_mean given j others h more =
 judging_again : (given : Given) (j : JudgingView) (others : List OptionRow) → EachMeans given (judging_rows j others) → (judging_of given ≡ Some j) × EachMeans given others
 judging_again given j others h =
     let rest = split_mean given others (settings_rows j.settings) h.1.1.1.1 in
-    let parts : JudgingParts (given (codes "chains")) (given (codes "anchors")) (given (codes "table")) (given (codes "answers")) (settings_of given) j = record {
-      chains_are = text_again j.chains (given (codes "chains")) h.0;
-      anchors_are = text_again j.anchors (given (codes "anchors")) h.1.0;
-      table_is = text_again j.table (given (codes "table")) h.1.1.0;
-      answers_are = text_again j.answers (given (codes "answers")) h.1.1.1.0;
-      settings_are = settings_again given j.settings rest.1;
-    } in
-    (judging_made (given (codes "chains")) (given (codes "anchors")) (given (codes "table")) (given (codes "answers")) (settings_of given) j parts, rest.0)
+    let c = text_again j.chains (given (codes "chains")) h.0 in
+    let a = text_again j.anchors (given (codes "anchors")) h.1.0 in
+    let t = text_again j.table (given (codes "table")) h.1.1.0 in
+    let n = text_again j.answers (given (codes "answers")) h.1.1.1.0 in
+    let s = settings_again given j.settings rest.1 in
+    let read : judging_of given ≡ Some j = rw (c, a, t, n, s) refl in (read, rest.0)
 
 -- ---- `verify`, `explain` and `ask`
-
-abbrev verifying_from : Option JudgingView → Option (List ℕ) → Option ℕ → Option VerifyingView
-verifying_from judging state workers = option_and_then (λ j. option_map (λ w. record { judging = j; state = state; workers = w }) workers) judging
-
-verifying_parts : (judging : Option JudgingView) (state : Option (List ℕ)) (workers : Option ℕ) (v : VerifyingView) → verifying_from judging state workers ≡ Some v
-    → (judging ≡ Some v.judging) × (state ≡ v.state) × (workers ≡ Some v.workers)
-verifying_parts None state workers v h = absurd cc
-verifying_parts (Some j) state None v h = absurd cc
-verifying_parts (Some j) state (Some w) v h =
-    let made : VerifyingView = record { judging = j; state = state; workers = w } in
-    let e : made ≡ v = cc in
-    (ap (λ (x : VerifyingView). Some x.judging) e, ap (λ (x : VerifyingView). x.state) e, ap (λ (x : VerifyingView). Some x.workers) e)
-
-verifying_made : (judging : Option JudgingView) (state : Option (List ℕ)) (workers : Option ℕ) (v : VerifyingView) → judging ≡ Some v.judging → state ≡ v.state
-    → workers ≡ Some v.workers → verifying_from judging state workers ≡ Some v
-verifying_made judging state workers v j s w = rw (j, s, w) refl
 
 -- the rows that `verify` has beside those of `explain`
 abbrev more_of : VerifyingView → List OptionRow
@@ -144,48 +94,36 @@ more_of v = row (codes "state") (Maybe v.state) ∷ workers_row v.workers ∷ []
 
 verifying_mean : (given : Given) (v : VerifyingView) → verifying_of given ≡ Some v → EachMeans given (rows_of (VerifyBy v))
 verifying_mean given v h =
-    let parts = verifying_parts (judging_of given) (given (codes "state")) (workers_of given) v h in
-    judging_mean given v.judging (more_of v) parts.0 (parts.1, (some_or_means 1 8 v.workers (given (codes "workers")) (omega arith) parts.2, tt))
+    let j = some_of _ (judging_of given) v h in
+    let w = last_of _ (workers_of given) v j.2 in
+    let made : VerifyingView = record { judging = j.0; state = given (codes "state"); workers = w.0 } in
+    subst (λ (x : VerifyingView). EachMeans given (rows_of (VerifyBy x))) w.2
+    (judging_mean given j.0 (more_of made) j.1 (refl, (some_or_means 1 8 w.0 (given (codes "workers")) (omega arith) w.1, tt)))
 
 verifying_again : (given : Given) (v : VerifyingView) → EachMeans given (rows_of (VerifyBy v)) → verifying_of given ≡ Some v
 verifying_again given v h =
     let parts = judging_again given v.judging (more_of v) h in
-    verifying_made (judging_of given) (given (codes "state")) (workers_of given) v parts.0 parts.1.0
-    (some_or_again 1 8 v.workers (given (codes "workers")) (omega arith) (omega arith) parts.1.1.0)
-
-abbrev asking_from : Option (List ℕ) → Option (List ℕ) → Option (List ℕ) → Option SettingsView → Option AskingView
-asking_from chains anchors table settings =
-    option_and_then (λ c. option_and_then (λ a. option_and_then (λ t. option_map (λ s. record { chains = c; anchors = a; table = t; settings = s }) settings) table) anchors) chains
-
-asking_parts : (chains anchors table : Option (List ℕ)) (settings : Option SettingsView) (a : AskingView) → asking_from chains anchors table settings ≡ Some a
-    → (chains ≡ Some a.chains) × (anchors ≡ Some a.anchors) × (table ≡ Some a.table) × (settings ≡ Some a.settings)
-asking_parts None anchors table settings asked h = absurd cc
-asking_parts (Some c) None table settings asked h = absurd cc
-asking_parts (Some c) (Some a) None settings asked h = absurd cc
-asking_parts (Some c) (Some a) (Some t) None asked h = absurd cc
-asking_parts (Some c) (Some a) (Some t) (Some s) asked h =
-    let made : AskingView = record { chains = c; anchors = a; table = t; settings = s } in
-    let e : made ≡ asked = cc in
-    (ap (λ (x : AskingView). Some x.chains) e, ap (λ (x : AskingView). Some x.anchors) e, ap (λ (x : AskingView). Some x.table) e, ap (λ (x : AskingView). Some x.settings) e)
-
-asking_made : (chains anchors table : Option (List ℕ)) (settings : Option SettingsView) (a : AskingView) → chains ≡ Some a.chains → anchors ≡ Some a.anchors
-    → table ≡ Some a.table → settings ≡ Some a.settings → asking_from chains anchors table settings ≡ Some a
-asking_made chains anchors table settings asked c a t s = rw (c, a, t, s) refl
+    let j = parts.0 in
+    let s = parts.1.0 in
+    let w = some_or_again 1 8 v.workers (given (codes "workers")) (omega arith) (omega arith) parts.1.1.0 in rw (j, s, w) refl
 
 asking_mean : (given : Given) (a : AskingView) → asking_of given ≡ Some a → EachMeans given (rows_of (AskBy a))
-asking_mean given a h =
-    let p = asking_parts (given (codes "chains")) (given (codes "anchors")) (given (codes "table")) (settings_of given) a h in (
-      text_means a.chains (given (codes "chains")) p.0,
-      (
-        text_means a.anchors (given (codes "anchors")) p.1,
-        (text_means a.table (given (codes "table")) p.2, settings_mean given a.settings p.3),
-      ),
+asking_mean given asked h =
+    let c = some_of _ (given (codes "chains")) asked h in
+    let a = some_of _ (given (codes "anchors")) asked c.2 in
+    let t = some_of _ (given (codes "table")) asked a.2 in
+    let s = last_of _ (settings_of given) asked t.2 in
+    subst (λ (x : AskingView). EachMeans given (rows_of (AskBy x))) s.2 (
+      text_means c.0 (given (codes "chains")) c.1,
+      (text_means a.0 (given (codes "anchors")) a.1, (text_means t.0 (given (codes "table")) t.1, settings_mean given s.0 s.1)),
     )
 
 asking_again : (given : Given) (a : AskingView) → EachMeans given (rows_of (AskBy a)) → asking_of given ≡ Some a
-asking_again given a h =
-    asking_made (given (codes "chains")) (given (codes "anchors")) (given (codes "table")) (settings_of given) a (text_again a.chains (given (codes "chains")) h.0)
-    (text_again a.anchors (given (codes "anchors")) h.1.0) (text_again a.table (given (codes "table")) h.1.1.0) (settings_again given a.settings h.1.1.1)
+asking_again given asked h =
+    let c = text_again asked.chains (given (codes "chains")) h.0 in
+    let a = text_again asked.anchors (given (codes "anchors")) h.1.0 in
+    let t = text_again asked.table (given (codes "table")) h.1.1.0 in
+    let s = settings_again given asked.settings h.1.1.1 in rw (c, a, t, s) refl
 
 -- ---- who signs
 
@@ -205,38 +143,6 @@ holder_again None given h = let l = h.0 in let t = h.1.0 in rw (l, t) refl
 holder_again (Some names) given h =
     let l = text_again names.leaf (given (codes "leaf")) h.0 in let t = text_again names.table (given (codes "table")) h.1.0 in rw (l, t) refl
 
-record SignerParts (key x5u : Option (List ℕ)) (iat : Option ℕ) (l : Option LocalView) (answers : Option (List ℕ)) (holder : Option (Option HolderNames)) (by : SignerView) : Type 0 where
-  key_is : key ≡ Some by.key
-  x5u_is : x5u ≡ Some by.x5u
-  iat_is : iat ≡ Some by.iat
-  local_is : l ≡ Some by.local
-  answers_are : answers ≡ Some by.answers
-  holder_is : holder ≡ Some by.holder
-
-signer_parts : (key x5u : Option (List ℕ)) (iat : Option ℕ) (l : Option LocalView) (answers : Option (List ℕ)) (holder : Option (Option HolderNames)) (by : SignerView)
-    → signer_from key x5u iat l answers holder ≡ Some by → SignerParts key x5u iat l answers holder by
-signer_parts None x5u iat l answers holder by h = absurd cc
-signer_parts (Some k) None iat l answers holder by h = absurd cc
-signer_parts (Some k) (Some u) None l answers holder by h = absurd cc
-signer_parts (Some k) (Some u) (Some i) None answers holder by h = absurd cc
-signer_parts (Some k) (Some u) (Some i) (Some n) None holder by h = absurd cc
-signer_parts (Some k) (Some u) (Some i) (Some n) (Some a) None by h = absurd cc
-signer_parts (Some k) (Some u) (Some i) (Some n) (Some a) (Some o) by h =
-    let made : SignerView = record { key = k; x5u = u; iat = i; local = n; answers = a; holder = o } in
-    let e : made ≡ by = cc in
-    record {
-      key_is = ap (λ (b : SignerView). Some b.key) e;
-      x5u_is = ap (λ (b : SignerView). Some b.x5u) e;
-      iat_is = ap (λ (b : SignerView). Some b.iat) e;
-      local_is = ap (λ (b : SignerView). Some b.local) e;
-      answers_are = ap (λ (b : SignerView). Some b.answers) e;
-      holder_is = ap (λ (b : SignerView). Some b.holder) e;
-    }
-
-signer_made : (key x5u : Option (List ℕ)) (iat : Option ℕ) (l : Option LocalView) (answers : Option (List ℕ)) (holder : Option (Option HolderNames)) (by : SignerView)
-    → SignerParts key x5u iat l answers holder by → signer_from key x5u iat l answers holder ≡ Some by
-signer_made key x5u iat l answers holder by p = rw (p.key_is, p.x5u_is, p.iat_is, p.local_is, p.answers_are, p.holder_is) refl
-
 keys_mean : (given : Given) (key x5u : List ℕ) (iat : ℕ) → key_of given ≡ Some key → x5u_of given ≡ Some x5u → iat_of given ≡ Some iat → EachMeans given (key_rows key x5u iat)
 keys_mean given key x5u iat k u i = (
   fits_means is_key key (given (codes "key")) k,
@@ -252,7 +158,7 @@ keys_again given key x5u iat h = (
 )
 
 -- the rows of a signer, as the parts are found
-abbrev after_keys : SignerView → List OptionRow
+abbrev pub after_keys : SignerView → List OptionRow
 after_keys by = row (codes "answers") (Text by.answers) ∷ (holder_rows by.holder ++ local_rows by.local)
 
 abbrev SignerRows : Given → SignerView → Type 0
@@ -260,27 +166,29 @@ SignerRows given by = EachMeans given (signer_rows by)
 
 signer_mean : (given : Given) (by : SignerView) → signer_of given ≡ Some by → SignerRows given by
 signer_mean given by h =
-    let p = signer_parts (key_of given) (x5u_of given) (iat_of given) (local_in given) (given (codes "answers")) (holder_by (given (codes "leaf")) (given (codes "table"))) by h in
-    both_mean given (key_rows by.key by.x5u by.iat) (after_keys by) (keys_mean given by.key by.x5u by.iat p.key_is p.x5u_is p.iat_is) (
-      text_means by.answers (given (codes "answers")) p.answers_are,
-      both_mean given (holder_rows by.holder) (local_rows by.local) (holder_mean (given (codes "leaf")) (given (codes "table")) by.holder p.holder_is given refl refl)
-          (local_means given by.local p.local_is),
-    )
+    let k = some_of _ (key_of given) by h in
+    let u = some_of _ (x5u_of given) by k.2 in
+    let i = some_of _ (iat_of given) by u.2 in
+    let l = some_of _ (local_in given) by i.2 in
+    let a = some_of _ (given (codes "answers")) by l.2 in
+    let o = last_of _ (holder_by (given (codes "leaf")) (given (codes "table"))) by a.2 in
+    let made : SignerView = record { key = k.0; x5u = u.0; iat = i.0; local = l.0; answers = a.0; holder = o.0 } in
+    subst (SignerRows given) o.2 (both_mean given (key_rows k.0 u.0 i.0) (after_keys made) (keys_mean given k.0 u.0 i.0 k.1 u.1 i.1) (
+      text_means a.0 (given (codes "answers")) a.1,
+      both_mean given (holder_rows o.0) (local_rows l.0) (holder_mean (given (codes "leaf")) (given (codes "table")) o.0 o.1 given refl refl) (local_means given l.0 l.1),
+    ))
 
 signer_again : (given : Given) (by : SignerView) → SignerRows given by → signer_of given ≡ Some by
 signer_again given by h =
     let parts = split_mean given (key_rows by.key by.x5u by.iat) (after_keys by) h in
     let keys = keys_again given by.key by.x5u by.iat parts.0 in
     let rest = split_mean given (holder_rows by.holder) (local_rows by.local) parts.1.1 in
-    let found : SignerParts (key_of given) (x5u_of given) (iat_of given) (local_in given) (given (codes "answers")) (holder_by (given (codes "leaf")) (given (codes "table"))) by = record {
-      key_is = keys.0;
-      x5u_is = keys.1;
-      iat_is = keys.2;
-      local_is = local_again given by.local rest.1;
-      answers_are = text_again by.answers (given (codes "answers")) parts.1.0;
-      holder_is = holder_again by.holder given rest.0;
-    } in
-    signer_made (key_of given) (x5u_of given) (iat_of given) (local_in given) (given (codes "answers")) (holder_by (given (codes "leaf")) (given (codes "table"))) by found
+    let k = keys.0 in
+    let u = keys.1 in
+    let i = keys.2 in
+    let l = local_again given by.local rest.1 in
+    let a = text_again by.answers (given (codes "answers")) parts.1.0 in
+    let o = holder_again by.holder given rest.0 in rw (k, u, i, l, a, o) refl
 
 -- ---- `sign` and `divert`
 
@@ -363,13 +271,11 @@ signing_mean given order h =
     subst (λ (x : SigningView). EachMeans given (rows_of (SignBy x))) parts.4
     (both_mean given (form_rows parts.0) (signer_rows parts.1) (form_mean given parts.0 parts.2) (signer_mean given parts.1 parts.3))
 
-signing_made : (form : Option Form) (by : Option SignerView) (f : Form) (s : SignerView) → form ≡ Some f → by ≡ Some s → signing_from form by ≡ Some (signing_by f s)
-signing_made form by f s ef es = rw (ef, es) refl
-
 signing_again : (given : Given) (order : SigningView) → EachMeans given (rows_of (SignBy order)) → signing_of given ≡ Some order
 signing_again given order h =
     let parts = split_mean given (form_rows order.form) (signer_rows order.signer) h in
-    signing_made (form_of given) (signer_of given) order.form order.signer (form_again given order.form parts.0) (signer_again given order.signer parts.1)
+    let f = form_again given order.form parts.0 in
+    let s = signer_again given order.signer parts.1 in rw (f, s) refl
 
 diverting_mean : (given : Given) (order : DivertingView) → diverting_of given ≡ Some order → EachMeans given (rows_of (DivertBy order))
 diverting_mean given order h =
@@ -377,116 +283,66 @@ diverting_mean given order h =
     subst (λ (x : DivertingView). EachMeans given (rows_of (DivertBy x))) parts.4
     (fits_means is_number parts.0 (given (codes "earlier")) parts.2, signer_mean given parts.1 parts.3)
 
-diverting_made : (earlier : Option (List ℕ)) (by : Option SignerView) (e : List ℕ) (s : SignerView) → earlier ≡ Some e → by ≡ Some s
-    → diverting_from earlier by ≡ Some (diverting_by e s)
-diverting_made earlier by e s ee es = rw (ee, es) refl
-
 diverting_again : (given : Given) (order : DivertingView) → EachMeans given (rows_of (DivertBy order)) → diverting_of given ≡ Some order
 diverting_again given order h =
-    diverting_made (earlier_of given) (signer_of given) order.earlier order.signer (fits_again is_number order.earlier (given (codes "earlier")) h.0) (signer_again given order.signer h.1)
+    let e = fits_again is_number order.earlier (given (codes "earlier")) h.0 in
+    let s = signer_again given order.signer h.1 in rw (e, s) refl
 
 -- ---- `retarget`
 
-record RetargetingParts (judging : Option JudgingView) (key x5u : Option (List ℕ)) (iat : Option ℕ) (target leaf : Option (List ℕ)) (moment : Option ℕ) (order : RetargetingView) : Type 0 where
-  judging_is : judging ≡ Some order.judging
-  key_is : key ≡ Some order.key
-  x5u_is : x5u ≡ Some order.x5u
-  iat_is : iat ≡ Some order.iat
-  target_is : target ≡ Some order.target
-  leaf_is : leaf ≡ Some order.leaf
-  moment_is : moment ≡ Some order.moment
-
-retargeting_parts : (judging : Option JudgingView) (key x5u : Option (List ℕ)) (iat : Option ℕ) (target leaf : Option (List ℕ)) (moment : Option ℕ) (order : RetargetingView)
-    → retargeting_from judging key x5u iat target leaf moment ≡ Some order → RetargetingParts judging key x5u iat target leaf moment order
-retargeting_parts None key x5u iat target leaf moment order h = absurd cc
-retargeting_parts (Some j) None x5u iat target leaf moment order h = absurd cc
-retargeting_parts (Some j) (Some k) None iat target leaf moment order h = absurd cc
-retargeting_parts (Some j) (Some k) (Some u) None target leaf moment order h = absurd cc
-retargeting_parts (Some j) (Some k) (Some u) (Some i) None leaf moment order h = absurd cc
-retargeting_parts (Some j) (Some k) (Some u) (Some i) (Some t) None moment order h = absurd cc
-retargeting_parts (Some j) (Some k) (Some u) (Some i) (Some t) (Some l) None order h = absurd cc
-retargeting_parts (Some j) (Some k) (Some u) (Some i) (Some t) (Some l) (Some m) order h =
-    let made : RetargetingView = record { judging = j; key = k; x5u = u; iat = i; target = t; leaf = l; moment = m } in
-    let e : made ≡ order = cc in
-    record {
-      judging_is = ap (λ (x : RetargetingView). Some x.judging) e;
-      key_is = ap (λ (x : RetargetingView). Some x.key) e;
-      x5u_is = ap (λ (x : RetargetingView). Some x.x5u) e;
-      iat_is = ap (λ (x : RetargetingView). Some x.iat) e;
-      target_is = ap (λ (x : RetargetingView). Some x.target) e;
-      leaf_is = ap (λ (x : RetargetingView). Some x.leaf) e;
-      moment_is = ap (λ (x : RetargetingView). Some x.moment) e;
-    }
-
-retargeting_made : (judging : Option JudgingView) (key x5u : Option (List ℕ)) (iat : Option ℕ) (target leaf : Option (List ℕ)) (moment : Option ℕ) (order : RetargetingView)
-    → RetargetingParts judging key x5u iat target leaf moment order → retargeting_from judging key x5u iat target leaf moment ≡ Some order
-retargeting_made judging key x5u iat target leaf moment order p = rw (p.judging_is, p.key_is, p.x5u_is, p.iat_is, p.target_is, p.leaf_is, p.moment_is) refl
-
 -- the rows after those of the key, and with them
-abbrev after_key : RetargetingView → List OptionRow
+abbrev pub after_key : RetargetingView → List OptionRow
 after_key order = row (codes "target") (Text order.target) ∷ row (codes "leaf") (Text order.leaf) ∷ row (codes "moment") (Number 0 253402300799 order.moment) ∷ []
 
-abbrev from_key : RetargetingView → List OptionRow
+abbrev pub from_key : RetargetingView → List OptionRow
 from_key order = key_rows order.key order.x5u order.iat ++ after_key order
 
 retargeting_mean : (given : Given) (order : RetargetingView) → retargeting_of given ≡ Some order → EachMeans given (rows_of (RetargetBy order))
 retargeting_mean given order h =
-    let p = retargeting_parts (judging_of given) (key_of given) (x5u_of given) (iat_of given) (given (codes "target")) (given (codes "leaf")) (moment_of given) order h in
-    judging_mean given order.judging (from_key order) p.judging_is
-    (both_mean given (key_rows order.key order.x5u order.iat) (after_key order) (keys_mean given order.key order.x5u order.iat p.key_is p.x5u_is p.iat_is) (
-      text_means order.target (given (codes "target")) p.target_is,
-      (
-        text_means order.leaf (given (codes "leaf")) p.leaf_is,
-        (number_means 253402300799 order.moment (given (codes "moment")) (omega arith) p.moment_is, tt),
-      ),
-    ))
+    let j = some_of _ (judging_of given) order h in
+    let k = some_of _ (key_of given) order j.2 in
+    let u = some_of _ (x5u_of given) order k.2 in
+    let i = some_of _ (iat_of given) order u.2 in
+    let t = some_of _ (given (codes "target")) order i.2 in
+    let l = some_of _ (given (codes "leaf")) order t.2 in
+    let m = last_of _ (moment_of given) order l.2 in
+    let made : RetargetingView = record { judging = j.0; key = k.0; x5u = u.0; iat = i.0; target = t.0; leaf = l.0; moment = m.0 } in
+    subst (λ (x : RetargetingView). EachMeans given (rows_of (RetargetBy x))) m.2
+    (judging_mean given j.0 (from_key made) j.1 (both_mean given (key_rows k.0 u.0 i.0) (after_key made) (keys_mean given k.0 u.0 i.0 k.1 u.1 i.1) (
+      text_means t.0 (given (codes "target")) t.1,
+      (text_means l.0 (given (codes "leaf")) l.1, (number_means 253402300799 m.0 (given (codes "moment")) (omega arith) m.1, tt)),
+    )))
 
 retargeting_again : (given : Given) (order : RetargetingView) → EachMeans given (rows_of (RetargetBy order)) → retargeting_of given ≡ Some order
 retargeting_again given order h =
     let parts = judging_again given order.judging (from_key order) h in
     let more = split_mean given (key_rows order.key order.x5u order.iat) (after_key order) parts.1 in
     let keys = keys_again given order.key order.x5u order.iat more.0 in
-    let found : RetargetingParts (judging_of given) (key_of given) (x5u_of given) (iat_of given) (given (codes "target")) (given (codes "leaf")) (moment_of given) order = record {
-      judging_is = parts.0;
-      key_is = keys.0;
-      x5u_is = keys.1;
-      iat_is = keys.2;
-      target_is = text_again order.target (given (codes "target")) more.1.0;
-      leaf_is = text_again order.leaf (given (codes "leaf")) more.1.1.0;
-      moment_is = number_again 0 253402300799 order.moment (given (codes "moment")) (omega arith) more.1.1.1.0;
-    } in
-    retargeting_made (judging_of given) (key_of given) (x5u_of given) (iat_of given) (given (codes "target")) (given (codes "leaf")) (moment_of given) order found
+    let j = parts.0 in
+    let k = keys.0 in
+    let u = keys.1 in
+    let i = keys.2 in
+    let t = text_again order.target (given (codes "target")) more.1.0 in
+    let l = text_again order.leaf (given (codes "leaf")) more.1.1.0 in
+    let m = number_again 0 253402300799 order.moment (given (codes "moment")) (omega arith) more.1.1.1.0 in rw (j, k, u, i, t, l, m) refl
 
 -- ---- `drill` and `once`
 
-abbrev drilling_from : Option ℕ → Option ℕ → Option ℕ → Option DrillingView
-drilling_from seed count workers = option_and_then (λ s. option_and_then (λ c. option_map (λ w. record { seed = s; count = c; workers = w }) workers) count) seed
-
-drilling_parts : (seed count workers : Option ℕ) (d : DrillingView) → drilling_from seed count workers ≡ Some d
-    → (seed ≡ Some d.seed) × (count ≡ Some d.count) × (workers ≡ Some d.workers)
-drilling_parts None count workers d h = absurd cc
-drilling_parts (Some s) None workers d h = absurd cc
-drilling_parts (Some s) (Some c) None d h = absurd cc
-drilling_parts (Some s) (Some c) (Some w) d h =
-    let made : DrillingView = record { seed = s; count = c; workers = w } in
-    let e : made ≡ d = cc in
-    (ap (λ (x : DrillingView). Some x.seed) e, ap (λ (x : DrillingView). Some x.count) e, ap (λ (x : DrillingView). Some x.workers) e)
-
-drilling_made : (seed count workers : Option ℕ) (d : DrillingView) → seed ≡ Some d.seed → count ≡ Some d.count → workers ≡ Some d.workers → drilling_from seed count workers ≡ Some d
-drilling_made seed count workers d s c w = rw (s, c, w) refl
-
 drilling_mean : (given : Given) (d : DrillingView) → drilling_of given ≡ Some d → EachMeans given (rows_of (DrillBy d))
 drilling_mean given d h =
-    let p = drilling_parts (seed_of given) (count_of given) (workers_of given) d h in (
-      number_means 18446744073709551615 d.seed (given (codes "seed")) (omega arith) p.0,
-      (number_means 100000 d.count (given (codes "count")) (omega arith) p.1, (some_or_means 1 8 d.workers (given (codes "workers")) (omega arith) p.2, tt)),
+    let s = some_of _ (seed_of given) d h in
+    let c = some_of _ (count_of given) d s.2 in
+    let w = last_of _ (workers_of given) d c.2 in
+    subst (λ (x : DrillingView). EachMeans given (rows_of (DrillBy x))) w.2 (
+      number_means 18446744073709551615 s.0 (given (codes "seed")) (omega arith) s.1,
+      (number_means 100000 c.0 (given (codes "count")) (omega arith) c.1, (some_or_means 1 8 w.0 (given (codes "workers")) (omega arith) w.1, tt)),
     )
 
 drilling_again : (given : Given) (d : DrillingView) → EachMeans given (rows_of (DrillBy d)) → drilling_of given ≡ Some d
 drilling_again given d h =
-    drilling_made (seed_of given) (count_of given) (workers_of given) d (number_again 0 18446744073709551615 d.seed (given (codes "seed")) (omega arith) h.0)
-    (number_again 0 100000 d.count (given (codes "count")) (omega arith) h.1.0)
-    (some_or_again 1 8 d.workers (given (codes "workers")) (omega arith) (omega arith) h.1.1.0)
+    let s = number_again 0 18446744073709551615 d.seed (given (codes "seed")) (omega arith) h.0 in
+    let c = number_again 0 100000 d.count (given (codes "count")) (omega arith) h.1.0 in
+    let w = some_or_again 1 8 d.workers (given (codes "workers")) (omega arith) (omega arith) h.1.1.0 in rw (s, c, w) refl
 
 abbrev claiming_by : ℕ → ℕ → ClaimingView
 claiming_by slots workers = record { size = slots; workers = workers }
@@ -497,14 +353,10 @@ claiming_mean given c h =
     subst (λ (x : ClaimingView). EachMeans given (rows_of (OnceBy x))) parts.4
     (some_means 1048576 parts.0 (given (codes "size")) (omega arith) parts.2, (some_or_means 1 8 parts.1 (given (codes "workers")) (omega arith) parts.3, tt))
 
-claiming_made : (slots workers : Option ℕ) (c : ClaimingView) → slots ≡ Some c.size → workers ≡ Some c.workers
-    → option_and_then (λ s. option_map (claiming_by s) workers) slots ≡ Some c
-claiming_made slots workers c s w = rw (s, w) refl
-
 claiming_again : (given : Given) (c : ClaimingView) → EachMeans given (rows_of (OnceBy c)) → claiming_of given ≡ Some c
 claiming_again given c h =
-    claiming_made (size_of given) (workers_of given) c (some_again 1048576 c.size (given (codes "size")) (omega arith) h.0)
-    (some_or_again 1 8 c.workers (given (codes "workers")) (omega arith) (omega arith) h.1.0)
+    let s = some_again 1048576 c.size (given (codes "size")) (omega arith) h.0 in
+    let w = some_or_again 1 8 c.workers (given (codes "workers")) (omega arith) (omega arith) h.1.0 in rw (s, w) refl
 
 -- ---- the commands
 

@@ -160,7 +160,7 @@ const OWN_LEAF: Row = Row {
 };
 
 /// The file with the code table of the holder of the key.
-const HOLDER_TABLE: Row = Row {
+const HOLDER: Row = Row {
     name: "table",
     required: false,
 };
@@ -198,30 +198,12 @@ const ASKING: [Row; 7] = [CHAINS, ANCHORS, TABLE, PAST, FUTURE, COUNTRY, NATIONA
 
 /// The options of `sign`.
 const SIGNING: [Row; 11] = [
-    FORM,
-    ATTEST,
-    ORIGID,
-    KEY,
-    X5U,
-    IAT,
-    ANSWERS,
-    LEAF,
-    HOLDER_TABLE,
-    COUNTRY,
-    NATIONAL,
+    FORM, ATTEST, ORIGID, KEY, X5U, IAT, ANSWERS, LEAF, HOLDER, COUNTRY, NATIONAL,
 ];
 
 /// The options of `divert`.
 const DIVERTING: [Row; 9] = [
-    EARLIER,
-    KEY,
-    X5U,
-    IAT,
-    ANSWERS,
-    LEAF,
-    HOLDER_TABLE,
-    COUNTRY,
-    NATIONAL,
+    EARLIER, KEY, X5U, IAT, ANSWERS, LEAF, HOLDER, COUNTRY, NATIONAL,
 ];
 
 /// The options of `retarget`.
