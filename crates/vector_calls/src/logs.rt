@@ -126,33 +126,13 @@ fn judge_round<R: Threads + Sync, G: Gate + Send>(
     ensures same { SaySame workers.new }
     ensures right { (d : _) → HoldsRight (Some shelf.new.files) (held_says (slice_index_or workers.new 0 d).provider.held) service.new }
 {
-    let before = shelf.reads();
-    let outcomes = judge(rt, service, shelf, workers, calls)?;
-    told.reads.push(shelf.reads() - before)?;
-    put_lines(&mut told.lines, calls, outcomes.as_slice())
-}
-
-/// What comes of the calls of a round. What is held of chains stays right.
-fn judge<R: Threads + Sync, G: Gate + Send>(
-    rt: &R,
-    service: &mut Service,
-    shelf: &mut ShelfMem,
-    workers: &mut [Worker<AnswerProvider<'_>, G>],
-    calls: &[Call],
-) -> Result<Vec<Outcome>, Unread>
-    requires some { 0 < length workers.old }
-    requires few { length workers.old ≤ 8 }
-    requires same { SaySame workers.old }
-    requires right { (d : _) → HoldsRight (Some shelf.old.files) (held_says (slice_index_or workers.old 0 d).provider.held) service.old }
-    ensures counted { length workers.new ≡ length workers.old }
-    ensures same { SaySame workers.new }
-    ensures reads { shelf.old.counts.reads ≤ shelf.new.counts.reads }
-    ensures right { (d : _) → HoldsRight (Some shelf.new.files) (held_says (slice_index_or workers.new 0 d).provider.held) service.new }
-{
     if !service.follows(calls) {
         return Err(Unread::Value);
     }
-    Ok(service.round(rt, shelf, workers, calls)?.close())
+    let before = shelf.reads();
+    let outcomes = service.round(rt, shelf, workers, calls)?.close();
+    told.reads.push(shelf.reads() - before)?;
+    put_lines(&mut told.lines, calls, outcomes.as_slice())
 }
 
 /// Puts the lines of a round after others.
