@@ -3,7 +3,6 @@ ghost use Rattle.std.specs.Prelude.{◌≡◌, ◌≤◌, ◌<◌, ◌+◌, ◌�
 ghost use Rattle.std.specs.List.{slice_get};
 ghost use Rattle.replay_desk.specs.Holder.{Settled};
 ghost use Rattle.stir_outside.specs.Stays.{ProviderStays};
-ghost use Rattle.verify_rules.specs.declared.verdict.Verdict.TheVariants as verdicts;
 ghost use Rattle.call_judging.specs.Causes.{HasCauseIf};
 ghost use Rattle.verify_service.specs.Causes.{is_unasked_passport};
 ghost use Rattle.verify_service.specs.Claiming.{Claims, ClaimsAt, HasWon, IsAnswer, IsClaim, OutcomeSays, verdict_of};
@@ -156,7 +155,7 @@ fn judge_screened<P: Provider>(
     settle(lent, verdict, class, number, screened.ticket(), seat)
 }
 
-/// What is answered by a verdict: if it lets the call pass, by the past and by the claim of its class.
+/// What is answered by a verdict. A call that passes is a replay if its ticket is held or the claim of its class is lost, and else valid.
 fn settle(
     lent: &Lent<'_>,
     verdict: Verdict,
@@ -172,30 +171,13 @@ fn settle(
     ensures claims { ClaimsAt lent.now.past.now ticket.now class number seat.old seat.new result }
 {
     match verdict {
-        Verdict::Passed => settle_pass(lent, class, number, ticket, seat),
+        Verdict::Passed => match lent.past.find(ticket) {
+            Some(kept) => Outcome::Replay { winner: kept.call },
+            None => claim(lent.desk, class, number, seat),
+        },
         Verdict::Refused(refusal) => Outcome::Refused(refusal),
         Verdict::Unread(place) => Outcome::Unread(place),
         Verdict::Unasked(place) => Outcome::Unasked(place),
-    }
-}
-
-/// A call that passes is a replay if its ticket is held or its claim is lost, and else valid.
-fn settle_pass(
-    lent: &Lent<'_>,
-    class: u32,
-    number: u32,
-    ticket: &[u8; 32],
-    seat: &mut Seat,
-) -> Outcome
-    requires desk { seat.old.desk ≡ lent.now.desk.now }
-    requires class { class < lent.now.desk.now.words }
-    requires number { number < 4294967295 }
-    ensures passes { verdicts.Passed ≡ verdict_of result }
-    ensures claims { ClaimsAt lent.now.past.now ticket.now class number seat.old seat.new result }
-{
-    match lent.past.find(ticket) {
-        Some(kept) => Outcome::Replay { winner: kept.call },
-        None => claim(lent.desk, class, number, seat),
     }
 }
 
