@@ -1,19 +1,20 @@
 -- What the holding of rules 16 and 17 means, of one PASSporT whose chain is one of certificates of the profile.
-use Rattle.std.proofs.Common.{◌≡◌, ◌↔◌, ◌⊎◌, inl, inr, ℕ, Bool, true, false, ◌||◌, List, [], ◌∷◌, Option, Some, None, refl, sym, ◌∙◌, ap}
+use Rattle.std.proofs.Common.{◌≡◌, ◌↔◌, ◌⊎◌, inl, inr, ℕ, Bool, true, false, ◌&&◌, ◌||◌, List, [], ◌∷◌, Option, Some, None, refl, sym, ◌∙◌, ap}
 use Rattle.std.specs.Prelude.{IsTrue}
 use Rattle.std.specs.List.{list_any, slice_get}
-use Rattle.std.proofs.lemmas.Bool.{or_cases}
+use Rattle.std.proofs.lemmas.Bool.{and_parts, or_cases}
 use Rattle.tn_auth_list.specs.declared.entries.Entry.{Entry}
 use Rattle.tn_auth_list.specs.declared.entries.Entry.TheVariants.{Code, Range, Single}
 use Rattle.x509_profile.specs.View.{CertView}
 use Rattle.delegation.specs.Coverage.{Covers, NamesCode, Table}
 use Rattle.delegation.specs.Decided.{covers_number}
+use Rattle.passport_claims.specs.Kind.{div_in, level_in}
+use Rattle.passport_claims.specs.declared.kind.Attest.{Attest}
 use Rattle.passport_claims.specs.declared.kind.Attest.TheVariants as levels
 use Rattle.passport_claims.specs.declared.kind.Kind.{Kind}
-use Rattle.passport_claims.specs.declared.kind.Kind.TheVariants as kinds
 use Rattle.verify_rules.specs.Call.{Reading}
-use Rattle.verify_rules.specs.Late.{covers_by, covers_kind, covers_leaf, is_code, is_signed_by, or_broken}
-use Rattle.verify_rules.specs.LateWords.{CoversKind, CoversOrNamesCode, HasChain, HasLeaf, IsCovered, IsGenuine, IsInProfile}
+use Rattle.verify_rules.specs.Late.{allows_code, covers_by, covers_kind, covers_leaf, is_code, is_signed_by, or_broken, vouched}
+use Rattle.verify_rules.specs.LateWords.{AllowsCode, CoversKind, CoversVouched, HasChain, HasLeaf, IsCovered, IsGenuine, IsInProfile}
 use Rattle.verify_rules.specs.States.{State, have}
 use Rattle.verify_rules.specs.World.{HoldsBytes, World, broken_by, forged, forged_by, part_at, truth_for, unless_good}
 use Rattle.verify_rules.specs.declared.late.LateRule.TheVariants as late
@@ -85,28 +86,48 @@ named_again [] code p = absurd p
 named_again (entry ∷ entries) code (inl same) = either_again (is_code entry) (list_any is_code entries) (inl (ap is_code same))
 named_again (entry ∷ entries) code (inr more) = either_again (is_code entry) (list_any is_code entries) (inr (named_again entries code more))
 
-covers_or_by : CoversLaw → (table : Table) (entries : List Entry) (phone : List ℕ) → (covers_number entries table phone || list_any is_code entries) ≡ true → CoversOrNamesCode table entries phone
-covers_or_by law table entries phone h =
-    elim (or_cases (covers_number entries table phone) (list_any is_code entries) h) [ inl here ↦ inl ((law entries table phone).0 here) | inr more ↦ inr (named_by entries more) ]
+vouched_by : CoversLaw → (table : Table) (entries : List Entry) (orig : List ℕ) (diverted : Option (List ℕ)) → covers_number entries table (vouched orig diverted) ≡ true
+    → CoversVouched table entries orig diverted
+vouched_by law table entries orig None h = (law entries table orig).0 h
+vouched_by law table entries orig (Some phone) h = (law entries table phone).0 h
 
-covers_or_again : CoversLaw → (table : Table) (entries : List Entry) (phone : List ℕ) → CoversOrNamesCode table entries phone → (covers_number entries table phone || list_any is_code entries) ≡ true
-covers_or_again law table entries phone (inl covered) = either_again (covers_number entries table phone) (list_any is_code entries) (inl ((law entries table phone).1 covered))
-covers_or_again law table entries phone (inr p) = either_again (covers_number entries table phone) (list_any is_code entries) (inr (named_again entries p.0 p.1))
+vouched_again : CoversLaw → (table : Table) (entries : List Entry) (orig : List ℕ) (diverted : Option (List ℕ)) → CoversVouched table entries orig diverted
+    → covers_number entries table (vouched orig diverted) ≡ true
+vouched_again law table entries orig None p = (law entries table orig).1 p
+vouched_again law table entries orig (Some phone) p = (law entries table phone).1 p
+
+allows_by : (level : Option Attest) → allows_code level ≡ true → AllowsCode level
+allows_by None h = absurd cc
+allows_by (Some levels.A) h = absurd cc
+allows_by (Some levels.B) h = tt
+allows_by (Some levels.C) h = tt
+
+allows_again : (level : Option Attest) → AllowsCode level → allows_code level ≡ true
+allows_again None p = absurd p
+allows_again (Some levels.A) p = absurd p
+allows_again (Some levels.B) p = refl
+allows_again (Some levels.C) p = refl
+
+both_again : (a b : Bool) → a ≡ true → b ≡ true → (a && b) ≡ true
+both_again a b h k = rw (h, k) refl
 
 -- the test of a list decides what is asked of it
 pub kind_by : CoversLaw → (table : Table) (entries : List Entry) (orig : List ℕ) (kind : Kind) → covers_kind table entries orig kind ≡ true → CoversKind table entries orig kind
-kind_by law table entries orig kinds.Base h = (law entries table orig).0 h
-kind_by law table entries orig (kinds.Shaken levels.A origid) h = (law entries table orig).0 h
-kind_by law table entries orig (kinds.Shaken levels.B origid) h = covers_or_by law table entries orig h
-kind_by law table entries orig (kinds.Shaken levels.C origid) h = covers_or_by law table entries orig h
-kind_by law table entries orig (kinds.Div phone) h = (law entries table phone).0 h
+kind_by law table entries orig kind h =
+    elim (or_cases (covers_number entries table (vouched orig (div_in kind))) (allows_code (level_in kind) && list_any is_code entries) h) [
+      | inl here ↦ inl (vouched_by law table entries orig (div_in kind) here)
+      | inr more ↦
+          let k = and_parts (allows_code (level_in kind)) (list_any is_code entries) more in
+          inr (allows_by (level_in kind) k.0, named_by entries k.1)
+    ]
 
 pub kind_again : CoversLaw → (table : Table) (entries : List Entry) (orig : List ℕ) (kind : Kind) → CoversKind table entries orig kind → covers_kind table entries orig kind ≡ true
-kind_again law table entries orig kinds.Base p = (law entries table orig).1 p
-kind_again law table entries orig (kinds.Shaken levels.A origid) p = (law entries table orig).1 p
-kind_again law table entries orig (kinds.Shaken levels.B origid) p = covers_or_again law table entries orig p
-kind_again law table entries orig (kinds.Shaken levels.C origid) p = covers_or_again law table entries orig p
-kind_again law table entries orig (kinds.Div phone) p = (law entries table phone).1 p
+kind_again law table entries orig kind (inl covered) =
+    either_again (covers_number entries table (vouched orig (div_in kind))) (allows_code (level_in kind) && list_any is_code entries)
+    (inl (vouched_again law table entries orig (div_in kind) covered))
+kind_again law table entries orig kind (inr p) =
+    either_again (covers_number entries table (vouched orig (div_in kind))) (allows_code (level_in kind) && list_any is_code entries)
+    (inr (both_again (allows_code (level_in kind)) (list_any is_code entries) (allows_again (level_in kind) p.0) (named_again entries p.1.0 p.1.1)))
 
 -- ---- rule 17
 

@@ -1,5 +1,5 @@
 -- In worlds in which the same is said of each thing each call breaks the same rule first.
-use Rattle.std.proofs.Common.{◌≡◌, ◌↔◌, inl, inr, ℕ, Bool, ◌||◌, cond, nat_lt, List, [], ◌∷◌, ◌++◌, map, length, is_some, Option, Some, None, option_and_then, refl, sym, ◌∙◌, ap}
+use Rattle.std.proofs.Common.{◌≡◌, ◌↔◌, inl, inr, ℕ, Bool, ◌&&◌, ◌||◌, cond, nat_lt, List, [], ◌∷◌, ◌++◌, map, length, is_some, Option, Some, None, option_and_then, refl, sym, ◌∙◌, ap}
 use Rattle.std.specs.Prelude.{IsTrue, ⊤}
 use Rattle.std.specs.List.{list_any, slice_get}
 use Rattle.std.specs.Option.{option_or}
@@ -15,12 +15,11 @@ use Rattle.cert_store.specs.Judged.{JudgedView, asked_where, judged_of}
 use Rattle.cert_store.specs.Links.{Link, chain_in, links_of, path_of}
 use Rattle.cert_store.specs.ChainMap.{listed}
 use Rattle.cert_store.specs.Rules.{Says, first_outside, first_unauthorized, keys_of, lies_within, periods_from, rule_11, rule_12, rule_15}
+use Rattle.passport_claims.specs.Kind.{div_in, level_in}
 use Rattle.passport_claims.specs.Passport.{ClaimsView}
-use Rattle.passport_claims.specs.declared.kind.Attest.TheVariants as levels
 use Rattle.passport_claims.specs.declared.kind.Kind.{Kind}
-use Rattle.passport_claims.specs.declared.kind.Kind.TheVariants as kinds
 use Rattle.verify_rules.specs.Call.{Call, Reading, in_call_order}
-use Rattle.verify_rules.specs.Late.{covers_by, covers_kind, covers_leaf, is_code, is_signed_by, or_broken, rules_after, rules_before, tell}
+use Rattle.verify_rules.specs.Late.{allows_code, covers_by, covers_kind, covers_leaf, is_code, is_signed_by, or_broken, rules_after, rules_before, tell, vouched}
 use Rattle.verify_rules.specs.Rules.{Rule, each, early_rules, first, or_later}
 use Rattle.verify_rules.specs.States.{State, have, long, no_chain, unread}
 use Rattle.verify_rules.specs.World.{First, World, asking_rule, broken_by, content_of, forged, forged_by, late_rule, late_rules, part_at, truth_by, truth_for, truth_of, unless_good}
@@ -140,11 +139,8 @@ truth_same law world other same one =
 
 kind_same : CoversLaw → (table other : Table) → GrantSame table other → (entries : List Entry) (orig : List ℕ) (kind : Kind)
     → covers_kind table entries orig kind ≡ covers_kind other entries orig kind
-kind_same law table other same entries orig kinds.Base = covers_same law table other same entries orig
-kind_same law table other same entries orig (kinds.Shaken levels.A origid) = covers_same law table other same entries orig
-kind_same law table other same entries orig (kinds.Shaken levels.B origid) = ap (λ t. t || list_any is_code entries) (covers_same law table other same entries orig)
-kind_same law table other same entries orig (kinds.Shaken levels.C origid) = ap (λ t. t || list_any is_code entries) (covers_same law table other same entries orig)
-kind_same law table other same entries orig (kinds.Div diverted) = covers_same law table other same entries diverted
+kind_same law table other same entries orig kind =
+    ap (λ t. t || (allows_code (level_in kind) && list_any is_code entries)) (covers_same law table other same entries (vouched orig (div_in kind)))
 
 list_same : CoversLaw → (table other : Table) → GrantSame table other → (passport : ClaimsView) (list : Option (List Entry))
     → covers_by table passport list ≡ covers_by other passport list

@@ -1,7 +1,7 @@
 -- The rules of the chains, 10 to 17 and 19: what the certificate chains of a call's PASSporTs say.
 -- Each is asked of a PASSporT and of what is known of its chain, in
 -- the order in which the call went. A rule is stated only if those before it hold; what its definition gives otherwise is never looked at.
-use Rattle.std.specs.Prelude.{ℕ, Bool, true, false, ◌||◌, List, [], ◌∷◌, Option, Some, None}
+use Rattle.std.specs.Prelude.{ℕ, Bool, true, false, ◌&&◌, ◌||◌, List, [], ◌∷◌, Option, Some, None, unwrap_or}
 use Rattle.std.specs.List.{list_any, slice_get}
 use Rattle.std.specs.Option.{option_or}
 use Rattle.tn_auth_list.specs.declared.entries.Entry.{Entry}
@@ -13,10 +13,11 @@ use Rattle.cert_store.specs.Judged.{JudgedView, out_of_date}
 use Rattle.cert_store.specs.Rules.{Says}
 use Rattle.cert_store.specs.declared.judged.Asked.{Asked}
 use Rattle.cert_store.specs.declared.judged.Asked.TheVariants.{NotAsked, Yes, No, Failed}
+use Rattle.passport_claims.specs.Kind.{div_in, level_in}
 use Rattle.passport_claims.specs.Passport.{ClaimsView}
+use Rattle.passport_claims.specs.declared.kind.Attest.{Attest}
 use Rattle.passport_claims.specs.declared.kind.Attest.TheVariants as levels
 use Rattle.passport_claims.specs.declared.kind.Kind.{Kind}
-use Rattle.passport_claims.specs.declared.kind.Kind.TheVariants as kinds
 use Rattle.verify_rules.specs.Call.{Reading, payload_of}
 use Rattle.verify_rules.specs.Rules.{place, refusal}
 use Rattle.verify_rules.specs.States.{State, have, no_chain, long, unread}
@@ -61,14 +62,24 @@ is_code (Code code) = true
 is_code (Range span) = false
 is_code (Single own) = false
 
--- by the entries of the leaf's list: a PASSporT without a type or with full attestation asks for the calling number; partial and gateway
--- attestation ask for it or a service provider code; a diversion asks for the number that is diverted
+-- whether an attestation lets any service provider code do: the partial one and that of a gateway
+abbrev pub is_partial : Attest → Bool
+is_partial levels.A = false
+is_partial levels.B = true
+is_partial levels.C = true
+
+abbrev pub allows_code : Option Attest → Bool
+allows_code None = false
+allows_code (Some level) = is_partial level
+
+-- the number that a PASSporT vouches for: the diverted one of a diversion, and else the calling one
+abbrev pub vouched : List ℕ → Option (List ℕ) → List ℕ
+vouched orig diverted = unwrap_or diverted orig
+
+-- by the entries of the leaf's list: they cover the number that the PASSporT vouches for; or any code is among them, if its attestation allows it
 abbrev pub covers_kind : Table → List Entry → List ℕ → Kind → Bool
-covers_kind table entries orig kinds.Base = covers_number entries table orig
-covers_kind table entries orig (kinds.Shaken levels.A origid) = covers_number entries table orig
-covers_kind table entries orig (kinds.Shaken levels.B origid) = covers_number entries table orig || list_any is_code entries
-covers_kind table entries orig (kinds.Shaken levels.C origid) = covers_number entries table orig || list_any is_code entries
-covers_kind table entries orig (kinds.Div diverted) = covers_number entries table diverted
+covers_kind table entries orig kind =
+    covers_number entries table (vouched orig (div_in kind)) || (allows_code (level_in kind) && list_any is_code entries)
 
 -- that there is a list is rule 14
 abbrev pub covers_by : Table → ClaimsView → Option (List Entry) → Bool

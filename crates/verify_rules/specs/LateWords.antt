@@ -1,6 +1,6 @@
 -- The rules of the chains in their own words: what holds, in a world, of the certificates of a PASSporT if a rule holds, and which rule is the
 -- first that doesn't.
-use Rattle.std.specs.Prelude.{◌≡◌, ⊤, ◌⊎◌, ℕ, ◌<◌, ◌≤◌, true, List, length, Option, Some}
+use Rattle.std.specs.Prelude.{◌≡◌, ⊤, ◌⊎◌, ℕ, ◌<◌, ◌≤◌, true, List, length, Option, Some, None}
 use Rattle.std.specs.List.{slice_get}
 use Rattle.stir_outside.specs.Files.{file}
 use Rattle.tn_auth_list.specs.declared.entries.Entry.{Entry}
@@ -13,9 +13,10 @@ use Rattle.delegation.specs.Coverage.{Covers, NamesCode, Table}
 use Rattle.delegation.specs.Path.{Path}
 use Rattle.cert_store.specs.ChainMap.{listed}
 use Rattle.cert_store.specs.Words.{IsAuthorized, IsNumbered, IsSigned, IsValid}
+use Rattle.passport_claims.specs.Kind.{div_in, level_in}
+use Rattle.passport_claims.specs.declared.kind.Attest.{Attest}
 use Rattle.passport_claims.specs.declared.kind.Attest.TheVariants as levels
 use Rattle.passport_claims.specs.declared.kind.Kind.{Kind}
-use Rattle.passport_claims.specs.declared.kind.Kind.TheVariants as kinds
 use Rattle.verify_rules.specs.Call.{Call, Reading, in_call_order, payload_of}
 use Rattle.verify_rules.specs.Words.{Each}
 use Rattle.verify_rules.specs.World.{World}
@@ -85,18 +86,22 @@ IsCertified world one = OnPath world one (λ chain anchor. IsSigned world.says w
 abbrev pub IsGenuine : World → Reading → Type 0
 IsGenuine world one = (leaf : CertView) × HasLeaf world one leaf × (world.says leaf.key one.mark.digest one.mark.signature ≡ true)
 
--- entries cover the calling number if there is no type, or full attestation; they cover it or name some code at partial and gateway
--- attestation; and they cover the diverted number of a diversion (RFC 8226, section 9; RFC 8588, section 4; RFC 8946, section 4.2; which
--- attestation asks for which coverage is this project's own rule)
-abbrev pub CoversOrNamesCode : Table → List Entry → List ℕ → Type 0
-CoversOrNamesCode table entries number = Covers entries table number ⊎ ((code : List ℕ) × NamesCode entries code)
+-- entries cover the calling number, or that which was diverted if the PASSporT is of a diversion; they needn't if they name some code, at partial
+-- and gateway attestation (RFC 8226, section 9; RFC 8588, section 4; RFC 8946, section 4.2; which attestation asks for which coverage is this
+-- project's own rule)
+abbrev pub CoversVouched : Table → List Entry → List ℕ → Option (List ℕ) → Type 0
+CoversVouched table entries orig None = Covers entries table orig
+CoversVouched table entries orig (Some diverted) = Covers entries table diverted
+
+abbrev pub AllowsCode : Option Attest → Type 0
+AllowsCode None = ⊥
+AllowsCode (Some levels.A) = ⊥
+AllowsCode (Some levels.B) = ⊤
+AllowsCode (Some levels.C) = ⊤
 
 abbrev pub CoversKind : Table → List Entry → List ℕ → Kind → Type 0
-CoversKind table entries orig kinds.Base = Covers entries table orig
-CoversKind table entries orig (kinds.Shaken levels.A origid) = Covers entries table orig
-CoversKind table entries orig (kinds.Shaken levels.B origid) = CoversOrNamesCode table entries orig
-CoversKind table entries orig (kinds.Shaken levels.C origid) = CoversOrNamesCode table entries orig
-CoversKind table entries orig (kinds.Div number) = Covers entries table number
+CoversKind table entries orig kind =
+    CoversVouched table entries orig (div_in kind) ⊎ (AllowsCode (level_in kind) × ((code : List ℕ) × NamesCode entries code))
 
 -- 17: the leaf's authority list covers what the PASSporT speaks for
 pub record IsCovered (world : World) (one : Reading) : Type 0 where

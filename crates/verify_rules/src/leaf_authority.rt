@@ -1,12 +1,14 @@
 //! Rule 17: what the leaf's authority must cover.
-ghost use Rattle.std.specs.Prelude.{◌≡◌, ℕ, List};
+ghost use Rattle.std.specs.Prelude.{◌≡◌};
 ghost use Rattle.std.specs.List.{list_any};
 ghost use Rattle.std.specs.Option.{option_copied};
-ghost use Rattle.verify_rules.specs.Late.{covers_by, covers_kind, covers_leaf, is_code};
+ghost use Rattle.passport_claims.specs.Kind.{div_in, level_in};
+ghost use Rattle.verify_rules.specs.Late.{allows_code, covers_by, covers_kind, covers_leaf, is_code, is_partial, vouched};
 
 use delegation::covers;
-use passport_claims::{Attest, Kind, Passport};
+use passport_claims::{Attest, Passport};
 use tn_auth_list::{AuthList, CodeTable, Entry};
+use tn_values::Number;
 use x509_profile::Certificate;
 
 /// Whether the leaf's authority covers what a PASSporT vouches for (ATIS-1000074, section 5.2.3; RFC 8946, section 4.2): the calling number
@@ -35,27 +37,41 @@ fn covers_by(table: &CodeTable, passport: &Passport, list: Option<&AuthList>) ->
     }
 }
 
-/// Whether an authority list covers what a PASSporT vouches for, as rule 17 asks of the leaf's: the calling number if the PASSporT has no
-/// type or attests in full; that, or any service provider code, if it attests in part or as a gateway; and the diverted number if it is a
-/// diversion.
+/// Whether an authority list covers what a PASSporT vouches for, as rule 17 asks of the leaf's: the calling number, or that which was diverted if
+/// it is of a diversion; or it has any service provider code, and the PASSporT attests in part or as a gateway.
 pub fn covers_passport(table: &CodeTable, list: &AuthList, passport: &Passport) -> bool
     ensures { result ≡ covers_kind table.now list.now passport.now.orig passport.now.kind }
 {
-    match passport.kind() {
-        Kind::Base => covers(list, &passport.orig(), table),
-        Kind::Shaken { attest, .. } => covers_attested(table, list, passport, attest),
-        Kind::Div { div } => covers(list, &div, table),
+    covers(list, &vouched(passport), table) || allows_code(passport) && has_code(list.entries())
+}
+
+/// The number that a PASSporT vouches for.
+fn vouched(passport: &Passport) -> Number
+    ensures { result ≡ vouched passport.now.orig (div_in passport.now.kind) }
+{
+    match passport.kind().div() {
+        Some(diverted) => diverted,
+        None => passport.orig(),
     }
 }
 
-/// Whether this list covers the calling number as it is attested.
-fn covers_attested(table: &CodeTable, list: &AuthList, passport: &Passport, attest: Attest) -> bool
-    ensures { (origid : List ℕ) → result ≡ covers_kind table.now list.now passport.now.orig (Kind.Shaken attest origid) }
+/// Whether the attestation of a PASSporT, if it has one, lets any service provider code do.
+fn allows_code(passport: &Passport) -> bool
+    ensures { result ≡ allows_code (level_in passport.now.kind) }
 {
-    let covers_caller = covers(list, &passport.orig(), table);
+    match passport.kind().attest() {
+        Some(attest) => is_partial(attest),
+        None => false,
+    }
+}
+
+/// Whether an attestation is in part, or that of a gateway.
+fn is_partial(attest: Attest) -> bool
+    ensures { result ≡ is_partial attest }
+{
     match attest {
-        Attest::A => covers_caller,
-        Attest::B | Attest::C => covers_caller || has_code(list.entries()),
+        Attest::A => false,
+        Attest::B | Attest::C => true,
     }
 }
 
