@@ -1,20 +1,20 @@
 -- Each kind of step keeps the rule of the desk.
-use Rattle.std.proofs.Common.{◌≡◌, ◌≢◌, ℕ, zero, suc, ◌+◌, ◌*◌, ◌/◌, ◌%◌, ◌==◌, ◌<◌, ◌≤◌, ⊎_elim, List, [], ◌∷◌, ◌++◌, take, get_or, set, refl, sym, ap, ◌∙◌, subst, arith}
+use Rattle.std.proofs.Common.{◌≡◌, ◌≢◌, ℕ, suc, ◌+◌, ◌*◌, ◌/◌, ◌%◌, ◌==◌, ◌<◌, ◌≤◌, ⊎_elim, List, [], ◌∷◌, ◌++◌, take, get_or, set, refl, sym, ap, ◌∙◌, subst, arith}
 use Rattle.std.proofs.lemmas.Bool.{false_from_ne_true}
 use Rattle.std.proofs.lemmas.Bool.Decides.{Decides-eqb}
 use Rattle.std.proofs.lemmas.Nat.{same_from_place, div-mul-add, mod-mul-add}
 use Rattle.std.proofs.lemmas.List.{length-set, set-get_or, get_or-set_same, get_or-set_other}
 use prog.Atomic.{either}
-use mathlib.Core.Option.{none, some, some-ne-none}
+use mathlib.Core.Option.{none, some}
 use mathlib.Core.Logic.{dite}
 use native.Mathlib.Decide.{ℕ_discrete}
 use lib.ListN.{get_elem?}
 use Rattle.atomic_table.specs.Table.{State, Act, keeps, Me, Valid, carried_after, Allows, Splits, Joins, step, stepped}
-use Rattle.atomic_table.proofs.Lists.{at_set, at_snoc, exchanged, set_else}
-use Rattle.live_desk.specs.Lists.{In, count, total}
+use Rattle.atomic_table.proofs.Lists.{exchanged, set_else}
+use Rattle.live_desk.specs.Lists.{In, count, setters, total}
 use Rattle.live_desk.specs.Rule.{Sound, code_of, reads, turn, word_at}
 use Rattle.live_desk.specs.Ticket.{IsTicket, pieces}
-use Rattle.live_desk.specs.Views.{AllMark, AllStand, Holds, Marks, Stands, at_place, seen_of, set_of, setters}
+use Rattle.live_desk.specs.Views.{AllMark, AllStand, Holds, Marks, Stands, at_place, seen_of, set_of}
 use Rattle.live_desk.specs.Known.{Known}
 use Rattle.live_desk.specs.Trail.{Has, Trail}
 use Rattle.live_desk.specs.Steps.{Exchanges, KnownOf, Loads, Looks, both, left_part, right_part, spent_view, with_blank, with_look, with_seen, with_set}
@@ -26,31 +26,10 @@ use Rattle.live_desk.specs.declared.view.SetWord.{SetWord}
 use Rattle.live_desk.specs.declared.view.SeenWord.{SeenWord}
 use Rattle.live_desk.specs.declared.view.Blank.{Blank}
 use Rattle.live_desk.specs.declared.view.View.{View}
-use Rattle.live_desk.proofs.Sums.{in_append, count_append, count_yes, count_no, count_in, total_append, total_set, total_le, all_mine}
+use Rattle.live_desk.proofs.Sums.{in_append, count_append, count_yes, count_no, count_in, total_set, total_le, all_mine, each_set, join_each, join_total, set_there, setters_le, setters_one, split_each, split_total}
 use Rattle.live_desk.proofs.Tickets.{pieces_small}
 use Rattle.live_desk.proofs.Trails.{has_stands, read_more, trail_reads}
 use Rattle.live_desk.proofs.Words.{code_some, kept, parent_code, place_lt, reads_kept, set_here, set_sound}
-
--- ---- each view, after one changed or one more
-
-set_there : {A : Type 0} (xs : List A) (i : ℕ) (a b : A) → get_elem? xs i ≡ some a → get_elem? (set xs i b) i ≡ some b
-set_there [] i a b at = absurd (some-ne-none a (sym at))
-set_there (x ∷ xs) zero a b at = refl
-set_there (x ∷ xs) (suc i) a b at = set_there xs i a b at
-
-each_set : {A : Type 0} (P : A → Type 0) (xs : List A) (i : ℕ) (a : A) → P a → ((j : ℕ) (b : A) → get_elem? xs j ≡ some b → P b) → (j : ℕ) (b : A) → get_elem? (set xs i a) j ≡ some b → P b
-each_set P xs i a here others j b at = ⊎_elim (λ same. subst P same.1 here) (λ other. others j b other.1) (at_set xs i j a b at)
-
-each_snoc : {A : Type 0} (P : A → Type 0) (xs : List A) (a : A) → P a → ((j : ℕ) (b : A) → get_elem? xs j ≡ some b → P b) → (j : ℕ) (b : A) → get_elem? (xs ++ a ∷ []) j ≡ some b → P b
-each_snoc P xs a here others j b at = ⊎_elim (λ old. others j b old) (λ same. subst P same here) (at_snoc xs a b j at)
-
-pub setters_le : (n : ℕ) → setters n ≤ 1
-setters_le zero = omega arith
-setters_le (suc n) = omega arith
-
-setters_one : (n : ℕ) → n ≢ 0 → setters n ≡ 1
-setters_one zero nonzero = absurd (nonzero refl)
-setters_one (suc n) nonzero = refl
 
 -- ---- what a seat knows
 
@@ -229,10 +208,8 @@ module _ {S : Type 0} (size : ℕ) where
     split_holds two =
         let l : View = left_part v in
         let r : View = right_part v in
-        let summed : (f : View → ℕ) → f l + f r ≡ f v → total f (set s.views id l ++ r ∷ []) ≡ total f s.views =
-        λ f parts. omega (arith, total_set f s.views id v l at, total_append f (set s.views id l) (r ∷ []), parts) in
-        let each : (P : View → Type 0) → P l → P r → ((j : ℕ) (u : View) → get_elem? s.views j ≡ some u → P u) → (j : ℕ) (u : View) → get_elem? (set s.views id l ++ r ∷ []) j ≡ some u → P u =
-        λ P left right old. each_snoc P (set s.views id l) r right (each_set P s.views id l left old) in
+        let summed = split_total s.views id v at l r in
+        let each = split_each s.views id v l r in
         record {
           counts = holds.counts;
           sound = holds.sound;
@@ -249,10 +226,8 @@ module _ {S : Type 0} (size : ℕ) where
     join_holds other w apart there =
         let b : View = both v w in
         let found : get_elem? s.views other ≡ some w = sym (set_else s.views id other b apart) ∙ there in
-        let summed : (f : View → ℕ) → f b ≡ f v + f w → f spent_view ≡ 0 → total f (set (set s.views id b) other spent_view) ≡ total f s.views =
-        λ f parts nothing. omega (arith, total_set f s.views id v b at, total_set f (set s.views id b) other w spent_view there, parts, nothing) in
-        let each : (P : View → Type 0) → P b → P spent_view → ((j : ℕ) (u : View) → get_elem? s.views j ≡ some u → P u) → (j : ℕ) (u : View) → get_elem? (set (set s.views id b) other spent_view) j ≡ some u → P u =
-        λ P joined spent old. each_set P (set s.views id b) other spent_view spent (each_set P s.views id b joined old) in
+        let summed = join_total s.views id v at b other w spent_view there in
+        let each = join_each s.views id v b other spent_view in
         record {
           counts = holds.counts;
           sound = holds.sound;

@@ -21,11 +21,10 @@ use Rattle.live_desk.specs.Closing.{Closing, Others}
 use Rattle.live_desk.specs.declared.view.SetWord.{SetWord}
 use Rattle.live_desk.specs.declared.view.SeenWord.{SeenWord}
 use Rattle.live_desk.specs.declared.view.View.{View}
-use Rattle.live_desk.proofs.Sums.{count_in, count_le, total_both_le}
+use Rattle.live_desk.proofs.Sums.{count_in, count_le, total_both_le, setters_le}
 use Rattle.live_desk.proofs.Tickets.{pieces_apart, pieces_len}
 use Rattle.live_desk.proofs.Trails.{trail_reads}
 use Rattle.live_desk.proofs.Words.{code_parts, one_reading}
-use Rattle.live_desk.proofs.Keeping.{setters_le}
 
 -- ---- wins
 

@@ -1,10 +1,10 @@
 -- The rule of a live desk over its words and the views of its seats, between any two steps (this project's own rule). Levels and slots
 -- are counted from 0.
-use Rattle.std.specs.Prelude.{◌≡◌, ◌≢◌, ℕ, zero, suc, ◌+◌, ◌*◌, ◌==◌, ◌<◌, Bool, List, [], length, take, slice_index}
+use Rattle.std.specs.Prelude.{◌≡◌, ◌≢◌, ℕ, suc, ◌+◌, ◌*◌, ◌==◌, ◌<◌, Bool, List, [], length, take, slice_index}
 use mathlib.Core.Option.{some}
 use lib.ListN.{get_elem?}
 use Rattle.atomic_table.specs.Table.{State}
-use Rattle.live_desk.specs.Lists.{In, count, total, whole}
+use Rattle.live_desk.specs.Lists.{In, count, setters, total, whole}
 use Rattle.live_desk.specs.Rule.{Sound, reads, word_at}
 use Rattle.live_desk.specs.Ticket.{IsTicket, pieces}
 use Rattle.live_desk.specs.declared.view.SetWord.{SetWord}
@@ -48,11 +48,6 @@ AllStand size words seen = (e : SeenWord) → In e seen → Stands size words e.
 -- the word was set at this place of the words
 abbrev pub at_place : ℕ → ℕ → SetWord → Bool
 at_place size place e = e.level * size + e.slot == place
-
--- in how many sets a word is: none if it is 0, and else one
-abbrev pub setters : ℕ → ℕ
-setters zero = 0
-setters (suc n) = 1
 
 -- The words and the views meet the rule. A seat that was joined away has a view without a share
 pub record Holds {S : Type 0} (size : ℕ) (s : State S View) : Type 0 where

@@ -1,30 +1,20 @@
 -- Each kind of step keeps the rule of the desk.
-use Rattle.std.proofs.Common.{◌≡◌, ℕ, zero, suc, ◌+◌, ◌-◌, ◌/◌, ◌==◌, ◌<◌, ◌≤◌, ◌⊎◌, ⊎_elim, List, [], ◌∷◌, ◌++◌, length, get_or, set, refl, sym, ap, ◌∙◌, subst, arith}
+use Rattle.std.proofs.Common.{◌≡◌, ℕ, ◌+◌, ◌-◌, ◌/◌, ◌==◌, ◌<◌, ◌≤◌, ◌⊎◌, ⊎_elim, List, [], ◌∷◌, ◌++◌, length, get_or, set, refl, sym, ap, ◌∙◌, subst, arith}
+use Rattle.std.proofs.lemmas.Bool.{false_from_ne_true}
+use Rattle.std.proofs.lemmas.Bool.Decides.{Decides-eqb}
 use Rattle.std.proofs.lemmas.List.{length-set, set-get_or, get_or-set_same}
 use prog.Atomic.{either}
-use mathlib.Core.Option.{none, some, some-ne-none}
+use mathlib.Core.Option.{none, some}
 use lib.ListN.{get_elem?}
 use Rattle.atomic_table.specs.Table.{State, Act, keeps, Me, Valid, carried_after, Allows, Splits, Joins, step, stepped}
-use Rattle.atomic_table.proofs.Lists.{at_set, at_snoc, exchanged, set_again, set_else}
-use Rattle.replay_desk.specs.Pairs.{In, times, total}
-use Rattle.replay_desk.specs.Rule.{Holds, Stand, winners}
+use Rattle.atomic_table.proofs.Lists.{exchanged, set_again, set_else}
+use Rattle.live_desk.specs.Lists.{In, count, setters, total}
+use Rattle.replay_desk.specs.Pairs.{of_class}
+use Rattle.replay_desk.specs.Rule.{Holds, Stand}
 use Rattle.replay_desk.specs.Steps.{Claims, Known, Looks, both, left_part, right_part, spent_view, with_loss, with_win}
 use Rattle.replay_desk.specs.declared.view.View.{View}
-use Rattle.replay_desk.proofs.Sums.{counted, uncounted, times_append, times_in, total_append, total_set, total_le, all_mine}
+use Rattle.live_desk.proofs.Sums.{all_mine, count_append, count_in, count_no, count_yes, each_set, join_each, join_total, set_there, setters_le, setters_one, split_each, split_total, total_le, total_set}
 use Rattle.replay_desk.proofs.Words.{word_after, stand_set, stand_more, stand_append}
-
--- ---- each view, after one changed or one more
-
-set_there : {A : Type 0} (xs : List A) (i : ℕ) (a b : A) → get_elem? xs i ≡ some a → get_elem? (set xs i b) i ≡ some b
-set_there [] i a b at = absurd (some-ne-none a (sym at))
-set_there (x ∷ xs) zero a b at = refl
-set_there (x ∷ xs) (suc i) a b at = set_there xs i a b at
-
-each_set : {A : Type 0} (P : A → Type 0) (xs : List A) (i : ℕ) (a : A) → P a → ((j : ℕ) (b : A) → get_elem? xs j ≡ some b → P b) → (j : ℕ) (b : A) → get_elem? (set xs i a) j ≡ some b → P b
-each_set P xs i a here others j b at = ⊎_elim (λ same. subst P same.1 here) (λ other. others j b other.1) (at_set xs i j a b at)
-
-each_snoc : {A : Type 0} (P : A → Type 0) (xs : List A) (a : A) → P a → ((j : ℕ) (b : A) → get_elem? xs j ≡ some b → P b) → (j : ℕ) (b : A) → get_elem? (xs ++ a ∷ []) j ≡ some b → P b
-each_snoc P xs a here others j b at = ⊎_elim (λ old. others j b old) (λ same. subst P same here) (at_snoc xs a b j at)
 
 -- ---- what a seat knows
 
@@ -38,30 +28,23 @@ left_known v two known = record {
   within = omega (arith, known.within);
 }
 
-winners_le : (n : ℕ) → winners n ≤ 1
-winners_le zero = omega arith
-winners_le (suc n) = omega arith
-
-winners_one : (n : ℕ) → 0 < n → winners n ≡ 1
-winners_one zero some_call = absurd (omega arith)
-winners_one (suc n) some_call = refl
-
 module _ {S : Type 0} (classes : ℕ) where
   pub known_of : (s : State S View) → Holds classes s → (id : ℕ) (v : View) → get_elem? s.views id ≡ some v → 0 < v.share → Known v.wins v.losses v.share
   known_of s holds id v at above =
       let word : (class call : ℕ) → In (class, call) v.wins ⊎ In (class, call) v.losses → get_or s.words class 0 ≡ call + 1 =
       λ class call has. ⊎_elim (holds.wins id v at (class, call)) (holds.losses id v at (class, call)) has in
       record {
-        once = λ class. omega (arith, total_le (λ (u : View). times class u.wins) s.views id v at, holds.one_winner class, winners_le (get_or s.words class 0));
+        once = λ class. omega (arith, total_le (λ (u : View). count (of_class class) u.wins) s.views id v at, holds.one_winner class, setters_le (get_or s.words class 0));
         agree = λ class one other first second. (let a = word class one first in let b = word class other second in omega arith);
         named = λ all p lost.
             let word : get_or s.words p.0 0 ≡ p.1 + 1 = holds.losses id v at p lost in
-            let mine = all_mine (λ (u : View). times p.0 u.wins) (λ (u : View). u.share) s.views id v at (holds.shares ∙ sym all) (λ j u there spent. ap (times p.0) (holds.spent j u there spent).0) in
-            let one : times p.0 v.wins ≡ 1 = sym mine ∙ (holds.one_winner p.0 ∙ winners_one _ (omega arith)) in
-            let win = times_in p.0 v.wins (omega arith) in
-            let won : get_or s.words p.0 0 ≡ win.0 + 1 = holds.wins id v at (p.0, win.0) win.1 in
-            let same : win.0 ≡ p.1 = omega arith in
-            subst (λ (call : ℕ). In (p.0, call) v.wins) same win.1;
+            let mine = all_mine (λ (u : View). count (of_class p.0) u.wins) (λ (u : View). u.share) s.views id v at (holds.shares ∙ sym all) (λ j u there spent. ap (count (of_class p.0)) (holds.spent j u there spent).0) in
+            let one : count (of_class p.0) v.wins ≡ 1 = sym mine ∙ (holds.one_winner p.0 ∙ setters_one _ (λ none. omega arith)) in
+            let win = count_in (of_class p.0) v.wins (omega arith) in
+            let class : win.0.0 ≡ p.0 = (Decides-eqb win.0.0 p.0).0 win.2 in
+            let won : get_or s.words win.0.0 0 ≡ win.0.1 + 1 = holds.wins id v at win.0 win.1 in
+            let call : win.0.1 ≡ p.1 = (let moved = ap (λ (c : ℕ). get_or s.words c 0) class in omega arith) in
+            subst (λ (q : ℕ × ℕ). In q v.wins) (ap (λ (c : ℕ). (c, win.0.1)) class ∙ ap (λ (n : ℕ). (p.0, n)) call) win.1;
         above = above;
         within = omega (arith, total_le (λ (u : View). u.share) s.views id v at, holds.shares);
       }
@@ -84,11 +67,11 @@ module _ {S : Type 0} (classes : ℕ) where
                 (stand_more _ (class, call) v.wins (get_or-set_same s.words class (call + 1) 0 here) (kept v.wins (holds.wins id v at)))
                 (λ j u there. kept u.wins (holds.wins j u there));
             losses = each_set (λ u. Stand (set s.words class (call + 1)) u.losses) s.views id w (kept v.losses (holds.losses id v at)) (λ j u there. kept u.losses (holds.losses j u there));
-            one_winner = word_after s.words class (call + 1) here (λ c n. total (λ (u : View). times c u.wins) (set s.views id w) ≡ winners n)
+            one_winner = word_after s.words class (call + 1) here (λ c n. total (λ (u : View). count (of_class c) u.wins) (set s.views id w) ≡ setters n)
                 (λ c same.
-                let before : total (λ (u : View). times c u.wins) s.views ≡ 0 = holds.one_winner c ∙ ap (λ (i : ℕ). winners (get_or s.words i 0)) same ∙ ap winners free in
-                omega (arith, total_set (λ (u : View). times c u.wins) s.views id v w at, before, counted class call c v.wins same, winners_one (call + 1) (omega arith)))
-                (λ c apart. omega (arith, total_set (λ (u : View). times c u.wins) s.views id v w at, holds.one_winner c, uncounted class call c v.wins apart));
+                let before : total (λ (u : View). count (of_class c) u.wins) s.views ≡ 0 = holds.one_winner c ∙ ap (λ (i : ℕ). setters (get_or s.words i 0)) same ∙ ap setters free in
+                omega (arith, total_set (λ (u : View). count (of_class c) u.wins) s.views id v w at, before, count_yes (of_class c) (class, call) v.wins ((Decides-eqb class c).1 (sym same)), setters_one (call + 1) (λ none. omega arith)))
+                (λ c apart. omega (arith, total_set (λ (u : View). count (of_class c) u.wins) s.views id v w at, holds.one_winner c, count_no (of_class c) (class, call) v.wins (false_from_ne_true _ (λ yes. apart (sym ((Decides-eqb class c).0 yes))))));
             shares = omega (arith, total_set (λ (u : View). u.share) s.views id v w at, holds.shares);
             spent = each_set (λ u. u.share ≡ 0 → (u.wins ≡ []) × (u.losses ≡ [])) s.views id w (λ none. absurd (omega arith)) (λ j u there. holds.spent j u there);
           }
@@ -104,7 +87,7 @@ module _ {S : Type 0} (classes : ℕ) where
             numbers = holds.numbers;
             wins = each_set (λ u. Stand s.words u.wins) s.views id w (holds.wins id v at) (λ j u there. holds.wins j u there);
             losses = each_set (λ u. Stand s.words u.losses) s.views id w (stand_more _ (class, winner) v.losses (omega arith) (holds.losses id v at)) (λ j u there. holds.losses j u there);
-            one_winner = λ c. omega (arith, total_set (λ (u : View). times c u.wins) s.views id v w at, holds.one_winner c);
+            one_winner = λ c. omega (arith, total_set (λ (u : View). count (of_class c) u.wins) s.views id v w at, holds.one_winner c);
             shares = omega (arith, total_set (λ (u : View). u.share) s.views id v w at, holds.shares);
             spent = each_set (λ u. u.share ≡ 0 → (u.wins ≡ []) × (u.losses ≡ [])) s.views id w (λ none. absurd (omega arith)) (λ j u there. holds.spent j u there);
           })
@@ -113,16 +96,14 @@ module _ {S : Type 0} (classes : ℕ) where
     split_holds two =
         let l : View = left_part v in
         let r : View = right_part v in
-        let summed : (f : View → ℕ) → f l + f r ≡ f v → total f (set s.views id l ++ r ∷ []) ≡ total f s.views =
-        λ f parts. omega (arith, total_set f s.views id v l at, total_append f (set s.views id l) (r ∷ []), parts) in
-        let each : (P : View → Type 0) → P l → P r → ((j : ℕ) (u : View) → get_elem? s.views j ≡ some u → P u) → (j : ℕ) (u : View) → get_elem? (set s.views id l ++ r ∷ []) j ≡ some u → P u =
-        λ P left right old. each_snoc P (set s.views id l) r right (each_set P s.views id l left old) in
+        let summed = split_total s.views id v at l r in
+        let each = split_each s.views id v l r in
         record {
           words = holds.words;
           numbers = holds.numbers;
           wins = each (λ u. Stand s.words u.wins) (holds.wins id v at) (λ p none. absurd none) (λ j u there. holds.wins j u there);
           losses = each (λ u. Stand s.words u.losses) (holds.losses id v at) (λ p none. absurd none) (λ j u there. holds.losses j u there);
-          one_winner = λ c. summed (λ u. times c u.wins) (omega arith) ∙ holds.one_winner c;
+          one_winner = λ c. summed (λ u. count (of_class c) u.wins) (omega arith) ∙ holds.one_winner c;
           shares = summed (λ u. u.share) (omega arith) ∙ holds.shares;
           spent = each (λ u. u.share ≡ 0 → (u.wins ≡ []) × (u.losses ≡ [])) (λ none. absurd (omega arith)) (λ _. (refl, refl)) (λ j u there. holds.spent j u there);
         }
@@ -132,16 +113,14 @@ module _ {S : Type 0} (classes : ℕ) where
     join_holds other w apart there =
         let b : View = both v w in
         let found : get_elem? s.views other ≡ some w = sym (set_else s.views id other b apart) ∙ there in
-        let summed : (f : View → ℕ) → f b ≡ f v + f w → f spent_view ≡ 0 → total f (set (set s.views id b) other spent_view) ≡ total f s.views =
-        λ f parts none. omega (arith, total_set f s.views id v b at, total_set f (set s.views id b) other w spent_view there, parts, none) in
-        let each : (P : View → Type 0) → P b → P spent_view → ((j : ℕ) (u : View) → get_elem? s.views j ≡ some u → P u) → (j : ℕ) (u : View) → get_elem? (set (set s.views id b) other spent_view) j ≡ some u → P u =
-        λ P joined spent old. each_set P (set s.views id b) other spent_view spent (each_set P s.views id b joined old) in
+        let summed = join_total s.views id v at b other w spent_view there in
+        let each = join_each s.views id v b other spent_view in
         record {
           words = holds.words;
           numbers = holds.numbers;
           wins = each (λ u. Stand s.words u.wins) (stand_append s.words v.wins w.wins (holds.wins id v at) (holds.wins other w found)) (λ p none. absurd none) (λ j u there. holds.wins j u there);
           losses = each (λ u. Stand s.words u.losses) (stand_append s.words v.losses w.losses (holds.losses id v at) (holds.losses other w found)) (λ p none. absurd none) (λ j u there. holds.losses j u there);
-          one_winner = λ c. summed (λ u. times c u.wins) (times_append c v.wins w.wins) refl ∙ holds.one_winner c;
+          one_winner = λ c. summed (λ u. count (of_class c) u.wins) (count_append (of_class c) v.wins w.wins) refl ∙ holds.one_winner c;
           shares = summed (λ u. u.share) refl refl ∙ holds.shares;
           spent = each (λ u. u.share ≡ 0 → (u.wins ≡ []) × (u.losses ≡ [])) (λ none. absurd (omega arith)) (λ _. (refl, refl)) (λ j u there. holds.spent j u there);
         }

@@ -3,4 +3,3 @@ mod ListLaws
 mod PastLaws
 mod Words
 pub mod Shared
-pub mod Sums

@@ -4,7 +4,7 @@ use Rattle.std.proofs.lemmas.List.{get_or-set_same, get_or-set_other}
 use mathlib.Core.Logic.{dite}
 use native.Mathlib.Decide.{ℕ_discrete}
 use Rattle.replay_desk.specs.Rule.{Stand}
-use Rattle.replay_desk.proofs.Sums.{in_append}
+use Rattle.live_desk.proofs.Sums.{in_append}
 
 module _ (words : List ℕ) (class x : ℕ) (within : class < length words) where
   -- what holds of the number written, and of each word as it was, holds of each word afterwards

@@ -1,7 +1,7 @@
 -- A seat as its holder sees it (this project's own rule).
 use Rattle.std.specs.Prelude.{◌≡◌, ℕ, ◌+◌, ◌-◌, ◌/◌, ◌<◌, List, [], ◌∷◌, ◌++◌}
 use Rattle.atomic_table.specs.Seated.{TableId}
-use Rattle.replay_desk.specs.Pairs.{whole}
+use Rattle.live_desk.specs.Lists.{whole}
 use Rattle.replay_desk.specs.Steps.{Known}
 use Rattle.replay_desk.specs.declared.claim.Claim.{Claim}
 use Rattle.replay_desk.specs.declared.claim.Claim.TheVariants.{Won, Lost}

@@ -1,20 +1,16 @@
 -- The rule of a desk, between any two steps (this project's own rule). A desk has a word for each class. A seat's view has its
 -- wins and its losses, and its share of the desk.
-use Rattle.std.specs.Prelude.{◌≡◌, ℕ, zero, suc, ◌+◌, ◌<◌, List, [], length, slice_index}
+use Rattle.std.specs.Prelude.{◌≡◌, ℕ, ◌+◌, ◌<◌, List, [], length, slice_index}
 use mathlib.Core.Option.{some}
 use lib.ListN.{get_elem?}
 use Rattle.atomic_table.specs.Table.{State}
-use Rattle.replay_desk.specs.Pairs.{In, times, total, whole}
+use Rattle.live_desk.specs.Lists.{In, count, setters, total, whole}
+use Rattle.replay_desk.specs.Pairs.{of_class}
 use Rattle.replay_desk.specs.declared.view.View.{View}
 
 -- each pair has the present word of its class: the word is the pair's call plus 1
 abbrev pub Stand : List ℕ → List (ℕ × ℕ) → Type 0
 Stand words pairs = (p : ℕ × ℕ) → In p pairs → slice_index words p.0 ≡ p.1 + 1
-
--- in how many wins a word is: in none if it is 0, else in one
-abbrev pub winners : ℕ → ℕ
-winners zero = 0
-winners (suc call) = 1
 
 -- A view without a share is that of a seat that was joined away, and has nothing
 pub record Holds {S : Type 0} (classes : ℕ) (s : State S View) : Type 0 where
@@ -27,7 +23,7 @@ pub record Holds {S : Type 0} (classes : ℕ) (s : State S View) : Type 0 where
   -- each loss equals the present word
   pub losses : (id : ℕ) (v : View) → get_elem? s.views id ≡ some v → Stand s.words v.losses
   -- a nonzero word is in the wins of exactly one view, once
-  pub one_winner : (class : ℕ) → total (λ (v : View). times class v.wins) s.views ≡ winners (slice_index s.words class)
+  pub one_winner : (class : ℕ) → total (λ (v : View). count (of_class class) v.wins) s.views ≡ setters (slice_index s.words class)
   -- shares add up to 1
   pub shares : total (λ (v : View). v.share) s.views ≡ whole
   -- what has no share has no wins and no losses

@@ -1,7 +1,8 @@
 -- What the steps of a desk do to a seat's view, and what a seat knows after each (this project's own rule).
 use Rattle.std.specs.Prelude.{◌≡◌, ℕ, ◌+◌, ◌-◌, ◌/◌, ◌<◌, ◌≤◌, ◌⊎◌, List, [], ◌∷◌, ◌++◌}
 use Rattle.atomic_table.specs.Table.{Me, Step}
-use Rattle.replay_desk.specs.Pairs.{In, times, whole}
+use Rattle.live_desk.specs.Lists.{In, count, whole}
+use Rattle.replay_desk.specs.Pairs.{of_class}
 use Rattle.replay_desk.specs.declared.view.View.{View}
 
 -- the view of the first seat
@@ -35,7 +36,7 @@ with_loss p v = record { wins = v.wins; losses = p ∷ v.losses; share = v.share
 -- What a seat knows of its wins, its losses and its share at every moment
 pub record Known (wins losses : List (ℕ × ℕ)) (share : ℕ) : Type 0 where
   -- no class was won twice
-  pub once : (class : ℕ) → times class wins ≤ 1
+  pub once : (class : ℕ) → count (of_class class) wins ≤ 1
   -- of one class, all wins and losses name one call
   pub agree : (class one other : ℕ) → In (class, one) wins ⊎ In (class, one) losses → In (class, other) wins ⊎ In (class, other) losses → one ≡ other
   -- a seat of share 1 has all wins, so each of its losses names one of them

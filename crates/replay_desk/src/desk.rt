@@ -1,7 +1,7 @@
 //! The desk that workers share, and the seats at which they claim.
 ghost use Rattle.std.specs.Prelude.{◌≡◌, ◌≤◌, ◌<◌, ◌≢◌, ℕ, IfOk, IsOk, OnOk};
+ghost use Rattle.live_desk.specs.Lists.{In, whole};
 ghost use Rattle.replay_desk.specs.Holder.{Claimed, Settled, both_of, first_of, left_of, right_of};
-ghost use Rattle.replay_desk.specs.Pairs.{In, whole};
 
 use crate::claim::Claim;
 use crate::steps::{ClaimStep, Halves, Look, OneWinner, Together};

@@ -5,7 +5,7 @@ use Rattle.std.specs.List.{slice_get}
 use Rattle.std.specs.Option.{option_map}
 use Rattle.call_log.specs.Entry.{Entry}
 use Rattle.replay_desk.specs.Holder.{Holder, Settled as SeatSettled}
-use Rattle.replay_desk.specs.Pairs.{In, whole}
+use Rattle.live_desk.specs.Lists.{In, whole}
 use Rattle.replay_desk.specs.Past.{PastView, found}
 use Rattle.replay_law.specs.Held.{Kept, kept_of}
 use Rattle.replay_law.specs.Round.{Settled, Winner}

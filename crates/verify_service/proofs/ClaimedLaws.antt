@@ -3,7 +3,7 @@ use Rattle.std.proofs.Common.{◌≡◌, ◌≢◌, ℕ, suc, ◌+◌, ◌<◌, 
 use Rattle.std.proofs.lemmas.Option.{same_Some}
 use Rattle.std.specs.List.{slice_get}
 use Rattle.replay_desk.specs.Holder.{DeskId, Holder, Settled}
-use Rattle.replay_desk.specs.Pairs.{In, whole}
+use Rattle.live_desk.specs.Lists.{In, whole}
 use Rattle.replay_desk.specs.Past.{PastView, found}
 use Rattle.verify_service.specs.Carrying.{Claimed, IsLoss, IsWin, OwnLoss, OwnWin, Placed, out_at}
 use Rattle.verify_service.specs.Claiming.{Claims, ReplaysKept, loss_of, pair_of}

@@ -1,7 +1,7 @@
 -- What the seat gained by a call.
 use Rattle.std.proofs.Common.{◌≡◌, ℕ, ◌⊎◌, inl, inr, List, ◌∷◌, None, refl, sym, subst}
 use Rattle.replay_desk.specs.Holder.{Holder, gained, lost_to}
-use Rattle.replay_desk.specs.Pairs.{In}
+use Rattle.live_desk.specs.Lists.{In}
 use Rattle.replay_desk.specs.Past.{PastView, found}
 use Rattle.verify_service.specs.Carrying.{Placed}
 use Rattle.verify_service.specs.Claiming.{Claims, loss_of, pair_of}

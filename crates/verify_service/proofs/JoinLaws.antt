@@ -2,30 +2,11 @@
 use Rattle.std.proofs.Common.{◌≡◌, ℕ, zero, suc, ◌+◌, ◌<◌, ◌⊎◌, inl, inr, List, [], ◌∷◌, ◌++◌, get_or, length, Option, Some, None, refl, sym, ap, ◌∙◌, subst, arith}
 use Rattle.std.proofs.lemmas.Option.{same_Some}
 use Rattle.replay_desk.specs.Holder.{DeskId, Holder, both_of}
-use Rattle.replay_desk.specs.Pairs.{In}
+use Rattle.live_desk.specs.Lists.{In}
+use Rattle.live_desk.proofs.Sums.{in_append, in_left, in_right}
 use Rattle.std.specs.List.{slice_get}
 use Rattle.verify_service.specs.Carrying.{IsOfDesk, joined_from, joined_two}
 use Rattle.verify_service.specs.Ready.{all_shares, share_of, shares}
-
--- ---- pairs of both
-
-in_first : (p : ℕ × ℕ) (xs ys : List (ℕ × ℕ)) → In p xs → In p (xs ++ ys)
-in_first p [] ys at = absurd at
-in_first p (x ∷ xs) ys (inl here) = inl here
-in_first p (x ∷ xs) ys (inr behind) = inr (in_first p xs ys behind)
-
-in_second : (p : ℕ × ℕ) (xs ys : List (ℕ × ℕ)) → In p ys → In p (xs ++ ys)
-in_second p [] ys at = at
-in_second p (x ∷ xs) ys at = inr (in_second p xs ys at)
-
-in_either : (p : ℕ × ℕ) (xs ys : List (ℕ × ℕ)) → In p (xs ++ ys) → In p xs ⊎ In p ys
-in_either p [] ys at = inr at
-in_either p (x ∷ xs) ys (inl here) = inl (inl here)
-in_either p (x ∷ xs) ys (inr behind) = more (in_either p xs ys behind)
-  where
-    more : In p xs ⊎ In p ys → In p (x ∷ xs) ⊎ In p ys
-    more (inl one) = inl (inr one)
-    more (inr other) = inr other
 
 -- ---- all seats as one, by its wins or by its losses
 
@@ -34,7 +15,7 @@ module _ (f : Holder → List (ℕ × ℕ)) (both : (a b : Holder) → f (both_o
   kept_from p seat all [] is at = subst (λ (h : Holder). In p (f h)) (same_Some seat all is) at
   kept_from p seat all (None ∷ seats) is at = kept_from p seat all seats is at
   kept_from p seat all (Some other ∷ seats) is at =
-      kept_from p (both_of seat other) all seats is (subst (In p) (sym (both seat other)) (in_first p (f seat) (f other) at))
+      kept_from p (both_of seat other) all seats is (subst (In p) (sym (both seat other)) (in_left p (f seat) (f other) at))
 
   -- what one of them has all have
   pub gives : (p : ℕ × ℕ) (start : Option Holder) (all seat : Holder) (seats : List (Option Holder)) (w : ℕ) → joined_from start seats ≡ Some all → w < length seats → get_or seats w None ≡ Some seat
@@ -44,7 +25,7 @@ module _ (f : Holder → List (ℕ × ℕ)) (both : (a b : Holder) → f (both_o
   gives p (Some own) all seat (None ∷ seats) zero is within at has = absurd cc
   gives p (Some own) all seat (Some other ∷ seats) zero is within at has =
       kept_from p (both_of own other) all seats is
-      (subst (In p) (sym (both own other)) (in_second p (f own) (f other) (subst (λ (h : Holder). In p (f h)) (sym (same_Some other seat at)) has)))
+      (subst (In p) (sym (both own other)) (in_right p (f own) (f other) (subst (λ (h : Holder). In p (f h)) (sym (same_Some other seat at)) has)))
   gives p start all seat (other ∷ seats) (suc w) is within at has = gives p (joined_two start other) all seat seats w is (omega arith) at has
 
   abbrev Starts : ℕ × ℕ → Option Holder → Type 0
@@ -66,7 +47,7 @@ module _ (f : Holder → List (ℕ × ℕ)) (both : (a b : Holder) → f (both_o
   started p None None seats has = absurd has
   started p None (Some other) seats has = inr (record { w = 0; seat = other; within = omega arith; at = refl; has = has })
   started p (Some seat) None seats has = inl has
-  started p (Some seat) (Some other) seats has = by (in_either p (f seat) (f other) (subst (In p) (both seat other) has))
+  started p (Some seat) (Some other) seats has = by (in_append p (f seat) (f other) (subst (In p) (both seat other) has))
     where
       by : In p (f seat) ⊎ In p (f other) → Starts p (Some seat) ⊎ OneHas p (Some other ∷ seats)
       by (inl one) = inl one

@@ -4,7 +4,7 @@ use Rattle.std.proofs.lemmas.Option.{same_Some}
 use Rattle.std.specs.List.{slice_get}
 use Rattle.call_log.specs.Entry.{Entry}
 use Rattle.replay_desk.specs.Holder.{Holder}
-use Rattle.replay_desk.specs.Pairs.{In}
+use Rattle.live_desk.specs.Lists.{In}
 use Rattle.replay_desk.specs.Past.{PastView, found}
 use Rattle.verify_rules.specs.declared.settings.Settings.{Settings}
 use Rattle.verify_service.specs.Carried.{Carries, HasPairs, IsReplayPair, IsValidPair}

@@ -4,7 +4,7 @@ use Rattle.std.proofs.lemmas.Bool.Decides.{nat_tests}
 use Rattle.std.specs.Bool.{⊤}
 use Rattle.std.specs.List.{slice_get}
 use Rattle.replay_desk.specs.Holder.{Holder, Settled as SeatSettled}
-use Rattle.replay_desk.specs.Pairs.{In}
+use Rattle.live_desk.specs.Lists.{In}
 use Rattle.replay_desk.specs.Past.{PastView}
 use Rattle.verify_service.specs.Adding.{is_valid, valid_upto}
 use Rattle.verify_service.specs.Carrying.{HasClaims, Placed, one_if, out_at}

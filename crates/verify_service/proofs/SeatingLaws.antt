@@ -3,7 +3,7 @@ use Rattle.std.proofs.Common.{◌≡◌, ℕ, zero, suc, ◌+◌, ◌-◌, ◌/�
 use Rattle.std.proofs.lemmas.Option.{same_Some}
 use Rattle.std.specs.List.{slice_get}
 use Rattle.replay_desk.specs.Holder.{DeskId, Holder, left_of, right_of}
-use Rattle.replay_desk.specs.Pairs.{whole}
+use Rattle.live_desk.specs.Lists.{whole}
 use Rattle.verify_service.specs.Prepared.{AreSeats, IsSeat}
 use Rattle.verify_service.specs.Ready.{HaveSeats, IsFresh, all_shares}
 

@@ -3,7 +3,7 @@ use Rattle.std.proofs.Common.{◌≡◌, ℕ, zero, suc, ◌+◌, ◌<◌, ◌%�
 use Rattle.std.proofs.lemmas.Option.{same_Some}
 use Rattle.std.specs.List.{slice_get}
 use Rattle.replay_desk.specs.Holder.{DeskId, Holder}
-use Rattle.replay_desk.specs.Pairs.{In, whole}
+use Rattle.live_desk.specs.Lists.{In, whole}
 use Rattle.replay_desk.specs.Past.{PastView}
 use Rattle.verify_service.specs.Carrying.{AreGathered, AreSaid, Claimed, HasAnswered, HasClaimed, HasClaims, HasSeat, IsInTurn, IsLoss, IsOfDesk, IsWin, Placed, joined_from, out_at}
 use Rattle.stir_outside.specs.Stays.{ProviderStays}

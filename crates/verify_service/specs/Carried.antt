@@ -4,7 +4,7 @@ use Rattle.std.specs.List.{slice_get}
 use Rattle.call_log.specs.Entry.{Entry}
 use Rattle.cert_store.specs.Rules.{Says}
 use Rattle.replay_desk.specs.Holder.{DeskId, Holder}
-use Rattle.replay_desk.specs.Pairs.{In}
+use Rattle.live_desk.specs.Lists.{In}
 use Rattle.replay_desk.specs.Past.{PastView}
 use Rattle.replay_law.specs.Held.{Held}
 use Rattle.replay_law.specs.Round.{Settled}

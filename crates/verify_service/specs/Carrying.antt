@@ -2,7 +2,7 @@
 use Rattle.std.specs.Prelude.{◌≡◌, ⊤, ℕ, zero, suc, ◌+◌, ◌<◌, ◌≤◌, ◌%◌, ◌==◌, ◌&&◌, ◌⊎◌, Bool, true, false, List, [], ◌∷◌, get_or, length, Option, Some, None, if◌then◌else◌}
 use Rattle.std.specs.List.{slice_get}
 use Rattle.replay_desk.specs.Holder.{DeskId, Holder, both_of}
-use Rattle.replay_desk.specs.Pairs.{In, whole}
+use Rattle.live_desk.specs.Lists.{In, whole}
 use Rattle.replay_desk.specs.Past.{PastView, found}
 use Rattle.stir_outside.specs.Count.{AtMost}
 use Rattle.call_judging.specs.Causes.{HasCauseIf}

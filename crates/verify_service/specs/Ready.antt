@@ -7,7 +7,7 @@ use Rattle.cert_store.specs.Holding.{Chains}
 use Rattle.cert_store.specs.Rules.{Says}
 use Rattle.cert_store.specs.declared.world.World.{World as Materials}
 use Rattle.replay_desk.specs.Holder.{DeskId, Holder}
-use Rattle.replay_desk.specs.Pairs.{whole}
+use Rattle.live_desk.specs.Lists.{whole}
 use Rattle.replay_desk.specs.Past.{PastView}
 use Rattle.stir_outside.specs.declared.provider.Provider.{Ghosts as ProviderOf}
 use Rattle.verify_rules.specs.Call.{Reading}

@@ -1,7 +1,7 @@
 //! A round that was carried out.
 ghost use Rattle.std.specs.Prelude.{◌≡◌, ◌<◌, ℕ, Some, length};
 ghost use Rattle.std.specs.List.{slice_get};
-ghost use Rattle.replay_desk.specs.Pairs.{In, whole};
+ghost use Rattle.live_desk.specs.Lists.{In, whole};
 
 use crate::outcome::Outcome;
 use crate::screening::ReadyCall;
@@ -20,7 +20,7 @@ pub struct Carried {
 
 impl Model for Carried {
     ghost use Rattle.std.specs.Prelude.{◌≡◌, map, vec_len};
-    ghost use Rattle.replay_desk.specs.Pairs.{whole};
+    ghost use Rattle.live_desk.specs.Lists.{whole};
     ghost use Rattle.verify_service.specs.Carried.{CarriedView};
 
     ghost Value = { CarriedView };

@@ -2,7 +2,7 @@
 ghost use Rattle.std.specs.Prelude.{◌≡◌, ◌<◌, ◌≤◌, List, length, map, vec_len, slice_index_or};
 ghost use Rattle.std.specs.List.{slice_get};
 ghost use Rattle.call_log.specs.Entry.{Entry};
-ghost use Rattle.replay_desk.specs.Pairs.{whole};
+ghost use Rattle.live_desk.specs.Lists.{whole};
 ghost use Rattle.stir_outside.specs.Stays.{ProviderStays};
 ghost use Rattle.verify_rules.specs.declared.settings.Settings.{Settings};
 ghost use Rattle.verify_service.specs.Adding.{IsAdded};

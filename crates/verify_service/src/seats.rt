@@ -1,6 +1,6 @@
 //! The desk of a round, and its seats.
 ghost use Rattle.std.specs.Prelude.{◌≡◌, ◌<◌, ◌≤◌, max, vec_len, IfOk};
-ghost use Rattle.replay_desk.specs.Pairs.{whole};
+ghost use Rattle.live_desk.specs.Lists.{whole};
 ghost use Rattle.verify_service.specs.Prepared.{AreSeats};
 ghost use Rattle.verify_service.specs.Ready.{HaveSeats, IsFresh};
 

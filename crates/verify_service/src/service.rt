@@ -1,5 +1,5 @@
 //! The service.
-ghost use Rattle.replay_desk.specs.Pairs.{In};
+ghost use Rattle.live_desk.specs.Lists.{In};
 ghost use Rattle.std.specs.Prelude.{◌≡◌, ◌↔◌, ℕ, IfOk, IsTrue};
 ghost use Rattle.verify_service.specs.Service.{Follow, IsNew, all_follow, follows_on};
 

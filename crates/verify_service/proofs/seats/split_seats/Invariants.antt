@@ -1,6 +1,6 @@
 -- The seats so far and the first one have all parts, and enough is left to halve.
 use Rattle.std.proofs.Common.{◌≡◌, ◌+◌, vec_len}
-use Rattle.replay_desk.specs.Pairs.{whole}
+use Rattle.live_desk.specs.Lists.{whole}
 use Rattle.verify_service.specs.Prepared.{AreSeats}
 use Rattle.verify_service.specs.Ready.{IsFresh, all_shares}
 use Rattle.verify_service.proofs.SeatingLaws.{HasLeft}

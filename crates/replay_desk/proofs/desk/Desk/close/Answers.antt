@@ -1,6 +1,6 @@
 use Rattle.std.proofs.Common.{◌≡◌, ℕ, subst}
 use Rattle.replay_desk.specs.Holder.{Holder}
-use Rattle.replay_desk.specs.Pairs.{In, whole}
+use Rattle.live_desk.specs.Lists.{In, whole}
 use Rattle.replay_desk.proofs.desk.Desk.close.Goals as goal
 
 pub returns : goal.returns

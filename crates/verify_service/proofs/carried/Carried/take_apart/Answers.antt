@@ -1,6 +1,6 @@
 -- The desk says so of the seat, and the seat is the one that contracts see.
 use Rattle.std.proofs.Common.{ℕ, subst}
-use Rattle.replay_desk.specs.Pairs.{In}
+use Rattle.live_desk.specs.Lists.{In}
 use Rattle.verify_service.specs.Carried.{CarriedView}
 use Rattle.verify_service.proofs.carried.Carried.take_apart.Goals as goal
 
