@@ -31,8 +31,8 @@ refusal_by window content = state_refusal window (window_line content) (read_sta
 abbrev pub state_file : ℕ → List ℕ → NamedFile
 state_file window name = record { name = name; limit = 536870912; refused = refusal_by window }
 
--- the content is a state file of this state, and is read as it; its window is this one
-pub record StateOf (window : ℕ) (content : List ℕ) (state : StateView) : Type 0 where
-  pub file : StateFile window content state
-  pub read : read_state window content ≡ Ok state
-  pub window : state.window ≡ window
+-- the content is a state file of this state, and is read as it; its window has so many seconds
+pub record StateOf (seconds : ℕ) (content : List ℕ) (state : StateView) : Type 0 where
+  pub file : StateFile seconds content state
+  pub read : read_state seconds content ≡ Ok state
+  pub window : state.window ≡ seconds
