@@ -1,23 +1,22 @@
 -- How long the line of the field is, and that it may be added.
 use Rattle.std.specs.Prelude.{slice_index}
-use Rattle.std.proofs.Common.{◌≡◌, ℕ, zero, suc, ◌<◌, ◌≤◌, ◌+◌, true, false, ◌&&◌, nat_le, nat_lt, List, [], ◌∷◌, ◌++◌, length, take, drop, replicate, codes, Option, Some, Result, Ok, Err, IsTrue, refl, sym, ap, subst, ◌∙◌, arith, length-append}
+use Rattle.std.proofs.Common.{◌≡◌, ℕ, zero, suc, ◌<◌, ◌≤◌, ◌+◌, ◌==◌, true, false, ◌&&◌, nat_le, nat_lt, List, [], ◌∷◌, ◌++◌, length, take, drop, replicate, codes, Option, Some, None, Result, Ok, Err, IfSome, IsTrue, refl, sym, ap, subst, ◌∙◌, arith, length-append}
 use Rattle.std.specs.List.{list_all}
 use Rattle.std.proofs.lemmas.Bool.{and_parts}
 use Rattle.std.proofs.lemmas.Bool.Decides.{nat_tests}
 use Rattle.std.proofs.lemmas.List.{take-append-drop}
-use Rattle.text_grammar.specs.Bytes.{is_uri_byte}
+use Rattle.text_grammar.specs.Bytes.{is_letter, is_uri_byte}
 use Rattle.text_grammar.specs.Uri.{is_uri}
-use Rattle.identity_header.specs.Spelling.{param_text, spelling}
-use Rattle.identity_header.specs.Parts.{parts}
+use Rattle.identity_header.specs.Spelling.{is_bare, param_text, spelling, value_text}
+use Rattle.identity_header.specs.Parts.{is_bare_byte, parts}
 use Rattle.sip_message.specs.Added.{added, head_end, is_addable, sized_or_fault, with_line, written_field}
 use Rattle.sip_message.specs.Message.{MessageView}
 use Rattle.sip_message.specs.declared.fault.FormFault.{FormFault}
 use Rattle.passport_json.specs.Spelled.{IsSignature, compact_text, full_text}
-use Rattle.passport_claims.specs.Kind.{ppt_of}
+use Rattle.passport_claims.specs.Kind.{IsTypeText, ppt_of}
 use Rattle.passport_claims.specs.Passport.{ClaimsView}
 use Rattle.passport_claims.specs.Signed.{IsSignable, signing_of}
-use Rattle.passport_claims.specs.declared.kind.Kind.{Kind}
-use Rattle.passport_claims.specs.declared.kind.Kind.TheVariants as kinds
+use Rattle.passport_claims.proofs.KindLaws.{type_text}
 use Rattle.auth_service.specs.declared.wanted.Shape.{Shape}
 use Rattle.auth_service.specs.declared.wanted.Shape.TheVariants as shapes
 use Rattle.auth_service.specs.Field.{field_name, value_of}
@@ -81,15 +80,33 @@ line_is bytes value =
       length-append value (13 ∷ 10 ∷ []),
     )
 
-type_adds : (kind : Kind) → length (param_text (codes ";ppt=") (ppt_of kind)) ≡ type_size kind
-type_adds kinds.Base = refl
-type_adds (kinds.Shaken level origid) = refl
-type_adds (kinds.Div earlier) = refl
+-- a type is written without quotes
+letter_bare : (b : ℕ) → is_letter b ≡ true → is_bare_byte b ≡ true
+letter_bare b h = grind (arith, nat_tests)
+
+letters_bare : (text : List ℕ) → list_all is_letter text ≡ true → list_all is_bare_byte text ≡ true
+letters_bare [] h = refl
+letters_bare (b ∷ bs) h =
+    let t = and_parts (is_letter b) (list_all is_letter bs) h in
+    let one : is_bare_byte b ≡ true = letter_bare b t.0 in
+    rw (one, letters_bare bs t.1) refl
+
+bare : (text : List ℕ) → IsTypeText text → is_bare text ≡ true
+bare text h =
+    let some : 1 ≤ length text = h.some in
+    let filled : (length text == 0) ≡ false = grind (arith, nat_tests) in
+    rw (filled, letters_bare text h.each) refl
+
+type_adds : (ppt : Option (List ℕ)) → IfSome ppt IsTypeText → length (param_text (codes ";ppt=") ppt) ≡ type_size ppt
+type_adds None h = refl
+type_adds (Some text) h =
+    let as_it_is : value_text text ≡ text = rw (bare text h) refl in
+    ap (λ x. length (codes ";ppt=" ++ x)) as_it_is ∙ length-append (codes ";ppt=") text
 
 value_size : FullSize → CompactSize → (shape : Shape) (claims : ClaimsView) (signature : List ℕ) → claims.kind ≡ kind_of shape → IsSignature signature
     → length (value_of shape claims signature) + 12 ≡ line_size shape (length (signing_of claims)) (length claims.x5u)
 value_size full compact (shapes.Full kind) claims signature k s =
-    let ppt : length (param_text (codes ";ppt=") (ppt_of claims.kind)) ≡ type_size kind = ap (λ x. length (param_text (codes ";ppt=") (ppt_of x))) k ∙ type_adds kind in
+    let ppt : length (param_text (codes ";ppt=") (ppt_of claims.kind)) ≡ type_size (ppt_of kind) = ap (λ x. length (param_text (codes ";ppt=") (ppt_of x))) k ∙ type_adds (ppt_of kind) (type_text kind) in
     omega (arith, full (signing_of claims) signature s, spelled_size (full_text (signing_of claims) signature) claims.x5u (ppt_of claims.kind), ppt)
 value_size full compact shapes.Compact claims signature k s =
     let ppt : length (param_text (codes ";ppt=") (ppt_of claims.kind)) ≡ 0 = ap (λ x. length (param_text (codes ";ppt=") (ppt_of x))) k in

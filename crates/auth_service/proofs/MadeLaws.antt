@@ -1,20 +1,19 @@
 -- The PASSporT of an order is one that can be made.
-use Rattle.std.proofs.Common.{◌≡◌, ℕ, true, false, ◌&&◌, nat_le, nat_lt, List, [], ◌∷◌, length, Ok, Err, IsTrue, refl, sym, ap, subst, ◌∙◌, arith}
+use Rattle.std.proofs.Common.{◌≡◌, ℕ, Bool, true, false, cond, ◌&&◌, nat_le, nat_lt, inl, inr, codes, List, [], ◌∷◌, length, Ok, Err, IsTrue, refl, sym, ap, subst, ◌∙◌, arith}
 use Rattle.std.proofs.lemmas.Bool.{and_parts}
 use Rattle.std.proofs.lemmas.Bool.Decides.{nat_tests}
 use Rattle.text_grammar.specs.Moment.{last_second}
 use Rattle.text_grammar.specs.Uri.{is_uri}
+use Rattle.passport_claims.specs.Kind.{ppt_of}
 use Rattle.passport_claims.specs.Made.{has_origid, is_called_count, made}
-use Rattle.passport_claims.specs.Passport.{ClaimsView}
+use Rattle.passport_claims.specs.Passport.{ClaimsView, is_text}
 use Rattle.passport_claims.specs.declared.fault.ClaimFault.{ClaimFault}
 use Rattle.passport_claims.specs.declared.fault.ClaimFault.TheVariants as claim_faults
 use Rattle.lists.specs.Given.{IsFaultOf}
 use Rattle.passport_claims.specs.Reading.{fault_seen}
 use Rattle.lists.proofs.StepLaws.{inside}
 use Rattle.passport_claims.specs.declared.kind.Kind.{Kind}
-use Rattle.passport_claims.specs.declared.kind.Kind.TheVariants as kinds
-use Rattle.auth_service.specs.declared.wanted.Shape.{Shape}
-use Rattle.auth_service.specs.declared.wanted.Shape.TheVariants as shapes
+use Rattle.passport_claims.proofs.KindLaws.{memory_or_read}
 use Rattle.auth_service.specs.Order.{OrderView, is_order, kind_of}
 use Rattle.auth_service.specs.Signed.{claims_by}
 use Rattle.auth_service.specs.Written.{IsFor}
@@ -31,11 +30,12 @@ order_parts order h =
     let u = and_parts (is_uri order.x5u) (nat_le order.iat last_second) t.0 in
     record { uri = u.0; within = grind (arith, nat_tests, u.1); origid = t.1 }
 
-one_called : (shape : Shape) → is_called_count (kind_of shape) 1 ≡ true
-one_called (shapes.Full kinds.Base) = refl
-one_called (shapes.Full (kinds.Shaken level origid)) = refl
-one_called (shapes.Full (kinds.Div earlier)) = refl
-one_called shapes.Compact = refl
+one_by : (t : Bool) → nat_le 1 (cond t 1 32) ≡ true
+one_by true = refl
+one_by false = refl
+
+one_called : (kind : Kind) → is_called_count kind 1 ≡ true
+one_called kind = one_by (is_text (codes "div") (ppt_of kind))
 
 -- it is made
 pub made_again : (order : OrderView) (orig dest : List ℕ) → IsTrue (is_order order)
@@ -44,7 +44,7 @@ unfolding made
 made_again order orig dest h =
     let p = order_parts order h in
     let uri : is_uri order.x5u ≡ true = p.uri in
-    rw (uri, p.within, one_called order.shape, p.origid) refl
+    rw (uri, p.within, one_called (kind_of order.shape), p.origid) refl
 
 -- so what is made of its parts is the PASSporT
 pub made_is : (order : OrderView) (kind : Kind) (orig dest : List ℕ) (claims : ClaimsView) → IsTrue (is_order order) → kind ≡ kind_of order.shape
@@ -60,17 +60,11 @@ never_refused order orig dest fault h e = let k = made_again order orig dest h i
 -- so that the one fault that may come is out of memory
 only_memory : (order : OrderView) (orig dest : List ℕ) (fault : ClaimFault) → IsTrue (is_order order)
     → IsFaultOf (fault_seen fault) (made (kind_of order.shape) order.x5u order.iat orig (dest ∷ [])) → fault ≡ claim_faults.Memory
-only_memory order orig dest claim_faults.Kind h e = absurd (never_refused order orig dest claim_faults.Kind h e)
-only_memory order orig dest claim_faults.Alg h e = absurd (never_refused order orig dest claim_faults.Alg h e)
-only_memory order orig dest claim_faults.Ppt h e = absurd (never_refused order orig dest claim_faults.Ppt h e)
-only_memory order orig dest claim_faults.X5u h e = absurd (never_refused order orig dest claim_faults.X5u h e)
-only_memory order orig dest claim_faults.Iat h e = absurd (never_refused order orig dest claim_faults.Iat h e)
-only_memory order orig dest claim_faults.Orig h e = absurd (never_refused order orig dest claim_faults.Orig h e)
-only_memory order orig dest claim_faults.Dest h e = absurd (never_refused order orig dest claim_faults.Dest h e)
-only_memory order orig dest claim_faults.Attest h e = absurd (never_refused order orig dest claim_faults.Attest h e)
-only_memory order orig dest claim_faults.Origid h e = absurd (never_refused order orig dest claim_faults.Origid h e)
-only_memory order orig dest claim_faults.Div h e = absurd (never_refused order orig dest claim_faults.Div h e)
-only_memory order orig dest claim_faults.Memory h e = refl
+only_memory order orig dest fault h e =
+    elim (memory_or_read fault (made (kind_of order.shape) order.x5u order.iat orig (dest ∷ [])) e) [
+      | inl is ↦ is
+      | inr refused ↦ absurd (never_refused order orig dest fault h refused)
+    ]
 
 pub memory_alone : (order : OrderView) (kind : Kind) (orig dest : List ℕ) (fault : ClaimFault) → IsTrue (is_order order) → kind ≡ kind_of order.shape
     → IsFaultOf (fault_seen fault) (made kind order.x5u order.iat orig (dest ∷ [])) → fault ≡ claim_faults.Memory

@@ -9,10 +9,10 @@ use Rattle.sip_message.specs.Message.{MessageView}
 use Rattle.sip_message.specs.Reading.{read}
 use Rattle.sip_message.specs.declared.fault.FormFault.{FormFault}
 use Rattle.passport_json.specs.Signing.{Ticket}
+use Rattle.passport_claims.specs.Kind.{div_in}
 use Rattle.passport_claims.specs.Passport.{ClaimsView}
 use Rattle.passport_claims.specs.Signed.{signing_of}
 use Rattle.passport_claims.specs.declared.kind.Kind.{Kind}
-use Rattle.passport_claims.specs.declared.kind.Kind.TheVariants as kinds
 use Rattle.verify_rules.specs.Late.{covers_kind}
 use Rattle.auth_service.specs.declared.fault.SignFault.{SignFault}
 use Rattle.auth_service.specs.declared.fault.SignFault.TheVariants as faults
@@ -41,10 +41,12 @@ abbrev pub is_dated : OrderView → MessageView → Bool
 is_dated order message = is_dated_as order.shape order.iat message
 
 -- the number that is called: that of the request URI by a diversion (RFC 8946, section 4.1), and else that of To (RFC 8224, section 4.1)
+abbrev pub called_by_type : Option (List ℕ) → MessageView → LocalView → Option (List ℕ)
+called_by_type None message local = to_number message local
+called_by_type (Some earlier) message local = target_number message local
+
 abbrev pub called_as : Kind → MessageView → LocalView → Option (List ℕ)
-called_as kinds.Base message local = to_number message local
-called_as (kinds.Shaken level origid) message local = to_number message local
-called_as (kinds.Div earlier) message local = target_number message local
+called_as kind message local = called_by_type (div_in kind) message local
 
 abbrev pub called_number : OrderView → MessageView → Option (List ℕ)
 called_number order message = called_as (kind_of order.shape) message order.local

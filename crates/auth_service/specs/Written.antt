@@ -1,14 +1,13 @@
 -- What the steps of the signer hand on: the PASSporT of an order, the line of its field, and the message that has room for it.
-use Rattle.std.specs.Prelude.{◌≡◌, ℕ, ◌+◌, ◌≤◌, List, length, Ok, IsTrue}
+use Rattle.std.specs.Prelude.{◌≡◌, ℕ, ◌+◌, ◌≤◌, List, length, Option, Some, None, Ok, IsTrue}
 use Rattle.identity_header.specs.FieldText.{FieldText}
 use Rattle.identity_header.specs.Parts.{Parts}
 use Rattle.identity_header.specs.Read.{read as read_field}
 use Rattle.sip_message.specs.Added.{is_field_value, with_line}
 use Rattle.sip_message.specs.Message.{MessageView}
 use Rattle.sip_message.specs.Reading.{read}
+use Rattle.passport_claims.specs.Kind.{ppt_of}
 use Rattle.passport_claims.specs.Passport.{ClaimsView}
-use Rattle.passport_claims.specs.declared.kind.Kind.{Kind}
-use Rattle.passport_claims.specs.declared.kind.Kind.TheVariants as kinds
 use Rattle.auth_service.specs.declared.wanted.Shape.{Shape}
 use Rattle.auth_service.specs.declared.wanted.Shape.TheVariants as shapes
 use Rattle.auth_service.specs.Field.{field_name}
@@ -20,15 +19,14 @@ pub record IsFor (order : OrderView) (claims : ClaimsView) : Type 0 where
   pub x5u : claims.x5u ≡ order.x5u
   pub called : length claims.dest ≡ 1
 
--- how many bytes the type adds to the field
-abbrev pub type_size : Kind → ℕ
-type_size kinds.Base = 0
-type_size (kinds.Shaken level origid) = 11
-type_size (kinds.Div earlier) = 8
+-- how many bytes the type adds to the field: `;ppt=` and its text, if there is one
+abbrev pub type_size : Option (List ℕ) → ℕ
+type_size None = 0
+type_size (Some text) = 5 + length text
 
 -- how many bytes the field's line has, by those of what is signed and of the URI
 abbrev pub line_size : Shape → ℕ → ℕ → ℕ
-line_size (shapes.Full kind) signing x5u = signing + x5u + 117 + type_size kind
+line_size (shapes.Full kind) signing x5u = signing + x5u + 117 + type_size (ppt_of kind)
 line_size shapes.Compact signing x5u = x5u + 118
 
 -- the text is an Identity value with these parts, is read as these, and can be written in a line

@@ -28,15 +28,14 @@ use sip_message::{MOST_BYTES, MessageFault, MessageText};
 use std::alloc::{AllocError, Global};
 use text_grammar::uri_law;
 
-/// How many bytes a type of a PASSporT adds to the field: `;ppt=shaken` or `;ppt=div`.
+/// How many bytes a type of a PASSporT adds to the field: `;ppt=` and its text, or none.
 fn type_size(kind: &Kind) -> usize
-    ensures exact { result ≡ type_size kind.now }
+    ensures exact { result ≡ type_size (ppt_of kind.now) }
     ensures within { result ≤ 11 }
 {
-    match kind {
-        Kind::Base => 0,
-        Kind::Shaken { .. } => 11,
-        Kind::Div { .. } => 8,
+    match kind.ppt() {
+        Some(text) => 5 + text.len(),
+        None => 0,
     }
 }
 

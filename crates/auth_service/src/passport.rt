@@ -14,7 +14,7 @@ use crate::fault::SignFault;
 use crate::identity::is_too_long;
 use crate::order::Holder;
 use crate::wanted::{Shape, Wanted};
-use passport_claims::{ClaimFault, Kind, Passport};
+use passport_claims::{ClaimFault, Passport};
 use passport_json::token_bytes_law;
 use sip_message::{Message, MessageFault, MessageText};
 use std::alloc::Global;
@@ -143,9 +143,9 @@ fn is_second(iat: u64, date: Option<u64>) -> bool
 fn called_number(order: &Wanted<'_>, message: &Message<'_>) -> Option<Number>
     ensures { result ≡ called_number (wanted_of order.now) message.now }
 {
-    match order.shape.kind() {
-        Kind::Base | Kind::Shaken { .. } => message.to_number(&order.local),
-        Kind::Div { .. } => message.target_number(&order.local),
+    match order.shape.kind().div() {
+        None => message.to_number(&order.local),
+        Some(_) => message.target_number(&order.local),
     }
 }
 
