@@ -1,4 +1,4 @@
-//! The claims of a PASSporT (RFC 8225, sections 4 and 5), of three types: without a type, `shaken` (RFC 8588) and `div` (RFC 8946).
+//! The claims of a PASSporT (RFC 8225, sections 4 and 5), and what its type adds to them ([`Kind`]).
 //!
 //! # The way through
 //!
