@@ -1,11 +1,12 @@
 -- By what is signed, of a chain that was opened.
-use Rattle.std.specs.Prelude.{◌≡◌, ℕ, List, Some}
+use Rattle.std.specs.Prelude.{◌≡◌, ℕ, List, Option, Some, IsSomeAnd}
 use Rattle.std.specs.List.{slice_get}
 use Rattle.open_calls.specs.OpenChains.{certificates_of}
 use Rattle.open_calls.specs.Worlds.{GivenWorld}
 use Rattle.open_calls.specs.Key.{KeyView, LeafIs}
 use Rattle.tn_auth_list.specs.Grant.{TableOf}
 use Rattle.tn_values.specs.Local.{local_of}
+use Rattle.stir_c.specs.Handles.{IsChainUnder}
 use Rattle.stir_c.specs.Holding.{HeldChainView}
 
 -- the first of its certificates, and the code table and the local numbering of its world
@@ -27,3 +28,11 @@ pub record OnKey (given : GivenWorld) (bytes : List ℕ) (Holds : KeyView → Ty
   pub key : KeyView
   pub key_is : IsKeyOn given bytes key
   pub holds : Holds key
+
+-- of whatever bytes the chain was opened, its key is that of these
+abbrev pub HasKeyOn : HeldChainView → Type 0
+HasKeyOn held = (given : GivenWorld) (bytes good : List ℕ) → IsChainUnder given bytes good held → IsKeyOn given bytes (key_in held)
+
+-- if there is a chain, opened of these bytes, so it is by their key
+abbrev pub ByKey : Option HeldChainView → (KeyView → Type 0) → Type 0
+ByKey held Holds = (given : GivenWorld) (bytes good : List ℕ) → IsSomeAnd held (IsChainUnder given bytes good) → OnKey given bytes Holds

@@ -4,6 +4,7 @@ pub mod WrittenText
 pub mod Keys
 pub mod ChainParts
 pub mod Signing
+pub mod SigningCalls
 pub mod Showing
 pub mod Holding
 pub mod Owned

@@ -1,15 +1,12 @@
 //! What C calls to have a message signed by the key of a chain. `include/stir.h` declares the same.
-ghost use Rattle.std.specs.Prelude.{◌≡◌, ◌≤◌, ◌⊎◌, List, None, Some, ℕ};
-ghost use Rattle.open_calls.specs.Worlds.{GivenWorld};
-ghost use Rattle.open_calls.specs.Order.{diversion};
-ghost use Rattle.open_calls.specs.Signing.{IsSignedBy, IsToSign, IsUnsignedFor, IsUnsignedWith};
-ghost use Rattle.stir_c.specs.Handles.{IsChainOn, chain_held};
-ghost use Rattle.stir_c.specs.Keys.{OnKey, key_in};
-ghost use Rattle.stir_c.specs.Saying.{IfOpen};
-ghost use Rattle.stir_c.specs.Signing.{HasFault, HasFaultWith, HasNoRoomForMessage, IsWithheld, SignedInto, ToldSigned, ToldUnsigned, origin_given};
+ghost use Rattle.std.specs.Prelude.{◌≡◌};
+ghost use Rattle.open_calls.specs.Order.{diversion, given_of};
+ghost use Rattle.stir_c.specs.Handles.{chain_held};
+ghost use Rattle.stir_c.specs.Signing.{origin_given};
+ghost use Rattle.stir_c.specs.SigningCalls.{TellsSigned, TellsToSign};
 
 use crate::handles::ChainHandle;
-use crate::key::{signed_text, told_digest};
+use crate::key::{key_law, signed_text, told_digest};
 use crate::said::Said;
 use crate::told_signing::told_message;
 use open_calls::Order;
@@ -27,6 +24,20 @@ pub struct SigningOrder {
     pub origid: [u8; 36],
 }
 
+impl SigningOrder {
+    /// The same with the URI of the key's certificates.
+    fn origin<'a>(&'a self, x5u: &'a [u8]) -> Order<'a>
+        ensures { given_of result ≡ origin_given self.now x5u.now }
+    {
+        Order::Origin {
+            iat: self.iat,
+            form: self.form,
+            origid: &self.origid,
+            x5u,
+        }
+    }
+}
+
 /// Tells what has to be signed so that a message gets an Identity field (RFC 8224, section 4.1). The field has the PASSporT of the message's calling
 /// number and that of To. Kind 0: `ticket` is the digest to be signed. Kind 1: nothing may be signed, for the cause `rule`: 1 the message can't be, 2
 /// it lacks a number, 3 the first certificate of the chain doesn't cover the calling number. Kind 2: the input of this number is at fault; they are looked
@@ -39,30 +50,9 @@ pub extern "C" fn stir_to_sign(
     x5u: &[u8],
     message: &[u8],
 ) -> Said
-    ensures kinds { (result.kind ≤ 3) ⊎ (result.kind ≡ 5) }
-    ensures stays { chain_held key.new ≡ chain_held key.old }
-    ensures told { IfOpen (chain_held key.old) (λ held. ToldUnsigned (IsUnsignedFor (key_in held) (origin_given order.now x5u.now) message.now None) result) result }
-    ensures digest { (given : GivenWorld) (bytes good : List ℕ) → IsChainOn given bytes good key.old → result.kind ≡ 0
-        → OnKey given bytes (λ key. IsToSign key (origin_given order.now x5u.now) message.now result.ticket) }
-    ensures withheld { (given : GivenWorld) (bytes good : List ℕ) → IsChainOn given bytes good key.old → result.kind ≡ 1
-        → OnKey given bytes (IsWithheld (origin_given order.now x5u.now) message.now None result.rule) }
-    ensures faulty { (given : GivenWorld) (bytes good : List ℕ) → IsChainOn given bytes good key.old → result.kind ≡ 2
-        → OnKey given bytes (HasFault (origin_given order.now x5u.now) result.input) }
-    ensures closed { result.kind ≡ 5 → chain_held key.old ≡ None }
+    ensures { TellsToSign (origin_given order.now x5u.now) message.now (chain_held key.old) (chain_held key.new) result }
 {
-    let owner = match key.take(alloc) {
-        Some(owner) => owner,
-        None => return Said::closed(),
-    };
-    let order = Order::Origin {
-        iat: order.iat,
-        form: order.form,
-        origid: &order.origid,
-        x5u,
-    };
-    let said = told_digest(alloc, owner.chain(), &order, message);
-    *key = ChainHandle::of(owner);
-    said
+    to_sign_on(alloc, key, &order.origin(x5u), message)
 }
 
 /// Writes the message with its Identity field, which has this signature over the digest that `stir_to_sign` gives for the same inputs. Whether the
@@ -78,34 +68,9 @@ pub extern "C" fn stir_signed(
     signature: &[u8],
     room: &mut [u8],
 ) -> Said
-    ensures kinds { result.kind ≤ 5 }
-    ensures stays { chain_held key.new ≡ chain_held key.old }
-    ensures told { IfOpen (chain_held key.old) (λ held. ToldSigned (IsSignedBy (key_in held) (origin_given order.now x5u.now) message.now (Some signature.now))
-        (IsUnsignedWith (key_in held) (origin_given order.now x5u.now) message.now signature.now) room.old room.new result) result }
-    ensures signed { (given : GivenWorld) (bytes good : List ℕ) → IsChainOn given bytes good key.old → result.kind ≡ 0
-        → OnKey given bytes (SignedInto (origin_given order.now x5u.now) message.now signature.now room.old room.new result) }
-    ensures withheld { (given : GivenWorld) (bytes good : List ℕ) → IsChainOn given bytes good key.old → result.kind ≡ 1
-        → OnKey given bytes (IsWithheld (origin_given order.now x5u.now) message.now (Some signature.now) result.rule) }
-    ensures faulty { (given : GivenWorld) (bytes good : List ℕ) → IsChainOn given bytes good key.old → result.kind ≡ 2
-        → OnKey given bytes (HasFaultWith (origin_given order.now x5u.now) signature.now result.input) }
-    ensures no_room { (given : GivenWorld) (bytes good : List ℕ) → IsChainOn given bytes good key.old → result.kind ≡ 4
-        → OnKey given bytes (HasNoRoomForMessage (origin_given order.now x5u.now) message.now signature.now room.old result) }
-    ensures closed { result.kind ≡ 5 → chain_held key.old ≡ None }
-    ensures as_was { 1 ≤ result.kind → room.new ≡ room.old }
+    ensures { TellsSigned (origin_given order.now x5u.now) message.now signature.now (chain_held key.old) (chain_held key.new) room.old room.new result }
 {
-    let owner = match key.take(alloc) {
-        Some(owner) => owner,
-        None => return Said::closed(),
-    };
-    let order = Order::Origin {
-        iat: order.iat,
-        form: order.form,
-        origid: &order.origid,
-        x5u,
-    };
-    let came = signed_text(alloc, owner.chain(), &order, message, signature);
-    *key = ChainHandle::of(owner);
-    told_message(came, room)
+    signed_on(alloc, key, &order.origin(x5u), message, signature, room)
 }
 
 /// Tells what has to be signed so that a message tells of its diversion (RFC 8946, section 4.1). The field has a PASSporT of the type `div` from the calling
@@ -120,25 +85,10 @@ pub extern "C" fn stir_to_divert(
     x5u: &[u8],
     message: &[u8],
 ) -> Said
-    ensures kinds { (result.kind ≤ 3) ⊎ (result.kind ≡ 5) }
-    ensures stays { chain_held key.new ≡ chain_held key.old }
-    ensures told { IfOpen (chain_held key.old) (λ held. ToldUnsigned (IsUnsignedFor (key_in held) (diversion iat earlier.now x5u.now) message.now None) result) result }
-    ensures digest { (given : GivenWorld) (bytes good : List ℕ) → IsChainOn given bytes good key.old → result.kind ≡ 0
-        → OnKey given bytes (λ key. IsToSign key (diversion iat earlier.now x5u.now) message.now result.ticket) }
-    ensures withheld { (given : GivenWorld) (bytes good : List ℕ) → IsChainOn given bytes good key.old → result.kind ≡ 1
-        → OnKey given bytes (IsWithheld (diversion iat earlier.now x5u.now) message.now None result.rule) }
-    ensures faulty { (given : GivenWorld) (bytes good : List ℕ) → IsChainOn given bytes good key.old → result.kind ≡ 2
-        → OnKey given bytes (HasFault (diversion iat earlier.now x5u.now) result.input) }
-    ensures closed { result.kind ≡ 5 → chain_held key.old ≡ None }
+    ensures { TellsToSign (diversion iat earlier.now x5u.now) message.now (chain_held key.old) (chain_held key.new) result }
 {
-    let owner = match key.take(alloc) {
-        Some(owner) => owner,
-        None => return Said::closed(),
-    };
     let order = Order::Diversion { iat, earlier, x5u };
-    let said = told_digest(alloc, owner.chain(), &order, message);
-    *key = ChainHandle::of(owner);
-    said
+    to_sign_on(alloc, key, &order, message)
 }
 
 /// Writes the message with the Identity field that tells of its diversion, which has this signature over the digest that `stir_to_divert` gives for the same
@@ -154,27 +104,47 @@ pub extern "C" fn stir_diverted(
     signature: &[u8],
     room: &mut [u8],
 ) -> Said
-    ensures kinds { result.kind ≤ 5 }
-    ensures stays { chain_held key.new ≡ chain_held key.old }
-    ensures told { IfOpen (chain_held key.old) (λ held. ToldSigned (IsSignedBy (key_in held) (diversion iat earlier.now x5u.now) message.now (Some signature.now))
-        (IsUnsignedWith (key_in held) (diversion iat earlier.now x5u.now) message.now signature.now) room.old room.new result) result }
-    ensures signed { (given : GivenWorld) (bytes good : List ℕ) → IsChainOn given bytes good key.old → result.kind ≡ 0
-        → OnKey given bytes (SignedInto (diversion iat earlier.now x5u.now) message.now signature.now room.old room.new result) }
-    ensures withheld { (given : GivenWorld) (bytes good : List ℕ) → IsChainOn given bytes good key.old → result.kind ≡ 1
-        → OnKey given bytes (IsWithheld (diversion iat earlier.now x5u.now) message.now (Some signature.now) result.rule) }
-    ensures faulty { (given : GivenWorld) (bytes good : List ℕ) → IsChainOn given bytes good key.old → result.kind ≡ 2
-        → OnKey given bytes (HasFaultWith (diversion iat earlier.now x5u.now) signature.now result.input) }
-    ensures no_room { (given : GivenWorld) (bytes good : List ℕ) → IsChainOn given bytes good key.old → result.kind ≡ 4
-        → OnKey given bytes (HasNoRoomForMessage (diversion iat earlier.now x5u.now) message.now signature.now room.old result) }
-    ensures closed { result.kind ≡ 5 → chain_held key.old ≡ None }
-    ensures as_was { 1 ≤ result.kind → room.new ≡ room.old }
+    ensures { TellsSigned (diversion iat earlier.now x5u.now) message.now signature.now (chain_held key.old) (chain_held key.new) room.old room.new result }
+{
+    let order = Order::Diversion { iat, earlier, x5u };
+    signed_on(alloc, key, &order, message, signature, room)
+}
+
+/// Tells what has to be signed so that a message gets the Identity field of an order.
+#[tactic(auto, using(crate::proofs::SigningLaws::to_sign_closed))]
+fn to_sign_on(alloc: Global, key: &mut ChainHandle, order: &Order<'_>, message: &[u8]) -> Said
+    ensures { TellsToSign (given_of order.now) message.now (chain_held key.old) (chain_held key.new) result }
 {
     let owner = match key.take(alloc) {
         Some(owner) => owner,
         None => return Said::closed(),
     };
-    let order = Order::Diversion { iat, earlier, x5u };
-    let came = signed_text(alloc, owner.chain(), &order, message, signature);
+    let chain = owner.chain();
+    let said = told_digest(alloc, chain, order, message);
+    key_law(chain);
+    *key = ChainHandle::of(owner);
+    said
+}
+
+/// Writes the message with the Identity field of an order, which has this signature.
+#[tactic(auto, using(crate::proofs::SigningLaws::signed_closed))]
+fn signed_on(
+    alloc: Global,
+    key: &mut ChainHandle,
+    order: &Order<'_>,
+    message: &[u8],
+    signature: &[u8],
+    room: &mut [u8],
+) -> Said
+    ensures { TellsSigned (given_of order.now) message.now signature.now (chain_held key.old) (chain_held key.new) room.old room.new result }
+{
+    let owner = match key.take(alloc) {
+        Some(owner) => owner,
+        None => return Said::closed(),
+    };
+    let chain = owner.chain();
+    let came = signed_text(alloc, chain, order, message, signature);
+    key_law(chain);
     *key = ChainHandle::of(owner);
     told_message(came, room)
 }
