@@ -53,58 +53,14 @@ pub fn run_drill<R: Threads + Sync, O: Sink>(
     requires most { workers ≤ 8 }
     ensures { DrillRan seed count workers (O.written sink.old) (O.written sink.new) (O.faults sink.old) (O.faults sink.new) result }
 {
-    match make_ready(alloc, seed, count) {
-        Ok(ready) => judge_ready(rt, alloc, ready, seed, count, workers, sink),
-        Err(_) => end_with(sink, memory_line(), Status::Memory),
-    }
-}
-
-/// Makes the drill and reads its files. `AllocError` is the only error.
-fn make_ready(alloc: Global, seed: u64, count: u32) -> Result<Ready, AllocError>
-    requires few { count ≤ 100000 }
-    ensures files { IfOk result (λ ready. FilesOf seed count ready.files) }
-    ensures log { IfOk result (λ ready. ready.log.left ≡ log_of seed count) }
-    ensures shelf { IfOk result (λ ready. ready.shelf ≡ shelf) }
-{
-    let Drill {
-        log,
-        shelf,
-        anchors,
-        table,
-        chains,
-        answers,
-    } = Drill::make(alloc, seed, count)?;
-    let files = read_files(alloc, seed, count, &chains, &anchors, &table, &answers)?;
-    Ok(Ready {
-        files,
-        log: DrillLog::new(SourceMem::new(log, Vec::new(alloc))),
-        shelf: DrillShelf::new(shelf),
-    })
-}
-
-/// Judges the log by the files, and writes the summary.
-fn judge_ready<R: Threads + Sync, O: Sink>(
-    rt: &R,
-    alloc: Global,
-    ready: Ready,
-    seed: u64,
-    count: u32,
-    workers: u64,
-    sink: &mut O,
-) -> u8
-    requires few { count ≤ 100000 }
-    requires some { 1 ≤ workers }
-    requires most { workers ≤ 8 }
-    requires files { FilesOf seed count ready.files }
-    requires log { ready.log.left ≡ log_of seed count }
-    requires shelf { ready.shelf ≡ shelf }
-    ensures { DrillRan seed count workers (O.written sink.old) (O.written sink.new) (O.faults sink.old) (O.faults sink.new) result }
-{
-    let _ = seed;
     log_law();
     one_log();
     legal_together();
     first_of_all();
+    let ready = match make_ready(alloc, seed, count) {
+        Ok(ready) => ready,
+        Err(_) => return end_with(sink, memory_line(), Status::Memory),
+    };
     let Ready {
         files,
         mut log,
@@ -134,6 +90,29 @@ fn judge_ready<R: Threads + Sync, O: Sink>(
         &mut log,
         sink,
     )
+}
+
+/// Makes the drill and reads its files. `AllocError` is the only error.
+fn make_ready(alloc: Global, seed: u64, count: u32) -> Result<Ready, AllocError>
+    requires few { count ≤ 100000 }
+    ensures files { IfOk result (λ ready. FilesOf seed count ready.files) }
+    ensures log { IfOk result (λ ready. ready.log.left ≡ log_of seed count) }
+    ensures shelf { IfOk result (λ ready. ready.shelf ≡ shelf) }
+{
+    let Drill {
+        log,
+        shelf,
+        anchors,
+        table,
+        chains,
+        answers,
+    } = Drill::make(alloc, seed, count)?;
+    let files = read_files(alloc, seed, count, &chains, &anchors, &table, &answers)?;
+    Ok(Ready {
+        files,
+        log: DrillLog::new(SourceMem::new(log, Vec::new(alloc))),
+        shelf: DrillShelf::new(shelf),
+    })
 }
 
 /// The settings by which the drill is judged: the numbering of country 1 with national numbers of ten digits.
