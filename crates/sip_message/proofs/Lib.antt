@@ -7,6 +7,7 @@ pub mod ContinuationSteps
 pub mod DateLaws
 pub mod EndLaws
 pub mod FieldLineLaws
+mod FieldNameLaws
 pub mod FieldNumberLaws
 pub mod FieldSteps
 pub mod FieldValueLaws
