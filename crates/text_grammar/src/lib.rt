@@ -79,7 +79,11 @@ pub fn is_blank(byte: u8) -> bool
 pub fn is_name_byte(byte: u8) -> bool
     ensures { result ≡ bytes.is_name_byte byte }
 {
-    byte.is_ascii_alphanumeric() || b"-.!%*_+'~`".contains(&byte)
+    byte.is_ascii_alphanumeric()
+        || matches!(
+            byte,
+            b'-' | b'.' | b'!' | b'%' | b'*' | b'_' | b'+' | b'\'' | b'~' | b'`'
+        )
 }
 
 /// Whether a byte is visible ASCII, 0x21 to 0x7E.
