@@ -1,5 +1,5 @@
 -- Each kind of step keeps the rule of the desk.
-use Rattle.std.proofs.Common.{◌≡◌, ◌≢◌, ℕ, suc, ◌+◌, ◌*◌, ◌/◌, ◌%◌, ◌==◌, ◌<◌, ◌≤◌, ⊎_elim, List, [], ◌∷◌, ◌++◌, take, get_or, set, refl, sym, ap, ◌∙◌, subst, arith}
+use Rattle.std.proofs.Common.{◌≡◌, ◌≢◌, ℕ, suc, ◌+◌, ◌*◌, ◌/◌, ◌%◌, ◌==◌, ◌<◌, ◌≤◌, ⊎_elim, List, [], ◌∷◌, take, get_or, set, refl, sym, ap, ◌∙◌, subst, arith}
 use Rattle.std.proofs.lemmas.Bool.{false_from_ne_true}
 use Rattle.std.proofs.lemmas.Bool.Decides.{Decides-eqb}
 use Rattle.std.proofs.lemmas.Nat.{same_from_place, div-mul-add, mod-mul-add}
@@ -204,48 +204,39 @@ module _ {S : Type 0} (size : ℕ) where
             spent = each_set (λ u. u.share ≡ 0 → (u.sets ≡ []) × (u.seen ≡ [])) s.views id w (λ nothing. absurd (omega arith)) (λ j u there. holds.spent j u there);
           }
 
-    split_holds : 2 ≤ v.share → Holds size (record { words = s.words; homes = s.homes; views = set s.views id (left_part v) ++ right_part v ∷ [] })
-    split_holds two =
-        let l : View = left_part v in
-        let r : View = right_part v in
-        let summed = split_total s.views id v at l r in
-        let each = split_each s.views id v l r in
-        record {
-          counts = holds.counts;
-          sound = holds.sound;
-          sets = each (λ u. AllMark size s.words u.sets) (holds.sets id v at) (λ e nothing. absurd nothing) (λ j u there. holds.sets j u there);
-          seen = each (λ u. AllStand size s.words u.seen) (holds.seen id v at) (λ e nothing. absurd nothing) (λ j u there. holds.seen j u there);
-          one_setter = λ place. summed (λ u. count (at_place size place) u.sets) (omega arith) ∙ holds.one_setter place;
-          shares = summed (λ u. u.share) (omega arith) ∙ holds.shares;
-          sizes = each (λ u. 0 < u.share → u.size ≡ size) (λ _. holds.sizes id v at above) (λ _. holds.sizes id v at above) (λ j u there. holds.sizes j u there);
-          spent = each (λ u. u.share ≡ 0 → (u.sets ≡ []) × (u.seen ≡ [])) (λ nothing. absurd (omega arith)) (λ _. (refl, refl)) (λ j u there. holds.spent j u there);
-        }
-
-    join_holds : (other : ℕ) (w : View) → ¬ (other ≡ id) → get_elem? (set s.views id (both v w)) other ≡ some w
-        → Holds size (record { words = s.words; homes = s.homes; views = set (set s.views id (both v w)) other spent_view })
-    join_holds other w apart there =
-        let b : View = both v w in
-        let found : get_elem? s.views other ≡ some w = sym (set_else s.views id other b apart) ∙ there in
-        let summed = join_total s.views id v at b other w spent_view there in
-        let each = join_each s.views id v b other spent_view in
-        record {
-          counts = holds.counts;
-          sound = holds.sound;
-          sets = each (λ u. AllMark size s.words u.sets) (λ e inside. ⊎_elim (holds.sets id v at e) (holds.sets other w found e) (in_append e v.sets w.sets inside)) (λ e nothing. absurd nothing) (λ j u there. holds.sets j u there);
-          seen = each (λ u. AllStand size s.words u.seen) (λ e inside. ⊎_elim (holds.seen id v at e) (holds.seen other w found e) (in_append e v.seen w.seen inside)) (λ e nothing. absurd nothing) (λ j u there. holds.seen j u there);
-          one_setter = λ place. summed (λ u. count (at_place size place) u.sets) (count_append (at_place size place) v.sets w.sets) refl ∙ holds.one_setter place;
-          shares = summed (λ u. u.share) refl refl ∙ holds.shares;
-          sizes = each (λ u. 0 < u.share → u.size ≡ size) (λ _. holds.sizes id v at above) (λ nothing. absurd (omega arith)) (λ j u there. holds.sizes j u there);
-          spent = each (λ u. u.share ≡ 0 → (u.sets ≡ []) × (u.seen ≡ [])) (λ nothing. absurd (omega arith)) (λ _. (refl, refl)) (λ j u there. holds.spent j u there);
-        }
-
   -- ---- what each step asks
 
   pub split_allowed : (id : ℕ) (v : View) → 2 ≤ v.share → Splits {S = S} (Holds size) id v (left_part v) (right_part v)
-  split_allowed id v two s holds at = split_holds s id v at (omega arith) holds two
+  split_allowed id v two s holds at =
+      let above : 0 < v.share = omega arith in
+      let summed = split_total s.views id v at (left_part v) (right_part v) in
+      let each = split_each s.views id v (left_part v) (right_part v) in
+      record {
+        counts = holds.counts;
+        sound = holds.sound;
+        sets = each (λ u. AllMark size s.words u.sets) (holds.sets id v at) (λ e nothing. absurd nothing) (λ j u there. holds.sets j u there);
+        seen = each (λ u. AllStand size s.words u.seen) (holds.seen id v at) (λ e nothing. absurd nothing) (λ j u there. holds.seen j u there);
+        one_setter = λ place. summed (λ u. count (at_place size place) u.sets) (omega arith) ∙ holds.one_setter place;
+        shares = summed (λ u. u.share) (omega arith) ∙ holds.shares;
+        sizes = each (λ u. 0 < u.share → u.size ≡ size) (λ _. holds.sizes id v at above) (λ _. holds.sizes id v at above) (λ j u there. holds.sizes j u there);
+        spent = each (λ u. u.share ≡ 0 → (u.sets ≡ []) × (u.seen ≡ [])) (λ nothing. absurd (omega arith)) (λ _. (refl, refl)) (λ j u there. holds.spent j u there);
+      }
 
   pub join_allowed : (id : ℕ) (v : View) (other : ℕ) (w : View) → 0 < v.share → Joins {S = S} (Holds size) id v other w (both v w) spent_view
-  join_allowed id v other w above s holds at apart there = join_holds s id v at above holds other w apart there
+  join_allowed id v other w above s holds at apart there =
+      let found : get_elem? s.views other ≡ some w = sym (set_else s.views id other (both v w) apart) ∙ there in
+      let summed = join_total s.views id v at (both v w) other w spent_view there in
+      let each = join_each s.views id v (both v w) other spent_view in
+      record {
+        counts = holds.counts;
+        sound = holds.sound;
+        sets = each (λ u. AllMark size s.words u.sets) (λ e inside. ⊎_elim (holds.sets id v at e) (holds.sets other w found e) (in_append e v.sets w.sets inside)) (λ e nothing. absurd nothing) (λ j u there. holds.sets j u there);
+        seen = each (λ u. AllStand size s.words u.seen) (λ e inside. ⊎_elim (holds.seen id v at e) (holds.seen other w found e) (in_append e v.seen w.seen inside)) (λ e nothing. absurd nothing) (λ j u there. holds.seen j u there);
+        one_setter = λ place. summed (λ u. count (at_place size place) u.sets) (count_append (at_place size place) v.sets w.sets) refl ∙ holds.one_setter place;
+        shares = summed (λ u. u.share) refl refl ∙ holds.shares;
+        sizes = each (λ u. 0 < u.share → u.size ≡ size) (λ _. holds.sizes id v at above) (λ nothing. absurd (omega arith)) (λ j u there. holds.sizes j u there);
+        spent = each (λ u. u.share ≡ 0 → (u.sets ≡ []) × (u.seen ≡ [])) (λ nothing. absurd (omega arith)) (λ _. (refl, refl)) (λ j u there. holds.spent j u there);
+      }
 
 -- ---- steps on a word
 

@@ -1,5 +1,5 @@
 -- Each kind of step keeps the rule of the desk.
-use Rattle.std.proofs.Common.{◌≡◌, ℕ, ◌+◌, ◌-◌, ◌/◌, ◌==◌, ◌<◌, ◌≤◌, ◌⊎◌, ⊎_elim, List, [], ◌∷◌, ◌++◌, length, get_or, set, refl, sym, ap, ◌∙◌, subst, arith}
+use Rattle.std.proofs.Common.{◌≡◌, ℕ, ◌+◌, ◌-◌, ◌/◌, ◌==◌, ◌<◌, ◌≤◌, ◌⊎◌, ⊎_elim, List, [], length, get_or, set, refl, sym, ap, ◌∙◌, subst, arith}
 use Rattle.std.proofs.lemmas.Bool.{false_from_ne_true}
 use Rattle.std.proofs.lemmas.Bool.Decides.{Decides-eqb}
 use Rattle.std.proofs.lemmas.List.{length-set, set-get_or, get_or-set_same}
@@ -92,46 +92,36 @@ module _ {S : Type 0} (classes : ℕ) where
             spent = each_set (λ u. u.share ≡ 0 → (u.wins ≡ []) × (u.losses ≡ [])) s.views id w (λ none. absurd (omega arith)) (λ j u there. holds.spent j u there);
           })
 
-    split_holds : 2 ≤ v.share → Holds classes (record { words = s.words; homes = s.homes; views = set s.views id (left_part v) ++ right_part v ∷ [] })
-    split_holds two =
-        let l : View = left_part v in
-        let r : View = right_part v in
-        let summed = split_total s.views id v at l r in
-        let each = split_each s.views id v l r in
-        record {
-          words = holds.words;
-          numbers = holds.numbers;
-          wins = each (λ u. Stand s.words u.wins) (holds.wins id v at) (λ p none. absurd none) (λ j u there. holds.wins j u there);
-          losses = each (λ u. Stand s.words u.losses) (holds.losses id v at) (λ p none. absurd none) (λ j u there. holds.losses j u there);
-          one_winner = λ c. summed (λ u. count (of_class c) u.wins) (omega arith) ∙ holds.one_winner c;
-          shares = summed (λ u. u.share) (omega arith) ∙ holds.shares;
-          spent = each (λ u. u.share ≡ 0 → (u.wins ≡ []) × (u.losses ≡ [])) (λ none. absurd (omega arith)) (λ _. (refl, refl)) (λ j u there. holds.spent j u there);
-        }
-
-    join_holds : (other : ℕ) (w : View) → ¬ (other ≡ id) → get_elem? (set s.views id (both v w)) other ≡ some w
-        → Holds classes (record { words = s.words; homes = s.homes; views = set (set s.views id (both v w)) other spent_view })
-    join_holds other w apart there =
-        let b : View = both v w in
-        let found : get_elem? s.views other ≡ some w = sym (set_else s.views id other b apart) ∙ there in
-        let summed = join_total s.views id v at b other w spent_view there in
-        let each = join_each s.views id v b other spent_view in
-        record {
-          words = holds.words;
-          numbers = holds.numbers;
-          wins = each (λ u. Stand s.words u.wins) (stand_append s.words v.wins w.wins (holds.wins id v at) (holds.wins other w found)) (λ p none. absurd none) (λ j u there. holds.wins j u there);
-          losses = each (λ u. Stand s.words u.losses) (stand_append s.words v.losses w.losses (holds.losses id v at) (holds.losses other w found)) (λ p none. absurd none) (λ j u there. holds.losses j u there);
-          one_winner = λ c. summed (λ u. count (of_class c) u.wins) (count_append (of_class c) v.wins w.wins) refl ∙ holds.one_winner c;
-          shares = summed (λ u. u.share) refl refl ∙ holds.shares;
-          spent = each (λ u. u.share ≡ 0 → (u.wins ≡ []) × (u.losses ≡ [])) (λ none. absurd (omega arith)) (λ _. (refl, refl)) (λ j u there. holds.spent j u there);
-        }
-
   -- ---- what each step asks
 
   pub split_allowed : (id : ℕ) (v : View) → 2 ≤ v.share → Splits {S = S} (Holds classes) id v (left_part v) (right_part v)
-  split_allowed id v two s holds at = split_holds s id v at (omega arith) holds two
+  split_allowed id v two s holds at =
+      let summed = split_total s.views id v at (left_part v) (right_part v) in
+      let each = split_each s.views id v (left_part v) (right_part v) in
+      record {
+        words = holds.words;
+        numbers = holds.numbers;
+        wins = each (λ u. Stand s.words u.wins) (holds.wins id v at) (λ p none. absurd none) (λ j u there. holds.wins j u there);
+        losses = each (λ u. Stand s.words u.losses) (holds.losses id v at) (λ p none. absurd none) (λ j u there. holds.losses j u there);
+        one_winner = λ c. summed (λ u. count (of_class c) u.wins) (omega arith) ∙ holds.one_winner c;
+        shares = summed (λ u. u.share) (omega arith) ∙ holds.shares;
+        spent = each (λ u. u.share ≡ 0 → (u.wins ≡ []) × (u.losses ≡ [])) (λ none. absurd (omega arith)) (λ _. (refl, refl)) (λ j u there. holds.spent j u there);
+      }
 
   pub join_allowed : (id : ℕ) (v : View) (other : ℕ) (w : View) → 0 < v.share → Joins {S = S} (Holds classes) id v other w (both v w) spent_view
-  join_allowed id v other w above s holds at apart there = join_holds s id v at above holds other w apart there
+  join_allowed id v other w above s holds at apart there =
+      let found : get_elem? s.views other ≡ some w = sym (set_else s.views id other (both v w) apart) ∙ there in
+      let summed = join_total s.views id v at (both v w) other w spent_view there in
+      let each = join_each s.views id v (both v w) other spent_view in
+      record {
+        words = holds.words;
+        numbers = holds.numbers;
+        wins = each (λ u. Stand s.words u.wins) (stand_append s.words v.wins w.wins (holds.wins id v at) (holds.wins other w found)) (λ p none. absurd none) (λ j u there. holds.wins j u there);
+        losses = each (λ u. Stand s.words u.losses) (stand_append s.words v.losses w.losses (holds.losses id v at) (holds.losses other w found)) (λ p none. absurd none) (λ j u there. holds.losses j u there);
+        one_winner = λ c. summed (λ u. count (of_class c) u.wins) (count_append (of_class c) v.wins w.wins) refl ∙ holds.one_winner c;
+        shares = summed (λ u. u.share) refl refl ∙ holds.shares;
+        spent = each (λ u. u.share ≡ 0 → (u.wins ≡ []) × (u.losses ≡ [])) (λ none. absurd (omega arith)) (λ _. (refl, refl)) (λ j u there. holds.spent j u there);
+      }
 
   pub look_allowed : (slots id : ℕ) (me : Me S View) → 0 < me.0.share → Allows (Holds classes) slots id me 0 (λ n. n) (Looks (step slots 0 0 0 none) me)
   look_allowed slots id me above s holds homes at fits =
