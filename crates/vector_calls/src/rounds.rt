@@ -5,16 +5,12 @@ use crate::workers::judge_on;
 use std::alloc::Global;
 use std::thread::Threads;
 use stir_outside::Gate;
-use vector_table::{Answer, Unread, answers_of, numbers_of};
+use vector_table::{Answer, Answered, Asked, Unread, answers_of, numbers_of};
 
 /// What a call answers.
-pub fn answer<R: Threads + Sync>(
-    rt: &R,
-    alloc: Global,
-    call: &str,
-    words: &[&[u8]],
-) -> Result<String, Unread> {
-    match call {
+pub fn answer<R: Threads + Sync>(rt: &R, alloc: Global, asked: Asked<'_>) -> Answered {
+    let words = asked.words;
+    match asked.call {
         "report" => report(rt, alloc, words),
         "reads" => reads(rt, alloc, words),
         "gate" => passed(rt, alloc, words),

@@ -9,20 +9,16 @@ use std::alloc::Global;
 use std::sync::atomic::{AtomicU64, Ordering};
 use std::thread::Threads;
 use stir_outside::{AnswerProvider, Answers, Gate, NoGate};
-use vector_table::{Answer, Unread, answers_of, numbers_of};
+use vector_table::{Answer, Answered, Asked, Unread, answers_of, numbers_of};
 use verify_service::Worker;
 
 /// The most workers of a round.
 const MOST_WORKERS: u64 = 8;
 
 /// What a call answers.
-pub fn answer<R: Threads + Sync>(
-    rt: &R,
-    alloc: Global,
-    call: &str,
-    words: &[&[u8]],
-) -> Result<String, Unread> {
-    match call {
+pub fn answer<R: Threads + Sync>(rt: &R, alloc: Global, asked: Asked<'_>) -> Answered {
+    let words = asked.words;
+    match asked.call {
         "report" => report(rt, alloc, words),
         "once" => once(rt, alloc, words),
         "meet" => meet(rt, alloc, words),

@@ -23,7 +23,7 @@ mod words;
 
 pub use answer::{Answer, fault, ok, ok_or_line, or_none, ordering, shown, word};
 pub use devices::{Drip, Trickle};
-pub use run::{Subjects, answer_table};
+pub use run::{Answered, Asked, Subjects, answer_table};
 pub use table::{Unread, number, text};
 pub use values::{
     answers_of, local_of, number_of, put_local, put_numbers, put_span, read_answers, seconds,

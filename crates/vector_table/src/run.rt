@@ -6,19 +6,26 @@ use std::alloc::Global;
 use std::process::ExitCode;
 use std::thread::Threads;
 
+/// A call of a table: what it is about, its name, and its words.
+#[derive(Clone, Copy)]
+pub struct Asked<'a> {
+    /// What it is about, as `claims`.
+    pub subject: &'a str,
+    /// Its name.
+    pub call: &'a str,
+    /// Its words.
+    pub words: &'a [&'a [u8]],
+}
+
+/// What is answered, or why the call can't be read.
+pub type Answered = Result<String, Unread>;
+
 /// Who answers the calls of a table.
 pub trait Subjects {
     ghost use Rattle.std.specs.Thread.{IsSync};
 
-    /// What a call of a subject answers; `rt` starts the threads that it wants.
-    fn called<R: Threads + Sync>(
-        &self,
-        rt: &R,
-        alloc: Global,
-        subject: &str,
-        call: &str,
-        words: &[&[u8]],
-    ) -> Result<String, Unread>
+    /// What a call answers; `rt` starts the threads that it wants.
+    fn called<R: Threads + Sync>(&self, rt: &R, alloc: Global, asked: Asked<'_>) -> Answered
         requires shared { IsSync R.row };
 }
 
@@ -72,7 +79,12 @@ fn answered<R: Threads + Sync, S: Subjects>(
             words,
         } => {
             let words = slices(alloc, words.as_slice())?;
-            subjects.called(rt, alloc, subject, call, words.as_slice())
+            let asked = Asked {
+                subject,
+                call,
+                words: words.as_slice(),
+            };
+            subjects.called(rt, alloc, asked)
         }
     }
 }

@@ -22,7 +22,7 @@ use std::thread::Threads;
 use vector_calls::{rounds, rules, verdicts, workers};
 use vector_chains::{authority, cache, certificates, chains, paths};
 use vector_messages::{claims, constraints, identity, messages, order, tokens};
-use vector_table::{Subjects, Unread, answer_table};
+use vector_table::{Answered, Asked, Subjects, Unread, answer_table};
 use vector_texts::{answers, der, drills, log, numbers, outside, state, text};
 
 /// Answers a table.
@@ -36,15 +36,9 @@ fn main(rt: HostRuntime) -> ExitCode {
 struct Cases;
 
 impl Subjects for Cases {
-    fn called<R: Threads + Sync>(
-        &self,
-        rt: &R,
-        alloc: Global,
-        subject: &str,
-        call: &str,
-        words: &[&[u8]],
-    ) -> Result<String, Unread> {
-        match subject {
+    fn called<R: Threads + Sync>(&self, rt: &R, alloc: Global, asked: Asked<'_>) -> Answered {
+        let Asked { call, words, .. } = asked;
+        match asked.subject {
             "text" => text::answer(alloc, call, words),
             "numbers" => numbers::answer(alloc, call, words),
             "der" => der::answer(alloc, call, words),
@@ -54,18 +48,19 @@ impl Subjects for Cases {
             "state" => state::answer(alloc, call, words),
             "words" => commands::words(alloc, call, words),
             "files" => commands::files(alloc, call, words),
-            "rounds" => rounds::answer(rt, alloc, call, words),
-            "workers" => workers::answer(rt, alloc, call, words),
+            "rounds" => rounds::answer(rt, alloc, asked),
+            "workers" => workers::answer(rt, alloc, asked),
             "drill" => drills::answer(alloc, call, words),
-            "runs" => runs::answer(rt, alloc, call, words),
-            _ => called(alloc, subject, call, words),
+            "runs" => runs::answer(rt, alloc, asked),
+            _ => called(alloc, asked),
         }
     }
 }
 
 /// What a call answers about chains, messages, rules and signatures.
-fn called(alloc: Global, subject: &str, call: &str, words: &[&[u8]]) -> Result<String, Unread> {
-    match subject {
+fn called(alloc: Global, asked: Asked<'_>) -> Answered {
+    let Asked { call, words, .. } = asked;
+    match asked.subject {
         "authority" => authority::answer(alloc, call, words),
         "certificates" => certificates::answer(alloc, call, words),
         "paths" => paths::answer(alloc, call, words),
@@ -73,18 +68,14 @@ fn called(alloc: Global, subject: &str, call: &str, words: &[&[u8]]) -> Result<S
         "cache" => cache::answer(alloc, call, words),
         "rules" => rules::answer(alloc, call, words),
         "verdicts" => verdicts::answer(alloc, call, words),
-        _ => called_of_messages(alloc, subject, call, words),
+        _ => called_of_messages(alloc, asked),
     }
 }
 
 /// What a call answers about messages, their fields and their tokens.
-fn called_of_messages(
-    alloc: Global,
-    subject: &str,
-    call: &str,
-    words: &[&[u8]],
-) -> Result<String, Unread> {
-    match subject {
+fn called_of_messages(alloc: Global, asked: Asked<'_>) -> Answered {
+    let Asked { call, words, .. } = asked;
+    match asked.subject {
         "messages" => messages::answer(alloc, call, words),
         "identity" => identity::answer(alloc, call, words),
         "tokens" => tokens::answer(alloc, call, words),

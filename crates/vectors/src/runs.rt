@@ -7,16 +7,12 @@ use std::alloc::Global;
 use std::thread::Threads;
 use stir_cmd::run;
 use stir_outside::{ShelfMem, SinkMem, SourceMem};
-use vector_table::{Answer, Drip, Trickle, Unread, files_of, numbers_of, text};
+use vector_table::{Answer, Answered, Asked, Drip, Trickle, Unread, files_of, numbers_of, text};
 
 /// What a call answers.
-pub fn answer<R: Threads + Sync>(
-    rt: &R,
-    alloc: Global,
-    call: &str,
-    words: &[&[u8]],
-) -> Result<String, Unread> {
-    match call {
+pub fn answer<R: Threads + Sync>(rt: &R, alloc: Global, asked: Asked<'_>) -> Answered {
+    let words = asked.words;
+    match asked.call {
         "run" => one(rt, alloc, words),
         "each_read" => each(rt, alloc, Kind::Read, words),
         "each_write" => each(rt, alloc, Kind::Write, words),
