@@ -96,10 +96,10 @@ fresh_from day owed from = record {
 
 -- ---- calls that pass with one ticket have one last second
 
-pub record OfDay (window : ℕ) (days : List Day) (row : Row) : Type 0 where
+pub record OfDay (seconds : ℕ) (days : List Day) (row : Row) : Type 0 where
   pub day : Day
   pub day_in : IsIn day days
-  pub window : day.settings.past ≡ window
+  pub window : day.settings.past ≡ seconds
   pub of : OfCallOn day row
 
 pub one_last : (window : ℕ) (days : List Day) → AreApart days → (row same : Row) → OfDay window days row → row.passes ≡ true → OfDay window days same → Uses row.ticket same

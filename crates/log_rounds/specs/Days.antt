@@ -36,10 +36,10 @@ abbrev pub days_rows : List Day → List Row
 days_rows [] = []
 days_rows (day ∷ others) = day_rows day ++ days_rows others
 
--- A day by this window: none of its calls comes before its moment, and each outcome is what the rules say of its call by itself. A call that passes with a
+-- A day whose window has so many seconds: none of its calls comes before its moment, and each outcome is what the rules say of its call by itself. A call that passes with a
 -- ticket that is kept is a replay of the earlier call; of those that pass with any other ticket the first is valid, and each later one is a replay of it.
-pub record IsSettledDay (window : ℕ) (day : Day) : Type 0 where
-  pub window : day.settings.past ≡ window
+pub record IsSettledDay (seconds : ℕ) (day : Day) : Type 0 where
+  pub window : day.settings.past ≡ seconds
   pub from : (call : Entry) → IsIn call day.calls → day.moment ≤ call.moment
   pub each : EachPair (IsByItself day.world day.settings) day.calls day.outcomes
   pub after : AnsweredAfter day.held (day_rows day)
