@@ -10,7 +10,7 @@ use single_calls::{Asker, Explainer, ask_log, explain_log};
 use std::alloc::Global;
 use std::thread::Threads;
 use stir_files::{Materials, read_materials, read_world};
-use stir_outside::{Shelf, Sink, Source};
+use stir_outside::{OneThread, Shelf, Sink, Source};
 use stir_words::{Asking, Judging};
 
 /// Reads the named files, and says of each call of the log which rules it meets, up to the first that it breaks; if a file can't be had, it
@@ -28,7 +28,7 @@ pub(crate) fn explain<R: Threads + Sync, S: Shelf, I: Source, O: Sink>(
         (outside_of S.Shelf I.Source O.Sink shelf.new input.new sink.new) result }
     ensures same_files { S.files shelf.new ≡ S.files shelf.old }
 {
-    match read_materials(alloc, shelf, judging) {
+    match read_materials(alloc, shelf, &OneThread, judging) {
         Ok(materials) => {
             let Materials { world, answers } = materials;
             let mut explainer = Explainer::new(settings_of(&judging.settings), world, &answers);

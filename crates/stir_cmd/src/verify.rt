@@ -19,7 +19,7 @@ use state_text::State;
 use std::alloc::{AllocError, Global};
 use std::thread::Threads;
 use stir_files::{FileError, GoingMaterials, Materials, read_going, read_materials};
-use stir_outside::{Shelf, Sink, Source, Status, end_with, memory_line};
+use stir_outside::{SeveralThreads, Shelf, Sink, Source, Status, end_with, memory_line};
 use stir_words::Verifying;
 use verify_rules::Settings;
 use verify_service::{Service, World};
@@ -67,7 +67,8 @@ fn verify_alone<R: Threads + Sync, S: Shelf, I: Source, O: Sink>(
     ensures same_files { S.files shelf.new ≡ S.files shelf.old }
 {
     one_log();
-    match read_materials(alloc, shelf, &verifying.judging) {
+    let by = readers(rt, verifying.workers);
+    match read_materials(alloc, shelf, &by, &verifying.judging) {
         Ok(materials) => judge_by(
             rt,
             alloc,
@@ -79,6 +80,14 @@ fn verify_alone<R: Threads + Sync, S: Shelf, I: Source, O: Sink>(
             sink,
         ),
         Err(stop) => end_at(alloc, &stop, sink),
+    }
+}
+
+/// As many threads as there are workers.
+fn readers<R: Threads + Sync>(rt: &R, workers: u64) -> SeveralThreads<'_, R> {
+    SeveralThreads {
+        rt,
+        threads: workers as usize,
     }
 }
 
@@ -133,7 +142,8 @@ fn verify_on<R: Threads + Sync, S: Shelf, I: Source, O: Sink>(
     ensures same_files { S.files shelf.new ≡ S.files shelf.old }
 {
     one_log();
-    match read_going(alloc, shelf, &verifying.judging, name) {
+    let by = readers(rt, verifying.workers);
+    match read_going(alloc, shelf, &by, &verifying.judging, name) {
         Ok(materials) => go_on_by(
             rt,
             alloc,

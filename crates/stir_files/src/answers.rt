@@ -6,19 +6,24 @@ ghost use Rattle.stir_files.specs.Named.{IsRefusal, refusal_of};
 
 use crate::fault::FileFault;
 use std::alloc::Global;
-use stir_outside::{AnswerFault, Answers};
+use stir_outside::{AnswerFault, Answers, AnswersReader};
 
 /// The most bytes of an answers file.
 pub(crate) const MOST_BYTES: usize = 67_108_864;
 
-/// The answers that the content is; the place of a fault is the first bad line.
+/// The answers that the content is, as this reader reads it; the place of a fault is the first bad line.
 #[tactic(auto, using(crate::proofs::FileSteps::place_at))]
-pub(crate) fn read_answers(alloc: Global, content: &[u8]) -> Result<Answers, FileFault>
-    requires { length content.now ≤ MOST_BYTES }
+pub(crate) fn read_answers<B: AnswersReader>(
+    alloc: Global,
+    content: &[u8],
+    by: &B,
+) -> Result<Answers, FileFault>
+    requires ready { B.ready by.now }
+    requires short { length content.now ≤ MOST_BYTES }
     ensures read { IfOk result (AnswersOf content.now) }
     ensures refused { IfErr result (IsRefusal (refusal_of (answer_rows content.now))) }
 {
-    match Answers::read(alloc, content) {
+    match by.read(alloc, content) {
         Ok(answers) => Ok(answers),
         Err(AnswerFault::Line { line }) => Err(FileFault::Refused {
             place: u64::from(line),

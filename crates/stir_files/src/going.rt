@@ -14,7 +14,7 @@ use crate::stop::FileError;
 use cert_store::World;
 use state_text::State;
 use std::alloc::Global;
-use stir_outside::Shelf;
+use stir_outside::{AnswersReader, Shelf};
 use stir_words::Judging;
 
 /// What the calls of a log that goes on are judged by: what the four files say, and the state of an earlier run.
@@ -31,12 +31,14 @@ pub struct GoingMaterials {
 /// A state with a window other than `past` of the words is refused at the line of the window, if the whole file is in its grammar. The first event in
 /// the order of reading decides.
 #[tactic(auto, using(crate::proofs::FirstFault::truly_same, crate::proofs::FirstFault::truly_stopped))]
-pub fn read_going<'a, S: Shelf>(
+pub fn read_going<'a, S: Shelf, B: AnswersReader>(
     alloc: Global,
     shelf: &mut S,
+    by: &B,
     judging: &Judging<'a>,
     state: &'a str,
 ) -> Result<GoingMaterials, FileError<'a>>
+    requires { B.ready by.now }
     ensures same { S.files shelf.new ≡ S.files shelf.old }
     ensures go_on { CountsGoOn (S.counts shelf.old) (S.counts shelf.new) }
     // What was read is what the files say; else those before one have no fault, and of that one this is said.
@@ -65,7 +67,7 @@ pub fn read_going<'a, S: Shelf>(
         answers,
         state,
         ..
-    } = read_files(alloc, shelf, &named)?;
+    } = read_files(alloc, shelf, by, &named)?;
     Ok(GoingMaterials {
         judging: Materials {
             world: World {

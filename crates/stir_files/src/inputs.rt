@@ -19,7 +19,7 @@ use cert_store::ChainMap;
 use delegation::Anchors;
 use state_text::State;
 use std::alloc::Global;
-use stir_outside::{Answers, Shelf};
+use stir_outside::{Answers, AnswersReader, Shelf};
 use tn_auth_list::CodeTable;
 use x509_profile::Certificate;
 
@@ -60,12 +60,14 @@ impl Inputs {
 /// before the next is read.
 ///
 /// The first event in this order decides: a file is missing, too long, can't be read, or is outside its grammar.
-pub fn read_files<'a, S: Shelf>(
+pub fn read_files<'a, S: Shelf, B: AnswersReader>(
     alloc: Global,
     shelf: &mut S,
+    by: &B,
     named: &[InputFile<'a>],
 ) -> Result<Inputs, FileError<'a>>
-    requires { IsTrue (all_differ named.now) }
+    requires differ { IsTrue (all_differ named.now) }
+    requires ready { B.ready by.now }
     ensures same { S.files shelf.new ≡ S.files shelf.old }
     ensures go_on { CountsGoOn (S.counts shelf.old) (S.counts shelf.new) }
     // What was read is what the files say; else those before one have no fault, and of that one this is said.
@@ -80,7 +82,7 @@ pub fn read_files<'a, S: Shelf>(
 {
     let mut inputs = Inputs::none();
     for file in named {
-        match read_next(alloc, shelf, *file, &mut inputs) {
+        match read_next(alloc, shelf, by, *file, &mut inputs) {
             Ok(()) => {}
             Err(fault) => {
                 return Err(FileError {
@@ -95,12 +97,14 @@ pub fn read_files<'a, S: Shelf>(
 
 /// Reads a file within its limit, and keeps what it says.
 #[tactic(auto, using(crate::proofs::FileSteps::shelf_says, crate::proofs::FileSteps::refused_so, crate::proofs::FileSteps::refused_caused))]
-fn read_next<S: Shelf>(
+fn read_next<S: Shelf, B: AnswersReader>(
     alloc: Global,
     shelf: &mut S,
+    by: &B,
     file: InputFile<'_>,
     inputs: &mut Inputs,
 ) -> Result<(), FileFault>
+    requires { B.ready by.now }
     ensures same { S.files shelf.new ≡ S.files shelf.old }
     ensures go_on { CountsGoOn (S.counts shelf.old) (S.counts shelf.new) }
     ensures read { IfOk result (λ done. Adds (S.files shelf.old) file.entry inputs.old inputs.new) }
@@ -109,17 +113,19 @@ fn read_next<S: Shelf>(
     ensures reads { (S.counts shelf.new).reads ≤ (S.counts shelf.old).reads + 1 }
 {
     let bytes = read_file(alloc, shelf, file.name(), file.limit())?;
-    take_in(alloc, file, bytes.as_slice(), inputs)
+    take_in(alloc, by, file, bytes.as_slice(), inputs)
 }
 
 /// Tries the content of a file by its grammar, and keeps what it says.
-fn take_in(
+fn take_in<B: AnswersReader>(
     alloc: Global,
+    by: &B,
     file: InputFile<'_>,
     content: &[u8],
     inputs: &mut Inputs,
 ) -> Result<(), FileFault>
-    requires { length content.now ≤ (file_of file).limit }
+    requires ready { B.ready by.now }
+    requires short { length content.now ≤ (file_of file).limit }
     ensures read { IfOk result (λ done. TakesIn file.entry content.now inputs.old inputs.new) }
     ensures refused { IfErr result (IsRefusal ((file_of file.entry).refused content.now)) }
 {
@@ -127,7 +133,7 @@ fn take_in(
         InputFile::Chains(_) => inputs.chains = Some(read_chains(alloc, content)?),
         InputFile::Anchors(_) => inputs.anchors = Some(read_anchors(alloc, content)?),
         InputFile::Table(_) => inputs.table = Some(read_table(alloc, content)?),
-        InputFile::Answers(_) => inputs.answers = Some(read_answers(alloc, content)?),
+        InputFile::Answers(_) => inputs.answers = Some(read_answers(alloc, content, by)?),
         InputFile::Leaf(_) => inputs.leaf = Some(read_leaf(alloc, content)?),
         InputFile::State(file) => inputs.state = Some(read_state(alloc, content, file.window)?),
     }

@@ -11,7 +11,7 @@ use crate::inputs::{Inputs, read_files};
 use crate::stop::FileError;
 use cert_store::World;
 use std::alloc::Global;
-use stir_outside::{Answers, Shelf};
+use stir_outside::{Answers, AnswersReader, Shelf};
 use stir_words::Judging;
 
 /// What calls are judged by: what the four files say.
@@ -28,11 +28,13 @@ pub struct Materials {
 /// The chain map and the table have at most 16,777,216 bytes, the anchors 2,097,152 and the answers 67,108,864. The first event in this
 /// order decides: a file is missing, too long, can't be read, or is outside its grammar.
 #[tactic(auto, using(crate::proofs::FirstFault::truly_same, crate::proofs::FirstFault::truly_stopped))]
-pub fn read_materials<'a, S: Shelf>(
+pub fn read_materials<'a, S: Shelf, B: AnswersReader>(
     alloc: Global,
     shelf: &mut S,
+    by: &B,
     judging: &Judging<'a>,
 ) -> Result<Materials, FileError<'a>>
+    requires { B.ready by.now }
     ensures same { S.files shelf.new ≡ S.files shelf.old }
     ensures go_on { CountsGoOn (S.counts shelf.old) (S.counts shelf.new) }
     // What was read is what the files say; else those before one have no fault, and of that one this is said.
@@ -56,7 +58,7 @@ pub fn read_materials<'a, S: Shelf>(
         table,
         answers,
         ..
-    } = read_files(alloc, shelf, &named)?;
+    } = read_files(alloc, shelf, by, &named)?;
     Ok(Materials {
         world: World {
             chains: chains.unwrap(),

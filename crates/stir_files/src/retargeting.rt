@@ -12,7 +12,7 @@ use crate::materials::Materials;
 use crate::stop::FileError;
 use cert_store::World;
 use std::alloc::Global;
-use stir_outside::Shelf;
+use stir_outside::{OneThread, Shelf};
 use stir_words::Retargeting;
 use x509_profile::Certificate;
 
@@ -61,7 +61,7 @@ pub fn read_retargeting<'a, S: Shelf>(
         answers,
         leaf,
         ..
-    } = read_files(alloc, shelf, &named)?;
+    } = read_files(alloc, shelf, &OneThread, &named)?;
     Ok(RetargetingMaterials {
         judging: Materials {
             world: World {

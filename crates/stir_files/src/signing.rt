@@ -11,7 +11,7 @@ use crate::input_file::InputFile;
 use crate::inputs::{Inputs, read_files};
 use crate::stop::FileError;
 use std::alloc::Global;
-use stir_outside::{Answers, Shelf};
+use stir_outside::{Answers, OneThread, Shelf};
 use stir_words::HolderFiles;
 use tn_auth_list::CodeTable;
 use x509_profile::Certificate;
@@ -58,7 +58,12 @@ pub fn read_signing<'a, S: Shelf>(
     ensures reads { (S.counts shelf.new).reads ≤ (S.counts shelf.old).reads + length (signing_files answers.entry.now (option_map holder_view holder.entry)) }
 {
     let Some(names) = holder else {
-        let Inputs { answers, .. } = read_files(alloc, shelf, &[InputFile::Answers(answers)])?;
+        let Inputs { answers, .. } = read_files(
+            alloc,
+            shelf,
+            &OneThread,
+            &[InputFile::Answers(answers)],
+        )?;
         return Ok(SigningMaterials {
             answers: answers.unwrap(),
             holder: None,
@@ -74,7 +79,7 @@ pub fn read_signing<'a, S: Shelf>(
         leaf,
         table,
         ..
-    } = read_files(alloc, shelf, &named)?;
+    } = read_files(alloc, shelf, &OneThread, &named)?;
     Ok(SigningMaterials {
         answers: answers.unwrap(),
         holder: Some(HolderMaterials {

@@ -11,7 +11,7 @@ use crate::inputs::{Inputs, read_files};
 use crate::stop::FileError;
 use cert_store::World;
 use std::alloc::Global;
-use stir_outside::Shelf;
+use stir_outside::{OneThread, Shelf};
 use stir_words::Asking;
 
 /// Reads the three files in the order chains, anchors, table, and tries each by its grammar before the next is read.
@@ -45,7 +45,7 @@ pub fn read_world<'a, S: Shelf>(
         anchors,
         table,
         ..
-    } = read_files(alloc, shelf, &named)?;
+    } = read_files(alloc, shelf, &OneThread, &named)?;
     Ok(World {
         chains: chains.unwrap(),
         anchors: anchors.unwrap(),

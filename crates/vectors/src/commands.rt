@@ -3,7 +3,7 @@
 use passport_claims::Form;
 use std::alloc::Global;
 use stir_files::read_materials;
-use stir_outside::ShelfMem;
+use stir_outside::{OneThread, ShelfMem};
 use stir_words::{
     Asking, Claiming, Diverting, Drilling, HolderFiles, Judging, Order, Retargeting, Settings,
     Signer, Signing, Verifying, WordsFault,
@@ -187,7 +187,7 @@ fn read(alloc: Global, words: &[&[u8]]) -> Result<String, Unread> {
 
 /// `ok`, or the line and the status of the first file that can't be had.
 fn put_read(alloc: Global, shelf: &mut ShelfMem, judging: &Judging<'_>) -> Result<Answer, Unread> {
-    match read_materials(alloc, shelf, judging) {
+    match read_materials(alloc, shelf, &OneThread, judging) {
         Ok(_) => Ok(Answer::new(alloc).word("ok")),
         Err(stop) => {
             let line = stop.line(alloc)?;

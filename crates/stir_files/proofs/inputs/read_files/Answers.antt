@@ -32,11 +32,11 @@ returns-in-Err-clause-truly g c =
 
 pub returns-clause-read : goal.returns-clause-read
 returns-clause-read g c =
-    all_held _ c.args.named.now _ _ c.requires (all_read _ _ c.loop-file.file-index _ c.loop-file-test.false c.loop-file.invariant.on)
+    all_held _ c.args.named.now _ _ c.requires.differ (all_read _ _ c.loop-file.file-index _ c.loop-file-test.false c.loop-file.invariant.on)
 
 pub returns-clause-only : goal.returns-clause-only
 returns-clause-only g c = of_these _ c.args.named.now _ (all_read _ _ c.loop-file.file-index _ c.loop-file-test.false c.loop-file.invariant.on)
 
 pub returns-clause-truly : goal.returns-clause-truly
 returns-clause-truly g c =
-    truly_read _ c.args.named.now _ (all_held _ c.args.named.now _ _ c.requires (all_read _ _ c.loop-file.file-index _ c.loop-file-test.false c.loop-file.invariant.on))
+    truly_read _ c.args.named.now _ (all_held _ c.args.named.now _ _ c.requires.differ (all_read _ _ c.loop-file.file-index _ c.loop-file-test.false c.loop-file.invariant.on))
