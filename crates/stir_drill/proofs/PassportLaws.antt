@@ -1,5 +1,5 @@
 -- The header and the payload of the drill's PASSporTs, byte for byte, and how long what is signed is.
-use Rattle.std.proofs.Common.{◌≡◌, ◌≤◌, ◌<◌, ℕ, zero, suc, ◌+◌, ◌*◌, ◌/◌, ◌%◌, ◌^◌, ◌==◌, Bool, true, false, not, ◌&&◌, nat_le, List, [], ◌∷◌, ◌++◌, length, codes, slice_index, Some, None, refl, ap, subst, ◌∙◌, arith, append_assoc, length-append}
+use Rattle.std.proofs.Common.{◌≡◌, ◌≤◌, ◌<◌, ℕ, zero, suc, ◌+◌, ◌*◌, ◌/◌, ◌%◌, ◌^◌, ◌==◌, Bool, true, false, not, ◌&&◌, nat_le, List, [], ◌∷◌, ◌++◌, length, codes, slice_index, refl, ap, subst, ◌∙◌, arith, append_assoc, length-append}
 use Rattle.std.specs.Fmt.{decimal}
 use Rattle.std.specs.Int.{byte_at, bytes_high_first}
 use Rattle.std.proofs.lemmas.Bool.Decides.{nat_tests}
@@ -16,10 +16,10 @@ use Rattle.hex.specs.Hex.{encode_lower, encode_with, lower_digits}
 use Rattle.json.specs.Print.{escape, escape_byte}
 use Rattle.json.proofs.Printed.Strings.{escape_byte_plain}
 use Rattle.passport_json.specs.Deterministic.{Det}
-use Rattle.passport_json.specs.Passport.{Header, Payload, PassportView}
+use Rattle.passport_json.specs.Passport.{Header, Payload}
 use Rattle.passport_json.specs.Signing.{Signing}
 use Rattle.stir_drill.specs.Change.{calling_in, issued_in}
-use Rattle.stir_drill.specs.Message.{calling_text, drill_x5u, moment_of, passport_of, signing_of}
+use Rattle.stir_drill.specs.Message.{calling_text, moment_of, passport_of, passport_with, signing_of}
 use Rattle.stir_drill.specs.Spelled.{header_text, payload_text, payload_with}
 use Rattle.stir_drill.specs.declared.change.Change.{Change}
 use Rattle.stir_drill.specs.declared.change.Change.TheVariants.{Plain, Repeats, Unsigned, Stale, Unconfirmed, Outside}
@@ -74,18 +74,6 @@ header_spelled : (call : Drawn) → header_text ≡ Det (Header (passport_of cal
 unfolding escape_byte
 header_spelled call = refl
 
-abbrev passport_with : ℕ → List ℕ → List ℕ → PassportView
-passport_with iat orig tail = record {
-  ppt = Some (codes "shaken");
-  x5u = drill_x5u;
-  attest = Some (codes "A");
-  dest = codes "12125551213" ∷ [];
-  div = None;
-  iat = iat;
-  orig = orig;
-  origid = Some (codes "00000000-0000-4000-8000-" ++ tail);
-}
-
 json_shape : (a d b o q r c t p u : List ℕ) → p ≡ o → u ≡ t
     → (((((a ++ d) ++ b) ++ o) ++ (q ++ (r ++ c))) ++ t) ++ (q ++ r) ≡ a ++ (d ++ (b ++ (((p ++ q) ++ r) ++ (c ++ ((u ++ q) ++ r)))))
 json_shape a d b o q r c t p u e f = simp (e, f, append_assoc) refl
@@ -93,7 +81,7 @@ json_shape a d b o q r c t p u e f = simp (e, f, append_assoc) refl
 payload_by : (iat : ℕ) (orig tail : List ℕ) → escape orig ≡ orig → escape tail ≡ tail
     → codes "{\"attest\":\"A\",\"dest\":{\"tn\":[\"12125551213\"]},\"iat\":" ++ decimal iat ++ codes ",\"orig\":{\"tn\":\"" ++ orig
     ++ codes "\"},\"origid\":\"00000000-0000-4000-8000-" ++ tail ++ codes "\"}"
-    ≡ Det (Payload (passport_with iat orig tail))
+    ≡ Det (Payload (passport_with iat orig (codes "00000000-0000-4000-8000-" ++ tail)))
 unfolding escape_byte
 payload_by iat orig tail o t = json_shape (codes "{\"attest\":\"A\",\"dest\":{\"tn\":[\"12125551213\"]},\"iat\":") (decimal iat)
     (codes ",\"orig\":{\"tn\":\"") orig (34 ∷ []) (125 ∷ []) (codes ",\"origid\":\"00000000-0000-4000-8000-") tail (escape orig) (escape tail) o t

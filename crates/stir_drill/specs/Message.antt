@@ -28,17 +28,21 @@ calling_text call = decimal (calling_in call.change call.line)
 abbrev pub origid_of : ℕ → List ℕ
 origid_of number = codes "00000000-0000-4000-8000-" ++ encode_lower (bytes_high_first 6 number)
 
-abbrev pub passport_of : Drawn → PassportView
-passport_of call = record {
+-- the PASSporT of type `shaken` (RFC 8588, section 4) that was issued at a moment, from a calling number, with an identifier of the call
+abbrev pub passport_with : ℕ → List ℕ → List ℕ → PassportView
+passport_with iat orig origid = record {
   ppt = Some (codes "shaken");
   x5u = drill_x5u;
   attest = Some (codes "A");
   dest = codes "12125551213" ∷ [];
   div = None;
-  iat = issued_in call.change (moment_of call.number);
-  orig = calling_text call;
-  origid = Some (origid_of call.number);
+  iat = iat;
+  orig = orig;
+  origid = Some origid;
 }
+
+abbrev pub passport_of : Drawn → PassportView
+passport_of call = passport_with (issued_in call.change (moment_of call.number)) (calling_text call) (origid_of call.number)
 
 -- the text that is signed for it
 abbrev pub signing_of : Drawn → List ℕ

@@ -1,26 +1,17 @@
 -- What each call of the drill is, in the words of its format, number by number (this project's own rule).
-use Rattle.std.specs.Prelude.{◌≡◌, ℕ, ◌+◌, ◌-◌, ◌/◌, ◌<◌, List, [], ◌∷◌, ◌++◌, Some, None, codes, decimal}
+use Rattle.std.specs.Prelude.{◌≡◌, ℕ, ◌+◌, ◌-◌, ◌/◌, ◌<◌, List, [], ◌∷◌, ◌++◌, codes, decimal}
 use Rattle.passport_json.specs.Deterministic.{Det}
 use Rattle.passport_json.specs.Passport.{Header, Payload, PassportView}
 use Rattle.passport_json.specs.Signing.{Signing}
 use Rattle.passport_json.specs.Spelled.{full_text}
 use Rattle.stir_drill.specs.Calls.{call_at, drawn_at, message_at}
 use Rattle.stir_drill.specs.Draw.{kind_of, line_of}
-use Rattle.stir_drill.specs.Message.{fields_with, head_text, identity_field, origid_of, signature_of}
+use Rattle.stir_drill.specs.Message.{fields_with, head_text, identity_field, origid_of, passport_with, signature_of}
 use Rattle.stir_drill.specs.World.{triples_of}
 
 -- the PASSporT of type `shaken` of the call of this number, from this calling number, that was issued at this moment
 abbrev pub passport_from : ℕ → ℕ → ℕ → PassportView
-passport_from i calling issued = record {
-  ppt = Some (codes "shaken");
-  x5u = codes "https://cert.example.org/drill.cer";
-  attest = Some (codes "A");
-  dest = codes "12125551213" ∷ [];
-  div = None;
-  iat = issued;
-  orig = decimal calling;
-  origid = Some (origid_of i);
-}
+passport_from i calling issued = passport_with issued (decimal calling) (origid_of i)
 
 abbrev pub token_from : ℕ → ℕ → ℕ → List ℕ
 token_from i calling issued =
