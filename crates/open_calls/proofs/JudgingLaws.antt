@@ -1,5 +1,5 @@
 -- What comes of a call from a verdict over its chains, and by which questions for signatures.
-use Rattle.std.proofs.Common.{◌≡◌, ℕ, zero, suc, ◌≤◌, nat_lt, Bool, true, false, cond, ◌&&◌, List, [], ◌∷◌, is_none, Option, Some, None, inl, inr, refl, sym, ◌∙◌, ap, subst, arith}
+use Rattle.std.proofs.Common.{◌≡◌, ℕ, zero, suc, ◌≤◌, nat_lt, Bool, true, false, cond, ◌&&◌, List, [], ◌∷◌, is_none, Option, Some, None, Result, Ok, Err, IfOk, inl, inr, refl, sym, ◌∙◌, ap, subst, arith}
 use Rattle.std.specs.List.{list_all, slice_get}
 use Rattle.std.specs.Option.{option_map, option_or}
 use Rattle.std.proofs.lemmas.Bool.{and_parts}
@@ -29,6 +29,7 @@ use Rattle.open_calls.specs.Founds.{IsDecided, IsFoundOver, asks_by}
 use Rattle.open_calls.specs.OpenChains.{is_known}
 use Rattle.open_calls.specs.OwnQuestions.{Confirms, asks_own, is_late, own_asked}
 use Rattle.open_calls.specs.declared.found.Found.{Found}
+use Rattle.open_calls.specs.declared.judging.Asked.{Asked}
 use Rattle.open_calls.specs.declared.found.Found.TheVariants.{Refused, Passes}
 use Rattle.x509_profile.specs.View.{CertView}
 
@@ -214,3 +215,10 @@ by_early law says other table states call all found (Some refused) early over ag
 pub same_over : Unasked → (says other : Says) (table : Table) (states : List State) (call : Call) (all found : Found) → IsFoundOver always_yes table states call all
     → AgreeOn says other (own_asked table states call) → IsFoundOver says table states call found → IsFoundOver other table states call found
 same_over law says other table states call all found over agree h = by_early law says other table states call all found (first early_rules call) refl over agree h
+
+-- what is found by who confirms everything is found by whoever confirms these
+pub if_confirmed : {E : Type 0} → Unasked → (table : Table) (states : List State) (call : Call) (came : Result Asked E) → IfOk came (λ asked. IsFoundOver always_yes table states call asked.found)
+    → (says : Says) → Confirms says (own_asked table states call) → IfOk came (λ asked. IsFoundOver says table states call asked.found)
+if_confirmed law table states call (Ok asked) over says confirms =
+    same_over law always_yes says table states call asked.found asked.found over (confirms_agree says (own_asked table states call) confirms) over
+if_confirmed law table states call (Err failed) over says confirms = tt

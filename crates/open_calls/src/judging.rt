@@ -60,21 +60,6 @@ impl OpenCall {
             → IfOk result (λ asked. IsFoundOver says world.now.table (states_of chains.now) (call_in self.now) asked.found) }
     {
         unasked_law();
-        let asked = self.ask(alloc, world, chains)?;
-        Ok(asked)
-    }
-
-    /// The same, if everything is confirmed.
-    fn ask<'a>(
-        &'a self,
-        alloc: Global,
-        world: &OpenWorld,
-        chains: &'a OpenChains<'_>,
-    ) -> Result<Asked<'a>, AllocError>
-        requires one_each { length chains.now ≡ length (judged_in self.now) }
-        ensures asked { IfOk result (λ asked. map seen asked.questions.items ≡ own_asked world.now.table (states_of chains.now) (call_in self.now)) }
-        ensures found { IfOk result (λ asked. IsFoundOver always_yes world.now.table (states_of chains.now) (call_in self.now) asked.found) }
-    {
         match &self.screened {
             Ok(screened) => ask(alloc, world.table(), chains, self.moment, screened),
             Err(refusal) => Ok(Asked {
@@ -107,7 +92,7 @@ impl OpenCall {
         unasked_law();
         judged_law();
         questions_law();
-        let asked = self.ask(alloc, world, chains)?;
+        let asked = self.questions(alloc, world, chains)?;
         let mut provider = Confirmed::new(asked.questions.as_slice(), good, None);
         let found = self.finish(world, chains, &mut provider);
         Ok(found)
@@ -144,7 +129,7 @@ impl OpenCall {
     {
         let mut text = Vec::new(alloc);
         add_chains(alloc, chains, &mut text)?;
-        let asked = self.ask(alloc, world, chains)?;
+        let asked = self.questions(alloc, world, chains)?;
         add_all(alloc, asked.questions.as_slice(), &mut text)?;
         Ok(text)
     }
